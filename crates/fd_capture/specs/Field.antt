@@ -1,0 +1,147 @@
+-- What the values and members of a capture (RFC 8259) stand for.
+use Rattle.std.specs.Prelude.{ℕ, ◌-◌, ◌^◌, ℤ, pos, negsuc, int_le, unsigned_abs, codes, Bool, Option, Some, None, option_map, option_and_then, List, [], ◌∷◌, nat_le, ◌&&◌, if◌then◌else◌}
+use Prim.Native.String.{String}
+use Rattle.serde_json.specs.Data.{Data, Items, no_items, item}
+use Rattle.serde_json.specs.Find.{get, as_bool, as_number, as_i64, as_str, as_array}
+use Rattle.fd_blend.specs.declared.equation.Part.{Part}
+use Rattle.fd_cover.specs.declared.verdict.Rect.{Rect}
+use Rattle.fd_events.specs.declared.draw.Vertex.{Vertex}
+use Rattle.fd_snap.specs.declared.position.TheConstants.{POSITION_LIMIT}
+use Rattle.fd_snap.specs.Point.{Point}
+use Rattle.fd_capture.specs.Spelling.{spelled_factor, spelled_op}
+use Rattle.fd_blend.specs.declared.channel.Colour.{Colour}
+
+infixl 10 ◌>>=◌
+abbrev pub ◌>>=◌ : {A B : Type 0} → Option A → (A → Option B) → Option B
+o >>= f = option_and_then f o
+
+-- ---- values
+
+-- a JSON number without point and exponent that fits 64 bits
+abbrev pub whole_number : Data → Option ℤ
+whole_number d = as_number d >>= as_i64
+
+-- the number, if it is from low to high
+abbrev pub between : ℕ → ℕ → ℤ → Option ℕ
+between low high (pos n) = if nat_le low n && nat_le n high then Some n else None
+between low high (negsuc n) = None
+
+abbrev pub number_between : ℕ → ℕ → Data → Option ℕ
+number_between low high d = whole_number d >>= between low high
+
+-- a whole number of 32 bits with a sign
+abbrev pub within_32 : ℤ → Option ℤ
+within_32 z = if int_le (negsuc 2147483647) z && int_le z (pos 2147483647) then Some z else None
+
+abbrev pub signed_32 : Data → Option ℤ
+signed_32 d = whole_number d >>= within_32
+
+-- one without a sign
+abbrev pub unsigned_32 : Data → Option ℕ
+unsigned_32 d = number_between 0 (2 ^ 32 - 1) d
+
+abbrev pub list_of : Items → List Data
+list_of no_items = []
+list_of (item d ds) = d ∷ list_of ds
+
+-- what an array has
+abbrev pub array_of : Data → Option (List Data)
+array_of d = option_map list_of (as_array d)
+
+-- exactly four numbers from 0 to 255: red, green, blue, alpha
+abbrev pub colour_of_list : List Data → Option Colour
+colour_of_list (r ∷ g ∷ b ∷ a ∷ []) = do
+  red ← number_between 0 255 r
+  green ← number_between 0 255 g
+  blue ← number_between 0 255 b
+  alpha ← number_between 0 255 a
+  Some (record { r = red; g = green; b = blue; a = alpha })
+colour_of_list others = None
+
+abbrev pub colour_of : Data → Option Colour
+colour_of d = array_of d >>= colour_of_list
+
+-- exactly four numbers: left, top, right, bottom
+abbrev pub rect_of_list : List Data → Option Rect
+rect_of_list (l ∷ t ∷ r ∷ b ∷ []) = do
+  left ← signed_32 l
+  top ← signed_32 t
+  right ← signed_32 r
+  bottom ← signed_32 b
+  Some (record { left = left; top = top; right = right; bottom = bottom })
+rect_of_list others = None
+
+abbrev pub rect_of : Data → Option Rect
+rect_of d = array_of d >>= rect_of_list
+
+-- exactly three texts: source factor, destination factor, operation
+abbrev pub part_of_list : List Data → Option Part
+part_of_list (s ∷ d ∷ o ∷ []) = do
+  source ← as_str s >>= spelled_factor
+  destination ← as_str d >>= spelled_factor
+  operation ← as_str o >>= spelled_op
+  Some (record { src = source; dst = destination; op = operation })
+part_of_list others = None
+
+abbrev pub part_of : Data → Option Part
+part_of d = array_of d >>= part_of_list
+
+-- what each value stands for, if all do
+abbrev pub all_of : {X : Type 0} → (Data → Option X) → List Data → Option (List X)
+all_of f [] = Some []
+all_of f (d ∷ ds) = do
+  x ← f d
+  xs ← all_of f ds
+  Some (x ∷ xs)
+
+-- a position, if its coordinates are within the limit
+abbrev pub position_of : ℤ → ℤ → Option Point
+position_of x y = if nat_le (unsigned_abs x) POSITION_LIMIT && nat_le (unsigned_abs y) POSITION_LIMIT then Some (record { x = x; y = y }) else None
+
+-- ---- members of an object; no other value has any
+
+abbrev pub text_at : String → Data → Option (List ℕ)
+text_at name d = get (codes name) d >>= as_str
+
+abbrev pub number_at : String → ℕ → ℕ → Data → Option ℕ
+number_at name low high d = get (codes name) d >>= number_between low high
+
+abbrev pub array_at : String → Data → Option (List Data)
+array_at name d = get (codes name) d >>= array_of
+
+abbrev pub colour_at : String → Data → Option Colour
+colour_at name d = get (codes name) d >>= colour_of
+
+abbrev pub flag_at : String → Data → Option Bool
+flag_at name d = get (codes name) d >>= as_bool
+
+abbrev pub rect_at : String → Data → Option Rect
+rect_at name d = get (codes name) d >>= rect_of
+
+abbrev pub part_at : String → Data → Option Part
+part_at name d = get (codes name) d >>= part_of
+
+abbrev pub signed_at : String → Data → Option ℤ
+signed_at name d = get (codes name) d >>= signed_32
+
+abbrev pub vertex_of : Data → Option Vertex
+vertex_of d = do
+  x ← signed_at "x" d
+  y ← signed_at "y" d
+  position ← position_of x y
+  colour ← colour_at "color" d
+  Some (record { pos = position; colour = colour })
+
+abbrev pub vertices_at : String → Data → Option (List Vertex)
+vertices_at name d = array_at name d >>= all_of vertex_of
+
+-- indices may be missing
+abbrev pub indices_of : Option Data → Option (Option (List ℕ))
+indices_of None = Some None
+indices_of (Some d) = do
+  listed ← array_of d
+  indices ← all_of unsigned_32 listed
+  Some (Some indices)
+
+abbrev pub indices_at : String → Data → Option (Option (List ℕ))
+indices_at name d = indices_of (get (codes name) d)

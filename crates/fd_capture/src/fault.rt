@@ -1,0 +1,131 @@
+ghost use Rattle.std.specs.Prelude.{◌≡◌};
+ghost use Rattle.serde_json.specs.Errors.{IsMemory};
+ghost use Rattle.fd_capture.specs.declared.fault.CaptureFault.TheVariants.{Memory, NotJson};
+
+use fd_events::TableFault;
+use std::alloc::{AllocError, AllocFailed};
+use thiserror::Error;
+
+/// Why a capture is refused: the first fault in this order, but memory may run out at any time after the first check.
+/// Events are numbered from 1, and the first one that isn't well formed counts.
+#[derive(Clone, Copy, PartialEq, Eq, Debug, Error)]
+pub enum CaptureFault {
+    /// There are more than `MAX_CAPTURE_LEN` bytes.
+    #[error("too long")]
+    TooLong,
+    /// The bytes are no JSON value.
+    #[error("not json")]
+    NotJson,
+    /// The value is no object of this format with a list of events.
+    #[error("not a capture")]
+    NotCapture,
+    /// The version isn't 1.
+    #[error("version")]
+    Version,
+    /// The width or the height isn't a whole number from 1 to `MAX_SIDE`.
+    #[error("size")]
+    Size,
+    /// There are more than `MAX_EVENTS` events.
+    #[error("too many events")]
+    TooMany,
+    /// The kind of this event is a text that names none.
+    #[error("unknown event {number}")]
+    UnknownEvent { number: u32 },
+    /// A member of this event is missing, or isn't what its kind asks for.
+    #[error("bad field {number}")]
+    BadField { number: u32 },
+    /// Memory ran out.
+    #[error("memory")]
+    Memory,
+}
+
+/// What is wrong with one event.
+#[derive(Clone, Copy, PartialEq, Eq, Debug)]
+pub(crate) enum EventFault {
+    /// Its kind is a text that names none.
+    UnknownEvent,
+    /// A member is missing, or isn't what its kind asks for.
+    BadField,
+    /// Memory ran out.
+    Memory,
+}
+
+impl EventFault {
+    ghost use Rattle.fd_capture.specs.Fault.{numbered};
+
+    /// The fault of the event of this number.
+    pub(crate) fn at(self, number: u32) -> CaptureFault
+        ensures { result ≡ numbered number self }
+    {
+        match self {
+            EventFault::UnknownEvent => CaptureFault::UnknownEvent { number },
+            EventFault::BadField => CaptureFault::BadField { number },
+            EventFault::Memory => CaptureFault::Memory,
+        }
+    }
+}
+
+impl From<AllocError> for CaptureFault {
+    ghost from_gives = { λ _ e. e ≡ Memory };
+
+    fn from(_refused: AllocError) -> CaptureFault {
+        CaptureFault::Memory
+    }
+}
+
+impl<T: Drop> From<AllocFailed<T>> for CaptureFault {
+    ghost from_gives = { λ _ e. e ≡ Memory };
+
+    fn from(_refused: AllocFailed<T>) -> CaptureFault {
+        CaptureFault::Memory
+    }
+}
+
+impl From<serde_json::Error> for CaptureFault {
+    ghost from_gives = { λ error fault. (IsMemory error → fault ≡ Memory) × (¬ IsMemory error → fault ≡ NotJson) };
+
+    fn from(error: serde_json::Error) -> CaptureFault {
+        if error.is_memory() {
+            CaptureFault::Memory
+        } else {
+            CaptureFault::NotJson
+        }
+    }
+}
+
+impl From<TableFault> for CaptureFault {
+    ghost use Rattle.std.specs.Prelude.{◌≡◌};
+    ghost use Rattle.fd_capture.specs.Fault.{of_table};
+
+    ghost from_gives = { λ refused fault. fault ≡ of_table refused };
+
+    fn from(refused: TableFault) -> CaptureFault {
+        match refused {
+            TableFault::Memory => CaptureFault::Memory,
+            TableFault::Size => CaptureFault::Size,
+            TableFault::TooMany => CaptureFault::TooMany,
+        }
+    }
+}
+
+impl From<AllocError> for EventFault {
+    ghost use Rattle.std.specs.Prelude.{◌≡◌};
+    ghost use Rattle.fd_capture.specs.declared.fault.EventFault.TheVariants.{Memory as OutOfMemory};
+
+    ghost from_gives = { λ _ e. e ≡ OutOfMemory };
+
+    fn from(_refused: AllocError) -> EventFault {
+        EventFault::Memory
+    }
+}
+
+impl<T: Drop> From<AllocFailed<T>> for EventFault {
+    ghost use Rattle.std.specs.Prelude.{◌≡◌};
+    ghost use Rattle.fd_capture.specs.declared.fault.EventFault.TheVariants.{Memory as OutOfMemory};
+
+    ghost from_gives = { λ _ e. e ≡ OutOfMemory };
+
+    fn from(_refused: AllocFailed<T>) -> EventFault {
+        EventFault::Memory
+    }
+}

@@ -1,0 +1,53 @@
+-- Lines that are gathered, one after another.
+use Rattle.std.proofs.Common.{◌≡◌, ℕ, ◌+◌, ◌≤◌, List, [], ◌∷◌, ◌++◌, length, Option, Bool, true, false, refl, sym, ap, ◌∙◌, arith, subst, append_assoc, append-nil, length-append}
+use Rattle.std.specs.Io.KnownBytes.{Appends}
+use Rattle.std.proofs.KnownBytes.{Appends-nil, Appends-trans}
+use Rattle.fd_pam.specs.Transfer.{Puts}
+use Rattle.fd_cli.specs.Sending.{Waits}
+use Rattle.fd_pam.proofs.Transfers.{puts_whole, puts_then, puts_broken, puts_all}
+
+-- all of it waits
+pub waits_all : (held : Option (List ℕ)) (m : ℕ) (text : List ℕ) → Waits held held m m text text
+waits_all held m text = record { gone = []; whole = refl; appended = Appends-nil held; counted = omega arith }
+
+-- all of it was sent
+pub waits_none : (old new : Option (List ℕ)) (m n : ℕ) (text : List ℕ) → Puts old new m n text true → Waits old new m n text []
+waits_none old new m n text puts =
+    let all = puts_all old new m n text puts in
+    record { gone = text; whole = sym (append-nil text); appended = all.0; counted = all.1 }
+
+-- a line joins what waits
+pub waits_line : (old new : Option (List ℕ)) (m n : ℕ) (text waiting line : List ℕ) → Waits old new m n text waiting → Waits old new m n (text ++ line) (waiting ++ line)
+waits_line old new m n text waiting line w =
+    record { gone = w.gone; whole = ap (λ xs. xs ++ line) w.whole ∙ append_assoc w.gone waiting line; appended = w.appended; counted = w.counted }
+
+-- what waits is gathered further
+pub waits_then : (a b c : Option (List ℕ)) (m n k : ℕ) (front line before after : List ℕ) → Waits a b m n front before → Waits b c n k (before ++ line) after
+    → Waits a c m k (front ++ line) after
+waits_then a b c m n k front line before after p q =
+    record {
+      gone = p.gone ++ q.gone;
+      whole = ap (λ xs. xs ++ line) p.whole ∙ append_assoc p.gone before line ∙ ap (λ xs. p.gone ++ xs) q.whole ∙ sym (append_assoc p.gone q.gone after);
+      appended = Appends-trans a b c p.gone q.gone p.appended q.appended;
+      counted = omega (arith, p.counted, q.counted, length-append p.gone q.gone);
+    }
+
+sent_before : (a b : Option (List ℕ)) (m n : ℕ) (front before : List ℕ) (p : Waits a b m n front before) → Puts a b m n p.gone true
+sent_before a b m n front before p = puts_whole a b m n p.gone p.appended p.counted true
+
+-- the sink fails among what waits, before the lines to come
+pub waits_broken : (a b c : Option (List ℕ)) (m n k : ℕ) (front line rest whole before : List ℕ) → Waits a b m n front before → Puts b c n k (before ++ line) false
+    → front ++ (line ++ rest) ≡ whole → Puts a c m k whole false
+waits_broken a b c m n k front line rest whole before p broken is =
+    subst (λ text. Puts a c m k text false)
+    (sym (append_assoc (p.gone) (before ++ line) rest) ∙ ap (λ xs. xs ++ rest) (sym (append_assoc p.gone before line) ∙ ap (λ xs. xs ++ line) (sym p.whole)) ∙ append_assoc front line rest ∙ is)
+    (puts_then a b c m n k p.gone ((before ++ line) ++ rest) false (sent_before a b m n front before p) (puts_broken b c n k (before ++ line) rest broken))
+
+-- what waits is sent
+pub waits_sent : (a b c : Option (List ℕ)) (m n k : ℕ) (text waiting : List ℕ) (ok : Bool) → Waits a b m n text waiting → Puts b c n k waiting ok → Puts a c m k text ok
+waits_sent a b c m n k text waiting ok p q =
+    subst (λ t. Puts a c m k t ok) (sym p.whole) (puts_then a b c m n k p.gone waiting ok (sent_before a b m n text waiting p) q)
+
+-- the count before what waits
+pub waits_count : (a b : Option (List ℕ)) (m n : ℕ) (text waiting : List ℕ) → Waits a b m n text waiting → n + length waiting ≡ m + length text
+waits_count a b m n text waiting p = omega (arith, p.counted, ap length p.whole, length-append p.gone waiting)

@@ -1,0 +1,20 @@
+use Rattle.std.proofs.Common.{◌≡◌, ◌≤◌, ◌*◌, ◌-◌, ℕ, List}
+use Rattle.std.specs.Io.KnownBytes.{Consumes, Appends}
+use Rattle.fd_cli.specs.Progress.{HasRoom, IsServing}
+use Rattle.fd_cli.proofs.serving.serve_table.Given as goal
+
+abbrev pub invariant-loop-count : goal.invariant-loop-count
+invariant-loop-count g l =
+    record {
+      input : List ℕ;
+      text : List ℕ;
+      consumed : Consumes (g.R.Source.remaining l.fn.source) (g.R.Source.remaining l.source) input;
+      appended : Appends (g.W.Sink.contents l.fn.sink) (g.W.Sink.contents l.sink) text;
+      serving : IsServing l.fn.table input text l.progress;
+      room : HasRoom l.progress;
+      read : g.R.Source.failure_count l.source ≡ g.R.Source.failure_count l.fn.source;
+      write : g.W.Sink.failure_count l.sink ≡ g.W.Sink.failure_count l.fn.sink;
+    }
+
+abbrev pub decreases-loop-count : goal.decreases-loop-count
+decreases-loop-count g l = 268435457 - l.progress.bytes

@@ -1,0 +1,11 @@
+pub mod Show
+pub mod Sending
+pub mod Line
+pub mod Limits
+pub mod Text
+pub mod Run
+pub mod Opening
+pub mod Serving
+pub mod Progress
+pub mod Report
+pub mod Listing

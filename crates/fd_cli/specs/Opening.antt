@@ -1,0 +1,22 @@
+-- How a call on a capture ends before it does anything else.
+use Rattle.std.specs.Prelude.{◌≡◌, ◌≢◌, ℕ, List, Result, Ok, Err}
+use Rattle.fd_capture.specs.Capture.{capture_of}
+use Rattle.fd_capture.specs.declared.fault.CaptureFault.TheVariants as fault
+use Rattle.fd_events.specs.Table.{Table}
+use Rattle.fd_cli.specs.declared.ending.Ending.{Ending}
+use Rattle.fd_cli.specs.declared.ending.Ending.TheVariants.{Done, Capture, NoSuchPosition, Read, Write, TooMuch, Memory}
+
+-- The capture is refused for its first fault, or memory was wanted.
+abbrev pub EndsUnread : List ℕ → Ending → Type 0
+EndsUnread capture (Capture refused) = (capture_of capture ≡ Err refused) × (refused ≢ fault.Memory)
+EndsUnread capture Memory = Unit {0}
+EndsUnread capture Done = ⊥
+EndsUnread capture NoSuchPosition = ⊥
+EndsUnread capture Read = ⊥
+EndsUnread capture (Write sent) = ⊥
+EndsUnread capture TooMuch = ⊥
+
+-- Reading a capture gives its table, or such an ending.
+abbrev pub Opens : List ℕ → Result Table Ending → Type 0
+Opens capture (Ok table) = capture_of capture ≡ Ok table
+Opens capture (Err ending) = EndsUnread capture ending

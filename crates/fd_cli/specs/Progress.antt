@@ -1,0 +1,41 @@
+-- How far a run has come.
+use Rattle.std.specs.Prelude.{◌≡◌, ℕ, ◌≤◌, ◌*◌, ◌^◌, List, ◌++◌, Result, Ok, Err, Option, Bool, true, length, take}
+use Rattle.std.specs.Io.KnownBytes.{Appends}
+use Rattle.fd_events.specs.Table.{Table}
+use Rattle.fd_session.specs.Machine.{State}
+use Rattle.fd_cli.specs.declared.ending.Ending.{Ending}
+use Rattle.fd_cli.specs.declared.progress.Progress.{Progress}
+use Rattle.fd_cli.specs.Limits.{are_small}
+use Rattle.fd_cli.specs.Serving.{Answered, Stops, Serves}
+
+-- The lines of this input were answered with this text, and the line buffer holds the front of what is no whole line yet.
+pub record IsServing (table : Table) (input text : List ℕ) (progress : Progress) : Type 0 where
+  pub lines : List (List ℕ)
+  pub rest : List ℕ
+  pub answered : Answered table input text lines rest progress.session
+  pub line : progress.line.items ≡ take 258 rest
+  pub line_count : progress.lines ≡ length lines
+  pub byte_count : progress.bytes ≡ length input
+  pub sent_count : progress.sent ≡ length text
+
+-- The count of bytes sent can't overflow within the bounds of input.
+pub record HasRoom (progress : Progress) : Type 0 where
+  pub sent : progress.sent ≤ 2 ^ 40 * progress.lines
+  pub small : are_small progress.session.table ≡ true
+
+-- So much of the input was taken and so much was written, and the run is there, or it stops among these bytes.
+abbrev pub AfterBytes : Table → List ℕ → List ℕ → Progress → Result (Unit {0}) Ending → Type 0
+AfterBytes table input text new (Ok done) = IsServing table input text new
+AfterBytes table input text new (Err ending) = Stops table input text ending
+
+-- From old, these bytes of input lead to new.
+pub record Advances (old new : Progress) (held_old held_new : Option (List ℕ)) (bytes : List ℕ) (result : Result (Unit {0}) Ending) : Type 0 where
+  pub written : List ℕ
+  pub appended : Appends held_old held_new written
+  pub after : (table : Table) (input text : List ℕ) → IsServing table input text old → AfterBytes table (input ++ bytes) (text ++ written) new result
+
+-- From old, the end of the input leads to this ending.
+pub record Finishes (old : Progress) (held_old held_new : Option (List ℕ)) (ending : Ending) : Type 0 where
+  pub written : List ℕ
+  pub appended : Appends held_old held_new written
+  pub after : (table : Table) (input text : List ℕ) → IsServing table input text old → Serves table input (text ++ written) ending true

@@ -1,0 +1,158 @@
+-- The texts of the replies.
+use Rattle.std.specs.Prelude.{ℕ, ◌+◌, ℤ, List, [], ◌∷◌, ◌++◌, Bool, Option, Some, None, Result, Ok, Err, codes, decimal, length, if◌then◌else◌}
+use Rattle.std.specs.Fmt.{signed_decimal}
+use Rattle.std.specs.List.{flat_map}
+use Rattle.fd_blend.specs.declared.channel.Colour.{Colour}
+use Rattle.fd_blend.specs.declared.equation.Part.{Part}
+use Rattle.fd_blend.specs.Blending.{Blending}
+use Rattle.fd_blend.specs.Mask.{bits_of}
+use Rattle.fd_cover.specs.declared.verdict.Rect.{Rect}
+use Rattle.fd_cover.specs.declared.verdict.Verdict.{Verdict}
+use Rattle.fd_cover.specs.declared.verdict.Verdict.TheVariants.{Missed, Culled, Scissored, Drawn}
+use Rattle.fd_events.specs.declared.event.Event.{Event}
+use Rattle.fd_events.specs.declared.event.Event.TheVariants.{Clear, SetRaster, SetScissor, SetBlend, SetFactor, Draw, Marker}
+use Rattle.fd_events.specs.declared.pipeline.Pipeline.{Pipeline}
+use Rattle.fd_events.specs.Draw.{triangles_of}
+use Rattle.fd_events.specs.Table.{Table, state_at}
+use Rattle.fd_capture.specs.Spelling.{factor_text, op_text, cull_text, interp_text}
+use Rattle.fd_history.specs.declared.entry.Entry.{Entry}
+use Rattle.fd_session.specs.Machine.{State}
+use Rattle.fd_session.specs.declared.answer.Answer.{Answer}
+use Rattle.fd_session.specs.declared.answer.Answer.TheVariants.{Moved, Stopped, Refused}
+use Rattle.fd_session.specs.declared.answer.SessionFault.{SessionFault}
+use Rattle.fd_session.specs.declared.answer.SessionFault.TheVariants.{AtEnd, AtStart, NoSuchPosition, NoSuchEvent, AlreadySo, NoSuchPixel, Memory}
+use Rattle.fd_cli.specs.declared.command.CommandFault.{CommandFault}
+use Rattle.fd_cli.specs.declared.command.CommandFault.TheVariants.{Unknown, Arguments, TooLong}
+
+-- a word and a number, on a line
+abbrev pub number_line : List ℕ → ℕ → List ℕ
+number_line word number = word ++ codes " " ++ decimal number ++ codes "\n"
+
+abbrev pub refusal_line : SessionFault → List ℕ
+refusal_line AtEnd = codes "refused 1 at end\n"
+refusal_line AtStart = codes "refused 2 at start\n"
+refusal_line NoSuchPosition = codes "refused 3 no such position\n"
+refusal_line NoSuchEvent = codes "refused 4 no such event\n"
+refusal_line AlreadySo = codes "refused 5 already so\n"
+refusal_line NoSuchPixel = codes "refused 6 no such pixel\n"
+refusal_line Memory = codes "refused 7 memory\n"
+
+abbrev pub fault_line : CommandFault → List ℕ
+fault_line Unknown = codes "bad 1 unknown command\n"
+fault_line Arguments = codes "bad 2 arguments\n"
+fault_line TooLong = codes "bad 3 line too long\n"
+
+-- the reply to a move
+abbrev pub answer_line : Answer → List ℕ
+answer_line (Moved at) = number_line (codes "at") at
+answer_line (Stopped at) = number_line (codes "stopped") at
+answer_line (Refused fault) = refusal_line fault
+
+-- the reply to going back
+abbrev pub back_line : Result ℕ SessionFault → List ℕ
+back_line (Ok at) = number_line (codes "at") at
+back_line (Err fault) = refusal_line fault
+
+-- ---- words, each with the space before it; names are spelled as captures spell them
+
+abbrev pub word : List ℕ → List ℕ
+word text = codes " " ++ text
+
+abbrev pub number_word : ℕ → List ℕ
+number_word n = codes " " ++ decimal n
+
+abbrev pub signed_word : ℤ → List ℕ
+signed_word z = codes " " ++ signed_decimal z
+
+abbrev pub truth_word : Bool → List ℕ
+truth_word b = if b then codes " 1" else codes " 0"
+
+-- ---- several words
+
+abbrev pub colour_words : Colour → List ℕ
+colour_words c = number_word c.r ++ number_word c.g ++ number_word c.b ++ number_word c.a
+
+abbrev pub rect_words : Rect → List ℕ
+rect_words r = signed_word r.left ++ signed_word r.top ++ signed_word r.right ++ signed_word r.bottom
+
+abbrev pub part_words : Part → List ℕ
+part_words p = word (factor_text p.src) ++ word (factor_text p.dst) ++ word (op_text p.op)
+
+abbrev pub equation_words : Blending → List ℕ
+equation_words b = truth_word b.enable ++ part_words b.rgb ++ part_words b.alpha
+
+-- ---- lines
+
+abbrev pub pixel_line : Result Colour SessionFault → List ℕ
+pixel_line (Ok colour) = codes "pixel" ++ colour_words colour ++ codes "\n"
+pixel_line (Err fault) = refusal_line fault
+
+unfoldable pub state_line : Pipeline → List ℕ
+state_line s =
+    codes "state cull" ++ word (cull_text s.raster.cull) ++ codes " ccw" ++ truth_word s.raster.front_ccw ++ codes " scissor" ++ truth_word s.raster.scissor
+    ++ codes " rect" ++ rect_words s.scissor ++ codes " blend" ++ equation_words s.blend ++ codes " mask" ++ number_word (bits_of s.blend.mask)
+    ++ codes " factor" ++ colour_words s.factor ++ codes "\n"
+
+-- what stands behind an event's number and flag
+abbrev pub event_words : Event → List ℕ
+event_words (Clear colour) = codes " clear" ++ colour_words colour
+event_words (SetRaster r) = codes " raster" ++ word (cull_text r.cull) ++ truth_word r.front_ccw ++ truth_word r.scissor
+event_words (SetScissor rect) = codes " scissor" ++ rect_words rect
+event_words (SetBlend b) = codes " blend" ++ equation_words b ++ number_word (bits_of b.mask)
+event_words (SetFactor colour) = codes " factor" ++ colour_words colour
+event_words (Draw d) = codes " draw" ++ number_word (length (triangles_of d)) ++ word (interp_text d.interp)
+event_words (Marker name) = codes " marker " ++ name
+
+abbrev pub flag_word : Bool → List ℕ
+flag_word on = if on then codes " on" else codes " off"
+
+unfoldable pub event_line : ℕ → Event → Bool → List ℕ
+event_line number event on = decimal number ++ flag_word on ++ event_words event ++ codes "\n"
+
+abbrev pub events_head : ℕ → ℕ → List ℕ
+events_head count position = codes "events" ++ number_word count ++ codes " at" ++ number_word position ++ codes "\n"
+
+-- the lines of events with their flags, numbered on from here
+abbrev pub event_lines : ℕ → List Event → List Bool → List ℕ
+event_lines number [] flags = []
+event_lines number (event ∷ events) [] = []
+event_lines number (event ∷ events) (on ∷ flags) = event_line number event on ++ event_lines (number + 1) events flags
+
+-- the list of a table's events at a position
+abbrev pub event_list : Table → ℕ → List ℕ
+event_list table position = events_head (length table.events) position ++ event_lines 1 table.events table.flags
+
+-- the reply to `events`
+abbrev pub events_text : State → List ℕ
+events_text state = event_list state.table state.position
+
+-- the reply to `state`
+abbrev pub state_text : State → List ℕ
+state_text state = state_line (state_at state.table state.position)
+
+-- ---- a pixel's history
+
+-- a clear has no triangle
+abbrev pub triangle_word : Option ℕ → List ℕ
+triangle_word None = codes " -"
+triangle_word (Some number) = number_word number
+
+abbrev pub verdict_text : Verdict → List ℕ
+verdict_text Missed = codes "missed"
+verdict_text Culled = codes "culled"
+verdict_text Scissored = codes "scissored"
+verdict_text Drawn = codes "drawn"
+
+unfoldable pub entry_line : Entry → List ℕ
+entry_line entry =
+    decimal entry.event ++ triangle_word entry.triangle ++ word (verdict_text entry.verdict)
+    ++ colour_words entry.source ++ colour_words entry.before ++ colour_words entry.after ++ codes "\n"
+
+-- how many entries there are, and a line for each
+abbrev pub entry_list : List Entry → List ℕ
+entry_list entries = number_line (codes "history") (length entries) ++ flat_map entry_line entries
+
+-- the reply to `history`
+abbrev pub history_text : Result (List Entry) SessionFault → List ℕ
+history_text (Ok entries) = entry_list entries
+history_text (Err fault) = refusal_line fault

@@ -1,0 +1,33 @@
+//! The list of a pixel's history.
+ghost use Rattle.std.specs.Prelude.{◌≡◌, ◌<◌, ◌≤◌, ◌+◌, ◌^◌, length, is_ok, true};
+ghost use Rattle.fd_pam.specs.Transfer.{Puts};
+ghost use Rattle.fd_cli.specs.Text.{entry_list};
+ghost use Rattle.fd_pam.specs.Transfer.{CountsFailure};
+
+use crate::chunk::{Chunk, gather};
+use fd_pam::{Failed, Sink, send};
+use crate::lines::number_line;
+use crate::text::entry_line;
+use fd_history::Entry;
+
+/// Sends the list of a pixel's history.
+pub(crate) fn send_entries<W: Sink>(
+    entries: &[Entry],
+    sink: &mut W,
+    sent: &mut u64,
+) -> Result<(), Failed>
+    requires room { sent.old + 2 ^ 40 < 2 ^ 64 }
+    requires few { length entries.now ≤ 2 ^ 32 }
+    ensures puts { Puts (W.contents sink.old) (W.contents sink.new) sent.old sent.new (entry_list entries.now) (is_ok result) }
+    ensures short { is_ok result ≡ true → length (entry_list entries.now) ≤ 2 ^ 40 }
+    ensures failures { CountsFailure (W.failure_count sink.old) (W.failure_count sink.new) (is_ok result) }
+{
+    let mut chunk = Chunk::new();
+    let head = number_line(b"history", entries.len() as u64);
+    gather(&mut chunk, head.as_slice(), sink, sent)?;
+    for entry in entries {
+        let line = entry_line(entry);
+        gather(&mut chunk, line.as_slice(), sink, sent)?;
+    }
+    send(sink, sent, chunk.as_slice())
+}

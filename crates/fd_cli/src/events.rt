@@ -1,0 +1,35 @@
+//! The list of a table's events.
+ghost use Rattle.std.specs.Prelude.{◌≡◌, ◌<◌, ◌≤◌, ◌+◌, ◌^◌, length, is_ok, true};
+ghost use Rattle.fd_cli.specs.Limits.{are_small};
+ghost use Rattle.fd_pam.specs.Transfer.{Puts};
+ghost use Rattle.fd_cli.specs.Text.{event_list};
+ghost use Rattle.fd_pam.specs.Transfer.{CountsFailure};
+
+use crate::chunk::{Chunk, gather};
+use fd_pam::{Failed, Sink, send};
+use crate::text::{event_line, events_head};
+use fd_events::EventTable;
+
+/// Sends the list of a table's events at a position.
+pub(crate) fn send_events<W: Sink>(
+    table: &EventTable,
+    position: u32,
+    sink: &mut W,
+    sent: &mut u64,
+) -> Result<(), Failed>
+    requires room { sent.old + 2 ^ 40 < 2 ^ 64 }
+    requires small { are_small table.now ≡ true }
+    ensures puts { Puts (W.contents sink.old) (W.contents sink.new) sent.old sent.new (event_list table.now position) (is_ok result) }
+    ensures short { is_ok result ≡ true → length (event_list table.now position) ≤ 2 ^ 40 }
+    ensures failures { CountsFailure (W.failure_count sink.old) (W.failure_count sink.new) (is_ok result) }
+{
+    let mut chunk = Chunk::new();
+    let head = events_head(table.len(), position);
+    gather(&mut chunk, head.as_slice(), sink, sent)?;
+    for index in 0..table.len() {
+        let number = index + 1;
+        let line = event_line(number, table.event(number), table.is_on(number));
+        gather(&mut chunk, line.as_slice(), sink, sent)?;
+    }
+    send(sink, sent, chunk.as_slice())
+}

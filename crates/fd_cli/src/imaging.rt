@@ -1,0 +1,75 @@
+//! The image of a capture at a position.
+ghost use Rattle.std.specs.Prelude.{◌≡◌, ◌≤◌, ℕ, List};
+ghost use Rattle.std.specs.Io.KnownBytes.{Appends};
+ghost use Rattle.fd_pam.specs.Pam.{pam};
+ghost use Rattle.fd_pam.specs.Transfer.{Rises};
+ghost use Rattle.fd_cli.specs.Listing.{ShowsState, ImagesTable, WritesImage};
+
+use crate::ending::Ending;
+use crate::opening::open;
+use crate::show::target_size;
+use fd_events::EventTable;
+use fd_pam::{PamFault, Sink, pam_len, write};
+use fd_session::{Answer, Session, SessionFault};
+use std::alloc::Global;
+
+/// Writes the image that the session shows, and flushes.
+fn write_shown<W: Sink>(alloc: Global, session: &Session, sink: &mut W) -> Ending
+    ensures writes { (written : List ℕ) × Appends (W.contents sink.old) (W.contents sink.new) written × ShowsState session.now written result }
+    ensures write { (sent : ℕ) → result ≡ Ending.Write sent → Rises (W.failure_count sink.old) (W.failure_count sink.new) }
+{
+    let (width, height) = target_size(session);
+    let sent = pam_len(width, height);
+    match write(alloc, sink, session) {
+        Err(PamFault::Memory) => Ending::Memory,
+        Err(PamFault::Write { sent }) => Ending::Write { sent },
+        Ok(()) => match sink.flush() {
+            Ok(()) => Ending::Done,
+            Err(_) => Ending::Write { sent },
+        },
+    }
+}
+
+/// Writes the image of a table at a position, or at the last one.
+fn write_table<W: Sink>(
+    alloc: Global,
+    table: EventTable,
+    workers: u32,
+    at: Option<u32>,
+    sink: &mut W,
+) -> Ending
+    requires { (1 ≤ workers) × (workers ≤ 64) }
+    ensures writes { (written : List ℕ) × Appends (W.contents sink.old) (W.contents sink.new) written × ImagesTable table at written result }
+    ensures write { (sent : ℕ) → result ≡ Ending.Write sent → Rises (W.failure_count sink.old) (W.failure_count sink.new) }
+{
+    let to = at.unwrap_or(table.len());
+    let Ok(mut session) = Session::start(alloc, table, workers) else {
+        return Ending::Memory;
+    };
+    match session.goto(to) {
+        Answer::Moved { .. } => write_shown(alloc, &session, sink),
+        Answer::Refused(SessionFault::NoSuchPosition) => Ending::NoSuchPosition,
+        Answer::Stopped { .. } | Answer::Refused(_) => Ending::Memory,
+    }
+}
+
+/// Writes the image of a capture at a position, or at the last one, as a PAM file.
+///
+/// Nothing is written where the capture is refused, where there is no such position, or where memory is wanted.
+pub fn image<W: Sink>(
+    alloc: Global,
+    capture: &[u8],
+    workers: u32,
+    at: Option<u32>,
+    sink: &mut W,
+) -> Ending
+    requires { (1 ≤ workers) × (workers ≤ 64) }
+    ensures writes { (written : List ℕ) × Appends (W.contents sink.old) (W.contents sink.new) written × WritesImage capture.now at written result }
+    // The writer failed only where its count of failures tells so.
+    ensures write { (sent : ℕ) → result ≡ Ending.Write sent → Rises (W.failure_count sink.old) (W.failure_count sink.new) }
+{
+    match open(alloc, capture) {
+        Ok(table) => write_table(alloc, table, workers, at, sink),
+        Err(ending) => ending,
+    }
+}

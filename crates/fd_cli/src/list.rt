@@ -1,0 +1,56 @@
+//! The list of a capture's events.
+ghost use Rattle.std.specs.Prelude.{◌≡◌, ◌<◌, ◌+◌, ◌^◌, ℕ, List, true};
+ghost use Rattle.std.specs.Io.KnownBytes.{Appends};
+ghost use Rattle.fd_cli.specs.Limits.{are_small};
+ghost use Rattle.fd_cli.specs.Listing.{WritesText, ListsEvents};
+ghost use Rattle.fd_cli.specs.Text.{event_list};
+ghost use Rattle.fd_pam.specs.Transfer.{Rises};
+
+use fd_pam::{Failed, Sink};
+use crate::ending::Ending;
+use crate::events::send_events;
+use crate::opening::open;
+use fd_events::EventTable;
+use std::alloc::Global;
+
+ghost use Rattle.std.specs.Prelude.{is_ok};
+ghost use Rattle.fd_pam.specs.Transfer.{Puts};
+ghost use Rattle.fd_pam.specs.Transfer.{CountsFailure};
+
+/// Sends the list of a table's events at position 0, and flushes.
+fn send_list<W: Sink>(table: &EventTable, sink: &mut W, sent: &mut u64) -> Result<(), Failed>
+    requires room { sent.old + 2 ^ 40 < 2 ^ 64 }
+    requires small { are_small table.now ≡ true }
+    ensures puts { Puts (W.contents sink.old) (W.contents sink.new) sent.old sent.new (event_list table.now 0) (is_ok result) }
+    ensures failures { CountsFailure (W.failure_count sink.old) (W.failure_count sink.new) (is_ok result) }
+{
+    send_events(table, 0, sink, sent)?;
+    sink.flush()
+}
+
+/// Writes the list of a table's events at position 0.
+fn list_table<W: Sink>(table: &EventTable, sink: &mut W) -> Ending
+    requires { are_small table.now ≡ true }
+    ensures writes { (written : List ℕ) × Appends (W.contents sink.old) (W.contents sink.new) written × WritesText (event_list table.now 0) written result }
+    ensures write { (sent : ℕ) → result ≡ Ending.Write sent → Rises (W.failure_count sink.old) (W.failure_count sink.new) }
+{
+    let mut sent = 0;
+    match send_list(table, sink, &mut sent) {
+        Ok(()) => Ending::Done,
+        Err(_) => Ending::Write { sent },
+    }
+}
+
+/// Writes the list of a capture's events, as the reply to `events` at position 0.
+///
+/// Nothing is written where the capture is refused or memory is wanted.
+pub fn list_events<W: Sink>(alloc: Global, capture: &[u8], sink: &mut W) -> Ending
+    ensures lists { (written : List ℕ) × Appends (W.contents sink.old) (W.contents sink.new) written × ListsEvents capture.now written result }
+    // The writer failed only where its count of failures tells so.
+    ensures write { (sent : ℕ) → result ≡ Ending.Write sent → Rises (W.failure_count sink.old) (W.failure_count sink.new) }
+{
+    match open(alloc, capture) {
+        Ok(table) => list_table(&table, sink),
+        Err(ending) => ending,
+    }
+}

@@ -1,0 +1,93 @@
+//! A run, byte by byte of its input.
+ghost use Rattle.std.specs.Prelude.{◌≡◌, ◌<◌, ◌≤◌, ◌+◌, ◌^◌, ◌⊎◌, ℕ, List, [], ◌∷◌, Err, OnOk, true};
+ghost use Rattle.fd_cli.specs.Limits.{are_small};
+ghost use Rattle.fd_pam.specs.Transfer.{Rises};
+
+use fd_pam::Sink;
+use crate::ending::Ending;
+use crate::reply::answer;
+use arrayvec::ArrayVec;
+use fd_session::Session;
+use std::alloc::Global;
+
+/// The most lines of input.
+const MAX_LINES: u32 = 1_000_000;
+
+/// The most bytes of input.
+pub(crate) const MAX_BYTES: u32 = 268_435_456;
+
+/// How far a run has come.
+#[derive(Drop)]
+pub(crate) struct Progress {
+    pub(crate) session: Session,
+    pub(crate) line: ArrayVec<u8, 258>,
+    pub(crate) lines: u32,
+    pub(crate) bytes: u32,
+    pub(crate) sent: u64,
+}
+
+impl Progress {
+    ghost use Rattle.fd_cli.specs.Progress.{HasRoom, Advances, Finishes};
+
+    /// Takes one byte of the input, and answers the line that it ends.
+    fn take_byte<W: Sink>(&mut self, alloc: Global, byte: u8, sink: &mut W) -> Result<(), Ending>
+        requires { HasRoom self.old }
+        ensures advances { Advances self.old self.new (W.contents sink.old) (W.contents sink.new) (byte ∷ []) result }
+        ensures room { OnOk result (HasRoom self.new) }
+        ensures ok { OnOk result (W.failure_count sink.new ≡ W.failure_count sink.old) }
+        ensures write { (sent : ℕ) → result ≡ Err (Ending.Write sent) → Rises (W.failure_count sink.old) (W.failure_count sink.new) }
+    {
+        if self.bytes >= MAX_BYTES || self.lines >= MAX_LINES {
+            return Err(Ending::TooMuch);
+        }
+        self.bytes += 1;
+        if byte != b'\n' {
+            let _ = self.line.try_push(byte);
+            return Ok(());
+        }
+        let line = self.line.as_slice();
+        let Ok(quit) = answer(alloc, &mut self.session, line, sink, &mut self.sent) else {
+            return Err(Ending::Write { sent: self.sent });
+        };
+        self.line.clear();
+        self.lines += 1;
+        if quit { Err(Ending::Done) } else { Ok(()) }
+    }
+
+    /// Takes bytes of the input, and answers each line that they end.
+    pub(crate) fn take_bytes<W: Sink>(
+        &mut self,
+        alloc: Global,
+        bytes: &[u8],
+        sink: &mut W,
+    ) -> Result<(), Ending>
+        requires { HasRoom self.old }
+        ensures advances { Advances self.old self.new (W.contents sink.old) (W.contents sink.new) bytes.now result }
+        ensures room { OnOk result (HasRoom self.new) }
+        ensures ok { OnOk result (W.failure_count sink.new ≡ W.failure_count sink.old) }
+        ensures write { (sent : ℕ) → result ≡ Err (Ending.Write sent) → Rises (W.failure_count sink.old) (W.failure_count sink.new) }
+    {
+        for byte in bytes {
+            self.take_byte(alloc, *byte, sink)?;
+        }
+        Ok(())
+    }
+
+    /// Answers the line that no line feed ends, if there is one.
+    pub(crate) fn finish<W: Sink>(&mut self, alloc: Global, sink: &mut W) -> Ending
+        requires room { self.old.sent + 2 ^ 40 < 2 ^ 64 }
+        requires small { are_small self.old.session.table ≡ true }
+        ensures finishes { Finishes self.old (W.contents sink.old) (W.contents sink.new) result }
+        ensures only { (result ≡ Ending.Done) ⊎ ((sent : ℕ) × (result ≡ Ending.Write sent)) }
+        ensures write { (sent : ℕ) → result ≡ Ending.Write sent → Rises (W.failure_count sink.old) (W.failure_count sink.new) }
+    {
+        if self.line.is_empty() {
+            return Ending::Done;
+        }
+        let line = self.line.as_slice();
+        match answer(alloc, &mut self.session, line, sink, &mut self.sent) {
+            Ok(_) => Ending::Done,
+            Err(_) => Ending::Write { sent: self.sent },
+        }
+    }
+}

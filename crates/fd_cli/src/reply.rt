@@ -1,0 +1,116 @@
+//! The replies to commands.
+ghost use Rattle.std.specs.Prelude.{◌≡◌, ◌<◌, ◌≤◌, ◌+◌, ◌^◌, ◌↔◌, ℕ, List, Result, Ok, IsTrue, IfOk, length, is_ok, true};
+ghost use Rattle.fd_history.specs.declared.entry.Entry.{Entry};
+ghost use Rattle.fd_session.specs.Machine.{ShowsHistory};
+ghost use Rattle.fd_session.specs.declared.answer.SessionFault.{SessionFault};
+ghost use Rattle.fd_cli.specs.Limits.{are_small};
+ghost use Rattle.fd_cli.specs.Line.{command_of};
+ghost use Rattle.fd_pam.specs.Transfer.{Puts};
+ghost use Rattle.fd_cli.specs.Serving.{Replies};
+ghost use Rattle.fd_cli.specs.Text.{answer_line, history_text};
+ghost use Rattle.fd_pam.specs.Transfer.{CountsFailure};
+
+use crate::command::{Command, CommandFault, read_command};
+use fd_pam::{Failed, Sink, send};
+use crate::entries::send_entries;
+use crate::events::send_events;
+use crate::lines::{fault_line, number_line, refusal_line};
+use crate::show::show;
+use crate::text::{pixel_line, state_line};
+use fd_session::{Answer, Session};
+use std::alloc::Global;
+
+/// Sends the reply to a move.
+fn send_answer<W: Sink>(answer: Answer, sink: &mut W, sent: &mut u64) -> Result<(), Failed>
+    requires { sent.old + 64 < 2 ^ 64 }
+    ensures puts { Puts (W.contents sink.old) (W.contents sink.new) sent.old sent.new (answer_line answer) (is_ok result) }
+    ensures short { length (answer_line answer) ≤ 64 }
+    ensures failures { CountsFailure (W.failure_count sink.old) (W.failure_count sink.new) (is_ok result) }
+{
+    match answer {
+        Answer::Moved { at } => send(sink, sent, number_line(b"at", u64::from(at)).as_slice()),
+        Answer::Stopped { at } => {
+            send(sink, sent, number_line(b"stopped", u64::from(at)).as_slice())
+        }
+        Answer::Refused(fault) => send(sink, sent, refusal_line(fault)),
+    }
+}
+
+/// Sends the reply to `history`.
+fn send_history<W: Sink>(
+    alloc: Global,
+    session: &Session,
+    x: u32,
+    y: u32,
+    sink: &mut W,
+    sent: &mut u64,
+) -> Result<(), Failed>
+    requires room { sent.old + 2 ^ 40 < 2 ^ 64 }
+    requires small { are_small session.now.table ≡ true }
+    ensures puts { (outcome : Result (List Entry) SessionFault) × ShowsHistory session.now x y outcome
+        × (is_ok result ≡ true → length (history_text outcome) ≤ 2 ^ 40)
+        × Puts (W.contents sink.old) (W.contents sink.new) sent.old sent.new (history_text outcome) (is_ok result) }
+    ensures failures { CountsFailure (W.failure_count sink.old) (W.failure_count sink.new) (is_ok result) }
+{
+    // It is at most the number of events, which bounds the entries.
+    let _position = session.position();
+    match session.history(alloc, x, y) {
+        Ok(entries) => send_entries(&entries, sink, sent),
+        Err(fault) => send(sink, sent, refusal_line(fault)),
+    }
+}
+
+/// Answers a command, or what stands in a command's place.
+fn reply<W: Sink>(
+    alloc: Global,
+    session: &mut Session,
+    command: Result<Command, CommandFault>,
+    sink: &mut W,
+    sent: &mut u64,
+) -> Result<(), Failed>
+    requires room { sent.old + 2 ^ 40 < 2 ^ 64 }
+    requires small { are_small session.old.table ≡ true }
+    ensures replies { Replies session.old command session.new (W.contents sink.old) (W.contents sink.new) sent.old sent.new (is_ok result) }
+    ensures failures { CountsFailure (W.failure_count sink.old) (W.failure_count sink.new) (is_ok result) }
+{
+    match command {
+        Err(fault) => send(sink, sent, fault_line(fault)),
+        Ok(Command::Step) => send_answer(session.step(), sink, sent),
+        Ok(Command::Back) => match session.back() {
+            Ok(at) => send(sink, sent, number_line(b"at", u64::from(at)).as_slice()),
+            Err(fault) => send(sink, sent, refusal_line(fault)),
+        },
+        Ok(Command::Goto(to)) => send_answer(session.goto(to), sink, sent),
+        Ok(Command::On(number)) => send_answer(session.switch(number, true), sink, sent),
+        Ok(Command::Off(number)) => send_answer(session.switch(number, false), sink, sent),
+        Ok(Command::Pixel(x, y)) => match session.pixel(x, y) {
+            Ok(colour) => send(sink, sent, pixel_line(colour).as_slice()),
+            Err(fault) => send(sink, sent, refusal_line(fault)),
+        },
+        Ok(Command::History(x, y)) => send_history(alloc, session, x, y, sink, sent),
+        Ok(Command::State) => send(sink, sent, state_line(session.state()).as_slice()),
+        Ok(Command::Events) => send_events(session.table(), session.position(), sink, sent),
+        Ok(Command::Show) => show(alloc, session, sink, sent),
+        Ok(Command::Quit) => send(sink, sent, b"bye\n"),
+    }
+}
+
+/// Answers a line, and says whether it was a quit.
+pub(crate) fn answer<W: Sink>(
+    alloc: Global,
+    session: &mut Session,
+    line: &[u8],
+    sink: &mut W,
+    sent: &mut u64,
+) -> Result<bool, Failed>
+    requires room { sent.old + 2 ^ 40 < 2 ^ 64 }
+    requires small { are_small session.old.table ≡ true }
+    ensures replies { Replies session.old (command_of line.now) session.new (W.contents sink.old) (W.contents sink.new) sent.old sent.new (is_ok result) }
+    ensures quit { IfOk result (λ quit. IsTrue quit ↔ (command_of line.now ≡ Ok Command.Quit)) }
+    ensures failures { CountsFailure (W.failure_count sink.old) (W.failure_count sink.new) (is_ok result) }
+{
+    let command = read_command(line);
+    reply(alloc, session, command, sink, sent)?;
+    sink.flush()?;
+    Ok(matches!(command, Ok(Command::Quit)))
+}

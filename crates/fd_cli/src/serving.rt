@@ -1,0 +1,82 @@
+//! A run of commands on a capture.
+ghost use Rattle.std.specs.Prelude.{◌≡◌, ◌≤◌, ℕ, List, length, true};
+ghost use Rattle.std.specs.Io.KnownBytes.{Consumes, Appends};
+ghost use Rattle.fd_cli.specs.Limits.{are_small};
+ghost use Rattle.fd_cli.specs.Serving.{Serves, ServesCapture};
+ghost use Rattle.fd_pam.specs.Transfer.{Rises};
+
+use fd_pam::{Sink, Source};
+use crate::ending::Ending;
+use crate::opening::open;
+use crate::progress::{MAX_BYTES, Progress};
+use arrayvec::ArrayVec;
+use fd_events::EventTable;
+use fd_session::Session;
+use std::alloc::Global;
+
+/// Answers the commands that come from the source.
+fn serve_table<R: Source, W: Sink>(
+    alloc: Global,
+    table: EventTable,
+    workers: u32,
+    source: &mut R,
+    sink: &mut W,
+) -> Ending
+    requires workers { (1 ≤ workers) × (workers ≤ 64) }
+    requires small { are_small table ≡ true }
+    ensures serves { (taken : List ℕ) × (written : List ℕ) × Consumes (R.remaining source.old) (R.remaining source.new) taken
+        × Appends (W.contents sink.old) (W.contents sink.new) written
+        × (length taken ≤ 268435457) × Serves table taken written result (R.has_ended source.new) }
+    ensures read { result ≡ Ending.Read → Rises (R.failure_count source.old) (R.failure_count source.new) }
+    ensures write { (sent : ℕ) → result ≡ Ending.Write sent → Rises (W.failure_count sink.old) (W.failure_count sink.new) }
+{
+    let Ok(session) = Session::start(alloc, table, workers) else {
+        return Ending::Memory;
+    };
+    let mut progress = Progress {
+        session,
+        line: ArrayVec::new(),
+        lines: 0,
+        bytes: 0,
+        sent: 0,
+    };
+    let mut buffer = [0u8; 4096];
+    loop {
+        let room = buffer.len().min((MAX_BYTES + 1 - progress.bytes) as usize);
+        let Ok(count) = source.fill(&mut buffer[..room]) else {
+            return Ending::Read;
+        };
+        if count == 0 {
+            return progress.finish(alloc, sink);
+        }
+        if let Err(ending) = progress.take_bytes(alloc, &buffer[..count], sink) {
+            return ending;
+        }
+    }
+}
+
+/// Answers the commands that come from the source, line by line, about a capture.
+///
+/// Each reply is flushed. At most 1,000,000 lines and 268,435,456 bytes are answered, and one byte more is taken at most.
+/// Nothing is taken or written where the capture is refused or memory is wanted for the session.
+pub fn serve<R: Source, W: Sink>(
+    alloc: Global,
+    capture: &[u8],
+    workers: u32,
+    source: &mut R,
+    sink: &mut W,
+) -> Ending
+    requires { (1 ≤ workers) × (workers ≤ 64) }
+    // What was written is what the session machine may answer to the lines that were taken, by how the run ends.
+    ensures serves { (taken : List ℕ) × (written : List ℕ) × Consumes (R.remaining source.old) (R.remaining source.new) taken
+        × Appends (W.contents sink.old) (W.contents sink.new) written
+        × (length taken ≤ 268435457) × ServesCapture capture.now taken written result (R.has_ended source.new) }
+    // The reader or the writer failed only where its count of failures tells so.
+    ensures read { result ≡ Ending.Read → Rises (R.failure_count source.old) (R.failure_count source.new) }
+    ensures write { (sent : ℕ) → result ≡ Ending.Write sent → Rises (W.failure_count sink.old) (W.failure_count sink.new) }
+{
+    match open(alloc, capture) {
+        Ok(table) => serve_table(alloc, table, workers, source, sink),
+        Err(ending) => ending,
+    }
+}

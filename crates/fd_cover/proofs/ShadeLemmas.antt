@@ -1,0 +1,60 @@
+-- The weights of a covered pixel add up to the area, and the rounded quotient is the nearest.
+use Rattle.std.proofs.Common.{◌≡◌, ◌≢◌, ℕ, suc, ◌+◌, ◌*◌, ◌/◌, ◌<◌, ◌≤◌, ℤ, pos, negsuc, ◌+ℤ◌, inl, inr, Bool, true, refl, ◌∙◌, arith, unsigned_abs}
+use Rattle.std.proofs.lemmas.Int.{ints}
+use Rattle.std.proofs.lemmas.Bool.{cases_lt}
+use Rattle.std.proofs.Math.Nat.{mul-le-mul_left}
+use Rattle.fd_snap.specs.Point.{Point}
+use Rattle.fd_cover.specs.declared.triangle.Tri.{Tri}
+use Rattle.fd_cover.specs.Cross.{cross, centre}
+use Rattle.fd_cover.specs.Covers.{covers, admits}
+use Rattle.fd_cover.specs.Shade.{IsNearestLarger, rounded_quotient, area_of, weight_a, weight_b, weight_c}
+use Rattle.fd_cover.proofs.CrossLemmas.{cross-sum, cross-turn}
+use Rattle.fd_cover.proofs.CoverLemmas.{IsPositive, IsNegative, IsAdmitted, is_inclusive, admitted_from, covered_from}
+use borrow.Author.Differences.{up, down}
+
+-- an admitted side lies on the triangle's side or is 0
+side_agrees : (e t : ℤ) (inclusive : Bool) → IsAdmitted e t inclusive → (IsPositive t → down e ≡ 0) × (IsNegative t → up e ≡ 0)
+side_agrees (pos n) t inclusive h = (λ w. refl, λ w. elim h [ inl a ↦ absurd (omega arith) | inr m ↦ elim m [ inl b ↦ absurd (omega arith) | inr on ↦ omega (arith, ints, on.0) ] ])
+side_agrees (negsuc n) t inclusive h = (λ w. elim h [ inl a ↦ absurd (omega arith) | inr m ↦ elim m [ inl b ↦ absurd (omega arith) | inr on ↦ absurd (omega (arith, ints, on.0)) ] ], λ w. refl)
+
+pub admitted_side : (u v c p : Point) (t : ℤ) → cross u v c ≡ t → admits u v c p ≡ true → (IsPositive t → down (cross u v p) ≡ 0) × (IsNegative t → up (cross u v p) ≡ 0)
+unfolding admits
+admitted_side u v c p t same h = side_agrees (cross u v p) t (is_inclusive u v c) (rw same at (admitted_from (cross u v p) (cross u v c) (is_inclusive u v c) h))
+
+-- the sizes of three sides that lie on the side of their sum
+sizes_add : (a b c t : ℤ) → a +ℤ (b +ℤ c) ≡ t → t ≢ pos 0
+    → ((IsPositive t → down a ≡ 0) × (IsNegative t → up a ≡ 0)) → ((IsPositive t → down b ≡ 0) × (IsNegative t → up b ≡ 0)) → ((IsPositive t → down c ≡ 0) × (IsNegative t → up c ≡ 0))
+    → (unsigned_abs b + unsigned_abs c + unsigned_abs a ≡ unsigned_abs t) × (0 < unsigned_abs t)
+sizes_add a b c (pos n) sum apart ha hb hc = (omega (arith, ints, sum, apart, ha.0, hb.0, hc.0), omega (arith, ints, apart))
+sizes_add a b c (negsuc n) sum apart ha hb hc = (omega (arith, ints, sum, ha.1, hb.1, hc.1), omega arith)
+
+pub weights_add : (t : Tri) (x y : ℕ) → covers t x y ≡ true → (weight_a t x y + weight_b t x y + weight_c t x y ≡ area_of t) × (0 < area_of t)
+weights_add t x y h =
+    let covered = covered_from t x y h in
+    sizes_add (cross t.a t.b (centre x y)) (cross t.b t.c (centre x y)) (cross t.c t.a (centre x y)) (cross t.a t.b t.c)
+    (cross-sum t.a t.b t.c (centre x y)) covered.area
+    (admitted_side t.a t.b t.c (centre x y) (cross t.a t.b t.c) refl covered.first)
+    (admitted_side t.b t.c t.a (centre x y) (cross t.a t.b t.c) (cross-turn t.a t.b t.c) covered.second)
+    (admitted_side t.c t.a t.b (centre x y) (cross t.a t.b t.c) (cross-turn t.b t.c t.a ∙ cross-turn t.a t.b t.c) covered.third)
+
+pub rounded_quotient-nearest : (area total : ℕ) → 0 < area → IsNearestLarger area total (rounded_quotient area total)
+rounded_quotient-nearest area total some =
+    nearest_at area total ((2 * total + area) / (2 * area)) (omega arith) (omega arith)
+  where
+    below_step : (area m n : ℕ) → m < n → area * m + area ≤ area * n
+    below_step area m n h = let grown : area * suc m ≤ area * n = mul-le-mul_left area h in omega arith
+
+    nearest_at : (area total q : ℕ) → 2 * (area * q) ≤ 2 * total + area → 2 * total < 2 * (area * q) + area → IsNearestLarger area total q
+    nearest_at area total q low high = record {
+      nearest = λ other. elim (cases_lt other q) [
+        | inl less ↦ omega (arith, below_step area other q less)
+        | inr more ↦ elim (cases_lt q other) [
+          | inl above ↦ omega (arith, below_step area q other above)
+          | inr same ↦ let e : other ≡ q = omega arith in rw e (omega arith)
+        ]
+      ];
+      larger_on_tie = λ other tie. elim (cases_lt q other) [
+        | inl above ↦ absurd (omega (arith, below_step area q other above, tie))
+        | inr same ↦ same
+      ];
+    }

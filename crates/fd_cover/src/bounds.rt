@@ -1,0 +1,106 @@
+ghost use Rattle.std.specs.Prelude.{◌≡◌, ℕ, ℤ, IsTrue};
+ghost use Rattle.fd_cover.specs.Bounds.{is_within, is_empty, HoldsCovered, HoldsBoth, IsSmallest, bounds_of, least, greatest, first_from, past, joined};
+
+use crate::triangle::Tri;
+
+/// A box of pixels: columns from `left` to before `right`, rows from `top` to before `bottom`.
+#[derive(Clone, Copy, Debug, PartialEq, Eq)]
+pub struct Bounds {
+    pub left: u32,
+    pub top: u32,
+    pub right: u32,
+    pub bottom: u32,
+}
+
+/// The least of three coordinates.
+fn least(a: i32, b: i32, c: i32) -> i32
+    ensures { result ≡ least a b c }
+{
+    a.min(b).min(c)
+}
+
+/// The greatest of three coordinates.
+fn greatest(a: i32, b: i32, c: i32) -> i32
+    ensures { result ≡ greatest a b c }
+{
+    a.max(b).max(c)
+}
+
+/// The first pixel whose centre is at a coordinate in 1/256 pixel or after it.
+fn first_from(coordinate: i32) -> u32
+    ensures { result ≡ first_from coordinate }
+{
+    (coordinate.max(0) as u32 + 127) / 256
+}
+
+/// One past the last pixel whose centre is at a coordinate in 1/256 pixel or before it.
+fn past(coordinate: i32) -> u32
+    ensures { result ≡ past coordinate }
+{
+    (coordinate.max(0) as u32 + 128) / 256
+}
+
+impl Bounds {
+    /// No pixel.
+    pub fn empty() -> Bounds
+        ensures { result ≡ record { left = 0; top = 0; right = 0; bottom = 0 } }
+    {
+        Bounds {
+            left: 0,
+            top: 0,
+            right: 0,
+            bottom: 0,
+        }
+    }
+
+    /// The pixels whose centres lie between a triangle's corners, in columns and in rows. The box holds every pixel that the
+    /// triangle covers.
+    #[tactic(auto, unfolding(crate::specs::Bounds::bounds_of))]
+    pub fn of(triangle: &Tri) -> Bounds
+        ensures value { result ≡ bounds_of triangle.now }
+        ensures covered { HoldsCovered result triangle.now }
+    {
+        let (a, b, c) = (triangle.a, triangle.b, triangle.c);
+        Bounds {
+            left: first_from(least(a.x(), b.x(), c.x())),
+            top: first_from(least(a.y(), b.y(), c.y())),
+            right: past(greatest(a.x(), b.x(), c.x())),
+            bottom: past(greatest(a.y(), b.y(), c.y())),
+        }
+    }
+
+    /// Whether the box holds a pixel.
+    pub fn holds(&self, x: u32, y: u32) -> bool
+        ensures { result ≡ is_within self.now x y }
+    {
+        self.left <= x && x < self.right && self.top <= y && y < self.bottom
+    }
+
+    /// Whether the box holds no pixel.
+    pub fn is_empty(&self) -> bool
+        ensures { result ≡ is_empty self.now }
+    {
+        self.right <= self.left || self.bottom <= self.top
+    }
+
+    /// The smallest box that holds both.
+    #[tactic(auto, unfolding(crate::specs::Bounds::joined))]
+    pub fn join(self, other: Bounds) -> Bounds
+        ensures value { result ≡ joined self other }
+        ensures both { HoldsBoth result self other }
+        ensures smallest { IsSmallest result self other }
+    {
+        if self.is_empty() {
+            other
+        } else if other.is_empty() {
+            self
+        } else {
+            Bounds {
+                left: self.left.min(other.left),
+                top: self.top.min(other.top),
+                right: self.right.max(other.right),
+                bottom: self.bottom.max(other.bottom),
+            }
+        }
+    }
+}

@@ -1,0 +1,89 @@
+ghost use Rattle.std.specs.Prelude.{◌≡◌, ◌<◌, ◌≤◌, ◌+◌, ◌*◌, ◌^◌, IsTrue};
+ghost use Rattle.fd_cover.specs.Covers.{covers};
+ghost use Rattle.fd_cover.specs.Shade.{area_of, weight_a, weight_b, weight_c, IsNearestLarger, IsNearestMean, rounded_quotient, colour_of, shaded};
+ghost use Rattle.fd_cover.specs.declared.triangle.TheConstants.{TARGET_LIMIT};
+
+use crate::point::{Point, doubled_area};
+use crate::triangle::{TARGET_LIMIT, Tri};
+use fd_blend::Colour;
+
+/// How a triangle's colour comes from those of its vertices: the first one's, or between the three.
+#[derive(Clone, Copy, Debug, PartialEq, Eq)]
+pub enum Interp {
+    Flat,
+    Linear,
+}
+
+/// For each vertex, twice the area of a pixel's centre with the edge opposite to it.
+#[derive(Clone, Copy)]
+struct Weights {
+    a: u64,
+    b: u64,
+    c: u64,
+    ghost a_small: { a ≤ 2 ^ 47 },
+    ghost b_small: { b ≤ 2 ^ 47 },
+    ghost c_small: { c ≤ 2 ^ 47 },
+    ghost some: { 0 < a + b + c },
+}
+
+impl Weights {
+    /// The weights at a covered pixel.
+    fn at(triangle: &Tri, x: u32, y: u32) -> Weights
+        requires column { x < TARGET_LIMIT }
+        requires row { y < TARGET_LIMIT }
+        requires covered { IsTrue (covers triangle.now x y) }
+        ensures a { result.a ≡ weight_a triangle.now x y }
+        ensures b { result.b ≡ weight_b triangle.now x y }
+        ensures c { result.c ≡ weight_c triangle.now x y }
+        ensures area { result.a + result.b + result.c ≡ area_of triangle.now }
+    {
+        let a = Point::vertex(triangle.a);
+        let b = Point::vertex(triangle.b);
+        let c = Point::vertex(triangle.c);
+        let point = Point::centre(x, y);
+        Weights {
+            a: doubled_area(b, c, point),
+            b: doubled_area(c, a, point),
+            c: doubled_area(a, b, point),
+        }
+    }
+
+    /// The weighted mean of three channels, rounded to the nearest byte, up at a half.
+    ///
+    /// Each weight is at most 2^47, so the doubled sum of their products with bytes stays below 2^58 and fits 64 bits.
+    fn mean(self, a: u8, b: u8, c: u8) -> u8
+        ensures value { result ≡ rounded_quotient (self.a + self.b + self.c) (self.a * a + self.b * b + self.c * c) }
+        ensures nearest { IsNearestLarger (self.a + self.b + self.c) (self.a * a + self.b * b + self.c * c) result }
+    {
+        let area = self.a + self.b + self.c;
+        let total = self.a * u64::from(a) + self.b * u64::from(b) + self.c * u64::from(c);
+        ((2 * total + area) / (2 * area)) as u8
+    }
+}
+
+/// The source colour of a triangle at a covered pixel, from the colours of its vertices.
+///
+/// Linear: each channel is the mean of the vertices' channels, each by the area of the pixel's centre with the opposite edge,
+/// rounded to the nearest byte, the larger on a tie.
+#[tactic(auto, unfolding(crate::specs::Shade::shaded))]
+pub fn shade(triangle: &Tri, colours: &[Colour; 3], interp: Interp, x: u32, y: u32) -> Colour
+    requires column { x < TARGET_LIMIT }
+    requires row { y < TARGET_LIMIT }
+    requires covered { IsTrue (covers triangle.now x y) }
+    ensures value { result ≡ shaded triangle.now interp (colour_of colours.now 0) (colour_of colours.now 1) (colour_of colours.now 2) x y }
+    ensures linear { interp ≡ Interp.Linear → IsNearestMean triangle.now (colour_of colours.now 0) (colour_of colours.now 1) (colour_of colours.now 2) x y result }
+{
+    let [a, b, c] = *colours;
+    match interp {
+        Interp::Flat => a,
+        Interp::Linear => {
+            let weights = Weights::at(triangle, x, y);
+            Colour {
+                r: weights.mean(a.r, b.r, c.r),
+                g: weights.mean(a.g, b.g, c.g),
+                b: weights.mean(a.b, b.b, c.b),
+                a: weights.mean(a.a, b.a, c.a),
+            }
+        }
+    }
+}

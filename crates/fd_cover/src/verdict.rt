@@ -1,0 +1,110 @@
+ghost use Rattle.std.specs.Prelude.{◌≡◌, ◌<◌, ℤ};
+ghost use Rattle.fd_cover.specs.Cross.{cross};
+ghost use Rattle.fd_cover.specs.Verdict.{is_front, is_dropped, is_in_range, holds, verdict_at};
+ghost use Rattle.fd_cover.specs.declared.triangle.TheConstants.{TARGET_LIMIT};
+
+use crate::coverage::covers;
+use crate::point::{Point, cross};
+use crate::triangle::{TARGET_LIMIT, Tri};
+
+/// Which triangles are dropped by the way they face: none, the front-facing or the back-facing ones.
+#[derive(Clone, Copy, Debug, PartialEq, Eq)]
+pub enum Cull {
+    None,
+    Front,
+    Back,
+}
+
+/// The raster state. Clockwise triangles are front-facing, or with `front_ccw` counter-clockwise ones.
+#[derive(Clone, Copy, Debug, PartialEq, Eq)]
+pub struct Raster {
+    pub cull: Cull,
+    pub front_ccw: bool,
+    pub scissor: bool,
+}
+
+/// A scissor rectangle in pixels. Right and bottom are exclusive; with left >= right or top >= bottom it holds no pixel.
+#[derive(Clone, Copy, Debug, PartialEq, Eq)]
+pub struct Rect {
+    pub left: i32,
+    pub top: i32,
+    pub right: i32,
+    pub bottom: i32,
+}
+
+/// What becomes of a triangle at a pixel: not covered, dropped by the way it faces, outside the scissor rectangle, or drawn.
+#[derive(Clone, Copy, Debug, PartialEq, Eq)]
+pub enum Verdict {
+    Missed,
+    Culled,
+    Scissored,
+    Drawn,
+}
+
+/// Whether a pixel coordinate is at least `low` and below `high`.
+fn is_in_range(low: i32, high: i32, coordinate: u32) -> bool
+    ensures { result ≡ is_in_range low high coordinate }
+{
+    let coordinate = i64::from(coordinate);
+    i64::from(low) <= coordinate && coordinate < i64::from(high)
+}
+
+impl Rect {
+    /// Whether the rectangle holds a pixel.
+    fn holds(&self, x: u32, y: u32) -> bool
+        ensures { result ≡ holds self.now x y }
+    {
+        is_in_range(self.left, self.right, x) && is_in_range(self.top, self.bottom, y)
+    }
+}
+
+impl Raster {
+    /// Whether a triangle of this signed area is front-facing.
+    fn is_front(&self, area: i64) -> bool
+        ensures { result ≡ is_front self.now area }
+    {
+        if self.front_ccw { area < 0 } else { 0 < area }
+    }
+
+    /// Whether a triangle of this signed area is culled.
+    fn drops(&self, area: i64) -> bool
+        ensures { result ≡ is_dropped self.now area }
+    {
+        match self.cull {
+            Cull::None => false,
+            Cull::Front => self.is_front(area),
+            Cull::Back => !self.is_front(area),
+        }
+    }
+}
+
+/// What becomes of a triangle at a pixel: the first verdict that applies, in their order.
+///
+/// Direct3D 11.3 functional specification, section 15, culling and scissor test.
+#[tactic(auto, unfolding(crate::specs::Verdict::verdict_at))]
+pub fn verdict_at(triangle: &Tri, raster: &Raster, rect: &Rect, x: u32, y: u32) -> Verdict
+    requires column { x < TARGET_LIMIT }
+    requires row { y < TARGET_LIMIT }
+    ensures { result ≡ verdict_at triangle.now raster.now rect.now x y }
+{
+    if !covers(triangle, x, y) {
+        Verdict::Missed
+    } else if raster.drops(area(triangle)) {
+        Verdict::Culled
+    } else if raster.scissor && !rect.holds(x, y) {
+        Verdict::Scissored
+    } else {
+        Verdict::Drawn
+    }
+}
+
+/// Twice the triangle's signed area.
+fn area(triangle: &Tri) -> i64
+    ensures { result ≡ cross triangle.now.a triangle.now.b triangle.now.c }
+{
+    cross(
+        Point::vertex(triangle.a),
+        Point::vertex(triangle.b),
+        Point::vertex(triangle.c),
+    )
+}

@@ -1,0 +1,4 @@
+pub mod Flat
+pub mod Primitive
+pub mod Row
+pub mod Span

@@ -1,0 +1,6 @@
+pub mod DrawLemmas
+pub mod States
+pub mod Flags
+pub mod Images
+pub mod Triangles
+pub mod BoundsLemmas

@@ -1,0 +1,9 @@
+pub mod Indices
+pub mod Draw
+pub mod Bounds
+pub mod Label
+pub mod Opaque
+pub mod Pipeline
+pub mod Table
+pub mod Image
+pub mod Laws

@@ -1,0 +1,110 @@
+ghost use Rattle.std.specs.Prelude.{◌≡◌, ◌<◌, length, Some, option_map, slice_get};
+
+use crate::list::TriangleList;
+use fd_blend::Colour;
+use fd_cover::{Bounds, Interp, Tri};
+use fd_snap::Pos;
+use std::marker::Model;
+use thiserror::Error;
+
+/// The most vertices that a draw has.
+pub const MAX_VERTICES: usize = 196_608;
+
+/// The most indices that a draw has.
+pub const MAX_INDICES: usize = 196_608;
+
+/// A corner of a triangle: its position as the capture gives it, and its colour.
+#[derive(Clone, Copy, PartialEq, Eq, Debug)]
+pub struct Vertex {
+    pub pos: Pos,
+    pub colour: Colour,
+}
+
+/// Why there is no draw. The faults are checked in this order.
+#[derive(Clone, Copy, PartialEq, Eq, Debug, Error)]
+pub enum DrawFault {
+    /// There are more than `MAX_VERTICES` vertices.
+    #[error("too many vertices")]
+    Vertices,
+    /// There are more than `MAX_INDICES` indices.
+    #[error("too many indices")]
+    Indices,
+    /// An index names no vertex, also one that is left over.
+    #[error("an index of no vertex")]
+    IndexRange,
+}
+
+/// A list of triangles, numbered from 0: each three vertices, or the three vertices that each three indices name.
+/// One or two that are left over are dropped.
+#[derive(Debug, Drop)]
+pub struct Draw {
+    list: TriangleList,
+    bounds: Bounds,
+}
+
+impl Model for Draw {
+    ghost use Rattle.fd_events.specs.Bounds.{IsRound};
+    ghost use Rattle.fd_events.specs.Draw.{DrawList, triangles_of};
+
+    ghost Value = { DrawList };
+
+    ghost view = { λ d. d.list };
+
+    ghost invariant = { λ d. IsRound d.bounds (triangles_of d.list) };
+}
+
+impl Draw {
+    ghost use Rattle.fd_events.specs.Bounds.{HoldsTriangles, bounds_of_triangles};
+    ghost use Rattle.fd_events.specs.Draw.{made, triangles_of};
+
+    /// A draw of these vertices and indices, which are dropped on a refusal.
+    pub fn new(
+        vertices: Vec<Vertex>,
+        indices: Option<Vec<u32>>,
+        interp: Interp,
+    ) -> Result<Draw, DrawFault>
+        ensures { result ≡ made vertices.items (option_map (λ v. v.items) indices) interp }
+    {
+        let list = TriangleList::new(vertices, indices, interp)?;
+        let bounds = list.bounds();
+        Ok(Draw { list, bounds })
+    }
+
+    /// The number of triangles.
+    pub fn triangles(&self) -> u32
+        ensures { result ≡ length (triangles_of self.now) }
+    {
+        self.list.len()
+    }
+
+    /// The corners of a triangle, snapped to 1/256 pixel.
+    pub fn tri(&self, triangle: u32) -> Tri
+        requires { triangle < length (triangles_of self.now) }
+        ensures { option_map (λ t. t.corners) (slice_get (triangles_of self.now) triangle) ≡ Some result }
+    {
+        self.list.tri(triangle)
+    }
+
+    /// The colours of a triangle's corners, in the order of `tri`.
+    pub fn colours(&self, triangle: u32) -> [Colour; 3]
+        requires { triangle < length (triangles_of self.now) }
+        ensures { option_map (λ t. t.colours) (slice_get (triangles_of self.now) triangle) ≡ Some result }
+    {
+        self.list.colours(triangle)
+    }
+
+    /// How a triangle's colour comes from those of its corners.
+    pub fn interp(&self) -> Interp
+        ensures { result ≡ self.now.interp }
+    {
+        self.list.interp()
+    }
+
+    /// The box round the triangles, which holds every pixel that one of them covers.
+    pub fn bounds(&self) -> Bounds
+        ensures value { result ≡ bounds_of_triangles (triangles_of self.now) }
+        ensures covered { HoldsTriangles result (triangles_of self.now) }
+    {
+        self.bounds
+    }
+}

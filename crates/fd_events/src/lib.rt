@@ -1,0 +1,18 @@
+//! The events of a captured frame, the pipeline states that they make, and what they draw.
+#![tactic(auto)]
+
+pub use draw::{Draw, DrawFault, MAX_INDICES, MAX_VERTICES, Vertex};
+pub use event::Event;
+pub use label::{Label, LabelFault, MAX_LABEL_LEN};
+pub use pipeline::Pipeline;
+pub use table::{EventTable, MAX_EVENTS, MAX_SIDE, TableFault};
+
+mod draw;
+mod event;
+mod label;
+pub mod laws;
+mod list;
+mod pipeline;
+mod table;
+#[cfg(test)]
+mod tests;

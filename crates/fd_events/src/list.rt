@@ -1,0 +1,165 @@
+ghost use Rattle.std.specs.Prelude.{◌≡◌, ◌≤◌, ◌<◌, length, Some, option_map, slice_get, nat_lt};
+ghost use Rattle.std.specs.List.{list_all};
+ghost use Rattle.fd_events.specs.Indices.{has_too_many, are_in_range};
+
+use crate::draw::{DrawFault, MAX_INDICES, MAX_VERTICES, Vertex};
+use fd_blend::Colour;
+use fd_cover::{Bounds, Interp, Tri};
+use fd_snap::snap;
+use std::marker::Model;
+
+fn has_too_many(indices: &Option<Vec<u32>>) -> bool
+    ensures { result ≡ has_too_many (option_map (λ v. v.items) indices.now) }
+{
+    match indices {
+        None => false,
+        Some(indices) => indices.len() > MAX_INDICES,
+    }
+}
+
+fn are_below(indices: &[u32], count: usize) -> bool
+    ensures { result ≡ list_all (λ index. nat_lt index count) indices.now }
+{
+    indices.iter().all(|index| (*index as usize) < count)
+}
+
+fn are_in_range(indices: &Option<Vec<u32>>, count: usize) -> bool
+    ensures { result ≡ are_in_range count (option_map (λ v. v.items) indices.now) }
+{
+    match indices {
+        None => true,
+        Some(indices) => are_below(indices, count),
+    }
+}
+
+/// The triangles of a draw, by their vertices or by indices of vertices.
+#[derive(Debug, Drop)]
+pub(crate) struct TriangleList {
+    vertices: Vec<Vertex>,
+    indices: Option<Vec<u32>>,
+    interp: Interp,
+}
+
+impl Model for TriangleList {
+    ghost use Rattle.std.specs.Prelude.{◌≡◌, Ok, option_map};
+    ghost use Rattle.fd_events.specs.Draw.{DrawList, draw_of, made};
+
+    ghost Value = { DrawList };
+
+    ghost view = { λ d. draw_of d.vertices.items (option_map (λ v. v.items) d.indices) d.interp };
+
+    ghost invariant = { λ d.
+        made d.vertices.items (option_map (λ v. v.items) d.indices) d.interp
+        ≡ Ok (draw_of d.vertices.items (option_map (λ v. v.items) d.indices) d.interp) };
+}
+
+impl TriangleList {
+    ghost use Rattle.fd_events.specs.Bounds.{IsRound};
+    ghost use Rattle.fd_events.specs.Draw.{made, listed, triangle_of, triangles_of};
+    ghost use Rattle.fd_events.specs.declared.draw.TheConstants.{MAX_VERTICES};
+
+    /// The triangles of these vertices and indices, which are dropped on a refusal.
+    pub(crate) fn new(
+        vertices: Vec<Vertex>,
+        indices: Option<Vec<u32>>,
+        interp: Interp,
+    ) -> Result<TriangleList, DrawFault>
+        ensures { result ≡ made vertices.items (option_map (λ v. v.items) indices) interp }
+    {
+        if vertices.len() > MAX_VERTICES {
+            return Err(DrawFault::Vertices);
+        }
+        if has_too_many(&indices) {
+            return Err(DrawFault::Indices);
+        }
+        if !are_in_range(&indices, vertices.len()) {
+            return Err(DrawFault::IndexRange);
+        }
+        Ok(TriangleList {
+            vertices,
+            indices,
+            interp,
+        })
+    }
+
+    /// The number of corners, those included that are left over.
+    fn corner_count(&self) -> usize
+        ensures value { result ≡ length (listed self.now) }
+        ensures max { result ≤ MAX_VERTICES }
+    {
+        match &self.indices {
+            None => self.vertices.len(),
+            Some(indices) => indices.len(),
+        }
+    }
+
+    /// The vertex at a corner.
+    fn vertex(&self, corner: usize) -> Vertex
+        requires { corner < length (listed self.now) }
+        ensures { slice_get (listed self.now) corner ≡ Some result }
+    {
+        match &self.indices {
+            None => self.vertices[corner],
+            Some(indices) => self.vertices[indices[corner] as usize],
+        }
+    }
+
+    /// The vertices of a triangle.
+    fn corners(&self, triangle: u32) -> (Vertex, Vertex, Vertex)
+        requires { triangle < length (triangles_of self.now) }
+        ensures { slice_get (triangles_of self.now) triangle ≡ Some (triangle_of result.0 result.1 result.2) }
+    {
+        let first = 3 * triangle as usize;
+        (
+            self.vertex(first),
+            self.vertex(first + 1),
+            self.vertex(first + 2),
+        )
+    }
+
+    /// The number of triangles.
+    pub(crate) fn len(&self) -> u32
+        ensures { result ≡ length (triangles_of self.now) }
+    {
+        (self.corner_count() / 3) as u32
+    }
+
+    /// The corners of a triangle, snapped to 1/256 pixel.
+    pub(crate) fn tri(&self, triangle: u32) -> Tri
+        requires { triangle < length (triangles_of self.now) }
+        ensures { option_map (λ t. t.corners) (slice_get (triangles_of self.now) triangle) ≡ Some result }
+    {
+        let (a, b, c) = self.corners(triangle);
+        Tri {
+            a: snap(a.pos),
+            b: snap(b.pos),
+            c: snap(c.pos),
+        }
+    }
+
+    /// The colours of a triangle's corners, in the order of `tri`.
+    pub(crate) fn colours(&self, triangle: u32) -> [Colour; 3]
+        requires { triangle < length (triangles_of self.now) }
+        ensures { option_map (λ t. t.colours) (slice_get (triangles_of self.now) triangle) ≡ Some result }
+    {
+        let (a, b, c) = self.corners(triangle);
+        [a.colour, b.colour, c.colour]
+    }
+
+    pub(crate) fn interp(&self) -> Interp
+        ensures { result ≡ self.now.interp }
+    {
+        self.interp
+    }
+
+    /// The box round the triangles, which holds every pixel that one of them covers.
+    pub(crate) fn bounds(&self) -> Bounds
+        ensures { IsRound result (triangles_of self.now) }
+    {
+        let mut bounds = Bounds::empty();
+        for triangle in 0..self.len() {
+            bounds = bounds.join(Bounds::of(&self.tri(triangle)));
+        }
+        bounds
+    }
+}

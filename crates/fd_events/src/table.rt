@@ -1,0 +1,175 @@
+ghost use Rattle.std.specs.Prelude.{◌≡◌, ◌≤◌, ◌+◌, ◌-◌, length, ℕ, Some, slice_get, if◌then◌else◌};
+ghost use Rattle.fd_events.specs.Pipeline.{state_after};
+ghost use Rattle.fd_events.specs.Table.{state_of};
+ghost use Rattle.fd_events.specs.declared.table.TableFault.TheVariants.{Memory};
+
+use crate::event::Event;
+use crate::pipeline::Pipeline;
+use std::alloc::{AllocError, Global};
+use std::marker::Model;
+use thiserror::Error;
+
+/// The most pixels that a target has each way.
+pub const MAX_SIDE: u32 = 2048;
+
+/// The most events that a frame has.
+pub const MAX_EVENTS: u32 = 65536;
+
+/// Why there is no table. Size is checked first, then the number of events, then memory.
+#[derive(Clone, Copy, PartialEq, Eq, Debug, Error)]
+pub enum TableFault {
+    /// Memory ran out.
+    #[error("memory")]
+    Memory,
+    /// The width or the height is not from 1 to `MAX_SIDE`.
+    #[error("size")]
+    Size,
+    /// There are more than `MAX_EVENTS` events.
+    #[error("too many events")]
+    TooMany,
+}
+
+impl From<AllocError> for TableFault {
+    ghost from_gives = { λ _ fault. fault ≡ Memory };
+
+    fn from(_refused: AllocError) -> TableFault {
+        TableFault::Memory
+    }
+}
+
+/// The state after an event that may be switched off.
+fn state_past(event: &Event, on: bool, state: Pipeline) -> Pipeline
+    ensures { result ≡ (if on then state_after event.now state else state) }
+{
+    if on { state.after(event) } else { state }
+}
+
+/// Computes the states after a position anew.
+fn recompute(events: &[Event], flags: &[bool], states: &mut [Pipeline], position: usize)
+    requires flags { length flags.now ≡ length events.now }
+    requires states { length states.old ≡ length events.now + 1 }
+    requires within { position ≤ length events.now }
+    requires before { (k : ℕ) → k ≤ position → slice_get states.old k ≡ Some (state_of events.now flags.now k) }
+    ensures { (k : ℕ) → k ≤ length events.now → slice_get states.new k ≡ Some (state_of events.now flags.now k) }
+{
+    for k in position..events.len() {
+        states[k + 1] = state_past(&events[k], flags[k], states[k]);
+    }
+}
+
+/// A target's size and the events of a frame, numbered from 1, each switched on or off.
+#[derive(Debug, Drop)]
+pub struct EventTable {
+    width: u32,
+    height: u32,
+    events: Vec<Event>,
+    flags: Vec<bool>,
+    // the state before each event, and the one after the last
+    states: Vec<Pipeline>,
+}
+
+impl Model for EventTable {
+    ghost use Rattle.fd_events.specs.Table.{Table, table_of, IsTable, HasStates};
+
+    ghost Value = { Table };
+
+    ghost view = { λ t. table_of t.width t.height t.events.items t.flags.items };
+
+    ghost invariant = { λ t.
+        IsTable (table_of t.width t.height t.events.items t.flags.items)
+        × HasStates (table_of t.width t.height t.events.items t.flags.items) t.states.items };
+}
+
+impl EventTable {
+    ghost use Rattle.std.specs.Prelude.{◌≡◌, ◌≤◌, ◌+◌, ◌-◌, length, Some};
+    ghost use Rattle.fd_events.specs.Table.{IsTable, started, UnlessMemory, event_at, flag_at, state_at, with_flag};
+
+    /// A table of these events, all switched on. They are dropped on a refusal.
+    pub fn start(
+        alloc: Global,
+        width: u32,
+        height: u32,
+        events: Vec<Event>,
+    ) -> Result<EventTable, TableFault>
+        ensures exact { UnlessMemory result (started width height events.items) }
+    {
+        if !(1..=MAX_SIDE).contains(&width) || !(1..=MAX_SIDE).contains(&height) {
+            return Err(TableFault::Size);
+        }
+        if events.len() > MAX_EVENTS as usize {
+            return Err(TableFault::TooMany);
+        }
+        let flags = vec![in alloc; true; events.len()]?;
+        let mut states = vec![in alloc; Pipeline::default(); events.len() + 1]?;
+        recompute(&events, &flags, &mut states, 0);
+        Ok(EventTable {
+            width,
+            height,
+            events,
+            flags,
+            states,
+        })
+    }
+
+    /// The number of events.
+    pub fn len(&self) -> u32
+        ensures value { result ≡ length self.now.events }
+        ensures table { IsTable self.now }
+    {
+        self.events.len() as u32
+    }
+
+    /// The width of the target.
+    pub fn width(&self) -> u32
+        ensures value { result ≡ self.now.width }
+        ensures table { IsTable self.now }
+    {
+        self.width
+    }
+
+    /// The height of the target.
+    pub fn height(&self) -> u32
+        ensures value { result ≡ self.now.height }
+        ensures table { IsTable self.now }
+    {
+        self.height
+    }
+
+    /// The event of this number.
+    pub fn event(&self, number: u32) -> &Event
+        requires first { 1 ≤ number }
+        requires last { number ≤ length self.now.events }
+        ensures { event_at self.now number ≡ Some result.now }
+    {
+        &self.events[number as usize - 1]
+    }
+
+    /// Whether the event of this number is switched on.
+    pub fn is_on(&self, number: u32) -> bool
+        requires first { 1 ≤ number }
+        requires last { number ≤ length self.now.events }
+        ensures { flag_at self.now number ≡ Some result }
+    {
+        self.flags[number as usize - 1]
+    }
+
+    /// The state before the event of this number, or after the last event.
+    pub fn state_before(&self, number: u32) -> &Pipeline
+        requires first { 1 ≤ number }
+        requires last { number ≤ length self.now.events + 1 }
+        ensures { result.now ≡ state_at self.now (number - 1) }
+    {
+        &self.states[number as usize - 1]
+    }
+
+    /// Switches the event of this number on or off, and computes the states after it anew.
+    pub fn set_on(&mut self, number: u32, on: bool)
+        requires first { 1 ≤ number }
+        requires last { number ≤ length self.old.events }
+        ensures { self.new ≡ with_flag self.old number on }
+    {
+        let index = number as usize - 1;
+        self.flags[index] = on;
+        recompute(&self.events, &self.flags, &mut self.states, index);
+    }
+}

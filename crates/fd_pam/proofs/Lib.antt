@@ -1,0 +1,2 @@
+pub mod Pams
+pub mod Transfers

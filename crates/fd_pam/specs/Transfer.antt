@@ -1,0 +1,46 @@
+-- What moves between the program and its reader and writer.
+use Rattle.std.specs.Prelude.{◌≡◌, ℕ, ◌+◌, ◌-◌, ◌^◌, ◌<◌, ◌≤◌, List, [], ◌++◌, Option, Result, Ok, Err, Bool, true, false, length, take, ◌⊎◌, ◌||◌, ◌&&◌, ◌==◌, nat_lt}
+use Rattle.std.specs.Io.KnownBytes.{Consumes, Appends, Keeps}
+use Rattle.fd_pam.specs.declared.writer.PamFault.{PamFault}
+use Rattle.fd_pam.specs.declared.writer.PamFault.TheVariants.{Memory, Write}
+
+-- A failure count rose, or stands at its largest value.
+abbrev pub Rises : ℕ → ℕ → Type 0
+Rises old new = (old < new) ⊎ (new ≡ 2 ^ 64 - 1)
+
+-- Only a failure changes the count, and it raises it.
+abbrev pub CountsFailure : ℕ → ℕ → Bool → Type 0
+CountsFailure old new true = new ≡ old
+CountsFailure old new false = Rises old new
+
+-- A fill gives a front of the bytes still to come, and none where it fails. The end is a fill that had room and gave none.
+abbrev pub Fills : {E : Type 0} → Option (List ℕ) → Option (List ℕ) → Bool → Bool → List ℕ → Result ℕ E → Type 0
+Fills old new ended_old ended_new buffer (Ok n) =
+    (n ≤ length buffer) × Consumes old new (take n buffer) × (ended_new ≡ (ended_old || (n == 0 && nat_lt 0 (length buffer))))
+Fills old new ended_old ended_new buffer (Err e) = Keeps old new × (ended_new ≡ ended_old)
+
+-- A put appends a front of the bytes that is not empty where they are not, and nothing where it fails.
+abbrev pub Takes : {E : Type 0} → Option (List ℕ) → Option (List ℕ) → List ℕ → Result ℕ E → Type 0
+Takes old new bytes (Ok n) = (n ≤ length bytes) × (0 < length bytes → 0 < n) × Appends old new (take n bytes)
+Takes old new bytes (Err e) = Keeps old new
+
+-- The sink took a front of the text, all of it where the call succeeded, and the count of bytes sent grew by its length.
+pub record Puts (old new : Option (List ℕ)) (sent_old sent_new : ℕ) (text : List ℕ) (ok : Bool) : Type 0 where
+  pub taken : List ℕ
+  pub left : List ℕ
+  pub whole : text ≡ taken ++ left
+  pub appended : Appends old new taken
+  pub counted : sent_new ≡ sent_old + length taken
+  pub all : ok ≡ true → left ≡ []
+
+-- What a writer of a text did: it sent all of it; or its first bytes, `sent` of them and not all; or none, as memory was wanted first.
+abbrev pub Writes : Option (List ℕ) → Option (List ℕ) → List ℕ → Result (Unit {0}) PamFault → Type 0
+Writes old new text (Ok done) = Appends old new text
+Writes old new text (Err (Write sent)) = (sent < length text) × Appends old new (take sent text)
+Writes old new text (Err Memory) = Keeps old new
+
+-- Only a write fault changes the sink's failure count, and it raises it.
+abbrev pub CountsWrite : ℕ → ℕ → Result (Unit {0}) PamFault → Type 0
+CountsWrite old new (Ok done) = new ≡ old
+CountsWrite old new (Err (Write sent)) = Rises old new
+CountsWrite old new (Err Memory) = new ≡ old

@@ -1,0 +1,148 @@
+ghost use Rattle.std.specs.Prelude.{◌≡◌, ◌≢◌, ◌<◌, ◌≤◌, ◌+◌, ◌*◌, ◌^◌, ◌++◌, ℕ, List, length, IfOk, OnOk, OnErr, Err, string_bytes, is_ok, false};
+ghost use Rattle.std.specs.Io.KnownBytes.{Appends};
+ghost use Rattle.fd_pam.specs.Pam.{header, pam_len, tuples, pam};
+ghost use Rattle.fd_pam.specs.Transfer.{Puts, Writes, CountsFailure, CountsWrite};
+
+use crate::device::{Failed, Sink, send};
+use arrayvec::ArrayVec;
+use fd_session::Session;
+use itoa::Buffer;
+use std::alloc::{AllocError, Global};
+use thiserror::Error;
+
+/// Why an image was not written.
+#[derive(Clone, Copy, Debug, PartialEq, Eq, Error)]
+pub enum PamFault {
+    /// Memory was wanted before the first byte.
+    #[error("memory")]
+    Memory,
+    /// The sink failed after this many bytes.
+    #[error("write fault after {sent} bytes")]
+    Write { sent: u64 },
+}
+
+/// The bytes of the header's words and line feeds.
+const HEADER_WORDS_LEN: u64 = 63;
+
+/// The bytes that are gathered before they are put.
+const CHUNK_LEN: usize = 4096;
+
+/// A chunk that is longer has no room for another tuple.
+const FULL_CHUNK_LEN: usize = CHUNK_LEN - 4;
+
+/// How many decimal digits a number has.
+fn digit_count(number: u32) -> u64
+    ensures value { result ≡ length (decimal number) }
+    ensures short { result ≤ 40 }
+{
+    Buffer::new().format(number).len() as u64
+}
+
+ghost use Rattle.std.specs.Prelude.{decimal};
+
+/// The length of the whole file of an image of this size.
+pub fn pam_len(width: u32, height: u32) -> u64
+    requires { (width ≤ 16384) × (height ≤ 16384) }
+    ensures { result ≡ pam_len width height }
+{
+    HEADER_WORDS_LEN
+        + digit_count(width)
+        + digit_count(height)
+        + 4 * u64::from(width) * u64::from(height)
+}
+
+/// The header of an image of this size.
+pub fn header(alloc: Global, width: u32, height: u32) -> Result<String, AllocError>
+    ensures { IfOk result (λ text. string_bytes text ≡ header width height) }
+{
+    format!(in alloc;
+        "P7\nWIDTH {width}\nHEIGHT {height}\nDEPTH 4\nMAXVAL 255\nTUPLTYPE RGB_ALPHA\nENDHDR\n"
+    )
+}
+
+/// Sends the chunk where it has no room for another tuple.
+fn make_room<W: Sink>(
+    chunk: &mut ArrayVec<u8, CHUNK_LEN>,
+    sink: &mut W,
+    sent: &mut u64,
+) -> Result<(), Failed>
+    requires { sent.old + length chunk.old.items < 2 ^ 64 }
+    ensures ok { OnOk result ((gone : List ℕ) × (chunk.old.items ≡ gone ++ chunk.new.items) × (length chunk.new.items ≤ 4092)
+        × Appends (W.contents sink.old) (W.contents sink.new) gone × (sent.new ≡ sent.old + length gone)) }
+    ensures err { OnErr result (Puts (W.contents sink.old) (W.contents sink.new) sent.old sent.new chunk.old.items false) }
+    ensures cut { OnErr result (sent.new < sent.old + length chunk.old.items) }
+    ensures failures { CountsFailure (W.failure_count sink.old) (W.failure_count sink.new) (is_ok result) }
+{
+    if chunk.len() <= FULL_CHUNK_LEN {
+        return Ok(());
+    }
+    send(sink, sent, chunk.as_slice())?;
+    chunk.clear();
+    Ok(())
+}
+
+/// Sends the tuples of the image that the session shows, row by row.
+fn send_tuples<W: Sink>(session: &Session, sink: &mut W, sent: &mut u64) -> Result<(), Failed>
+    requires { sent.old + 16777216 < 2 ^ 64 }
+    ensures puts { Puts (W.contents sink.old) (W.contents sink.new) sent.old sent.new (tuples session.now) (is_ok result) }
+    ensures cut { OnErr result (sent.new < sent.old + length (tuples session.now)) }
+    ensures failures { CountsFailure (W.failure_count sink.old) (W.failure_count sink.new) (is_ok result) }
+{
+    let width = session.table().width();
+    let height = session.table().height();
+    let mut chunk = ArrayVec::new();
+    for y in 0..height {
+        for x in 0..width {
+            make_room(&mut chunk, sink, sent)?;
+            let colour = session.pixel(x, y).unwrap();
+            let tuple = [colour.r, colour.g, colour.b, colour.a];
+            chunk.try_extend_from_slice(&tuple).unwrap();
+        }
+    }
+    send(sink, sent, chunk.as_slice())
+}
+
+/// Sends the header and then the tuples.
+fn send_pam<W: Sink>(
+    header: &str,
+    session: &Session,
+    sink: &mut W,
+    sent: &mut u64,
+) -> Result<(), Failed>
+    requires { sent.old + length header.now + 16777216 < 2 ^ 64 }
+    ensures puts { Puts (W.contents sink.old) (W.contents sink.new) sent.old sent.new (header.now ++ tuples session.now) (is_ok result) }
+    ensures cut { OnErr result (sent.new < sent.old + length (header.now ++ tuples session.now)) }
+    ensures failures { CountsFailure (W.failure_count sink.old) (W.failure_count sink.new) (is_ok result) }
+{
+    send(sink, sent, header.as_bytes())?;
+    send_tuples(session, sink, sent)
+}
+
+/// Writes the tuples of the image that the session shows, without the header.
+pub fn write_body<W: Sink>(sink: &mut W, session: &Session) -> Result<(), PamFault>
+    ensures bytes { Writes (W.contents sink.old) (W.contents sink.new) (tuples session.now) result }
+    ensures failures { CountsWrite (W.failure_count sink.old) (W.failure_count sink.new) result }
+    ensures no_memory { result ≢ Err PamFault.Memory }
+{
+    let mut sent = 0;
+    match send_tuples(session, sink, &mut sent) {
+        Ok(()) => Ok(()),
+        Err(Failed) => Err(PamFault::Write { sent }),
+    }
+}
+
+/// Writes the image that the session shows, with its header.
+pub fn write<W: Sink>(alloc: Global, sink: &mut W, session: &Session) -> Result<(), PamFault>
+    ensures bytes { Writes (W.contents sink.old) (W.contents sink.new) (pam session.now) result }
+    ensures failures { CountsWrite (W.failure_count sink.old) (W.failure_count sink.new) result }
+{
+    let table = session.table();
+    let Ok(header) = header(alloc, table.width(), table.height()) else {
+        return Err(PamFault::Memory);
+    };
+    let mut sent = 0;
+    match send_pam(&header, session, sink, &mut sent) {
+        Ok(()) => Ok(()),
+        Err(Failed) => Err(PamFault::Write { sent }),
+    }
+}

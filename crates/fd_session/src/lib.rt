@@ -1,0 +1,11 @@
+//! A session of the debugger: a frame at a position, stepped forward and back.
+#![tactic(auto)]
+
+pub use answer::{Answer, SessionFault};
+pub use session::Session;
+
+mod answer;
+mod images;
+mod session;
+#[cfg(test)]
+mod tests;
