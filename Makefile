@@ -1,5 +1,5 @@
 # make demo   builds framedbg and replays the sample capture: the replies, and an image in demo.pam (demo.png where netpbm is installed)
-# make test   the gate: every proof from nothing, the must-fail edits, the tests and the programs
+# make test   reads the examples with netpbm and checks the guide, and then the gate: every proof from nothing, the must-fail edits, the tests, the programs
 
 PROGRAM := crates/framedbg/out/framedbg
 SAMPLE := examples/house.json
@@ -18,5 +18,6 @@ demo: program
 	else echo "demo.pam: written (install netpbm to see it as demo.png)"; fi
 
 test:
-	rt ci
+	tools/check_guide
 	tools/check_images
+	rt ci
