@@ -1,17 +1,14 @@
 -- What one byte of input does, at each way out.
-use Rattle.std.proofs.Common.{◌≡◌, ◌≢◌, ℕ, ◌+◌, ◌-◌, ◌*◌, ◌<◌, ◌≤◌, List, [], ◌∷◌, ◌++◌, ◌⊎◌, length, take, Option, Bool, true, false, Result, Ok, Err, refl, sym, ap, ◌∙◌, arith, subst, append_assoc, append-nil, length-append, inl, inr, codes}
+use Rattle.std.proofs.Common.{◌≡◌, ◌≢◌, ℕ, ◌+◌, ◌<◌, ◌≤◌, List, [], ◌∷◌, ◌++◌, ◌⊎◌, length, take, Option, Bool, true, false, Result, Ok, Err, refl, sym, ap, ◌∙◌, arith, subst, append_assoc, append-nil, length-append, inl, inr}
 use Rattle.std.proofs.lemmas.List.{length-take, take-append-le}
 use Rattle.std.proofs.lemmas.Bool.Decides.{nat_tests}
 use Rattle.std.specs.Prelude.{◌==◌, ◌||◌, ◌&&◌}
 use Rattle.std.proofs.Common.{ltb}
 use Rattle.std.proofs.lemmas.Bool.{lt-ltb, or_right}
 use Rattle.std.proofs.KnownBytes.{Appends-nil, Appends-trans}
-use Rattle.std.specs.Io.KnownBytes.{Appends}
 use Rattle.fd_events.specs.Table.{Table}
 use Rattle.fd_session.specs.Machine.{State, opening}
-use Rattle.fd_cli.specs.declared.command.Command.{Command}
 use Rattle.fd_cli.specs.declared.command.Command.TheVariants.{Quit}
-use Rattle.fd_cli.specs.declared.command.CommandFault.{CommandFault}
 use Rattle.fd_cli.specs.declared.ending.Ending.{Ending}
 use Rattle.fd_cli.specs.declared.ending.Ending.TheVariants.{Done, Capture, NoSuchPosition, Read, Write, TooMuch, Memory}
 use Rattle.fd_cli.specs.declared.progress.Progress.{Progress}
@@ -34,7 +31,12 @@ advance_past old held byte past =
       written = [];
       appended = Appends-nil held;
       after = λ table input text h. record {
-        input = input; next = byte; more = []; lines = h.lines; rest = h.rest; state = old.session;
+        input = input;
+        next = byte;
+        more = [];
+        lines = h.lines;
+        rest = h.rest;
+        state = old.session;
         whole = refl;
         answered = same_text table input text h.lines h.rest old.session h.answered;
         bound = elim past [
@@ -53,7 +55,8 @@ advance_byte old new held byte other bytes count session line lines one_more sen
       written = [];
       appended = Appends-nil held;
       after = λ table input text h. record {
-        lines = h.lines; rest = h.rest ++ byte ∷ [];
+        lines = h.lines;
+        rest = h.rest ++ byte ∷ [];
         answered = same_text table (input ++ byte ∷ []) text h.lines (h.rest ++ byte ∷ []) new.session
             (subst (Answered table (input ++ byte ∷ []) text h.lines (h.rest ++ byte ∷ [])) (sym session)
             (answered_byte table input text h.lines h.rest old.session byte h.answered other (omega (arith, h.byte_count)) (omega (arith, h.line_count))));
@@ -77,8 +80,15 @@ advance_fault old new before after byte replies =
       written = replies.puts.taken;
       appended = replies.puts.appended;
       after = λ table input text h. record {
-        input = input; more = byte ∷ []; text = text; lines = h.lines; rest = h.rest; state = old.session;
-        reply = replies.reply; unsent = replies.puts.left; last = new.session;
+        input = input;
+        more = byte ∷ [];
+        text = text;
+        lines = h.lines;
+        rest = h.rest;
+        state = old.session;
+        reply = replies.reply;
+        unsent = replies.puts.left;
+        last = new.session;
         whole = refl;
         answered = h.answered;
         answers = subst (λ c. Answers old.session c replies.reply new.session) (command_of_line table input text old h) replies.answers;
@@ -99,7 +109,12 @@ advance_quit old new before after byte feed replies quit =
       written = replies.reply;
       appended = all.0;
       after = λ table input text h. record {
-        input = input; more = []; text = text; lines = h.lines; rest = h.rest; state = old.session;
+        input = input;
+        more = [];
+        text = text;
+        lines = h.lines;
+        rest = h.rest;
+        state = old.session;
         whole = ap (λ b. input ++ b ∷ []) feed;
         answered = h.answered;
         quit = sym (command_of_line table input text old h) ∙ quit;
@@ -118,18 +133,19 @@ advance_line old new before after byte feed bytes count replies other line lines
       written = replies.reply;
       appended = all.0;
       after = λ table input text h.
-        let same = command_of_line table input text old h in
-        record {
-        lines = h.lines ++ h.rest ∷ []; rest = [];
-        answered = subst (λ b. Answered table (input ++ b ∷ []) (text ++ replies.reply) (h.lines ++ h.rest ∷ []) [] new.session) (sym feed)
-            (answered_line table input text h.lines h.rest old.session replies.reply new.session h.answered
-              (subst (λ c. Answers old.session c replies.reply new.session) same replies.answers)
-              (λ e. other (same ∙ e)) (omega (arith, h.byte_count)) (omega (arith, h.line_count)));
-        line = line;
-        line_count = omega (arith, h.line_count, length-append h.lines (h.rest ∷ []));
-        byte_count = omega (arith, h.byte_count, length-append input (byte ∷ []));
-        sent_count = omega (arith, all.1, h.sent_count, length-append text replies.reply);
-      };
+          let same = command_of_line table input text old h in
+          record {
+            lines = h.lines ++ h.rest ∷ [];
+            rest = [];
+            answered = subst (λ b. Answered table (input ++ b ∷ []) (text ++ replies.reply) (h.lines ++ h.rest ∷ []) [] new.session) (sym feed)
+                (answered_line table input text h.lines h.rest old.session replies.reply new.session h.answered
+                (subst (λ c. Answers old.session c replies.reply new.session) same replies.answers)
+                (λ e. other (same ∙ e)) (omega (arith, h.byte_count)) (omega (arith, h.line_count)));
+            line = line;
+            line_count = omega (arith, h.line_count, length-append h.lines (h.rest ∷ []));
+            byte_count = omega (arith, h.byte_count, length-append input (byte ∷ []));
+            sent_count = omega (arith, all.1, h.sent_count, length-append text replies.reply);
+          };
     }
 
 -- no byte
@@ -158,17 +174,50 @@ advance_then a b c held_a held_b held_c xs ys r p q =
 
 stops_more : (table : Table) (taken written more : List ℕ) (ending : Ending) → Stops table taken written ending → Stops table (taken ++ more) written ending
 stops_more table taken written more Done h =
-    record { input = h.input; more = h.more ++ more; text = h.text; lines = h.lines; rest = h.rest; state = h.state;
-      whole = ap (λ t. t ++ more) h.whole ∙ append_assoc h.input (10 ∷ h.more) more; answered = h.answered; quit = h.quit; wrote = h.wrote }
+    record {
+      input = h.input;
+      more = h.more ++ more;
+      text = h.text;
+      lines = h.lines;
+      rest = h.rest;
+      state = h.state;
+      whole = ap (λ t. t ++ more) h.whole ∙ append_assoc h.input (10 ∷ h.more) more;
+      answered = h.answered;
+      quit = h.quit;
+      wrote = h.wrote;
+    }
 stops_more table taken written more (Capture fault) h = h
 stops_more table taken written more NoSuchPosition h = h
 stops_more table taken written more Read h = h
 stops_more table taken written more (Write sent) h =
-    record { input = h.input; more = h.more ++ more; text = h.text; lines = h.lines; rest = h.rest; state = h.state; reply = h.reply; unsent = h.unsent; last = h.last;
-      whole = ap (λ t. t ++ more) h.whole ∙ append_assoc h.input h.more more; answered = h.answered; answers = h.answers; wrote = h.wrote; count = h.count }
+    record {
+      input = h.input;
+      more = h.more ++ more;
+      text = h.text;
+      lines = h.lines;
+      rest = h.rest;
+      state = h.state;
+      reply = h.reply;
+      unsent = h.unsent;
+      last = h.last;
+      whole = ap (λ t. t ++ more) h.whole ∙ append_assoc h.input h.more more;
+      answered = h.answered;
+      answers = h.answers;
+      wrote = h.wrote;
+      count = h.count;
+    }
 stops_more table taken written more TooMuch h =
-    record { input = h.input; next = h.next; more = h.more ++ more; lines = h.lines; rest = h.rest; state = h.state;
-      whole = ap (λ t. t ++ more) h.whole ∙ append_assoc h.input (h.next ∷ h.more) more; answered = h.answered; bound = h.bound }
+    record {
+      input = h.input;
+      next = h.next;
+      more = h.more ++ more;
+      lines = h.lines;
+      rest = h.rest;
+      state = h.state;
+      whole = ap (λ t. t ++ more) h.whole ∙ append_assoc h.input (h.next ∷ h.more) more;
+      answered = h.answered;
+      bound = h.bound;
+    }
 stops_more table taken written more Memory h = h
 
 -- bytes behind those at which a run stops
@@ -195,11 +244,17 @@ finish_none p held none =
     record {
       written = [];
       appended = Appends-nil held;
-      after = λ table input text h. inr (refl, record {
-        text = text; lines = h.lines; rest = h.rest; state = p.session;
-        answered = h.answered;
-        last = inl (rest_empty h.rest (sym h.line ∙ none), append-nil text);
-      });
+      after = λ table input text h. inr (
+        refl,
+        record {
+          text = text;
+          lines = h.lines;
+          rest = h.rest;
+          state = p.session;
+          answered = h.answered;
+          last = inl (rest_empty h.rest (sym h.line ∙ none), append-nil text);
+        },
+      );
     }
 
 -- the unfinished line was answered
@@ -209,12 +264,23 @@ finish_line old new before after some replies =
     record {
       written = replies.reply;
       appended = (puts_all before after old.sent new.sent replies.reply replies.puts).0;
-      after = λ table input text h. inr (refl, record {
-        text = text; lines = h.lines; rest = h.rest; state = old.session;
-        answered = h.answered;
-        last = inr (rest_some h.rest (omega (arith, ap length h.line)), replies.reply, new.session,
-            subst (λ c. Answers old.session c replies.reply new.session) (command_of_line table input text old h) replies.answers, refl);
-      });
+      after = λ table input text h. inr (
+        refl,
+        record {
+          text = text;
+          lines = h.lines;
+          rest = h.rest;
+          state = old.session;
+          answered = h.answered;
+          last = inr (
+            rest_some h.rest (omega (arith, ap length h.line)),
+            replies.reply,
+            new.session,
+            subst (λ c. Answers old.session c replies.reply new.session) (command_of_line table input text old h) replies.answers,
+            refl,
+          );
+        },
+      );
     }
 
 -- the reply to the unfinished line breaks off
@@ -225,8 +291,15 @@ finish_fault old new before after replies =
       written = replies.puts.taken;
       appended = replies.puts.appended;
       after = λ table input text h. record {
-        input = input; more = []; text = text; lines = h.lines; rest = h.rest; state = old.session;
-        reply = replies.reply; unsent = replies.puts.left; last = new.session;
+        input = input;
+        more = [];
+        text = text;
+        lines = h.lines;
+        rest = h.rest;
+        state = old.session;
+        reply = replies.reply;
+        unsent = replies.puts.left;
+        last = new.session;
         whole = sym (append-nil input);
         answered = h.answered;
         answers = subst (λ c. Answers old.session c replies.reply new.session) (command_of_line table input text old h) replies.answers;
@@ -239,7 +312,8 @@ finish_fault old new before after replies =
 pub serving_start : (table : Table) (p : Progress) → p.session ≡ opening table → p.line.items ≡ [] → p.lines ≡ 0 → p.bytes ≡ 0 → p.sent ≡ 0 → IsServing table [] [] p
 serving_start table p session line lines bytes sent =
     record {
-      lines = []; rest = [];
+      lines = [];
+      rest = [];
       answered = record {
         cut = record { whole = refl; each = tt; last = tt };
         bytes = omega arith;

@@ -1,5 +1,5 @@
 -- The events of a capture are within their limits.
-use Rattle.std.proofs.Common.{◌≡◌, ℕ, zero, suc, ◌+◌, ◌*◌, ◌<◌, ◌≤◌, List, [], ◌∷◌, length, Bool, true, false, cond, Option, Some, None, Result, Ok, Err, slice_get, refl, sym, ap, ◌∙◌, arith, codes}
+use Rattle.std.proofs.Common.{◌≡◌, ℕ, ◌+◌, ◌*◌, ◌≤◌, List, [], ◌∷◌, length, Bool, true, false, cond, Option, Some, None, Result, Ok, Err, slice_get, refl, arith, codes}
 use Rattle.std.specs.Prelude.{nat_lt, nat_le, ok_or, option_and_then}
 use Rattle.std.specs.List.{list_all, list_any, filter_map}
 use Rattle.std.specs.Result.{result_ok}
@@ -8,14 +8,13 @@ use Rattle.serde_json.specs.Data.{Data}
 use Rattle.fd_blend.specs.Equation.{has_colour_factor}
 use Rattle.fd_blend.specs.Mask.{mask_of}
 use Rattle.fd_cover.specs.declared.shading.Interp.{Interp}
-use Rattle.fd_events.specs.declared.draw.TheConstants.{MAX_VERTICES, MAX_INDICES}
+use Rattle.fd_events.specs.declared.draw.TheConstants.{MAX_VERTICES}
 use Rattle.fd_events.specs.declared.draw.Vertex.{Vertex}
 use Rattle.fd_events.specs.declared.draw.DrawFault.TheVariants.{Vertices, Indices, IndexRange}
-use Rattle.fd_events.specs.declared.label.TheConstants.{MAX_LABEL_LEN}
 use Rattle.fd_events.specs.declared.label.LabelFault.TheVariants.{TooLong, Control}
 use Rattle.fd_events.specs.declared.event.Event.{Event}
 use Rattle.fd_events.specs.declared.event.Event.TheVariants.{Clear, SetRaster, SetScissor, SetBlend, SetFactor, Draw, Marker}
-use Rattle.fd_events.specs.Draw.{DrawList, draw_of, made, listed_by, triangles_of, triangles_of_list}
+use Rattle.fd_events.specs.Draw.{draw_of, made, listed_by, triangles_of, triangles_of_list}
 use Rattle.fd_events.specs.Indices.{has_too_many, are_in_range}
 use Rattle.fd_events.specs.Label.{is_control, labelled}
 use Rattle.fd_events.specs.Table.{Table, all_on}
@@ -138,7 +137,7 @@ listed_few vertices (Some indices) few none =
 
 small_draw : (vertices : List Vertex) (indices : Option (List ℕ)) (interp : Interp) (many listed range : Bool) → nat_lt MAX_VERTICES (length vertices) ≡ many → has_too_many indices ≡ listed
     → Has (λ draw. nat_le (length (triangles_of draw)) 65536 ≡ true)
-      (result_ok (cond many (Err Vertices) (cond listed (Err Indices) (cond range (Ok (draw_of vertices indices interp)) (Err IndexRange)))))
+    (result_ok (cond many (Err Vertices) (cond listed (Err Indices) (cond range (Ok (draw_of vertices indices interp)) (Err IndexRange)))))
 unfolding Has
 small_draw vertices indices interp true listed range many_is listed_is = tt
 small_draw vertices indices interp false true range many_is listed_is = tt
@@ -159,13 +158,13 @@ small_draw_of d =
     has_after IsSmall (vertices_at "vertices" d) _ (λ vertices.
     has_after IsSmall (indices_at "indices" d) _ (λ indices.
     has_then (λ draw. nat_le (length (triangles_of draw)) 65536 ≡ true) IsSmall (result_ok (made vertices indices interp)) (λ draw. Some (Draw draw))
-      (small_draw vertices indices interp _ _ (are_in_range (length vertices) indices) refl refl) (λ draw h. has_some IsSmall (Draw draw) h))))
+    (small_draw vertices indices interp _ _ (are_in_range (length vertices) indices) refl refl) (λ draw h. has_some IsSmall (Draw draw) h))))
 
 small_marker_of : (d : Data) → Has IsSmall (marker_of d)
 small_marker_of d =
     has_after IsSmall (text_at "name" d) _ (λ name.
     has_then (λ label. nat_le (length label) 64 ≡ true) IsSmall (result_ok (labelled name)) (λ label. Some (Marker label))
-      (small_label name _ (list_any is_control name) refl) (λ label h. has_some IsSmall (Marker label) h))
+    (small_label name _ (list_any is_control name) refl) (λ label h. has_some IsSmall (Marker label) h))
 
 small_clear_of : (d : Data) → Has IsSmall (clear_of d)
 small_clear_of d = has_after IsSmall (colour_at "color" d) _ (λ colour. has_some IsSmall (Clear colour) refl)

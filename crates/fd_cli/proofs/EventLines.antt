@@ -1,5 +1,5 @@
 -- The lines of a list of events, one after another.
-use Rattle.std.proofs.Common.{◌≡◌, ℕ, zero, suc, ◌+◌, ◌<◌, ◌≤◌, ◌&&◌, length, get_or, Bool, true, false, List, [], ◌∷◌, ◌++◌, drop, Option, Some, None, unwrap_or, slice_get, refl, sym, ap, subst, ◌∙◌, arith, append_assoc}
+use Rattle.std.proofs.Common.{◌≡◌, ℕ, zero, suc, ◌+◌, ◌<◌, ◌≤◌, ◌&&◌, length, get_or, Bool, true, false, List, [], ◌∷◌, ◌++◌, drop, Some, unwrap_or, slice_get, refl, sym, ap, ◌∙◌, arith}
 use Rattle.fd_events.specs.declared.event.Event.{Event}
 use Rattle.fd_events.specs.Table.{at_number}
 use Rattle.fd_events.proofs.Images.{at_number-next}

@@ -1,6 +1,5 @@
 -- How many entries a pixel's history has at most.
-use Rattle.std.proofs.Common.{◌≡◌, ℕ, zero, suc, ◌+◌, ◌*◌, ◌≤◌, List, [], ◌∷◌, ◌++◌, length, cond, Bool, true, false, Option, Some, None, slice_get, refl, arith, length-append}
-use Rattle.std.specs.Prelude.{nat_le}
+use Rattle.std.proofs.Common.{◌≡◌, ℕ, zero, suc, ◌+◌, ◌*◌, ◌≤◌, List, [], ◌∷◌, length, cond, Bool, true, false, Option, Some, None, slice_get, refl, arith, length-append}
 use Rattle.std.specs.List.{list_all}
 use Rattle.std.proofs.lemmas.Bool.Decides.{nat_tests}
 use Rattle.fd_blend.specs.declared.channel.Colour.{Colour}
@@ -24,8 +23,12 @@ triangles_few : (event number : ℕ) (ts : List Triangle) (interp : Interp) (s :
 triangles_few event number [] interp s x y before = omega arith
 triangles_few event number (t ∷ ts) interp s x y before =
     let after = colour_after_triangle t interp s x y before in
-    omega (arith, length-append (entries_of_triangle event number t interp s x y before) (entries_of_triangles event (number + 1) ts interp s x y after),
-      one_few (is_missed (verdict_of t s x y)) (entry_of_triangle event number t interp s x y before), triangles_few event (number + 1) ts interp s x y after)
+    omega (
+      arith,
+      length-append (entries_of_triangle event number t interp s x y before) (entries_of_triangles event (number + 1) ts interp s x y after),
+      one_few (is_missed (verdict_of t s x y)) (entry_of_triangle event number t interp s x y before),
+      triangles_few event (number + 1) ts interp s x y after,
+    )
 
 event_few : (number : ℕ) (event : Event) (s : Pipeline) (x y : ℕ) (before : Colour) → is_small event ≡ true → length (entries_of number event s x y before) ≤ 65536
 event_few number (Clear colour) s x y before small = omega arith
@@ -52,5 +55,9 @@ pub history_few : (t : Table) (k x y : ℕ) → are_small t ≡ true → length 
 history_few t zero x y small = omega arith
 history_few t (suc k) x y small =
     let last = entries_of_event (suc k) (active_event t (suc k)) (state_at t k) x y (colour_at t k x y) in
-    omega (arith, length-append (history_at t k x y) last, history_few t k x y small,
-      found_few (suc k) (active_event t (suc k)) (state_at t k) x y (colour_at t k x y) (λ event there. active_small (is_set t.flags (suc k)) t.events k event small there))
+    omega (
+      arith,
+      length-append (history_at t k x y) last,
+      history_few t k x y small,
+      found_few (suc k) (active_event t (suc k)) (state_at t k) x y (colour_at t k x y) (λ event there. active_small (is_set t.flags (suc k)) t.events k event small there),
+    )

@@ -1,5 +1,5 @@
 -- What a reply keeps: the events, and the count of bytes within its bound.
-use Rattle.std.proofs.Common.{◌≡◌, ℕ, zero, suc, ◌+◌, ◌^◌, ◌≤◌, List, Option, Bool, true, false, Result, Ok, Err, length, refl, sym, ap, ◌∙◌, arith}
+use Rattle.std.proofs.Common.{◌≡◌, ℕ, zero, suc, ◌+◌, ◌^◌, ◌≤◌, List, Option, Bool, true, false, Result, Ok, Err, refl, ap, ◌∙◌, arith}
 use Rattle.fd_events.specs.declared.event.Event.{Event}
 use Rattle.fd_events.specs.Table.{Table, with_flag}
 use Rattle.fd_session.specs.Machine.{State, Steps, GoesBack, Jumps, Switches}

@@ -10,3 +10,4 @@ pub mod EventLines
 pub mod Histories
 pub mod Refusing
 pub mod Numbers
+pub mod Agreement

@@ -1,5 +1,5 @@
 -- Calls that end before they read or write.
-use Rattle.std.proofs.Common.{◌≡◌, ℕ, List, [], Bool, Result, Ok, Err, refl}
+use Rattle.std.proofs.Common.{◌≡◌, ℕ, List, [], Bool, Ok, refl}
 use Rattle.fd_capture.specs.Capture.{capture_of}
 use Rattle.fd_events.specs.Table.{Table}
 use Rattle.fd_cli.specs.declared.ending.Ending.{Ending}

@@ -1,5 +1,5 @@
 -- The reply to `show`, part by part.
-use Rattle.std.proofs.Common.{◌≡◌, ℕ, ◌+◌, ◌-◌, ◌*◌, ◌^◌, ◌<◌, ◌≤◌, List, [], ◌∷◌, ◌++◌, length, Option, Bool, true, false, refl, sym, ap, ◌∙◌, arith, length-append, codes, inl, inr, ◌⊎◌}
+use Rattle.std.proofs.Common.{◌≡◌, ℕ, ◌^◌, ◌<◌, ◌≤◌, List, ◌++◌, length, Option, Bool, true, false, refl, arith, length-append, codes, inl, ◌⊎◌}
 use Rattle.std.specs.Prelude.{decimal}
 use Rattle.std.proofs.lemmas.Fmt.{length-decimal-le}
 use Rattle.std.proofs.Math.Nat.{mul-le-mul}
@@ -14,8 +14,13 @@ use Rattle.fd_cli.specs.Text.{number_line, refusal_line}
 
 pub length-number_line : (word : List ℕ) (n : ℕ) → n < 2 ^ 64 → length word ≤ 20 → length (number_line word n) ≤ 60
 length-number_line word n fits short =
-    omega (arith, length-decimal-le 20 n (omega arith) (omega arith) fits,
-      length-append ((word ++ codes " ") ++ decimal n) (codes "\n"), length-append (word ++ codes " ") (decimal n), length-append word (codes " "))
+    omega (
+      arith,
+      length-decimal-le 20 n (omega arith) (omega arith) fits,
+      length-append ((word ++ codes " ") ++ decimal n) (codes "\n"),
+      length-append (word ++ codes " ") (decimal n),
+      length-append word (codes " "),
+    )
 
 pub header_short : (width height : ℕ) → width ≤ 2048 → height ≤ 2048 → length (header width height) ≤ 200
 header_short width height w h =
@@ -40,8 +45,14 @@ parts_short state width height = (line_short state width height, header_short st
 show_short : (state : State) → state.table.width ≤ 2048 → state.table.height ≤ 2048 → length (show_text state) ≤ 2 ^ 40
 show_short state width height =
     let parts = parts_short state width height in
-    omega (arith, parts.0, parts.1, parts.2,
-      length-append (show_line state) (pam state), length-append (header state.table.width state.table.height) (tuples state))
+    omega (
+      arith,
+      parts.0,
+      parts.1,
+      parts.2,
+      length-append (show_line state) (pam state),
+      length-append (header state.table.width state.table.height) (tuples state),
+    )
 
 abbrev pub Shows : State → Option (List ℕ) → Option (List ℕ) → ℕ → ℕ → Bool → Type 0
 Shows state a b m n ok = (text : List ℕ) × ((text ≡ show_text state) ⊎ (text ≡ refusal_line Memory)) × (length text ≤ 2 ^ 40) × Puts a b m n text ok
@@ -56,20 +67,26 @@ shows_line state a b m n width height line =
 pub shows_header : (state : State) (a b c : Option (List ℕ)) (m n k : ℕ) → state.table.width ≤ 2048 → state.table.height ≤ 2048
     → Puts a b m n (show_line state) true
     → Puts b c n k (header state.table.width state.table.height) false → Shows state a c m k false
-shows_header state a b c m n k width height line head =
-    (show_text state, inl refl, show_short state width height,
-     puts_then a b c m n k (show_line state) (pam state) false line
-     (puts_broken b c n k (header state.table.width state.table.height) (tuples state) head))
+shows_header state a b c m n k width height line head = (
+  show_text state,
+  inl refl,
+  show_short state width height,
+  puts_then a b c m n k (show_line state) (pam state) false line
+      (puts_broken b c n k (header state.table.width state.table.height) (tuples state) head),
+)
 
 -- the body was sent, or breaks off
 pub shows_body : (state : State) (a b c d : Option (List ℕ)) (m n k l : ℕ) (ok : Bool) → state.table.width ≤ 2048 → state.table.height ≤ 2048
     → Puts a b m n (show_line state) true
     → Puts b c n k (header state.table.width state.table.height) true
     → Puts c d k l (tuples state) ok → Shows state a d m l ok
-shows_body state a b c d m n k l ok width height line head body =
-    (show_text state, inl refl, show_short state width height,
-     puts_then a b d m n l (show_line state) (pam state) ok line
-     (puts_then b c d n k l (header state.table.width state.table.height) (tuples state) ok head body))
+shows_body state a b c d m n k l ok width height line head body = (
+  show_text state,
+  inl refl,
+  show_short state width height,
+  puts_then a b d m n l (show_line state) (pam state) ok line
+      (puts_then b c d n k l (header state.table.width state.table.height) (tuples state) ok head body),
+)
 
 -- the whole file's length
 pub length-pam : (state : State) → length (pam state) ≡ pam_len state.table.width state.table.height

@@ -9,3 +9,4 @@ pub mod Serving
 pub mod Progress
 pub mod Report
 pub mod Listing
+pub mod Agreeing

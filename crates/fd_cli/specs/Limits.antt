@@ -1,5 +1,5 @@
 -- The limits of what the events of a capture hold, which bound the length of a reply.
-use Rattle.std.specs.Prelude.{ℕ, Bool, true, length, nat_le}
+use Rattle.std.specs.Prelude.{Bool, true, length, nat_le}
 use Rattle.std.specs.List.{list_all}
 use Rattle.fd_events.specs.declared.event.Event.{Event}
 use Rattle.fd_events.specs.declared.event.Event.TheVariants.{Draw, Marker}

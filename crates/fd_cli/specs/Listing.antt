@@ -1,5 +1,5 @@
 -- What the calls that write one text have written, by how they end.
-use Rattle.std.specs.Prelude.{◌≡◌, ℕ, ◌<◌, ◌≤◌, List, [], ◌++◌, length, Option, Some, None, Result, Ok}
+use Rattle.std.specs.Prelude.{◌≡◌, ℕ, ◌<◌, ◌≤◌, List, [], ◌++◌, length, Option, Some, None, Ok}
 use Rattle.fd_capture.specs.Capture.{capture_of}
 use Rattle.fd_events.specs.Table.{Table}
 use Rattle.fd_pam.specs.Pam.{pam}

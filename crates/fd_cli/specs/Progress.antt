@@ -1,8 +1,7 @@
 -- How far a run has come.
-use Rattle.std.specs.Prelude.{◌≡◌, ℕ, ◌≤◌, ◌*◌, ◌^◌, List, ◌++◌, Result, Ok, Err, Option, Bool, true, length, take}
+use Rattle.std.specs.Prelude.{◌≡◌, ℕ, ◌≤◌, ◌*◌, ◌^◌, List, ◌++◌, Result, Ok, Err, Option, true, length, take}
 use Rattle.std.specs.Io.KnownBytes.{Appends}
 use Rattle.fd_events.specs.Table.{Table}
-use Rattle.fd_session.specs.Machine.{State}
 use Rattle.fd_cli.specs.declared.ending.Ending.{Ending}
 use Rattle.fd_cli.specs.declared.progress.Progress.{Progress}
 use Rattle.fd_cli.specs.Limits.{are_small}

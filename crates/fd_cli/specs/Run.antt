@@ -1,5 +1,5 @@
 -- The replies to a list of lines, as a run of the session machine.
-use Rattle.std.specs.Prelude.{◌≡◌, ℕ, List, [], ◌∷◌, ◌++◌, Result, Ok, Err, Bool, true, false, codes, ◌⊎◌}
+use Rattle.std.specs.Prelude.{◌≡◌, ℕ, List, [], ◌∷◌, ◌++◌, Result, Ok, Err, true, false, codes, ◌⊎◌}
 use Rattle.fd_blend.specs.declared.channel.Colour.{Colour}
 use Rattle.fd_history.specs.declared.entry.Entry.{Entry}
 use Rattle.fd_session.specs.declared.answer.Answer.{Answer}

@@ -1,5 +1,5 @@
 -- What a run of the program takes and writes, by how it ends.
-use Rattle.std.specs.Prelude.{◌≡◌, ◌≢◌, ℕ, ◌+◌, ◌*◌, ◌^◌, ◌<◌, ◌≤◌, List, [], ◌∷◌, ◌++◌, Result, Ok, Err, Bool, true, codes, length, Option, ◌⊎◌}
+use Rattle.std.specs.Prelude.{◌≡◌, ◌≢◌, ℕ, ◌^◌, ◌<◌, ◌≤◌, List, [], ◌∷◌, ◌++◌, Result, Ok, Bool, true, codes, length, Option, ◌⊎◌}
 use Rattle.std.specs.List.{AllByRecursion}
 use Rattle.fd_events.specs.Table.{Table}
 use Rattle.fd_session.specs.Machine.{State, opening}

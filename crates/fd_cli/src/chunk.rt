@@ -1,11 +1,10 @@
 //! Small texts, which are gathered before they are put.
-ghost use Rattle.std.specs.Prelude.{◌≡◌, ◌<◌, ◌≤◌, ◌+◌, ◌++◌, ◌^◌, length, OnOk, OnErr, false, is_ok};
-ghost use Rattle.fd_pam.specs.Transfer.{Puts};
+ghost use Rattle.std.specs.Prelude.{◌<◌, ◌≤◌, ◌+◌, ◌++◌, ◌^◌, length, OnOk, OnErr, false, is_ok};
+ghost use Rattle.fd_pam.specs.Transfer.{Puts, CountsFailure};
 ghost use Rattle.fd_cli.specs.Sending.{Waits, Gathers};
-ghost use Rattle.fd_pam.specs.Transfer.{CountsFailure};
 
-use fd_pam::{Failed, Sink, send};
 use arrayvec::ArrayVec;
+use fd_pam::{Failed, Sink, send};
 
 /// The bytes that are gathered.
 pub(crate) const CHUNK_LEN: usize = 4096;

@@ -2,9 +2,9 @@
 ghost use Rattle.std.specs.Prelude.{◌≡◌, ◌≤◌, ◌+◌, length};
 ghost use Rattle.fd_cli.specs.Report.{capture_status, numbered_line, capture_line, report_of};
 
-use fd_pam::{Failed, Sink, send};
 use arrayvec::ArrayVec;
 use fd_capture::CaptureFault;
+use fd_pam::{Failed, Sink, send};
 use itoa::Buffer;
 
 /// How a run ends.
@@ -121,7 +121,11 @@ impl Ending {
             Ending::Capture(fault) => capture_line(*fault),
             Ending::NoSuchPosition => line_of(b"framedbg: no such position\n"),
             Ending::Read => line_of(b"framedbg: read fault\n"),
-            Ending::Write { sent } => numbered_line(b"framedbg: write fault after ", *sent, b" bytes\n"),
+            Ending::Write { sent } => numbered_line(
+                b"framedbg: write fault after ",
+                *sent,
+                b" bytes\n",
+            ),
             Ending::TooMuch => line_of(b"framedbg: too much input\n"),
             Ending::Memory => line_of(b"framedbg: memory\n"),
         }

@@ -1,14 +1,13 @@
 //! The list of a pixel's history.
 ghost use Rattle.std.specs.Prelude.{◌≡◌, ◌<◌, ◌≤◌, ◌+◌, ◌^◌, length, is_ok, true};
-ghost use Rattle.fd_pam.specs.Transfer.{Puts};
+ghost use Rattle.fd_pam.specs.Transfer.{Puts, CountsFailure};
 ghost use Rattle.fd_cli.specs.Text.{entry_list};
-ghost use Rattle.fd_pam.specs.Transfer.{CountsFailure};
 
 use crate::chunk::{Chunk, gather};
-use fd_pam::{Failed, Sink, send};
 use crate::lines::number_line;
 use crate::text::entry_line;
 use fd_history::Entry;
+use fd_pam::{Failed, Sink, send};
 
 /// Sends the list of a pixel's history.
 pub(crate) fn send_entries<W: Sink>(

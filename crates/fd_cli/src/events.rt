@@ -1,14 +1,13 @@
 //! The list of a table's events.
 ghost use Rattle.std.specs.Prelude.{◌≡◌, ◌<◌, ◌≤◌, ◌+◌, ◌^◌, length, is_ok, true};
 ghost use Rattle.fd_cli.specs.Limits.{are_small};
-ghost use Rattle.fd_pam.specs.Transfer.{Puts};
+ghost use Rattle.fd_pam.specs.Transfer.{Puts, CountsFailure};
 ghost use Rattle.fd_cli.specs.Text.{event_list};
-ghost use Rattle.fd_pam.specs.Transfer.{CountsFailure};
 
 use crate::chunk::{Chunk, gather};
-use fd_pam::{Failed, Sink, send};
 use crate::text::{event_line, events_head};
 use fd_events::EventTable;
+use fd_pam::{Failed, Sink, send};
 
 /// Sends the list of a table's events at a position.
 pub(crate) fn send_events<W: Sink>(

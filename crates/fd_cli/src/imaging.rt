@@ -1,7 +1,6 @@
 //! The image of a capture at a position.
 ghost use Rattle.std.specs.Prelude.{◌≡◌, ◌≤◌, ℕ, List};
 ghost use Rattle.std.specs.Io.KnownBytes.{Appends};
-ghost use Rattle.fd_pam.specs.Pam.{pam};
 ghost use Rattle.fd_pam.specs.Transfer.{Rises};
 ghost use Rattle.fd_cli.specs.Listing.{ShowsState, ImagesTable, WritesImage};
 

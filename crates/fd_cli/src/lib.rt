@@ -7,8 +7,14 @@ pub use imaging::image;
 pub use list::list_events;
 pub use serving::serve;
 
+#[cfg(test)]
+mod captures;
 mod chunk;
 mod command;
+#[cfg(test)]
+mod device_tests;
+#[cfg(test)]
+mod devices;
 mod ending;
 mod entries;
 mod events;
@@ -21,4 +27,6 @@ mod progress;
 mod reply;
 mod serving;
 mod show;
+#[cfg(test)]
+mod tests;
 mod text;

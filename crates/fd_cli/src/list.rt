@@ -1,21 +1,17 @@
 //! The list of a capture's events.
-ghost use Rattle.std.specs.Prelude.{◌≡◌, ◌<◌, ◌+◌, ◌^◌, ℕ, List, true};
+ghost use Rattle.std.specs.Prelude.{◌≡◌, ◌<◌, ◌+◌, ◌^◌, ℕ, List, true, is_ok};
 ghost use Rattle.std.specs.Io.KnownBytes.{Appends};
 ghost use Rattle.fd_cli.specs.Limits.{are_small};
 ghost use Rattle.fd_cli.specs.Listing.{WritesText, ListsEvents};
 ghost use Rattle.fd_cli.specs.Text.{event_list};
-ghost use Rattle.fd_pam.specs.Transfer.{Rises};
+ghost use Rattle.fd_pam.specs.Transfer.{Rises, Puts, CountsFailure};
 
-use fd_pam::{Failed, Sink};
 use crate::ending::Ending;
 use crate::events::send_events;
 use crate::opening::open;
 use fd_events::EventTable;
+use fd_pam::{Failed, Sink};
 use std::alloc::Global;
-
-ghost use Rattle.std.specs.Prelude.{is_ok};
-ghost use Rattle.fd_pam.specs.Transfer.{Puts};
-ghost use Rattle.fd_pam.specs.Transfer.{CountsFailure};
 
 /// Sends the list of a table's events at position 0, and flushes.
 fn send_list<W: Sink>(table: &EventTable, sink: &mut W, sent: &mut u64) -> Result<(), Failed>

@@ -1,12 +1,12 @@
 //! A run, byte by byte of its input.
-ghost use Rattle.std.specs.Prelude.{◌≡◌, ◌<◌, ◌≤◌, ◌+◌, ◌^◌, ◌⊎◌, ℕ, List, [], ◌∷◌, Err, OnOk, true};
+ghost use Rattle.std.specs.Prelude.{◌≡◌, ◌<◌, ◌+◌, ◌^◌, ◌⊎◌, ℕ, [], ◌∷◌, Err, OnOk, true};
 ghost use Rattle.fd_cli.specs.Limits.{are_small};
 ghost use Rattle.fd_pam.specs.Transfer.{Rises};
 
-use fd_pam::Sink;
 use crate::ending::Ending;
 use crate::reply::answer;
 use arrayvec::ArrayVec;
+use fd_pam::Sink;
 use fd_session::Session;
 use std::alloc::Global;
 

@@ -1,22 +1,21 @@
 //! The replies to commands.
-ghost use Rattle.std.specs.Prelude.{◌≡◌, ◌<◌, ◌≤◌, ◌+◌, ◌^◌, ◌↔◌, ℕ, List, Result, Ok, IsTrue, IfOk, length, is_ok, true};
+ghost use Rattle.std.specs.Prelude.{◌≡◌, ◌<◌, ◌≤◌, ◌+◌, ◌^◌, ◌↔◌, List, Result, Ok, IsTrue, IfOk, length, is_ok, true};
 ghost use Rattle.fd_history.specs.declared.entry.Entry.{Entry};
 ghost use Rattle.fd_session.specs.Machine.{ShowsHistory};
 ghost use Rattle.fd_session.specs.declared.answer.SessionFault.{SessionFault};
 ghost use Rattle.fd_cli.specs.Limits.{are_small};
 ghost use Rattle.fd_cli.specs.Line.{command_of};
-ghost use Rattle.fd_pam.specs.Transfer.{Puts};
+ghost use Rattle.fd_pam.specs.Transfer.{Puts, CountsFailure};
 ghost use Rattle.fd_cli.specs.Serving.{Replies};
 ghost use Rattle.fd_cli.specs.Text.{answer_line, history_text};
-ghost use Rattle.fd_pam.specs.Transfer.{CountsFailure};
 
 use crate::command::{Command, CommandFault, read_command};
-use fd_pam::{Failed, Sink, send};
 use crate::entries::send_entries;
 use crate::events::send_events;
 use crate::lines::{fault_line, number_line, refusal_line};
 use crate::show::show;
 use crate::text::{pixel_line, state_line};
+use fd_pam::{Failed, Sink, send};
 use fd_session::{Answer, Session};
 use std::alloc::Global;
 
@@ -30,7 +29,11 @@ fn send_answer<W: Sink>(answer: Answer, sink: &mut W, sent: &mut u64) -> Result<
     match answer {
         Answer::Moved { at } => send(sink, sent, number_line(b"at", u64::from(at)).as_slice()),
         Answer::Stopped { at } => {
-            send(sink, sent, number_line(b"stopped", u64::from(at)).as_slice())
+            send(
+                sink,
+                sent,
+                number_line(b"stopped", u64::from(at)).as_slice(),
+            )
         }
         Answer::Refused(fault) => send(sink, sent, refusal_line(fault)),
     }

@@ -5,12 +5,12 @@ ghost use Rattle.fd_cli.specs.Limits.{are_small};
 ghost use Rattle.fd_cli.specs.Serving.{Serves, ServesCapture};
 ghost use Rattle.fd_pam.specs.Transfer.{Rises};
 
-use fd_pam::{Sink, Source};
 use crate::ending::Ending;
 use crate::opening::open;
 use crate::progress::{MAX_BYTES, Progress};
 use arrayvec::ArrayVec;
 use fd_events::EventTable;
+use fd_pam::{Sink, Source};
 use fd_session::Session;
 use std::alloc::Global;
 

@@ -7,9 +7,9 @@ ghost use Rattle.fd_cli.specs.Show.{show_text};
 ghost use Rattle.fd_cli.specs.Text.{number_line, refusal_line};
 
 use crate::lines::{number_line, refusal_line};
+use arrayvec::ArrayVec;
 use fd_pam::{Failed, PamFault, Sink, header, pam_len, send, write_body};
 use fd_session::{Session, SessionFault};
-use arrayvec::ArrayVec;
 use std::alloc::{AllocError, Global};
 
 /// The width and the height of the session's target.

@@ -25,6 +25,10 @@ dropped_by Back front = not front
 abbrev pub is_dropped : Raster → ℤ → Bool
 is_dropped raster area = dropped_by raster.cull (is_front raster area)
 
+-- whether a triangle is culled, wherever it covers a pixel
+abbrev pub is_culled : Raster → Tri → Bool
+is_culled raster t = is_dropped raster (cross t.a t.b t.c)
+
 -- whether a coordinate is at least low and below high
 abbrev pub is_in_range : ℤ → ℤ → ℕ → Bool
 is_in_range low high coordinate = int_le low (pos coordinate) && int_lt (pos coordinate) high
@@ -38,7 +42,7 @@ unfoldable pub verdict_at : Tri → Raster → Rect → ℕ → ℕ → Verdict
 verdict_at t raster rect x y =
     if not (covers t x y)
     then Missed
-    else (if is_dropped raster (cross t.a t.b t.c)
+    else (if is_culled raster t
     then Culled
     else (if raster.scissor && not (holds rect x y)
     then Scissored

@@ -1,6 +1,6 @@
 ghost use Rattle.std.specs.Prelude.{◌≡◌, ◌<◌, ℤ};
 ghost use Rattle.fd_cover.specs.Cross.{cross};
-ghost use Rattle.fd_cover.specs.Verdict.{is_front, is_dropped, is_in_range, holds, verdict_at};
+ghost use Rattle.fd_cover.specs.Verdict.{is_front, is_dropped, is_in_range, holds, verdict_at, is_culled};
 ghost use Rattle.fd_cover.specs.declared.triangle.TheConstants.{TARGET_LIMIT};
 
 use crate::coverage::covers;
@@ -76,6 +76,13 @@ impl Raster {
             Cull::Back => !self.is_front(area),
         }
     }
+
+    /// Whether a triangle is culled, wherever it covers a pixel.
+    pub fn culls(&self, triangle: &Tri) -> bool
+        ensures { result ≡ is_culled self.now triangle.now }
+    {
+        self.drops(area(triangle))
+    }
 }
 
 /// What becomes of a triangle at a pixel: the first verdict that applies, in their order.
@@ -89,7 +96,7 @@ pub fn verdict_at(triangle: &Tri, raster: &Raster, rect: &Rect, x: u32, y: u32) 
 {
     if !covers(triangle, x, y) {
         Verdict::Missed
-    } else if raster.drops(area(triangle)) {
+    } else if raster.culls(triangle) {
         Verdict::Culled
     } else if raster.scissor && !rect.holds(x, y) {
         Verdict::Scissored

@@ -1,5 +1,5 @@
 -- At which pixels of a row a triangle is drawn.
-use Rattle.std.proofs.Common.{◌≡◌, ◌≢◌, ℕ, ◌+◌, ◌<◌, ◌≤◌, ◌↔◌, ℤ, pos, ◌≤ℤ◌, ◌<ℤ◌, Bool, true, false, not, ◌&&◌, IsTrue, inl, inr, refl, sym, ap, ◌∙◌, arith, if◌then◌else◌}
+use Rattle.std.proofs.Common.{int_le, int_lt, ◌≡◌, ◌≢◌, ℕ, ◌+◌, ◌<◌, ◌≤◌, ◌↔◌, ℤ, pos, ◌≤ℤ◌, ◌<ℤ◌, Bool, true, false, not, ◌&&◌, IsTrue, inl, inr, refl, sym, ap, ◌∙◌, arith, if◌then◌else◌}
 use Rattle.std.proofs.lemmas.Bool.{cases_lt}
 use Rattle.std.proofs.lemmas.Int.{ints, by_lt_z}
 use Rattle.fd_cover.specs.declared.triangle.Tri.{Tri}
@@ -12,7 +12,7 @@ use Rattle.fd_cover.specs.Covers.{covers}
 use Rattle.fd_cover.specs.Span.{IsSpan, IsUncovered}
 use Rattle.fd_cover.specs.Bounds.{HoldsCovered, is_within as boxes}
 use Rattle.fd_cover.specs.declared.bounds.Bounds.{Bounds}
-use Rattle.fd_cover.specs.Verdict.{is_dropped, is_in_range, holds, verdict_at}
+use Rattle.fd_cover.specs.Verdict.{is_culled, is_dropped, verdict_at}
 use Rattle.fd_blend.specs.declared.channel.Colour.{Colour}
 use Rattle.fd_blend.specs.Blend.{blend}
 use Rattle.fd_cover.specs.declared.shading.Interp.{Interp}
@@ -102,11 +102,14 @@ not_false : (b : Bool) → not b ≡ false → b ≡ true
 not_false true is = refl
 not_false false is = absurd (cc)
 
--- a coordinate lies between two bounds
-within_from : (low high : ℤ) (x : ℕ) → low ≤ℤ pos x → pos x <ℤ high → is_in_range low high x ≡ true
+-- whether a coordinate lies between two bounds
+abbrev in_range : ℤ → ℤ → ℕ → Bool
+in_range low high x = int_le low (pos x) && int_lt (pos x) high
+
+within_from : (low high : ℤ) (x : ℕ) → low ≤ℤ pos x → pos x <ℤ high → in_range low high x ≡ true
 within_from low high x from to = grind (arith, ints)
 
-within_to : (low high : ℤ) (x : ℕ) → is_in_range low high x ≡ true → (low ≤ℤ pos x) × (pos x <ℤ high)
+within_to : (low high : ℤ) (x : ℕ) → in_range low high x ≡ true → (low ≤ℤ pos x) × (pos x <ℤ high)
 within_to low high x is = grind (arith, ints)
 
 closed_by : (scissor has_column has_row : Bool) → scissor ≡ true → has_row ≡ true → (scissor && not (has_column && has_row)) ≡ not has_column
@@ -120,15 +123,15 @@ row_of true false has_row on is = absurd (cc)
 row_of false has_column has_row on is = absurd (cc)
 
 -- the columns that the scissor leaves, by those at its left and at its right side
-pub open_between : (raster : Raster) (rect : Rect) (y x0 x1 left right : ℕ) (from to : ℤ) → raster.scissor ≡ true → is_in_range rect.top rect.bottom y ≡ true → x0 ≤ left
+pub open_between : (raster : Raster) (rect : Rect) (y x0 x1 left right : ℕ) (from to : ℤ) → raster.scissor ≡ true → (rect.top ≤ℤ pos y) × (pos y <ℤ rect.bottom) → x0 ≤ left
     → from ≡ rect.left → to ≡ rect.right
     → ((x : ℕ) → x0 ≤ x → x < x1 → (from ≤ℤ pos x) ↔ (left ≤ x))
     → ((x : ℕ) → left ≤ x → x < x1 → (to ≤ℤ pos x) ↔ (right ≤ x))
     → (x : ℕ) → x0 ≤ x → x < x1 → (is_closed raster rect x y ≡ false) ↔ ((left ≤ x) × (x < right))
 open_between raster rect y x0 x1 left right from to on in_row starts from_is to_is from_left from_right x low high =
-    let closed = closed_by raster.scissor (is_in_range rect.left rect.right x) (is_in_range rect.top rect.bottom y) on in_row in (
+    let closed = closed_by raster.scissor (in_range rect.left rect.right x) (in_range rect.top rect.bottom y) on (within_from rect.top rect.bottom y in_row.0 in_row.1) in (
       λ is.
-          let column : is_in_range rect.left rect.right x ≡ true = not_false _ (sym closed ∙ is) in
+          let column : in_range rect.left rect.right x ≡ true = not_false _ (sym closed ∙ is) in
           let sides = within_to rect.left rect.right x column in
           let begun = (from_left x low high).0 (rw from_is sides.0) in (
             begun,
@@ -149,7 +152,7 @@ pub open_rows_between : (raster : Raster) (rect : Rect) (y0 y1 top bottom : ℕ)
     → ((y : ℕ) → top ≤ y → y < y1 → (to ≤ℤ pos y) ↔ (bottom ≤ y))
     → (x y : ℕ) → y0 ≤ y → y < y1 → is_closed raster rect x y ≡ false → (top ≤ y) × (y < bottom)
 open_rows_between raster rect y0 y1 top bottom from to on from_is to_is from_top from_bottom x y low high is =
-    let row : is_in_range rect.top rect.bottom y ≡ true = row_of raster.scissor (is_in_range rect.left rect.right x) (is_in_range rect.top rect.bottom y) on is in
+    let row : in_range rect.top rect.bottom y ≡ true = row_of raster.scissor (in_range rect.left rect.right x) (in_range rect.top rect.bottom y) on is in
     let sides = within_to rect.top rect.bottom y row in
     let begun = (from_top y low high).0 (rw from_is sides.0) in (
       begun,
@@ -184,6 +187,10 @@ covered_where_drawn t raster rect x y drawn = (by_all _ _ _ (sym (verdict_is t r
 -- and the scissor leaves it
 pub open_where_drawn : (t : Tri) (raster : Raster) (rect : Rect) (x y : ℕ) → verdict_at t raster rect x y ≡ Drawn → is_closed raster rect x y ≡ false
 open_where_drawn t raster rect x y drawn = (by_all _ _ _ (sym (verdict_is t raster rect x y) ∙ drawn)).1.1
+
+-- the triangle is not culled
+pub unculled_where_drawn : (t : Tri) (raster : Raster) (rect : Rect) (x y : ℕ) → verdict_at t raster rect x y ≡ Drawn → is_culled raster t ≡ false
+unculled_where_drawn t raster rect x y drawn = (by_all _ _ _ (sym (verdict_is t raster rect x y) ∙ drawn)).1.0
 
 -- it lies in the triangle's box
 pub boxed_where_drawn : (t : Tri) (raster : Raster) (rect : Rect) (box : Bounds) (x y : ℕ) → HoldsCovered box t → verdict_at t raster rect x y ≡ Drawn → (box.top ≤ y) × (y < box.bottom)

@@ -20,6 +20,9 @@ fn drawn_rows(triangle: &Tri, raster: &Raster, rect: &Rect, height: u32) -> (u32
     ensures last { result.1 ≤ height }
     ensures drawn { (x y : ℕ) → y < height → verdict_at triangle.now raster.now rect.now x y ≡ Drawn → (result.0 ≤ y) × (y < result.1) }
 {
+    if raster.culls(triangle) {
+        return (0, 0);
+    }
     let bounds = Bounds::of(triangle);
     let first = bounds.top.min(height);
     let last = bounds.bottom.clamp(first, height);

@@ -1,5 +1,4 @@
-ghost use Rattle.std.specs.Prelude.{◌≡◌, ℕ, ◌<◌, ◌≤◌, ◌↔◌, pos, ◌≤ℤ◌, false};
-ghost use Rattle.fd_cover.specs.Verdict.{is_in_range};
+ghost use Rattle.std.specs.Prelude.{◌≡◌, ℕ, ◌<◌, ◌≤◌, ◌↔◌, pos, ◌≤ℤ◌, ◌<ℤ◌, IsTrue, false};
 ghost use Rattle.fd_draw.specs.Span.{is_closed};
 
 use fd_cover::{Raster, Rect};
@@ -16,7 +15,7 @@ fn nearest(bound: i32, low: u32, high: u32) -> u32
 
 /// Whether a scissor rectangle has pixels in row y.
 fn has_row(rect: &Rect, y: u32) -> bool
-    ensures { result ≡ is_in_range rect.now.top rect.now.bottom y }
+    ensures { IsTrue result ↔ ((rect.now.top ≤ℤ pos y) × (pos y <ℤ rect.now.bottom)) }
 {
     let row = i64::from(y);
     i64::from(rect.top) <= row && row < i64::from(rect.bottom)

@@ -20,14 +20,14 @@ pub struct Session {
 
 impl Model for Session {
     ghost use Rattle.std.specs.Prelude.{length, ◌-◌};
-    ghost use Rattle.fd_session.specs.Held.{HoldsImages};
+    ghost use Rattle.fd_session.specs.Held.{IsSession};
     ghost use Rattle.fd_session.specs.Machine.{State};
 
     ghost Value = { State };
 
     ghost view = { λ s. record { table = s.table; position = length s.images.items - 1 } };
 
-    ghost invariant = { λ s. HoldsImages s.table s.images.items };
+    ghost invariant = { λ s. IsSession s.table s.images.items s.workers };
 }
 
 impl Session {

@@ -26,7 +26,9 @@ const CANNOT_READ: u8 = 3;
 /// What the words of a command line may be.
 fn command<'a>(alloc: Global) -> Result<Command<'a>, AllocError> {
     let run = Command::new(alloc, "run")
-        .about("Replays a capture: takes commands from standard input, writes replies to standard output")
+        .about(
+            "Replays a capture: takes commands from standard input, writes replies to standard output",
+        )
         .arg(capture_argument(alloc))?;
     let at = Arg::new(alloc, "at")
         .long("at")

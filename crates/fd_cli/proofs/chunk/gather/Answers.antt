@@ -1,4 +1,3 @@
-use Rattle.std.proofs.Common.{◌++◌}
 use Rattle.std.proofs.lemmas.Result.{err_from_is_err_and}
 use Rattle.fd_pam.proofs.Transfers.{puts_broken}
 use Rattle.fd_cli.proofs.chunk.gather.Goals as goal

@@ -1,4 +1,4 @@
-use Rattle.std.proofs.Common.{◌≡◌, ◌+◌, ◌++◌, ◌∙◌, [], ap, sym, drop, length, get_or, ◌≤◌, ◌<◌, arith, append_assoc, append-nil, length-append, true, codes}
+use Rattle.std.proofs.Common.{◌+◌, ◌++◌, ◌∙◌, ap, sym, drop, length, arith, append_assoc, append-nil, length-append, codes}
 use Rattle.std.specs.List.{flat_map}
 use Rattle.std.proofs.lemmas.Result.{err_from_is_err_and}
 use Rattle.fd_pam.proofs.Transfers.{puts_broken}
@@ -14,7 +14,7 @@ returns-in_err-gather-clause-puts g c =
     let p = err_from_is_err_and c.from_residual.result c.from_residual.ensures.1 in
     rw p.1
     (puts_broken _ _ _ _ (number_line (codes "history") (length entries)) (flat_map entry_line entries)
-        (rw (c.new-chunk.ensures, head) at c.in_err-gather.ensures.gathers))
+    (rw (c.new-chunk.ensures, head) at c.in_err-gather.ensures.gathers))
 
 pub returns-in_err-gather-2-clause-puts : goal.returns-in_err-gather-2-clause-puts
 returns-in_err-gather-2-clause-puts g c =
@@ -26,7 +26,7 @@ returns-in_err-gather-2-clause-puts g c =
     let p = err_from_is_err_and c.from_residual-in_err-gather-2.result c.from_residual-in_err-gather-2.ensures.1 in
     rw p.1
     (waits_broken _ (g.W.Sink.contents c.loop-entry.sink) _ _ c.loop-entry.sent _ inv.front _ (flat_map entry_line (drop (i + 1) entries)) _ c.loop-entry.chunk.items
-        inv.waits (rw line at c.in_err-gather-2.ensures.gathers) (ap (λ xs. inv.front ++ xs) (sym next) ∙ inv.all))
+    inv.waits (rw line at c.in_err-gather-2.ensures.gathers) (ap (λ xs. inv.front ++ xs) (sym next) ∙ inv.all))
 
 pub loop-entry-preserved : goal.loop-entry-preserved
 loop-entry-preserved g c =

@@ -1,4 +1,4 @@
-use Rattle.std.proofs.Common.{◌≡◌, ◌+◌, ◌++◌, ◌∙◌, [], ap, sym, drop, length, ◌≤◌, ◌<◌, arith, append_assoc, append-nil, length-append, true}
+use Rattle.std.proofs.Common.{◌+◌, ◌++◌, ◌∙◌, ap, sym, drop, length, ◌≤◌, arith, append_assoc, append-nil, length-append}
 use Rattle.std.proofs.lemmas.Result.{err_from_is_err_and}
 use Rattle.fd_pam.proofs.Transfers.{puts_broken}
 use Rattle.fd_cli.specs.Text.{events_head, event_line, event_lines}
@@ -13,7 +13,7 @@ returns-in_err-gather-clause-puts g c =
     let p = err_from_is_err_and c.from_residual.result c.from_residual.ensures.1 in
     rw p.1
     (puts_broken _ _ _ _ (events_head (length table.events) c.args.position) (event_lines 1 table.events table.flags)
-        (rw (c.new-chunk.ensures, head) at c.in_err-gather.ensures.gathers))
+    (rw (c.new-chunk.ensures, head) at c.in_err-gather.ensures.gathers))
 
 pub event_line-line-requires : goal.event_line-line-requires
 event_line-line-requires g c = small_number c.args.table.now.events c.loop-index.index c.event.result.now c.requires.small c.event.ensures
@@ -29,7 +29,7 @@ returns-in_err-gather-2-clause-puts g c =
     let p = err_from_is_err_and c.from_residual-in_err-gather-2.result c.from_residual-in_err-gather-2.ensures.1 in
     rw p.1
     (waits_broken _ (g.W.Sink.contents c.loop-index.sink) _ _ c.loop-index.sent _ inv.front this (event_lines (i + 1 + 1) (drop (i + 1) table.events) (drop (i + 1) table.flags)) _ c.loop-index.chunk.items
-        inv.waits (rw line at c.in_err-gather-2.ensures.gathers) (ap (λ xs. inv.front ++ xs) (sym next) ∙ inv.all))
+    inv.waits (rw line at c.in_err-gather-2.ensures.gathers) (ap (λ xs. inv.front ++ xs) (sym next) ∙ inv.all))
 
 pub loop-index-preserved : goal.loop-index-preserved
 loop-index-preserved g c =

@@ -1,4 +1,4 @@
-use Rattle.std.proofs.Common.{◌≡◌, ◌∙◌, ap, sym, [], length, take, drop, take-append-drop, append-nil, arith}
+use Rattle.std.proofs.Common.{◌∙◌, ap, sym, [], take, drop, take-append-drop, append-nil, arith}
 use Rattle.std.proofs.KnownBytes.{Appends-kept}
 use Rattle.std.proofs.lemmas.List.{length-take}
 use Rattle.fd_pam.specs.Pam.{pam, pam_len}
@@ -17,8 +17,8 @@ returns-in-Err-clause-writes g c =
     let state = c.args.session.now in
     let contents = g.W.Sink.contents in
     let count =
-        c.pam_len-sent.ensures
-        ∙ ap (λ n. pam_len n c.target_size-width.result.1) c.target_size-width.ensures.width
-        ∙ ap (pam_len state.table.width) c.target_size-width.ensures.height
-        ∙ sym (length-pam state) in
+    c.pam_len-sent.ensures
+    ∙ ap (λ n. pam_len n c.target_size-width.result.1) c.target_size-width.ensures.width
+    ∙ ap (pam_len state.table.width) c.target_size-width.ensures.height
+    ∙ sym (length-pam state) in
     (pam state, Appends-kept (contents c.args.sink.now) (contents c.write.new.sink) (contents c.flush.new.self) (pam state) c.in-Ok.ensures.bytes c.in-Err.ensures.bytes, ([], append-nil (pam state), count))

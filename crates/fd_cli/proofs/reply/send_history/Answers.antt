@@ -1,4 +1,4 @@
-use Rattle.std.proofs.Common.{◌≡◌, ap, length, arith}
+use Rattle.std.proofs.Common.{ap, length, arith}
 use Rattle.fd_cli.proofs.Histories.{history_few}
 use Rattle.fd_cli.proofs.reply.send_history.Goals as goal
 

@@ -1,4 +1,4 @@
-use Rattle.std.proofs.Common.{◌≡◌, ◌∙◌, ap, sym, subst, List, ℕ, [], ◌++◌, ◌<◌, length, take, drop, refl, arith, true, append-nil, length-append}
+use Rattle.std.proofs.Common.{◌≡◌, ◌∙◌, ap, sym, subst, [], ◌++◌, ◌<◌, length, take, drop, refl, arith, true, append-nil, length-append}
 use Rattle.std.proofs.KnownBytes.{Consumes-nil, Consumes-trans, Appends-nil, Appends-trans}
 use Rattle.std.proofs.lemmas.List.{length-take, length-take-le}
 use Rattle.fd_session.specs.Machine.{State}
@@ -11,7 +11,8 @@ use Rattle.fd_cli.proofs.serving.serve_table.Goals as goal
 pub loop-count-init : goal.loop-count-init
 loop-count-init g c =
     record {
-      input = []; text = [];
+      input = [];
+      text = [];
       consumed = Consumes-nil (g.R.Source.remaining c.args.source.now);
       appended = Appends-nil (g.W.Sink.contents c.args.sink.now);
       serving = serving_start c.args.table _ c.in-Ok.ensures.ok c.new.ensures refl refl refl;
@@ -28,17 +29,19 @@ returns-then-count-eq0-clause-serves g c =
     let filled = c.in-Ok-fill.ensures.bytes in
     let finish = c.finish.ensures.finishes in
     let nothing : inv.input ++ take c.in-Ok-fill.count c.fill.new.buffer ≡ inv.input =
-        ap (λ k. inv.input ++ take k c.fill.new.buffer) c.if-count-eq0.true ∙ append-nil inv.input in
+    ap (λ k. inv.input ++ take k c.fill.new.buffer) c.if-count-eq0.true ∙ append-nil inv.input in
     let size = c.fill.auto.buffer in
     let least = c.min-room.ensures in
     let room : 0 < length c.fill.new.buffer = omega (arith, size, least, length-take c.min-room.result c.loop-count.buffer, inv.serving.byte_count, inv.serving.answered.bytes) in
-    let ended : g.R.Source.has_ended c.fill.new.self ≡ true = end_reached (g.R.Source.has_ended c.loop-count.source) _ c.in-Ok-fill.count (length c.fill.new.buffer) filled.2 c.if-count-eq0.true room in
-    (inv.input ++ take c.in-Ok-fill.count c.fill.new.buffer, inv.text ++ finish.written,
-     Consumes-trans (remaining c.args.source.now) (remaining c.loop-count.source) (remaining c.fill.new.self) inv.input _ inv.consumed filled.1,
-     Appends-trans (contents c.args.sink.now) (contents c.loop-count.sink) (contents c.finish.new.sink) inv.text finish.written inv.appended finish.appended,
-     rw nothing (omega (arith, inv.serving.answered.bytes)),
-     subst (λ i. Serves c.args.table i (inv.text ++ finish.written) c.finish.result (g.R.Source.has_ended c.fill.new.self)) (sym nothing)
-     (subst (λ b. Serves c.args.table inv.input (inv.text ++ finish.written) c.finish.result b) (sym ended) (finish.after c.args.table inv.input inv.text inv.serving)))
+    let ended : g.R.Source.has_ended c.fill.new.self ≡ true = end_reached (g.R.Source.has_ended c.loop-count.source) _ c.in-Ok-fill.count (length c.fill.new.buffer) filled.2 c.if-count-eq0.true room in (
+      inv.input ++ take c.in-Ok-fill.count c.fill.new.buffer,
+      inv.text ++ finish.written,
+      Consumes-trans (remaining c.args.source.now) (remaining c.loop-count.source) (remaining c.fill.new.self) inv.input _ inv.consumed filled.1,
+      Appends-trans (contents c.args.sink.now) (contents c.loop-count.sink) (contents c.finish.new.sink) inv.text finish.written inv.appended finish.appended,
+      rw nothing (omega (arith, inv.serving.answered.bytes)),
+      subst (λ i. Serves c.args.table i (inv.text ++ finish.written) c.finish.result (g.R.Source.has_ended c.fill.new.self)) (sym nothing)
+          (subst (λ b. Serves c.args.table inv.input (inv.text ++ finish.written) c.finish.result b) (sym ended) (finish.after c.args.table inv.input inv.text inv.serving)),
+    )
 
 pub returns-in-Err-clause-serves : goal.returns-in-Err-clause-serves
 returns-in-Err-clause-serves g c =
@@ -47,14 +50,25 @@ returns-in-Err-clause-serves g c =
     let contents = g.W.Sink.contents in
     let filled = c.in-Ok-fill.ensures.bytes in
     let a = c.in-Err.ensures.advances in
-    let chunk = front_of c.in-Ok-fill.count c.fill.new.buffer (drop c.min-room.result c.loop-count.buffer) filled.0 in
-    (inv.input ++ take c.in-Ok-fill.count c.fill.new.buffer, inv.text ++ a.written,
-     Consumes-trans (remaining c.args.source.now) (remaining c.loop-count.source) (remaining c.fill.new.self) inv.input _ inv.consumed filled.1,
-     Appends-trans (contents c.args.sink.now) (contents c.loop-count.sink) (contents c.take_bytes.new.sink) inv.text a.written inv.appended a.appended,
-     omega (arith, inv.serving.byte_count, inv.serving.answered.bytes, c.min-room.ensures, c.fill.auto.buffer, filled.0, length-take c.min-room.result c.loop-count.buffer,
-       length-append inv.input (take c.in-Ok-fill.count c.fill.new.buffer), length-take c.in-Ok-fill.count c.fill.new.buffer),
-     subst (λ i. Serves c.args.table i (inv.text ++ a.written) c.in-Err.ending (g.R.Source.has_ended c.fill.new.self)) (ap (λ xs. inv.input ++ xs) chunk)
-     (serves_stop _ _ _ _ _ (a.after c.args.table inv.input inv.text inv.serving)))
+    let chunk = front_of c.in-Ok-fill.count c.fill.new.buffer (drop c.min-room.result c.loop-count.buffer) filled.0 in (
+      inv.input ++ take c.in-Ok-fill.count c.fill.new.buffer,
+      inv.text ++ a.written,
+      Consumes-trans (remaining c.args.source.now) (remaining c.loop-count.source) (remaining c.fill.new.self) inv.input _ inv.consumed filled.1,
+      Appends-trans (contents c.args.sink.now) (contents c.loop-count.sink) (contents c.take_bytes.new.sink) inv.text a.written inv.appended a.appended,
+      omega (
+        arith,
+        inv.serving.byte_count,
+        inv.serving.answered.bytes,
+        c.min-room.ensures,
+        c.fill.auto.buffer,
+        filled.0,
+        length-take c.min-room.result c.loop-count.buffer,
+        length-append inv.input (take c.in-Ok-fill.count c.fill.new.buffer),
+        length-take c.in-Ok-fill.count c.fill.new.buffer,
+      ),
+      subst (λ i. Serves c.args.table i (inv.text ++ a.written) c.in-Err.ending (g.R.Source.has_ended c.fill.new.self)) (ap (λ xs. inv.input ++ xs) chunk)
+          (serves_stop _ _ _ _ _ (a.after c.args.table inv.input inv.text inv.serving)),
+    )
 
 pub returns-in-Err-clause-read : goal.returns-in-Err-clause-read
 returns-in-Err-clause-read g c e =

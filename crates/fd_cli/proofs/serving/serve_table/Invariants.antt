@@ -1,4 +1,4 @@
-use Rattle.std.proofs.Common.{◌≡◌, ◌≤◌, ◌*◌, ◌-◌, ℕ, List}
+use Rattle.std.proofs.Common.{◌≡◌, ◌-◌, ℕ, List}
 use Rattle.std.specs.Io.KnownBytes.{Consumes, Appends}
 use Rattle.fd_cli.specs.Progress.{HasRoom, IsServing}
 use Rattle.fd_cli.proofs.serving.serve_table.Given as goal

@@ -15,7 +15,7 @@ returns-in-Ok-clause-puts g c =
     let state = c.args.session.now in
     let size = c.target_size-width.ensures in
     let count : c.args.sent.now + 4 * (c.from.result * c.from-in-Ok.result) ≡ c.args.sent.now + length (tuples state) =
-        rw (c.from.ensures, c.from-in-Ok.ensures, size.height, size.width) (ap (λ n. c.args.sent.now + n) (sym (length-body state))) in
+    rw (c.from.ensures, c.from-in-Ok.ensures, size.height, size.width) (ap (λ n. c.args.sent.now + n) (sym (length-body state))) in
     puts_whole _ _ _ _ (tuples state) c.in-Ok.ensures.bytes count true
 
 pub returns-in-Err-Write-clause-puts : goal.returns-in-Err-Write-clause-puts

@@ -1,6 +1,5 @@
-use Rattle.std.proofs.Common.{◌≡◌, ◌+◌, ◌≤◌, ◌<◌, ◌∙◌, ap, length, arith}
+use Rattle.std.proofs.Common.{◌∙◌, ap, length, arith}
 use Rattle.std.proofs.lemmas.Result.{err_from_is_err_and}
-use Rattle.fd_pam.specs.Pam.{header}
 use Rattle.fd_pam.proofs.Transfers.{puts_all}
 use Rattle.fd_cli.proofs.Shows.{shows_line, shows_header, shows_body, parts_short}
 use Rattle.fd_cli.proofs.show.show.Goals as goal
@@ -27,7 +26,7 @@ returns-in_err-send-2-clause-puts g c =
     let p = err_from_is_err_and c.from_residual-in_err-send-2.result c.from_residual-in_err-send-2.ensures.1 in
     rw p.1
     (shows_header c.args.session.now _ (g.W.Sink.contents c.send-2.new.sink) _ _ c.send-2.new.sent _ c.length_line-line.ensures.narrow c.length_line-line.ensures.low
-        (rw line at c.in_ok-send.ensures.puts) (rw text at c.in_err-send-2.ensures.puts))
+    (rw line at c.in_ok-send.ensures.puts) (rw text at c.in_err-send-2.ensures.puts))
 
 pub send_body-requires : goal.send_body-requires
 send_body-requires g c =

@@ -1,4 +1,4 @@
-use Rattle.std.proofs.Common.{◌≡◌, ◌∙◌, sym, List, ℕ}
+use Rattle.std.proofs.Common.{◌≡◌, ◌∙◌, sym}
 use Rattle.fd_cli.proofs.Advancing.{finish_none, finish_line, finish_fault, test_zero, test_some, nil_of}
 use Rattle.fd_cli.proofs.progress.Progress.finish.Goals as goal
 

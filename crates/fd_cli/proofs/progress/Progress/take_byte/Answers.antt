@@ -1,4 +1,4 @@
-use Rattle.std.proofs.Common.{◌≡◌, ◌⊎◌, ◌≤◌, ℕ, ◌∙◌, ap, inl, inr, sym, arith, refl, length}
+use Rattle.std.proofs.Common.{◌≡◌, ◌⊎◌, ◌≤◌, ℕ, ◌∙◌, ap, inl, inr, sym, arith, refl}
 use Rattle.std.proofs.lemmas.Bool.{false≢true}
 use Rattle.arrayvec.specs.ArrayVec.{ArrayVec}
 use Rattle.fd_cli.specs.Line.{command_of}
@@ -11,7 +11,7 @@ use Rattle.fd_cli.proofs.progress.Progress.take_byte.Goals.{then-self-ge-MAX_BYT
 pub returns-then-self-ge-MAX_BYTES-clause-advances : goal.returns-then-self-ge-MAX_BYTES-clause-advances
 returns-then-self-ge-MAX_BYTES-clause-advances g c =
     let past : (268435456 ≤ c.args.self.now.bytes) ⊎ (1000000 ≤ c.args.self.now.lines) =
-        elim c.then-self-ge-MAX_BYTES.branch [ then-self-ge-MAX_BYTES-via-then-self-ge-MAX_BYTES w ↦ inl (omega arith) | then-self-ge-MAX_BYTES-via-else-self-ge-MAX_BYTES+then-self-ge-MAX_LINES w ↦ inr (omega arith) ] in
+    elim c.then-self-ge-MAX_BYTES.branch [ then-self-ge-MAX_BYTES-via-then-self-ge-MAX_BYTES w ↦ inl (omega arith) | then-self-ge-MAX_BYTES-via-else-self-ge-MAX_BYTES+then-self-ge-MAX_LINES w ↦ inr (omega arith) ] in
     advance_past c.args.self.now (g.W.Sink.contents c.args.sink.now) c.args.byte past
 
 pub returns-then-byte-ne10-clause-advances : goal.returns-then-byte-ne10-clause-advances

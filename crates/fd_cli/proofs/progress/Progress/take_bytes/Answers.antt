@@ -1,4 +1,4 @@
-use Rattle.std.proofs.Common.{◌≡◌, ◌+◌, ◌∙◌, ap, sym, subst, take, drop, length, get_or, ◌∷◌, [], ◌++◌, refl, Ok, Err, arith}
+use Rattle.std.proofs.Common.{◌+◌, ◌∙◌, ap, sym, subst, take, drop, get_or, ◌∷◌, [], ◌++◌, refl, Ok, Err, arith}
 use Rattle.std.proofs.lemmas.List.{take_more, take-append-drop}
 use Rattle.std.proofs.lemmas.Result.{err_from_is_err_and}
 use Rattle.fd_cli.specs.Progress.{Advances}
@@ -25,8 +25,8 @@ pub loop-byte-preserved : goal.loop-byte-preserved
 loop-byte-preserved g c =
     record {
       advances =
-        rw (take_more c.args.bytes.now c.loop-byte.byte-index 0 (omega arith))
-        (advance_then _ c.loop-byte.self _ _ (g.W.Sink.contents c.loop-byte.sink) _ _ _ (Ok tt) c.loop-byte.invariant.advances c.in_ok-take_byte.ensures.advances);
+          rw (take_more c.args.bytes.now c.loop-byte.byte-index 0 (omega arith))
+          (advance_then _ c.loop-byte.self _ _ (g.W.Sink.contents c.loop-byte.sink) _ _ _ (Ok tt) c.loop-byte.invariant.advances c.in_ok-take_byte.ensures.advances);
       room = c.in_ok-take_byte.ensures.room;
       failures = c.in_ok-take_byte.ensures.ok ∙ c.loop-byte.invariant.failures;
     }

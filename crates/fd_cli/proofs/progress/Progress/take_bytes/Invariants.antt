@@ -1,4 +1,4 @@
-use Rattle.std.proofs.Common.{◌≡◌, ◌≤◌, ◌*◌, take, Ok}
+use Rattle.std.proofs.Common.{◌≡◌, take, Ok}
 use Rattle.fd_cli.specs.Progress.{HasRoom, Advances}
 use Rattle.fd_cli.proofs.progress.Progress.take_bytes.Given as goal
 

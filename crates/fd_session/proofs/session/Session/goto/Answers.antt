@@ -7,6 +7,11 @@ pub invariant_of-self : goal.invariant_of-self
 invariant_of-self c =
     let fields = c.self.inside in
     let position = ap (λ (s : State). s.position) c.self.view_is in
-    rw c.truncate.ensures.items
-    (held_take fields.table fields.images.items _ c.self.invariant (omega arith)
-    (omega (arith, position, fields.images.ok.0, c.self.invariant.some, c.if-to-position.true, c.position.ensures.position)))
+    record {
+      held =
+          rw c.truncate.ensures.items
+          (held_take fields.table fields.images.items _ c.self.invariant.held (omega arith)
+          (omega (arith, position, fields.images.ok.0, c.self.invariant.held.some, c.if-to-position.true, c.position.ensures.position)));
+      some_workers = c.self.invariant.some_workers;
+      most_workers = c.self.invariant.most_workers;
+    }

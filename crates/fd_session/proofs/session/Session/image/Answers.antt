@@ -9,6 +9,6 @@ returns c =
     let table = c.self.inside.table in
     let position : c.len.result - 1 ≡ c.args.self.now.position = omega (arith, c.len.ensures, ap (λ (s : State). s.position) c.self.view_is, c.self.inside.images.ok.0) in
     c.deref.ensures.value
-    ∙ image_of table c.self.inside.images.items _ c.index.result.now c.self.invariant (omega arith) c.index.ensures
+    ∙ image_of table c.self.inside.images.items _ c.index.result.now c.self.invariant.held (omega arith) c.index.ensures
     ∙ ap (image_at table) position
     ∙ ap (λ (s : State). image_at s.table c.args.self.now.position) c.self.view_is

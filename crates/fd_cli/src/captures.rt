@@ -1,0 +1,48 @@
+//! Captures of the tests.
+
+/// One clear.
+pub(crate) const ONE_CLEAR: &str =
+    r#"{"format":"framedbg","version":1,"width":1,"height":1,"events":[{"kind":"clear","color":[10,20,30,40]}]}"#;
+
+/// No events.
+pub(crate) const NO_EVENTS: &str =
+    r#"{"format":"framedbg","version":1,"width":1,"height":1,"events":[]}"#;
+
+/// Two triangles with a common edge.
+pub(crate) const TWO_TRIANGLES: &str =
+    r#"{"format":"framedbg","version":1,"width":2,"height":2,"events":[{"kind":"draw","interp":"flat","vertices":[{"x":0,"y":0,"color":[255,0,0,255]},{"x":131072,"y":0,"color":[255,0,0,255]},{"x":0,"y":131072,"color":[255,0,0,255]},{"x":131072,"y":0,"color":[0,255,0,255]},{"x":131072,"y":131072,"color":[0,255,0,255]},{"x":0,"y":131072,"color":[0,255,0,255]}]}]}"#;
+
+/// A scissor and a mask, a clear and a draw.
+pub(crate) const MASKED_AND_SCISSORED: &str =
+    r#"{"format":"framedbg","version":1,"width":2,"height":2,"events":[
+{"kind":"raster","cull":"none","front_ccw":false,"scissor":true},
+{"kind":"scissor","rect":[0,0,1,1]},
+{"kind":"blend","enable":false,"rgb":["ONE","ZERO","ADD"],"alpha":["ONE","ZERO","ADD"],"mask":5},
+{"kind":"clear","color":[9,9,9,9]},
+{"kind":"draw","interp":"flat","vertices":[{"x":0,"y":0,"color":[200,201,202,203]},{"x":262144,"y":0,"color":[200,201,202,203]},{"x":0,"y":262144,"color":[200,201,202,203]}]}
+]}"#;
+
+/// A blend that scales by alpha, and a draw.
+pub(crate) const ALPHA_SCALED: &str =
+    r#"{"format":"framedbg","version":1,"width":1,"height":1,"events":[
+{"kind":"blend","enable":true,"rgb":["SRC_ALPHA","ZERO","ADD"],"alpha":["ONE","ZERO","ADD"],"mask":15},
+{"kind":"draw","interp":"flat","vertices":[{"x":0,"y":0,"color":[200,100,50,128]},{"x":131072,"y":0,"color":[200,100,50,128]},{"x":0,"y":131072,"color":[200,100,50,128]}]}
+]}"#;
+
+/// A draw that is culled, one that is scissored, and one that is drawn.
+pub(crate) const CULLED_THEN_SCISSORED: &str =
+    r#"{"format":"framedbg","version":1,"width":1,"height":1,"events":[
+{"kind":"draw","interp":"flat","vertices":[{"x":0,"y":0,"color":[1,1,1,1]},{"x":0,"y":131072,"color":[1,1,1,1]},{"x":131072,"y":0,"color":[1,1,1,1]}]},
+{"kind":"raster","cull":"back","front_ccw":false,"scissor":true},
+{"kind":"draw","interp":"flat","vertices":[{"x":0,"y":0,"color":[2,2,2,2]},{"x":131072,"y":0,"color":[2,2,2,2]},{"x":0,"y":131072,"color":[2,2,2,2]}]},
+{"kind":"scissor","rect":[0,0,1,1]},
+{"kind":"draw","interp":"flat","vertices":[{"x":0,"y":0,"color":[3,4,5,6]},{"x":131072,"y":0,"color":[3,4,5,6]},{"x":0,"y":131072,"color":[3,4,5,6]}]}
+]}"#;
+
+/// A linear draw of one pixel.
+pub(crate) const LINEAR_RED: &str =
+    r#"{"format":"framedbg","version":1,"width":1,"height":1,"events":[{"kind":"draw","interp":"linear","vertices":[{"x":0,"y":0,"color":[0,0,0,255]},{"x":131072,"y":0,"color":[0,0,0,255]},{"x":0,"y":131072,"color":[255,0,0,255]}]}]}"#;
+
+/// Two triangles by indices.
+pub(crate) const INDEXED: &str =
+    r#"{"format":"framedbg","version":1,"width":2,"height":2,"events":[{"kind":"draw","interp":"flat","vertices":[{"x":0,"y":0,"color":[255,0,0,255]},{"x":131072,"y":0,"color":[0,255,0,255]},{"x":0,"y":131072,"color":[255,0,0,255]},{"x":131072,"y":131072,"color":[255,0,0,255]}],"indices":[0,1,2,1,3,2]}]}"#;

@@ -1,0 +1,173 @@
+use crate::captures::ONE_CLEAR;
+use crate::devices::{Again, Asking, Count, Flushing, Interrupted, Limited, Pieces};
+use crate::{Ending, serve};
+use fd_pam::{Device, Sink, Source};
+use std::alloc::Global;
+use std::cell::Cell;
+use std::process::Abort;
+
+const INPUT: &[u8] = b"step\nshow\nquit\n";
+
+const OUTPUT: &[u8] =
+    b"at 1\npam 69\nP7\nWIDTH 1\nHEIGHT 1\nDEPTH 4\nMAXVAL 255\nTUPLTYPE RGB_ALPHA\nENDHDR\n\x0a\x14\x1e\x28bye\n";
+
+/// How a run ends over these devices, and what is then written.
+fn expect_run(
+    rt: &impl Abort,
+    alloc: Global,
+    reader: Pieces<'_>,
+    writer: Limited,
+    ending: Ending,
+    text: &[u8],
+) {
+    let mut source = Device::new(reader);
+    let mut sink = Device::new(writer);
+    let ended = serve(alloc, ONE_CLEAR.as_bytes(), 1, &mut source, &mut sink);
+    assert_eq!(rt; ended, ending);
+    let read_faults = if ending == Ending::Read { 1 } else { 0 };
+    assert_eq!(rt; source.failures(), read_faults);
+    let write_faults = if matches!(ending, Ending::Write { .. }) {
+        1
+    } else {
+        0
+    };
+    assert_eq!(rt; sink.failures(), write_faults);
+    assert_eq!(rt; sink.into_inner().bytes.as_slice(), text);
+}
+
+#[test]
+fn devices_that_fail_midway(rt: HostRuntime) {
+    let writer = Limited::of(rt.alloc(), 8, 100);
+    let ending = Ending::Write { sent: 8 };
+    expect_run(
+        &rt,
+        rt.alloc(),
+        Pieces::of(INPUT, 100),
+        writer,
+        ending,
+        b"at 1\npam",
+    );
+    let mut reader = Pieces::of(b"step\nst", 100);
+    reader.fails = true;
+    let writer = Limited::of(rt.alloc(), 100, 100);
+    expect_run(&rt, rt.alloc(), reader, writer, Ending::Read, b"at 1\n");
+}
+
+#[test]
+fn a_writer_that_fails_after_each_byte(rt: HostRuntime) {
+    assert_eq!(rt; OUTPUT.len(), 85);
+    for room in 0..85usize {
+        let ending = Ending::Write { sent: room as u64 };
+        let writer = Limited::of(rt.alloc(), room, 5);
+        expect_run(
+            &rt,
+            rt.alloc(),
+            Pieces::of(INPUT, 7),
+            writer,
+            ending,
+            &OUTPUT[..room],
+        );
+    }
+    let writer = Limited::of(rt.alloc(), 85, 1);
+    expect_run(
+        &rt,
+        rt.alloc(),
+        Pieces::of(INPUT, 1),
+        writer,
+        Ending::Done,
+        OUTPUT,
+    );
+    let mut source = Device::new(Pieces::of(INPUT, 100));
+    let mut sink = Device::new(Interrupted(false));
+    let ended = serve(rt.alloc(), ONE_CLEAR.as_bytes(), 1, &mut source, &mut sink);
+    assert_eq!(rt; ended, Ending::Write { sent: 0 });
+}
+
+#[test]
+fn a_flush_that_fails(rt: HostRuntime) {
+    for (last, sent) in [(0, 5), (6, 81), (82, 85)] {
+        let mut writer = Limited::of(rt.alloc(), 100, 100);
+        writer.last_flush = last;
+        let ending = Ending::Write { sent: sent as u64 };
+        expect_run(
+            &rt,
+            rt.alloc(),
+            Pieces::of(INPUT, 100),
+            writer,
+            ending,
+            &OUTPUT[..sent],
+        );
+    }
+}
+
+#[test]
+fn a_reader_that_fails_after_each_byte(rt: HostRuntime) {
+    for count in 0..16usize {
+        let mut reader = Pieces::of(&INPUT[..count], 3);
+        reader.fails = true;
+        let (ending, length) = match count {
+            0..5 => (Ending::Read, 0),
+            5..10 => (Ending::Read, 5),
+            10..15 => (Ending::Read, 81),
+            _ => (Ending::Done, 85),
+        };
+        let writer = Limited::of(rt.alloc(), 100, 100);
+        expect_run(&rt, rt.alloc(), reader, writer, ending, &OUTPUT[..length]);
+    }
+}
+
+fn notes_of_run<'a>(rt: &impl Abort, alloc: Global, flushed: &'a Cell<usize>) -> [usize; 3] {
+    let lines = [
+        b"step\n".as_slice(),
+        b"show\n".as_slice(),
+        b"quit\n".as_slice(),
+    ];
+    let mut source = Device::new(Asking::<'a> {
+        lines,
+        next: 0,
+        flushed,
+        notes: [9; 3],
+    });
+    let mut sink = Device::new(Flushing::<'a> {
+        waiting: 0,
+        flushed,
+    });
+    let ending = serve(alloc, ONE_CLEAR.as_bytes(), 1, &mut source, &mut sink);
+    assert_eq!(rt; ending, Ending::Done);
+    source.into_inner().notes
+}
+
+#[test]
+fn replies_before_it_reads_on(rt: HostRuntime) {
+    let flushed = Cell::new(0usize);
+    let notes = notes_of_run(&rt, rt.alloc(), &flushed);
+    assert_eq!(rt; notes.as_slice(), [0, 5, 81].as_slice());
+}
+
+/// How a run on one byte again and again ends, and how much is then written.
+fn expect_count(rt: &impl Abort, alloc: Global, reader: Again, ending: Ending, length: usize) {
+    let mut source = Device::new(reader);
+    let mut sink = Device::new(Count(0));
+    let ended = serve(alloc, ONE_CLEAR.as_bytes(), 1, &mut source, &mut sink);
+    assert_eq!(rt; ended, ending);
+    assert_eq!(rt; sink.into_inner().0, length);
+}
+
+#[test]
+fn bounds_of_input(rt: HostRuntime) {
+    for (left, ending) in [(1_000_000, Ending::Done), (1_000_001, Ending::TooMuch)] {
+        let reader = Again { byte: b'\n', left };
+        expect_count(&rt, rt.alloc(), reader, ending, 22_000_000);
+    }
+}
+
+#[test]
+fn bounds_of_input_in_bytes(rt: HostRuntime) {
+    for (left, ending, length) in [
+        (268_435_456, Ending::Done, 20),
+        (268_435_457, Ending::TooMuch, 0),
+    ] {
+        let reader = Again { byte: b'a', left };
+        expect_count(&rt, rt.alloc(), reader, ending, length);
+    }
+}

@@ -1,0 +1,336 @@
+use crate::captures::{
+    ALPHA_SCALED, CULLED_THEN_SCISSORED, INDEXED, LINEAR_RED, MASKED_AND_SCISSORED, NO_EVENTS,
+    ONE_CLEAR, TWO_TRIANGLES,
+};
+use crate::devices::{Limited, Pieces};
+use crate::{Command, CommandFault, Ending, image, list_events, read_command, serve};
+use fd_capture::CaptureFault;
+use fd_pam::{Device, Sink};
+use std::alloc::Global;
+use std::process::Abort;
+use std::test::Fail;
+
+/// What these lines of input write.
+fn expect_replies(rt: &impl Abort, alloc: Global, capture: &str, input: &[u8], text: &[u8]) {
+    let mut source = Device::new(Pieces::of(input, 5));
+    let mut sink = Device::new(Limited::of(alloc, 100_000, 100));
+    let ended = serve(alloc, capture.as_bytes(), 1, &mut source, &mut sink);
+    let written = sink.into_inner();
+    assert_eq!(rt; written.bytes.as_slice(), text);
+    assert_eq!(rt; ended, Ending::Done);
+}
+
+#[test]
+fn one_clear_from_bytes_to_bytes(rt: HostRuntime) {
+    let text =
+        b"at 1\npam 69\nP7\nWIDTH 1\nHEIGHT 1\nDEPTH 4\nMAXVAL 255\nTUPLTYPE RGB_ALPHA\nENDHDR\n\x0a\x14\x1e\x28bye\n";
+    expect_replies(&rt, rt.alloc(), ONE_CLEAR, b"step\nshow\nquit\n", text);
+}
+
+#[test]
+fn back_restores_a_fresh_target(rt: HostRuntime) {
+    let text =
+        b"at 1\nat 0\npam 69\nP7\nWIDTH 1\nHEIGHT 1\nDEPTH 4\nMAXVAL 255\nTUPLTYPE RGB_ALPHA\nENDHDR\n\0\0\0\0";
+    expect_replies(&rt, rt.alloc(), ONE_CLEAR, b"step\nback\nshow\n", text);
+}
+
+#[test]
+fn no_events_refuse_every_move(rt: HostRuntime) {
+    let input = b"step\nback\ngoto 0\ngoto 1\non 1\nshow\n";
+    let text =
+        b"refused 1 at end\nrefused 2 at start\nat 0\nrefused 3 no such position\nrefused 4 no such event\npam 69\nP7\nWIDTH 1\nHEIGHT 1\nDEPTH 4\nMAXVAL 255\nTUPLTYPE RGB_ALPHA\nENDHDR\n\0\0\0\0";
+    expect_replies(&rt, rt.alloc(), NO_EVENTS, input, text);
+}
+
+#[test]
+fn the_shared_edge_is_drawn_once(rt: HostRuntime) {
+    let input = b"goto 1\npixel 0 0\npixel 1 0\npixel 0 1\npixel 1 1\npixel 2 0\n";
+    let text =
+        b"at 1\npixel 255 0 0 255\npixel 0 255 0 255\npixel 0 255 0 255\npixel 0 255 0 255\nrefused 6 no such pixel\n";
+    expect_replies(&rt, rt.alloc(), TWO_TRIANGLES, input, text);
+}
+
+#[test]
+fn mask_and_scissor_leave_clears_alone(rt: HostRuntime) {
+    let input =
+        b"goto 4\npixel 0 0\npixel 1 0\npixel 0 1\npixel 1 1\ngoto 5\npixel 0 0\npixel 1 1\nstate\n";
+    let text =
+        b"at 4\npixel 9 9 9 9\npixel 9 9 9 9\npixel 9 9 9 9\npixel 9 9 9 9\nat 5\npixel 200 9 202 9\npixel 9 9 9 9\nstate cull none ccw 0 scissor 1 rect 0 0 1 1 blend 0 ONE ZERO ADD ONE ZERO ADD mask 5 factor 255 255 255 255\n";
+    expect_replies(&rt, rt.alloc(), MASKED_AND_SCISSORED, input, text);
+}
+
+#[test]
+fn going_back_and_forth_gives_the_same_bytes(rt: HostRuntime) {
+    let input = b"goto 5\nshow\ngoto 0\ngoto 5\nshow\n";
+    let text =
+        b"at 5\npam 81\nP7\nWIDTH 2\nHEIGHT 2\nDEPTH 4\nMAXVAL 255\nTUPLTYPE RGB_ALPHA\nENDHDR\n\xc8\x09\xca\x09\x09\x09\x09\x09\x09\x09\x09\x09\x09\x09\x09\x09at 0\nat 5\npam 81\nP7\nWIDTH 2\nHEIGHT 2\nDEPTH 4\nMAXVAL 255\nTUPLTYPE RGB_ALPHA\nENDHDR\n\xc8\x09\xca\x09\x09\x09\x09\x09\x09\x09\x09\x09\x09\x09\x09\x09";
+    expect_replies(&rt, rt.alloc(), MASKED_AND_SCISSORED, input, text);
+}
+
+#[test]
+fn a_blend_state_switched_off_and_on(rt: HostRuntime) {
+    let input = b"goto 2\npixel 0 0\noff 1\npixel 0 0\non 1\npixel 0 0\non 1\n";
+    let text =
+        b"at 2\npixel 100 50 25 128\nat 2\npixel 200 100 50 128\nat 2\npixel 100 50 25 128\nrefused 5 already so\n";
+    expect_replies(&rt, rt.alloc(), ALPHA_SCALED, input, text);
+}
+
+#[test]
+fn scissor_and_its_state_line(rt: HostRuntime) {
+    let capture = r#"{"format":"framedbg","version":1,"width":2,"height":2,"events":[
+{"kind":"raster","cull":"none","front_ccw":false,"scissor":true},
+{"kind":"scissor","rect":[0,0,1,1]},
+{"kind":"draw","interp":"flat","vertices":[{"x":0,"y":0,"color":[200,201,202,203]},{"x":262144,"y":0,"color":[200,201,202,203]},{"x":0,"y":262144,"color":[200,201,202,203]}]}
+]}"#;
+    let input = b"state\nstep\nstep\nstep\npixel 0 0\npixel 1 1\nstate\n";
+    let text =
+        b"state cull back ccw 0 scissor 0 rect 0 0 0 0 blend 0 ONE ZERO ADD ONE ZERO ADD mask 15 factor 255 255 255 255\nat 1\nat 2\nat 3\npixel 200 201 202 203\npixel 0 0 0 0\nstate cull none ccw 0 scissor 1 rect 0 0 1 1 blend 0 ONE ZERO ADD ONE ZERO ADD mask 15 factor 255 255 255 255\n";
+    expect_replies(&rt, rt.alloc(), capture, input, text);
+}
+
+#[test]
+fn culled_and_scissored_draws_leave_the_pixel(rt: HostRuntime) {
+    let input = b"goto 1\npixel 0 0\ngoto 3\npixel 0 0\ngoto 4\npixel 0 0\ngoto 5\npixel 0 0\n";
+    let text =
+        b"at 1\npixel 0 0 0 0\nat 3\npixel 0 0 0 0\nat 4\npixel 0 0 0 0\nat 5\npixel 3 4 5 6\n";
+    expect_replies(&rt, rt.alloc(), CULLED_THEN_SCISSORED, input, text);
+}
+
+#[test]
+fn linear_red_rounds_to_nearest(rt: HostRuntime) {
+    let text = b"at 1\npixel 64 0 0 255\n";
+    expect_replies(&rt, rt.alloc(), LINEAR_RED, b"goto 1\npixel 0 0\n", text);
+}
+
+#[test]
+fn history_of_a_linear_draw(rt: HostRuntime) {
+    let text = b"at 1\nhistory 1\n1 0 drawn 64 0 0 255 0 0 0 0 64 0 0 255\n";
+    expect_replies(&rt, rt.alloc(), LINEAR_RED, b"goto 1\nhistory 0 0\n", text);
+}
+
+#[test]
+fn history_names_culled_and_scissored(rt: HostRuntime) {
+    let input = b"history 0 0\nhistory 1 0\ngoto 5\nhistory 0 0\noff 5\nhistory 0 0\n";
+    let text =
+        b"history 0\nrefused 6 no such pixel\nat 5\nhistory 3\n1 0 culled 1 1 1 1 0 0 0 0 0 0 0 0\n3 0 scissored 2 2 2 2 0 0 0 0 0 0 0 0\n5 0 drawn 3 4 5 6 0 0 0 0 3 4 5 6\nat 5\nhistory 2\n1 0 culled 1 1 1 1 0 0 0 0 0 0 0 0\n3 0 scissored 2 2 2 2 0 0 0 0 0 0 0 0\n";
+    expect_replies(&rt, rt.alloc(), CULLED_THEN_SCISSORED, input, text);
+    let text = b"at 1\nhistory 1\n1 - drawn 10 20 30 40 0 0 0 0 10 20 30 40\n";
+    expect_replies(&rt, rt.alloc(), ONE_CLEAR, b"step\nhistory 0 0\n", text);
+}
+
+#[test]
+fn indices_name_the_vertices(rt: HostRuntime) -> Result<(), Fail> {
+    let input = b"goto 1\npixel 0 0\npixel 1 0\npixel 0 1\npixel 1 1\nevents\n";
+    let text =
+        b"at 1\npixel 255 0 0 255\npixel 0 255 0 255\npixel 0 255 0 255\npixel 0 255 0 255\nevents 1 at 1\n1 on draw 2 flat\n";
+    expect_replies(&rt, rt.alloc(), INDEXED, input, text);
+    let (front, back) = INDEXED.split_once("1,3,2]").ok_or("no indices")?;
+    let seven = format!(in rt.alloc(); "{front}1,3,2,0]{back}")?;
+    expect_replies(&rt, rt.alloc(), seven.as_str(), input, text);
+    let fourth = format!(in rt.alloc(); "{front}1,3,4]{back}")?;
+    let mut sink = Device::new(Limited::of(rt.alloc(), 100, 100));
+    let ended = list_events(rt.alloc(), fourth.as_bytes(), &mut sink);
+    let fault = CaptureFault::BadField { number: 1 };
+    assert_eq!(rt; ended, Ending::Capture(fault));
+    assert_eq!(rt; sink.into_inner().bytes.len(), 0);
+    Ok(())
+}
+
+#[test]
+fn bad_lines_get_named_faults(rt: HostRuntime) -> Result<(), Fail> {
+    let mut input = Vec::from_slice(rt.alloc(), b"\nSTEP\nstep 1\ngoto -1\ngoto 4294967296\n")?;
+    input.extend_from_slice(&[b'a'; 257])?;
+    input.extend_from_slice(b"\n  step  \r\n")?;
+    let text =
+        b"bad 1 unknown command\nbad 1 unknown command\nbad 2 arguments\nbad 2 arguments\nbad 2 arguments\nbad 3 line too long\nat 1\n";
+    expect_replies(&rt, rt.alloc(), ONE_CLEAR, input.as_slice(), text);
+    Ok(())
+}
+
+#[test]
+fn malicious_command_lines(rt: HostRuntime) -> Result<(), Fail> {
+    let mut input = Vec::from_slice(rt.alloc(), &[b'a'; 256])?;
+    input.extend_from_slice(b"\nstep")?;
+    input.extend_from_slice(&[b' '; 252])?;
+    input.extend_from_slice(b"\r\ngoto 0000000000\ngoto 00000000000\n\xff")?;
+    let text = b"bad 1 unknown command\nat 1\nat 0\nbad 2 arguments\nbad 1 unknown command\n";
+    expect_replies(&rt, rt.alloc(), ONE_CLEAR, input.as_slice(), text);
+    Ok(())
+}
+
+#[test]
+fn lines_and_their_commands(rt: HostRuntime) {
+    for (line, command) in [
+        (b"  step  \r".as_slice(), Ok(Command::Step)),
+        (b"back".as_slice(), Ok(Command::Back)),
+        (b"goto 4294967295".as_slice(), Ok(Command::Goto(u32::MAX))),
+        (b"on 0000000001".as_slice(), Ok(Command::On(1))),
+        (b"off 0".as_slice(), Ok(Command::Off(0))),
+        (b"pixel  1   2".as_slice(), Ok(Command::Pixel(1, 2))),
+        (b"history 3 4".as_slice(), Ok(Command::History(3, 4))),
+        (b"state".as_slice(), Ok(Command::State)),
+        (b"events".as_slice(), Ok(Command::Events)),
+        (b"show".as_slice(), Ok(Command::Show)),
+        (b"quit\r".as_slice(), Ok(Command::Quit)),
+        (b"   ".as_slice(), Err(CommandFault::Unknown)),
+        (b"undo 1".as_slice(), Err(CommandFault::Unknown)),
+        (b"quit\r\r".as_slice(), Err(CommandFault::Unknown)),
+        (b"goto".as_slice(), Err(CommandFault::Arguments)),
+        (b"goto +1".as_slice(), Err(CommandFault::Arguments)),
+        (b"goto 1\t".as_slice(), Err(CommandFault::Arguments)),
+        (b"pixel 1".as_slice(), Err(CommandFault::Arguments)),
+        (b"pixel 1 2 3".as_slice(), Err(CommandFault::Arguments)),
+        (b"state 0".as_slice(), Err(CommandFault::Arguments)),
+    ] {
+        assert!(rt; read_command(line) == command);
+    }
+}
+
+#[test]
+fn the_event_list_shows_flags(rt: HostRuntime) {
+    let switched =
+        b"at 0\nevents 5 at 0\n1 on raster none 0 1\n2 on scissor 0 0 1 1\n3 off blend 0 ONE ZERO ADD ONE ZERO ADD 5\n4 on clear 9 9 9 9\n5 on draw 1 flat\n";
+    expect_replies(
+        &rt,
+        rt.alloc(),
+        MASKED_AND_SCISSORED,
+        b"off 3\nevents\n",
+        switched,
+    );
+    let text =
+        b"events 5 at 0\n1 on raster none 0 1\n2 on scissor 0 0 1 1\n3 on blend 0 ONE ZERO ADD ONE ZERO ADD 5\n4 on clear 9 9 9 9\n5 on draw 1 flat\n";
+    assert_eq!(rt; text.len(), 133);
+    for room in 0..134usize {
+        let mut sink = Device::new(Limited::of(rt.alloc(), room, 7));
+        let ended = list_events(rt.alloc(), MASKED_AND_SCISSORED.as_bytes(), &mut sink);
+        let ending = if room < 133 {
+            Ending::Write { sent: room as u64 }
+        } else {
+            Ending::Done
+        };
+        assert_eq!(rt; ended, ending);
+        let written = sink.into_inner();
+        assert_eq!(rt; written.bytes.as_slice(), &text[..room]);
+        assert_eq!(rt; written.flushes, if room < 133 { 0 } else { 1 });
+    }
+}
+
+#[test]
+fn markers_factors_and_negative_numbers(rt: HostRuntime) {
+    let capture = r#"{"format":"framedbg","version":1,"width":1,"height":1,"events":[
+{"kind":"marker","name":"a b"},
+{"kind":"marker","name":""},
+{"kind":"scissor","rect":[-2147483648,-1,0,2147483647]},
+{"kind":"blend","enable":true,"rgb":["INV_BLEND_FACTOR","INV_DEST_ALPHA","REV_SUBTRACT"],"alpha":["INV_BLEND_FACTOR","INV_DEST_ALPHA","REV_SUBTRACT"],"mask":0},
+{"kind":"factor","color":[0,1,2,3]}]}"#;
+    let text =
+        b"at 5\nevents 5 at 5\n1 on marker a b\n2 on marker \n3 on scissor -2147483648 -1 0 2147483647\n4 on blend 1 INV_BLEND_FACTOR INV_DEST_ALPHA REV_SUBTRACT INV_BLEND_FACTOR INV_DEST_ALPHA REV_SUBTRACT 0\n5 on factor 0 1 2 3\n";
+    expect_replies(&rt, rt.alloc(), capture, b"goto 5\nevents\n", text);
+}
+
+#[test]
+fn image_at_a_position(rt: HostRuntime) {
+    let shown =
+        b"P7\nWIDTH 1\nHEIGHT 1\nDEPTH 4\nMAXVAL 255\nTUPLTYPE RGB_ALPHA\nENDHDR\n\x0a\x14\x1e\x28".as_slice();
+    let fresh =
+        b"P7\nWIDTH 1\nHEIGHT 1\nDEPTH 4\nMAXVAL 255\nTUPLTYPE RGB_ALPHA\nENDHDR\n\0\0\0\0".as_slice();
+    let none = b"".as_slice();
+    for (at, room, ending, text) in [
+        (None, 100, Ending::Done, shown),
+        (Some(1), 100, Ending::Done, shown),
+        (Some(0), 100, Ending::Done, fresh),
+        (Some(9), 100, Ending::NoSuchPosition, none),
+        (None, 68, Ending::Write { sent: 68 }, &shown[..68]),
+        (None, 0, Ending::Write { sent: 0 }, none),
+    ] {
+        let mut sink = Device::new(Limited::of(rt.alloc(), room, 9));
+        let ended = image(rt.alloc(), ONE_CLEAR.as_bytes(), 1, at, &mut sink);
+        assert_eq!(rt; ended, ending);
+        let written = sink.into_inner();
+        assert_eq!(rt; written.bytes.as_slice(), text);
+        assert_eq!(rt; written.flushes, if ended == Ending::Done { 1 } else { 0 });
+    }
+    let mut sink = Device::new(Limited::of(rt.alloc(), 100, 9));
+    let ended = image(rt.alloc(), b"[]", 1, None, &mut sink);
+    assert_eq!(rt; ended, Ending::Capture(CaptureFault::NotCapture));
+    assert_eq!(rt; sink.failures(), 0);
+    assert_eq!(rt; sink.into_inner().bytes.len(), 0);
+}
+
+#[test]
+fn endings_and_their_lines(rt: HostRuntime) {
+    for (ending, status, line) in [
+        (Ending::Done, 0, b"".as_slice()),
+        (
+            Ending::Capture(CaptureFault::BadField { number: 1 }),
+            2,
+            b"framedbg: capture refused 8 bad field 1\n".as_slice(),
+        ),
+        (
+            Ending::Capture(CaptureFault::UnknownEvent { number: 65_536 }),
+            2,
+            b"framedbg: capture refused 7 unknown event 65536\n".as_slice(),
+        ),
+        (
+            Ending::Capture(CaptureFault::TooLong),
+            2,
+            b"framedbg: capture refused 1 too long\n".as_slice(),
+        ),
+        (
+            Ending::Capture(CaptureFault::NotJson),
+            2,
+            b"framedbg: capture refused 2 not json\n".as_slice(),
+        ),
+        (
+            Ending::Capture(CaptureFault::NotCapture),
+            2,
+            b"framedbg: capture refused 3 not a capture\n".as_slice(),
+        ),
+        (
+            Ending::Capture(CaptureFault::Version),
+            2,
+            b"framedbg: capture refused 4 version\n".as_slice(),
+        ),
+        (
+            Ending::Capture(CaptureFault::Size),
+            2,
+            b"framedbg: capture refused 5 size\n".as_slice(),
+        ),
+        (
+            Ending::Capture(CaptureFault::TooMany),
+            2,
+            b"framedbg: capture refused 6 too many events\n".as_slice(),
+        ),
+        (
+            Ending::Capture(CaptureFault::Memory),
+            5,
+            b"framedbg: memory\n".as_slice(),
+        ),
+        (
+            Ending::NoSuchPosition,
+            1,
+            b"framedbg: no such position\n".as_slice(),
+        ),
+        (Ending::Read, 3, b"framedbg: read fault\n".as_slice()),
+        (
+            Ending::Write { sent: 8 },
+            3,
+            b"framedbg: write fault after 8 bytes\n".as_slice(),
+        ),
+        (Ending::TooMuch, 4, b"framedbg: too much input\n".as_slice()),
+        (Ending::Memory, 5, b"framedbg: memory\n".as_slice()),
+    ] {
+        let mut sink = Device::new(Limited::of(rt.alloc(), 100, 6));
+        assert_eq!(rt; ending.status(), status);
+        assert!(rt; ending.report(&mut sink).is_ok());
+        let written = sink.into_inner();
+        assert_eq!(rt; written.bytes.as_slice(), line);
+        assert_eq!(rt; written.flushes, 0);
+        let mut full = Device::new(Limited::of(rt.alloc(), 3, 2));
+        assert!(rt; ending.report(&mut full).is_err() != line.is_empty());
+        assert_eq!(rt;
+            full.into_inner().bytes.as_slice(),
+            &line[..line.len().min(3)]
+        );
+    }
+}
