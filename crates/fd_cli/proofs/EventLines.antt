@@ -1,21 +1,12 @@
 -- The lines of a list of events, one after another.
-use Rattle.std.proofs.Common.{◌≡◌, ℕ, zero, suc, ◌+◌, ◌<◌, ◌≤◌, ◌&&◌, length, get_or, Bool, true, false, List, [], ◌∷◌, ◌++◌, drop, Some, unwrap_or, slice_get, refl, sym, ap, ◌∙◌, arith}
+use Rattle.std.proofs.Common.{◌≡◌, ℕ, zero, suc, ◌+◌, ◌<◌, ◌≤◌, length, get_or, Bool, List, [], ◌∷◌, ◌++◌, drop, Some, unwrap_or, slice_get, refl, sym, ap, ◌∙◌, arith}
 use Rattle.fd_events.specs.declared.event.Event.{Event}
 use Rattle.fd_events.specs.Table.{at_number}
 use Rattle.fd_events.proofs.Images.{at_number-next}
-use Rattle.std.specs.List.{flat_map, list_all}
+use Rattle.std.specs.List.{flat_map}
 use Rattle.std.proofs.Math.Seq.{drop-cons}
 use Rattle.fd_history.specs.declared.entry.Entry.{Entry}
-use Rattle.fd_cli.specs.Limits.{is_small}
 use Rattle.fd_cli.specs.Text.{event_line, event_lines, entry_line}
-
-and_left : (a b : Bool) → (a && b) ≡ true → a ≡ true
-and_left true b h = refl
-and_left false b h = h
-
-and_right : (a b : Bool) → (a && b) ≡ true → b ≡ true
-and_right true b h = h
-and_right false b h = absurd (cc)
 
 lines_at : (n : ℕ) (events : List Event) (flags : List Bool) (i : ℕ) (event : Event) (on : Bool) → slice_get events i ≡ Some event → slice_get flags i ≡ Some on
     → event_lines n (drop i events) (drop i flags) ≡ event_line n event on ++ event_lines (n + 1) (drop (i + 1) events) (drop (i + 1) flags)
@@ -54,15 +45,3 @@ pub entries_next : (entries : List Entry) (i : ℕ) (entry : Entry) → i < leng
 entries_next entries i entry within =
     let next : suc i ≡ i + 1 = omega arith in
     ap (flat_map entry_line) (drop-cons entries i entry within) ∙ ap (λ k. entry_line (get_or entries i entry) ++ flat_map entry_line (drop k entries)) next
-
--- one of small events is small
-pub small_at : (events : List Event) (i : ℕ) (event : Event) → list_all is_small events ≡ true → slice_get events i ≡ Some event → is_small event ≡ true
-small_at [] i event small there = absurd (cc)
-small_at (e ∷ events) zero event small there =
-    let same : e ≡ event = cc in
-    rw (← same) (and_left (is_small e) (list_all is_small events) small)
-small_at (e ∷ events) (suc i) event small there = small_at events i event (and_right (is_small e) (list_all is_small events) small) there
-
--- an event of a number that is small
-pub small_number : (events : List Event) (i : ℕ) (event : Event) → list_all is_small events ≡ true → at_number events (i + 1) ≡ Some event → is_small event ≡ true
-small_number events i event small there = small_at events i event small (sym (at_number-next events i) ∙ there)

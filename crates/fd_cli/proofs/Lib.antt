@@ -1,13 +1,10 @@
-pub mod Captured
 pub mod Gathering
-pub mod Keeping
 pub mod LineLemmas
 pub mod Servings
 pub mod Advancing
 pub mod Shows
 pub mod Words
 pub mod EventLines
-pub mod Histories
 pub mod Refusing
 pub mod Numbers
 pub mod Agreement

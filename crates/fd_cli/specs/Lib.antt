@@ -1,7 +1,6 @@
 pub mod Show
 pub mod Sending
 pub mod Line
-pub mod Limits
 pub mod Text
 pub mod Run
 pub mod Opening

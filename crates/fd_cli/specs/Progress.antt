@@ -4,7 +4,6 @@ use Rattle.std.specs.Io.KnownBytes.{Appends}
 use Rattle.fd_events.specs.Table.{Table}
 use Rattle.fd_cli.specs.declared.ending.Ending.{Ending}
 use Rattle.fd_cli.specs.declared.progress.Progress.{Progress}
-use Rattle.fd_cli.specs.Limits.{are_small}
 use Rattle.fd_cli.specs.Serving.{Answered, Stops, Serves}
 
 -- The lines of this input were answered with this text, and the line buffer holds the front of what is no whole line yet.
@@ -18,9 +17,8 @@ pub record IsServing (table : Table) (input text : List ℕ) (progress : Progres
   pub sent_count : progress.sent ≡ length text
 
 -- The count of bytes sent can't overflow within the bounds of input.
-pub record HasRoom (progress : Progress) : Type 0 where
-  pub sent : progress.sent ≤ 2 ^ 40 * progress.lines
-  pub small : are_small progress.session.table ≡ true
+abbrev pub HasRoom : Progress → Type 0
+HasRoom progress = progress.sent ≤ 2 ^ 40 * progress.lines
 
 -- So much of the input was taken and so much was written, and the run is there, or it stops among these bytes.
 abbrev pub AfterBytes : Table → List ℕ → List ℕ → Progress → Result (Unit {0}) Ending → Type 0

@@ -1,6 +1,5 @@
 //! The list of a table's events.
 ghost use Rattle.std.specs.Prelude.{◌≡◌, ◌<◌, ◌≤◌, ◌+◌, ◌^◌, length, is_ok, true};
-ghost use Rattle.fd_cli.specs.Limits.{are_small};
 ghost use Rattle.fd_pam.specs.Transfer.{Puts, CountsFailure};
 ghost use Rattle.fd_cli.specs.Text.{event_list};
 
@@ -16,8 +15,7 @@ pub(crate) fn send_events<W: Sink>(
     sink: &mut W,
     sent: &mut u64,
 ) -> Result<(), Failed>
-    requires room { sent.old + 2 ^ 40 < 2 ^ 64 }
-    requires small { are_small table.now ≡ true }
+    requires { sent.old + 2 ^ 40 < 2 ^ 64 }
     ensures puts { Puts (W.contents sink.old) (W.contents sink.new) sent.old sent.new (event_list table.now position) (is_ok result) }
     ensures short { is_ok result ≡ true → length (event_list table.now position) ≤ 2 ^ 40 }
     ensures failures { CountsFailure (W.failure_count sink.old) (W.failure_count sink.new) (is_ok result) }

@@ -7,14 +7,8 @@ pub use imaging::image;
 pub use list::list_events;
 pub use serving::serve;
 
-#[cfg(test)]
-mod captures;
 mod chunk;
 mod command;
-#[cfg(test)]
-mod device_tests;
-#[cfg(test)]
-mod devices;
 mod ending;
 mod entries;
 mod events;

@@ -1,7 +1,6 @@
 //! The list of a capture's events.
-ghost use Rattle.std.specs.Prelude.{◌≡◌, ◌<◌, ◌+◌, ◌^◌, ℕ, List, true, is_ok};
+ghost use Rattle.std.specs.Prelude.{◌≡◌, ◌<◌, ◌+◌, ◌^◌, ℕ, List, is_ok};
 ghost use Rattle.std.specs.Io.KnownBytes.{Appends};
-ghost use Rattle.fd_cli.specs.Limits.{are_small};
 ghost use Rattle.fd_cli.specs.Listing.{WritesText, ListsEvents};
 ghost use Rattle.fd_cli.specs.Text.{event_list};
 ghost use Rattle.fd_pam.specs.Transfer.{Rises, Puts, CountsFailure};
@@ -15,8 +14,7 @@ use std::alloc::Global;
 
 /// Sends the list of a table's events at position 0, and flushes.
 fn send_list<W: Sink>(table: &EventTable, sink: &mut W, sent: &mut u64) -> Result<(), Failed>
-    requires room { sent.old + 2 ^ 40 < 2 ^ 64 }
-    requires small { are_small table.now ≡ true }
+    requires { sent.old + 2 ^ 40 < 2 ^ 64 }
     ensures puts { Puts (W.contents sink.old) (W.contents sink.new) sent.old sent.new (event_list table.now 0) (is_ok result) }
     ensures failures { CountsFailure (W.failure_count sink.old) (W.failure_count sink.new) (is_ok result) }
 {
@@ -26,7 +24,6 @@ fn send_list<W: Sink>(table: &EventTable, sink: &mut W, sent: &mut u64) -> Resul
 
 /// Writes the list of a table's events at position 0.
 fn list_table<W: Sink>(table: &EventTable, sink: &mut W) -> Ending
-    requires { are_small table.now ≡ true }
     ensures writes { (written : List ℕ) × Appends (W.contents sink.old) (W.contents sink.new) written × WritesText (event_list table.now 0) written result }
     ensures write { (sent : ℕ) → result ≡ Ending.Write sent → Rises (W.failure_count sink.old) (W.failure_count sink.new) }
 {

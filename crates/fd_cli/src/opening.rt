@@ -1,6 +1,4 @@
 //! The table of a capture.
-ghost use Rattle.std.specs.Prelude.{◌≡◌, true, IfOk};
-ghost use Rattle.fd_cli.specs.Limits.{are_small};
 ghost use Rattle.fd_cli.specs.Opening.{Opens};
 
 use crate::ending::Ending;
@@ -10,8 +8,7 @@ use std::alloc::Global;
 
 /// The table of a capture, or how a call on it ends.
 pub(crate) fn open(alloc: Global, capture: &[u8]) -> Result<EventTable, Ending>
-    ensures opens { Opens capture.now result }
-    ensures small { IfOk result (λ table. are_small table ≡ true) }
+    ensures { Opens capture.now result }
 {
     match read(alloc, capture) {
         Ok(table) => Ok(table),

@@ -1,6 +1,5 @@
 //! A run, byte by byte of its input.
-ghost use Rattle.std.specs.Prelude.{◌≡◌, ◌<◌, ◌+◌, ◌^◌, ◌⊎◌, ℕ, [], ◌∷◌, Err, OnOk, true};
-ghost use Rattle.fd_cli.specs.Limits.{are_small};
+ghost use Rattle.std.specs.Prelude.{◌≡◌, ◌<◌, ◌+◌, ◌^◌, ◌⊎◌, ℕ, [], ◌∷◌, Err, OnOk};
 ghost use Rattle.fd_pam.specs.Transfer.{Rises};
 
 use crate::ending::Ending;
@@ -75,8 +74,7 @@ impl Progress {
 
     /// Answers the line that no line feed ends, if there is one.
     pub(crate) fn finish<W: Sink>(&mut self, alloc: Global, sink: &mut W) -> Ending
-        requires room { self.old.sent + 2 ^ 40 < 2 ^ 64 }
-        requires small { are_small self.old.session.table ≡ true }
+        requires { self.old.sent + 2 ^ 40 < 2 ^ 64 }
         ensures finishes { Finishes self.old (W.contents sink.old) (W.contents sink.new) result }
         ensures only { (result ≡ Ending.Done) ⊎ ((sent : ℕ) × (result ≡ Ending.Write sent)) }
         ensures write { (sent : ℕ) → result ≡ Ending.Write sent → Rises (W.failure_count sink.old) (W.failure_count sink.new) }

@@ -3,7 +3,6 @@ ghost use Rattle.std.specs.Prelude.{◌≡◌, ◌<◌, ◌≤◌, ◌+◌, ◌^
 ghost use Rattle.fd_history.specs.declared.entry.Entry.{Entry};
 ghost use Rattle.fd_session.specs.Machine.{ShowsHistory};
 ghost use Rattle.fd_session.specs.declared.answer.SessionFault.{SessionFault};
-ghost use Rattle.fd_cli.specs.Limits.{are_small};
 ghost use Rattle.fd_cli.specs.Line.{command_of};
 ghost use Rattle.fd_pam.specs.Transfer.{Puts, CountsFailure};
 ghost use Rattle.fd_cli.specs.Serving.{Replies};
@@ -48,15 +47,12 @@ fn send_history<W: Sink>(
     sink: &mut W,
     sent: &mut u64,
 ) -> Result<(), Failed>
-    requires room { sent.old + 2 ^ 40 < 2 ^ 64 }
-    requires small { are_small session.now.table ≡ true }
+    requires { sent.old + 2 ^ 40 < 2 ^ 64 }
     ensures puts { (outcome : Result (List Entry) SessionFault) × ShowsHistory session.now x y outcome
         × (is_ok result ≡ true → length (history_text outcome) ≤ 2 ^ 40)
         × Puts (W.contents sink.old) (W.contents sink.new) sent.old sent.new (history_text outcome) (is_ok result) }
     ensures failures { CountsFailure (W.failure_count sink.old) (W.failure_count sink.new) (is_ok result) }
 {
-    // It is at most the number of events, which bounds the entries.
-    let _position = session.position();
     match session.history(alloc, x, y) {
         Ok(entries) => send_entries(&entries, sink, sent),
         Err(fault) => send(sink, sent, refusal_line(fault)),
@@ -71,8 +67,7 @@ fn reply<W: Sink>(
     sink: &mut W,
     sent: &mut u64,
 ) -> Result<(), Failed>
-    requires room { sent.old + 2 ^ 40 < 2 ^ 64 }
-    requires small { are_small session.old.table ≡ true }
+    requires { sent.old + 2 ^ 40 < 2 ^ 64 }
     ensures replies { Replies session.old command session.new (W.contents sink.old) (W.contents sink.new) sent.old sent.new (is_ok result) }
     ensures failures { CountsFailure (W.failure_count sink.old) (W.failure_count sink.new) (is_ok result) }
 {
@@ -106,8 +101,7 @@ pub(crate) fn answer<W: Sink>(
     sink: &mut W,
     sent: &mut u64,
 ) -> Result<bool, Failed>
-    requires room { sent.old + 2 ^ 40 < 2 ^ 64 }
-    requires small { are_small session.old.table ≡ true }
+    requires { sent.old + 2 ^ 40 < 2 ^ 64 }
     ensures replies { Replies session.old (command_of line.now) session.new (W.contents sink.old) (W.contents sink.new) sent.old sent.new (is_ok result) }
     ensures quit { IfOk result (λ quit. IsTrue quit ↔ (command_of line.now ≡ Ok Command.Quit)) }
     ensures failures { CountsFailure (W.failure_count sink.old) (W.failure_count sink.new) (is_ok result) }

@@ -1,7 +1,6 @@
 //! A run of commands on a capture.
-ghost use Rattle.std.specs.Prelude.{◌≡◌, ◌≤◌, ℕ, List, length, true};
+ghost use Rattle.std.specs.Prelude.{◌≡◌, ◌≤◌, ℕ, List, length};
 ghost use Rattle.std.specs.Io.KnownBytes.{Consumes, Appends};
-ghost use Rattle.fd_cli.specs.Limits.{are_small};
 ghost use Rattle.fd_cli.specs.Serving.{Serves, ServesCapture};
 ghost use Rattle.fd_pam.specs.Transfer.{Rises};
 
@@ -22,8 +21,7 @@ fn serve_table<R: Source, W: Sink>(
     source: &mut R,
     sink: &mut W,
 ) -> Ending
-    requires workers { (1 ≤ workers) × (workers ≤ 64) }
-    requires small { are_small table ≡ true }
+    requires { (1 ≤ workers) × (workers ≤ 64) }
     ensures serves { (taken : List ℕ) × (written : List ℕ) × Consumes (R.remaining source.old) (R.remaining source.new) taken
         × Appends (W.contents sink.old) (W.contents sink.new) written
         × (length taken ≤ 268435457) × Serves table taken written result (R.has_ended source.new) }

@@ -1,14 +1,18 @@
-use crate::captures::{
+use crate::tests::captures::{
     ALPHA_SCALED, CULLED_THEN_SCISSORED, INDEXED, LINEAR_RED, MASKED_AND_SCISSORED, NO_EVENTS,
     ONE_CLEAR, TWO_TRIANGLES,
 };
-use crate::devices::{Limited, Pieces};
+use crate::tests::devices::{Limited, Pieces};
 use crate::{Command, CommandFault, Ending, image, list_events, read_command, serve};
 use fd_capture::CaptureFault;
 use fd_pam::{Device, Sink};
 use std::alloc::Global;
 use std::process::Abort;
 use std::test::Fail;
+
+mod captures;
+mod devices;
+mod failing_devices;
 
 /// What these lines of input write.
 fn expect_replies(rt: &impl Abort, alloc: Global, capture: &str, input: &[u8], text: &[u8]) {
@@ -48,6 +52,19 @@ fn the_shared_edge_is_drawn_once(rt: HostRuntime) {
     let text =
         b"at 1\npixel 255 0 0 255\npixel 0 255 0 255\npixel 0 255 0 255\npixel 0 255 0 255\nrefused 6 no such pixel\n";
     expect_replies(&rt, rt.alloc(), TWO_TRIANGLES, input, text);
+}
+
+/// Two flat triangles half a pixel high, of which the first one's top edge, and the second one's bottom edge, goes through centres.
+#[test]
+fn top_is_inclusive_bottom_is_not(rt: HostRuntime) {
+    let capture =
+        r#"{"format":"framedbg","version":1,"width":2,"height":2,"events":[{"kind":"draw","interp":"flat","vertices":[
+{"x":0,"y":32768,"color":[1,0,0,255]},{"x":131072,"y":32768,"color":[1,0,0,255]},{"x":0,"y":98304,"color":[1,0,0,255]},
+{"x":131072,"y":32768,"color":[2,0,0,255]},{"x":131072,"y":98304,"color":[2,0,0,255]},{"x":0,"y":98304,"color":[2,0,0,255]}]}]}"#;
+    let input = b"step\npixel 0 0\npixel 1 0\npixel 0 1\npixel 1 1\nhistory 0 0\nhistory 1 0\n";
+    let text =
+        b"at 1\npixel 1 0 0 255\npixel 1 0 0 255\npixel 0 0 0 0\npixel 0 0 0 0\nhistory 1\n1 0 drawn 1 0 0 255 0 0 0 0 1 0 0 255\nhistory 1\n1 0 drawn 1 0 0 255 0 0 0 0 1 0 0 255\n";
+    expect_replies(&rt, rt.alloc(), capture, input, text);
 }
 
 #[test]

@@ -1,7 +1,6 @@
 //! The texts of lines, and of the words that they are made of.
-ghost use Rattle.std.specs.Prelude.{◌≡◌, ◌≤◌, ◌+◌, ◌++◌, length, IsTrue, Ok};
+ghost use Rattle.std.specs.Prelude.{◌≡◌, ◌≤◌, ◌+◌, ◌++◌, length, Ok};
 ghost use Rattle.fd_capture.specs.Spelling.{factor_text, op_text, cull_text, interp_text};
-ghost use Rattle.fd_cli.specs.Limits.{is_small};
 ghost use Rattle.fd_cli.specs.Text.{word, number_word, signed_word, truth_word, flag_word, colour_words, rect_words, part_words, equation_words, event_words, event_line, events_head, state_line, pixel_line, triangle_word, verdict_text, entry_line};
 
 use arrayvec::ArrayVec;
@@ -265,7 +264,6 @@ fn draw_words(draw: &Draw) -> Line
 }
 
 fn marker_words(name: &Label) -> Line
-    requires { IsTrue (is_small (Event.Marker name.now)) }
     ensures items { result.items ≡ event_words (Event.Marker name.now) }
     ensures short { length result.items ≤ 160 }
 {
@@ -285,7 +283,6 @@ fn after(word: &[u8], others: &[u8]) -> Line
 
 /// What stands behind an event's number and flag.
 fn event_words(event: &Event) -> Line
-    requires { IsTrue (is_small event.now) }
     ensures items { result.items ≡ event_words event.now }
     ensures short { length result.items ≤ 160 }
 {
@@ -303,7 +300,6 @@ fn event_words(event: &Event) -> Line
 /// The line of an event.
 #[tactic(auto, unfolding(crate::specs::Text::event_line))]
 pub(crate) fn event_line(number: u32, event: &Event, on: bool) -> Line
-    requires { IsTrue (is_small event.now) }
     ensures { result.items ≡ event_line number event.now on }
 {
     let mut digits = Buffer::new();

@@ -1,4 +1,4 @@
-ghost use Rattle.std.specs.Prelude.{◌≡◌, ◌<◌, length, Some, option_map, slice_get};
+ghost use Rattle.std.specs.Prelude.{◌≡◌, ◌<◌, ◌≤◌, length, Some, option_map, slice_get};
 
 use crate::list::TriangleList;
 use fd_blend::Colour;
@@ -12,6 +12,9 @@ pub const MAX_VERTICES: usize = 196_608;
 
 /// The most indices that a draw has.
 pub const MAX_INDICES: usize = 196_608;
+
+/// The most triangles that a draw has: a third of its most corners.
+pub const MAX_TRIANGLES: u32 = 65_536;
 
 /// A corner of a triangle: its position as the capture gives it, and its colour.
 #[derive(Clone, Copy, PartialEq, Eq, Debug)]
@@ -56,6 +59,7 @@ impl Model for Draw {
 impl Draw {
     ghost use Rattle.fd_events.specs.Bounds.{HoldsTriangles, bounds_of_triangles};
     ghost use Rattle.fd_events.specs.Draw.{made, triangles_of};
+    ghost use Rattle.fd_events.specs.declared.draw.TheConstants.{MAX_TRIANGLES};
 
     /// A draw of these vertices and indices, which are dropped on a refusal.
     pub fn new(
@@ -72,7 +76,8 @@ impl Draw {
 
     /// The number of triangles.
     pub fn triangles(&self) -> u32
-        ensures { result ≡ length (triangles_of self.now) }
+        ensures value { result ≡ length (triangles_of self.now) }
+        ensures most { result ≤ MAX_TRIANGLES }
     {
         self.list.len()
     }

@@ -1,4 +1,4 @@
-ghost use Rattle.std.specs.Prelude.{◌≡◌, string_bytes};
+ghost use Rattle.std.specs.Prelude.{◌≡◌, ◌≤◌, length, string_bytes};
 ghost use Rattle.std.specs.List.{list_any};
 ghost use Rattle.fd_events.specs.Label.{is_control};
 
@@ -45,6 +45,7 @@ impl Model for Label {
 
 impl Label {
     ghost use Rattle.fd_events.specs.Label.{labelled};
+    ghost use Rattle.fd_events.specs.declared.label.TheConstants.{MAX_LABEL_LEN};
 
     /// A name of this text, which is dropped on a refusal.
     pub fn new(text: String) -> Result<Label, LabelFault>
@@ -61,7 +62,8 @@ impl Label {
 
     /// The name's text.
     pub fn as_str(&self) -> &str
-        ensures { result.now ≡ self.now }
+        ensures value { result.now ≡ self.now }
+        ensures short { length result.now ≤ MAX_LABEL_LEN }
     {
         self.text.as_str()
     }

@@ -56,7 +56,7 @@ impl Model for TriangleList {
 impl TriangleList {
     ghost use Rattle.fd_events.specs.Bounds.{IsRound};
     ghost use Rattle.fd_events.specs.Draw.{made, listed, triangle_of, triangles_of};
-    ghost use Rattle.fd_events.specs.declared.draw.TheConstants.{MAX_VERTICES};
+    ghost use Rattle.fd_events.specs.declared.draw.TheConstants.{MAX_TRIANGLES, MAX_VERTICES};
 
     /// The triangles of these vertices and indices, which are dropped on a refusal.
     pub(crate) fn new(
@@ -119,7 +119,8 @@ impl TriangleList {
 
     /// The number of triangles.
     pub(crate) fn len(&self) -> u32
-        ensures { result ≡ length (triangles_of self.now) }
+        ensures value { result ≡ length (triangles_of self.now) }
+        ensures most { result ≤ MAX_TRIANGLES }
     {
         (self.corner_count() / 3) as u32
     }

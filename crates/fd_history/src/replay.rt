@@ -1,5 +1,6 @@
-ghost use Rattle.std.specs.Prelude.{◌≡◌, ◌<◌, ◌≤◌, ◌++◌, [], ◌∷◌, length, slice_get, IfOk, IfSome, OnOk};
+ghost use Rattle.std.specs.Prelude.{◌≡◌, ◌<◌, ◌≤◌, ◌+◌, ◌*◌, ◌++◌, [], ◌∷◌, length, slice_get, IfOk, IfSome, OnOk};
 ghost use Rattle.fd_events.specs.Draw.{triangles_of};
+ghost use Rattle.fd_events.specs.declared.draw.TheConstants.{MAX_TRIANGLES};
 ghost use Rattle.fd_history.specs.History.{history_at};
 
 use crate::entry::Entry;
@@ -62,7 +63,8 @@ impl Replay {
         state: &Pipeline,
     ) -> Result<(), AllocError>
         requires { triangle < length (triangles_of draw.now) }
-        ensures { OnOk result (IfSome (slice_get (triangles_of draw.now) triangle) (λ t. self.new ≡ past_triangle event triangle t draw.now.interp state.now self.old)) }
+        ensures exact { OnOk result (IfSome (slice_get (triangles_of draw.now) triangle) (λ t. self.new ≡ past_triangle event triangle t draw.now.interp state.now self.old)) }
+        ensures few { OnOk result (length self.new.entries ≤ length self.old.entries + 1) }
     {
         let tri = draw.tri(triangle);
         if !Bounds::of(&tri).holds(self.x, self.y) {
@@ -92,7 +94,8 @@ impl Replay {
 
     /// Goes through the triangles of a draw.
     fn pass_draw(&mut self, event: u32, draw: &Draw, state: &Pipeline) -> Result<(), AllocError>
-        ensures { OnOk result (self.new ≡ past_triangles event 0 (triangles_of draw.now) draw.now.interp state.now self.old) }
+        ensures exact { OnOk result (self.new ≡ past_triangles event 0 (triangles_of draw.now) draw.now.interp state.now self.old) }
+        ensures few { OnOk result (length self.new.entries ≤ length self.old.entries + MAX_TRIANGLES) }
     {
         if !draw.bounds().holds(self.x, self.y) {
             return Ok(());
@@ -105,7 +108,8 @@ impl Replay {
 
     /// Goes through an event.
     fn pass(&mut self, number: u32, event: &Event, state: &Pipeline) -> Result<(), AllocError>
-        ensures { OnOk result (self.new ≡ past_event number (Some event.now) state.now self.old) }
+        ensures exact { OnOk result (self.new ≡ past_event number (Some event.now) state.now self.old) }
+        ensures few { OnOk result (length self.new.entries ≤ length self.old.entries + MAX_TRIANGLES) }
     {
         match event {
             Event::Clear(colour) => self.enter(Entry {
@@ -129,7 +133,8 @@ impl Replay {
     fn pass_number(&mut self, table: &EventTable, number: u32) -> Result<(), AllocError>
         requires first { 1 ≤ number }
         requires last { number ≤ length table.now.events }
-        ensures { OnOk result (self.new ≡ past_event number (active_event table.now number) (state_at table.now (number - 1)) self.old) }
+        ensures exact { OnOk result (self.new ≡ past_event number (active_event table.now number) (state_at table.now (number - 1)) self.old) }
+        ensures few { OnOk result (length self.new.entries ≤ length self.old.entries + MAX_TRIANGLES) }
     {
         if !table.is_on(number) {
             return Ok(());
@@ -139,6 +144,7 @@ impl Replay {
 }
 
 /// What the switched-on events up to a position did to a pixel, on a fresh target.
+/// A clear has one entry, and a draw at most one for each triangle.
 pub fn history(
     alloc: Global,
     table: &EventTable,
@@ -149,7 +155,8 @@ pub fn history(
     requires last { position ≤ length table.now.events }
     requires column { x < TARGET_LIMIT }
     requires row { y < TARGET_LIMIT }
-    ensures { IfOk result (λ entries. entries.items ≡ history_at table.now position x y) }
+    ensures exact { IfOk result (λ entries. entries.items ≡ history_at table.now position x y) }
+    ensures few { IfOk result (λ entries. length entries.items ≤ MAX_TRIANGLES * position) }
 {
     let mut replay = Replay {
         x,

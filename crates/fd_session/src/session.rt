@@ -202,11 +202,15 @@ impl Session {
         Ok(image[place])
     }
 
+    ghost use Rattle.std.specs.Prelude.{◌*◌};
     ghost use Rattle.std.specs.Result.{result_map_both};
+    ghost use Rattle.fd_events.specs.declared.draw.TheConstants.{MAX_TRIANGLES};
+    ghost use Rattle.fd_events.specs.declared.table.TheConstants.{MAX_EVENTS};
 
     /// What the switched-on events up to the session's position did to a pixel, in order.
     pub fn history(&self, alloc: Global, x: u32, y: u32) -> Result<Vec<Entry>, SessionFault>
-        ensures { ShowsHistory self.now x y (result_map_both (λ entries. entries.items) (λ fault. fault) result) }
+        ensures shows { ShowsHistory self.now x y (result_map_both (λ entries. entries.items) (λ fault. fault) result) }
+        ensures few { IfOk result (λ entries. length entries.items ≤ MAX_TRIANGLES * MAX_EVENTS) }
     {
         if x >= self.table.width() || y >= self.table.height() {
             return Err(SessionFault::NoSuchPixel);

@@ -2,7 +2,7 @@ use Rattle.std.proofs.Common.{◌+◌, ◌++◌, ◌∙◌, ap, sym, drop, lengt
 use Rattle.std.proofs.lemmas.Result.{err_from_is_err_and}
 use Rattle.fd_pam.proofs.Transfers.{puts_broken}
 use Rattle.fd_cli.specs.Text.{events_head, event_line, event_lines}
-use Rattle.fd_cli.proofs.EventLines.{lines_next, lines_end, small_number}
+use Rattle.fd_cli.proofs.EventLines.{lines_next, lines_end}
 use Rattle.fd_cli.proofs.Gathering.{waits_then, waits_broken, waits_sent}
 use Rattle.fd_cli.proofs.events.send_events.Goals as goal
 
@@ -14,9 +14,6 @@ returns-in_err-gather-clause-puts g c =
     rw p.1
     (puts_broken _ _ _ _ (events_head (length table.events) c.args.position) (event_lines 1 table.events table.flags)
     (rw (c.new-chunk.ensures, head) at c.in_err-gather.ensures.gathers))
-
-pub event_line-line-requires : goal.event_line-line-requires
-event_line-line-requires g c = small_number c.args.table.now.events c.loop-index.index c.event.result.now c.requires.small c.event.ensures
 
 pub returns-in_err-gather-2-clause-puts : goal.returns-in_err-gather-2-clause-puts
 returns-in_err-gather-2-clause-puts g c =

@@ -1,8 +1,6 @@
 use Rattle.std.proofs.Common.{◌≡◌, ◌∙◌, ap, sym, subst, [], ◌++◌, ◌<◌, length, take, drop, refl, arith, true, append-nil, length-append}
 use Rattle.std.proofs.KnownBytes.{Consumes-nil, Consumes-trans, Appends-nil, Appends-trans}
 use Rattle.std.proofs.lemmas.List.{length-take, length-take-le}
-use Rattle.fd_session.specs.Machine.{State}
-use Rattle.fd_cli.specs.Limits.{are_small}
 use Rattle.fd_cli.specs.Progress.{IsServing}
 use Rattle.fd_cli.specs.Serving.{Serves, Stops}
 use Rattle.fd_cli.proofs.Advancing.{serving_start, serves_stop, front_of, end_reached}
@@ -16,7 +14,7 @@ loop-count-init g c =
       consumed = Consumes-nil (g.R.Source.remaining c.args.source.now);
       appended = Appends-nil (g.W.Sink.contents c.args.sink.now);
       serving = serving_start c.args.table _ c.in-Ok.ensures.ok c.new.ensures refl refl refl;
-      room = record { sent = omega arith; small = rw (ap (λ (s : State). are_small s.table) c.in-Ok.ensures.ok) c.requires.small };
+      room = omega arith;
       read = refl;
       write = refl;
     }

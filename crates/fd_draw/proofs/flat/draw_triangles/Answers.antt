@@ -19,7 +19,7 @@ pub returns : goal.returns
 returns c =
     let ts = triangles_of c.args.draw.now in
     let places = pixels c.args.width c.args.height in
-    let none : drop c.loop-triangle.triangle ts ≡ [] = drop_all c.loop-triangle.triangle ts (omega (arith, c.triangles-triangle-end.ensures, c.loop-triangle-test.false)) in
+    let none : drop c.loop-triangle.triangle ts ≡ [] = drop_all c.loop-triangle.triangle ts (omega (arith, c.triangles-triangle-end.ensures.value, c.loop-triangle-test.false)) in
     sym (changed_image_same _ places c.loop-triangle.image (omega (arith, length-pixels c.args.width c.args.height, c.loop-triangle.auto.image, c.requires.size)) (λ x y d. refl))
     ∙ ap (λ us. changed_image (colour_after_triangles us c.args.draw.now.interp c.args.state.now) places c.loop-triangle.image) (sym none)
     ∙ c.loop-triangle.invariant

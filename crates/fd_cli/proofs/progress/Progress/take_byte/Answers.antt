@@ -3,7 +3,7 @@ use Rattle.std.proofs.lemmas.Bool.{false≢true}
 use Rattle.arrayvec.specs.ArrayVec.{ArrayVec}
 use Rattle.fd_cli.specs.Line.{command_of}
 use Rattle.fd_cli.proofs.LineLemmas.{push_front}
-use Rattle.fd_cli.proofs.Keeping.{counted_by, still_small}
+use Rattle.fd_pam.proofs.Transfers.{puts_all}
 use Rattle.fd_cli.proofs.Advancing.{advance_past, advance_byte, advance_fault, advance_quit, advance_line}
 use Rattle.fd_cli.proofs.progress.Progress.take_byte.Goals as goal
 use Rattle.fd_cli.proofs.progress.Progress.take_byte.Goals.{then-self-ge-MAX_BYTES-via-then-self-ge-MAX_BYTES, then-self-ge-MAX_BYTES-via-else-self-ge-MAX_BYTES+then-self-ge-MAX_LINES}
@@ -18,9 +18,6 @@ pub returns-then-byte-ne10-clause-advances : goal.returns-then-byte-ne10-clause-
 returns-then-byte-ne10-clause-advances g c =
     advance_byte c.args.self.now _ (g.W.Sink.contents c.args.sink.now) c.args.byte c.if-byte-ne10.true c.if-self-ge-MAX_BYTES.false c.if-self-ge-MAX_LINES.false
     refl (push_front (λ (v : ArrayVec ℕ). v.items) c.args.self.now.line c.try_push.new.self c.args.byte 258 c.try_push.result c.try_push.ensures.variant.0 c.try_push.ensures.ok c.try_push.ensures.err c.try_push.ensures.full) refl refl refl
-
-pub answer-requires : goal.answer-requires
-answer-requires g c = record { room = omega (arith, c.requires.sent); small = c.requires.small }
 
 pub returns-in_default-clause-advances : goal.returns-in_default-clause-advances
 returns-in_default-clause-advances g c =
@@ -41,7 +38,4 @@ returns-else-quit-clause-advances g c =
 pub returns-else-quit-clause-room : goal.returns-else-quit-clause-room
 returns-else-quit-clause-room g c =
     let replies = c.in-Ok.ensures.replies in
-    record {
-      sent = omega (arith, c.requires.sent, counted_by _ _ _ _ _ _ _ replies);
-      small = still_small _ _ _ _ (replies.answers) c.requires.small;
-    }
+    omega (arith, c.requires, (puts_all _ _ _ _ replies.reply replies.puts).1, replies.short refl)

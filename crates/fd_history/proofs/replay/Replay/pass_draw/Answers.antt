@@ -8,12 +8,15 @@ pub loop-triangle-preserved : goal.loop-triangle-preserved
 loop-triangle-preserved c =
     let draw = c.args.draw.now in
     let i = c.loop-triangle.triangle in
-    let within : i < length (triangles_of draw) = omega (arith, c.loop-triangle-test.true, c.triangles-triangle-end.ensures) in
-    next_triangle c.args.event i i (triangles_of draw) draw.interp c.args.state.now c.loop-triangle.self c.pass_triangle.new.self within c.in_ok-pass_triangle.ensures
-    ∙ c.loop-triangle.invariant
+    let within : i < length (triangles_of draw) = omega (arith, c.loop-triangle-test.true, c.triangles-triangle-end.ensures.value) in
+    record {
+      exact = next_triangle c.args.event i i (triangles_of draw) draw.interp c.args.state.now c.loop-triangle.self c.pass_triangle.new.self within c.in_ok-pass_triangle.ensures.exact
+          ∙ c.loop-triangle.invariant.exact;
+      few = omega (arith, c.loop-triangle.invariant.few, c.in_ok-pass_triangle.ensures.few);
+    }
 
-pub returns-then-not-holds : goal.returns-then-not-holds
-returns-then-not-holds c =
+pub returns-then-not-holds-clause-exact : goal.returns-then-not-holds-clause-exact
+returns-then-not-holds-clause-exact c =
     let column = ap (λ (t : Trail). t.x) c.self.view_is in
     let row = ap (λ (t : Trail). t.y) c.self.view_is in
     let out = rw (column, row) at (sym c.holds.ensures ∙ c.if-not-holds.true) in

@@ -4,8 +4,8 @@ use Rattle.fd_history.specs.Trail.{Trail}
 use Rattle.fd_history.proofs.Replays.{outside_triangle}
 use Rattle.fd_history.proofs.replay.Replay.pass_triangle.Goals as goal
 
-pub returns-then-not-holds : goal.returns-then-not-holds
-returns-then-not-holds c =
+pub returns-then-not-holds-clause-exact : goal.returns-then-not-holds-clause-exact
+returns-then-not-holds-clause-exact c =
     let column = ap (λ (t : Trail). t.x) c.self.view_is in
     let row = ap (λ (t : Trail). t.y) c.self.view_is in
     let out = rw (column, row) at (sym c.holds.ensures ∙ c.if-not-holds.true) in

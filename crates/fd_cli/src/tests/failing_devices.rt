@@ -1,5 +1,5 @@
-use crate::captures::ONE_CLEAR;
-use crate::devices::{Again, Asking, Count, Flushing, Interrupted, Limited, Pieces};
+use crate::tests::captures::ONE_CLEAR;
+use crate::tests::devices::{Again, Asking, Count, Flushing, Interrupted, Limited, Pieces};
 use crate::{Ending, serve};
 use fd_pam::{Device, Sink, Source};
 use std::alloc::Global;
