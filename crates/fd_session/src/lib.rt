@@ -6,6 +6,7 @@ pub use session::Session;
 
 mod answer;
 mod images;
+pub mod laws;
 mod session;
 #[cfg(test)]
 mod tests;
