@@ -1,10 +1,11 @@
 # make demo   builds framedbg and replays the sample capture: the replies, and an image in demo.pam (demo.png where netpbm is installed)
 # make test   reads the examples with netpbm and checks the guide, and then the gate: every proof from nothing, the must-fail edits, the tests, the programs
+# make bench  measures the program beside a plain loop in C, and prints ratios; no part of the gate
 
 PROGRAM := crates/framedbg/out/framedbg
 SAMPLE := examples/house.json
 
-.PHONY: all demo test program
+.PHONY: all bench demo test program
 
 all: demo
 
@@ -16,6 +17,9 @@ demo: program
 	$(PROGRAM) image $(SAMPLE) > demo.pam
 	@if command -v pamtopng > /dev/null; then pamtopng demo.pam > demo.png && echo "demo.png: `pamfile demo.pam`"; \
 	else echo "demo.pam: written (install netpbm to see it as demo.png)"; fi
+
+bench: program
+	benches/measure.py
 
 test:
 	tools/check_guide

@@ -1,6 +1,6 @@
 -- The output merger: a source drawn over a destination.
 -- Direct3D 11.3 functional specification, section 17, output merger.
-use Rattle.std.specs.Prelude.{ℕ, if◌then◌else◌}
+use Rattle.std.specs.Prelude.{ℕ, Bool, not, ◌&&◌, if◌then◌else◌}
 use Rattle.fd_blend.specs.declared.channel.Colour.{Colour}
 use Rattle.fd_blend.specs.declared.channel.Channel.{Channel}
 use Rattle.fd_blend.specs.declared.channel.Channel.TheVariants.{Red, Green, Blue, Alpha}
@@ -23,6 +23,12 @@ blended_channel state channel factor src dst =
     if writes state.mask channel
     then (if state.enable then blended (part_of state channel) channel factor src dst else channel_of channel src)
     else channel_of channel dst
+
+-- without blending and with all channels written, the source takes the destination's place
+abbrev pub replaces : Blending → Bool
+replaces state =
+    not state.enable
+    && (writes state.mask Red && (writes state.mask Green && (writes state.mask Blue && writes state.mask Alpha)))
 
 -- the colour that is left where a source is drawn over a destination, with a blend factor
 unfoldable pub blend : Blending → Colour → Colour → Colour → Colour

@@ -2,7 +2,7 @@ ghost use Rattle.std.specs.Prelude.{◌≡◌};
 ghost use Rattle.fd_blend.specs.Channel.{channel_of};
 
 /// A pixel's colour: each channel is a byte n that stands for n / 255.
-#[derive(Clone, Copy, Debug, PartialEq, Eq)]
+#[derive(Clone, Copy, Debug, Default, PartialEq, Eq)]
 pub struct Colour {
     pub r: u8,
     pub g: u8,

@@ -9,7 +9,12 @@ pub fn blend_row(state: &BlendState, factor: Colour, src: &[Colour], dst: &mut [
     requires { length src.now ≡ length dst.old }
     ensures { dst.new ≡ blended_row state.now factor src.now dst.old }
 {
+    if state.replaces() {
+        dst.copy_from_slice(src);
+        return;
+    }
+    let state = *state;
     for i in 0..dst.len() {
-        dst[i] = blend(state, factor, src[i], dst[i]);
+        dst[i] = blend(&state, factor, src[i], dst[i]);
     }
 }

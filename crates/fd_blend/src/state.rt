@@ -1,6 +1,6 @@
 ghost use Rattle.std.specs.Prelude.{◌≡◌, Bool, true, false, IsTrue, IsErr, IsOk, IfOk, IfErr, ◌↔◌, ◌||◌};
 ghost use Rattle.fd_blend.specs.Equation.{has_colour_factor};
-ghost use Rattle.fd_blend.specs.Blend.{blended_channel, blend, part_of};
+ghost use Rattle.fd_blend.specs.Blend.{blended_channel, blend, part_of, replaces};
 
 use crate::channel::{Channel, Colour};
 use crate::equation::Part;
@@ -82,6 +82,17 @@ impl BlendState {
         ensures { result ≡ self.now.mask }
     {
         self.mask
+    }
+
+    /// Whether every source takes its destination's place whole.
+    pub(crate) fn replaces(&self) -> bool
+        ensures { result ≡ replaces self.now }
+    {
+        !self.enable
+            && self.mask.writes(Channel::Red)
+            && self.mask.writes(Channel::Green)
+            && self.mask.writes(Channel::Blue)
+            && self.mask.writes(Channel::Alpha)
     }
 
     /// The equation of a channel.

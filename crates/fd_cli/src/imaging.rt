@@ -11,6 +11,7 @@ use fd_events::EventTable;
 use fd_pam::{PamFault, Sink, pam_len, write};
 use fd_session::{Answer, Session, SessionFault};
 use std::alloc::Global;
+use std::thread::Threads;
 
 /// Writes the image that the session shows, and flushes.
 fn write_shown<W: Sink>(alloc: Global, session: &Session, sink: &mut W) -> Ending
@@ -30,7 +31,8 @@ fn write_shown<W: Sink>(alloc: Global, session: &Session, sink: &mut W) -> Endin
 }
 
 /// Writes the image of a table at a position, or at the last one.
-fn write_table<W: Sink>(
+fn write_table<T: Threads + Sync, W: Sink>(
+    rt: &T,
     alloc: Global,
     table: EventTable,
     workers: u32,
@@ -45,7 +47,7 @@ fn write_table<W: Sink>(
     let Ok(mut session) = Session::start(alloc, table, workers) else {
         return Ending::Memory;
     };
-    match session.goto(to) {
+    match session.goto(rt, to) {
         Answer::Moved { .. } => write_shown(alloc, &session, sink),
         Answer::Refused(SessionFault::NoSuchPosition) => Ending::NoSuchPosition,
         Answer::Stopped { .. } | Answer::Refused(_) => Ending::Memory,
@@ -55,7 +57,8 @@ fn write_table<W: Sink>(
 /// Writes the image of a capture at a position, or at the last one, as a PAM file.
 ///
 /// Nothing is written where the capture is refused, where there is no such position, or where memory is wanted.
-pub fn image<W: Sink>(
+pub fn image<T: Threads + Sync, W: Sink>(
+    rt: &T,
     alloc: Global,
     capture: &[u8],
     workers: u32,
@@ -68,7 +71,7 @@ pub fn image<W: Sink>(
     ensures write { (sent : ℕ) → result ≡ Ending.Write sent → Rises (W.failure_count sink.old) (W.failure_count sink.new) }
 {
     match open(alloc, capture) {
-        Ok(table) => write_table(alloc, table, workers, at, sink),
+        Ok(table) => write_table(rt, alloc, table, workers, at, sink),
         Err(ending) => ending,
     }
 }

@@ -8,6 +8,7 @@ use arrayvec::ArrayVec;
 use fd_pam::Sink;
 use fd_session::Session;
 use std::alloc::Global;
+use std::thread::Threads;
 
 /// The most lines of input.
 const MAX_LINES: u32 = 1_000_000;
@@ -29,7 +30,13 @@ impl Progress {
     ghost use Rattle.fd_cli.specs.Progress.{HasRoom, Advances, Finishes};
 
     /// Takes one byte of the input, and answers the line that it ends.
-    fn take_byte<W: Sink>(&mut self, alloc: Global, byte: u8, sink: &mut W) -> Result<(), Ending>
+    fn take_byte<T: Threads + Sync, W: Sink>(
+        &mut self,
+        rt: &T,
+        alloc: Global,
+        byte: u8,
+        sink: &mut W,
+    ) -> Result<(), Ending>
         requires { HasRoom self.old }
         ensures advances { Advances self.old self.new (W.contents sink.old) (W.contents sink.new) (byte ∷ []) result }
         ensures room { OnOk result (HasRoom self.new) }
@@ -45,7 +52,7 @@ impl Progress {
             return Ok(());
         }
         let line = self.line.as_slice();
-        let Ok(quit) = answer(alloc, &mut self.session, line, sink, &mut self.sent) else {
+        let Ok(quit) = answer(rt, alloc, &mut self.session, line, sink, &mut self.sent) else {
             return Err(Ending::Write { sent: self.sent });
         };
         self.line.clear();
@@ -54,8 +61,9 @@ impl Progress {
     }
 
     /// Takes bytes of the input, and answers each line that they end.
-    pub(crate) fn take_bytes<W: Sink>(
+    pub(crate) fn take_bytes<T: Threads + Sync, W: Sink>(
         &mut self,
+        rt: &T,
         alloc: Global,
         bytes: &[u8],
         sink: &mut W,
@@ -67,13 +75,18 @@ impl Progress {
         ensures write { (sent : ℕ) → result ≡ Err (Ending.Write sent) → Rises (W.failure_count sink.old) (W.failure_count sink.new) }
     {
         for byte in bytes {
-            self.take_byte(alloc, *byte, sink)?;
+            self.take_byte(rt, alloc, *byte, sink)?;
         }
         Ok(())
     }
 
     /// Answers the line that no line feed ends, if there is one.
-    pub(crate) fn finish<W: Sink>(&mut self, alloc: Global, sink: &mut W) -> Ending
+    pub(crate) fn finish<T: Threads + Sync, W: Sink>(
+        &mut self,
+        rt: &T,
+        alloc: Global,
+        sink: &mut W,
+    ) -> Ending
         requires { self.old.sent + 2 ^ 40 < 2 ^ 64 }
         ensures finishes { Finishes self.old (W.contents sink.old) (W.contents sink.new) result }
         ensures only { (result ≡ Ending.Done) ⊎ ((sent : ℕ) × (result ≡ Ending.Write sent)) }
@@ -83,7 +96,7 @@ impl Progress {
             return Ending::Done;
         }
         let line = self.line.as_slice();
-        match answer(alloc, &mut self.session, line, sink, &mut self.sent) {
+        match answer(rt, alloc, &mut self.session, line, sink, &mut self.sent) {
             Ok(_) => Ending::Done,
             Err(_) => Ending::Write { sent: self.sent },
         }

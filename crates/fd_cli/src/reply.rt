@@ -17,6 +17,7 @@ use crate::text::{pixel_line, state_line};
 use fd_pam::{Failed, Sink, send};
 use fd_session::{Answer, Session};
 use std::alloc::Global;
+use std::thread::Threads;
 
 /// Sends the reply to a move.
 fn send_answer<W: Sink>(answer: Answer, sink: &mut W, sent: &mut u64) -> Result<(), Failed>
@@ -60,7 +61,8 @@ fn send_history<W: Sink>(
 }
 
 /// Answers a command, or what stands in a command's place.
-fn reply<W: Sink>(
+fn reply<T: Threads + Sync, W: Sink>(
+    rt: &T,
     alloc: Global,
     session: &mut Session,
     command: Result<Command, CommandFault>,
@@ -73,14 +75,14 @@ fn reply<W: Sink>(
 {
     match command {
         Err(fault) => send(sink, sent, fault_line(fault)),
-        Ok(Command::Step) => send_answer(session.step(), sink, sent),
+        Ok(Command::Step) => send_answer(session.step(rt), sink, sent),
         Ok(Command::Back) => match session.back() {
             Ok(at) => send(sink, sent, number_line(b"at", u64::from(at)).as_slice()),
             Err(fault) => send(sink, sent, refusal_line(fault)),
         },
-        Ok(Command::Goto(to)) => send_answer(session.goto(to), sink, sent),
-        Ok(Command::On(number)) => send_answer(session.switch(number, true), sink, sent),
-        Ok(Command::Off(number)) => send_answer(session.switch(number, false), sink, sent),
+        Ok(Command::Goto(to)) => send_answer(session.goto(rt, to), sink, sent),
+        Ok(Command::On(number)) => send_answer(session.switch(rt, number, true), sink, sent),
+        Ok(Command::Off(number)) => send_answer(session.switch(rt, number, false), sink, sent),
         Ok(Command::Pixel(x, y)) => match session.pixel(x, y) {
             Ok(colour) => send(sink, sent, pixel_line(colour).as_slice()),
             Err(fault) => send(sink, sent, refusal_line(fault)),
@@ -94,7 +96,8 @@ fn reply<W: Sink>(
 }
 
 /// Answers a line, and says whether it was a quit.
-pub(crate) fn answer<W: Sink>(
+pub(crate) fn answer<T: Threads + Sync, W: Sink>(
+    rt: &T,
     alloc: Global,
     session: &mut Session,
     line: &[u8],
@@ -107,7 +110,7 @@ pub(crate) fn answer<W: Sink>(
     ensures failures { CountsFailure (W.failure_count sink.old) (W.failure_count sink.new) (is_ok result) }
 {
     let command = read_command(line);
-    reply(alloc, session, command, sink, sent)?;
+    reply(rt, alloc, session, command, sink, sent)?;
     sink.flush()?;
     Ok(matches!(command, Ok(Command::Quit)))
 }

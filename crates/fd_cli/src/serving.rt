@@ -12,9 +12,11 @@ use fd_events::EventTable;
 use fd_pam::{Sink, Source};
 use fd_session::Session;
 use std::alloc::Global;
+use std::thread::Threads;
 
 /// Answers the commands that come from the source.
-fn serve_table<R: Source, W: Sink>(
+fn serve_table<T: Threads + Sync, R: Source, W: Sink>(
+    rt: &T,
     alloc: Global,
     table: EventTable,
     workers: u32,
@@ -45,9 +47,9 @@ fn serve_table<R: Source, W: Sink>(
             return Ending::Read;
         };
         if count == 0 {
-            return progress.finish(alloc, sink);
+            return progress.finish(rt, alloc, sink);
         }
-        if let Err(ending) = progress.take_bytes(alloc, &buffer[..count], sink) {
+        if let Err(ending) = progress.take_bytes(rt, alloc, &buffer[..count], sink) {
             return ending;
         }
     }
@@ -57,7 +59,8 @@ fn serve_table<R: Source, W: Sink>(
 ///
 /// Each reply is flushed. At most 1,000,000 lines and 268,435,456 bytes are answered, and one byte more is taken at most.
 /// Nothing is taken or written where the capture is refused or memory is wanted for the session.
-pub fn serve<R: Source, W: Sink>(
+pub fn serve<T: Threads + Sync, R: Source, W: Sink>(
+    rt: &T,
     alloc: Global,
     capture: &[u8],
     workers: u32,
@@ -74,7 +77,7 @@ pub fn serve<R: Source, W: Sink>(
     ensures write { (sent : ℕ) → result ≡ Ending.Write sent → Rises (W.failure_count sink.old) (W.failure_count sink.new) }
 {
     match open(alloc, capture) {
-        Ok(table) => serve_table(alloc, table, workers, source, sink),
+        Ok(table) => serve_table(rt, alloc, table, workers, source, sink),
         Err(ending) => ending,
     }
 }

@@ -9,19 +9,35 @@ use fd_pam::{Device, Sink};
 use std::alloc::Global;
 use std::process::Abort;
 use std::test::Fail;
+use std::thread::Threads;
 
 mod captures;
 mod devices;
 mod failing_devices;
 
-/// What these lines of input write.
-fn expect_replies(rt: &impl Abort, alloc: Global, capture: &str, input: &[u8], text: &[u8]) {
-    let mut source = Device::new(Pieces::of(input, 5));
-    let mut sink = Device::new(Limited::of(alloc, 100_000, 100));
-    let ended = serve(alloc, capture.as_bytes(), 1, &mut source, &mut sink);
-    let written = sink.into_inner();
-    assert_eq!(rt; written.bytes.as_slice(), text);
-    assert_eq!(rt; ended, Ending::Done);
+/// What these lines of input write, whatever the number of workers.
+fn expect_replies<T: Abort + Threads + Sync>(
+    rt: &T,
+    alloc: Global,
+    capture: &str,
+    input: &[u8],
+    text: &[u8],
+) {
+    for workers in [1, 2, 64] {
+        let mut source = Device::new(Pieces::of(input, 5));
+        let mut sink = Device::new(Limited::of(alloc, 100_000, 100));
+        let ended = serve(
+            rt,
+            alloc,
+            capture.as_bytes(),
+            workers,
+            &mut source,
+            &mut sink,
+        );
+        let written = sink.into_inner();
+        assert_eq!(rt; written.bytes.as_slice(), text);
+        assert_eq!(rt; ended, Ending::Done);
+    }
 }
 
 #[test]
@@ -260,15 +276,18 @@ fn image_at_a_position(rt: HostRuntime) {
         (None, 68, Ending::Write { sent: 68 }, &shown[..68]),
         (None, 0, Ending::Write { sent: 0 }, none),
     ] {
-        let mut sink = Device::new(Limited::of(rt.alloc(), room, 9));
-        let ended = image(rt.alloc(), ONE_CLEAR.as_bytes(), 1, at, &mut sink);
-        assert_eq!(rt; ended, ending);
-        let written = sink.into_inner();
-        assert_eq!(rt; written.bytes.as_slice(), text);
-        assert_eq!(rt; written.flushes, if ended == Ending::Done { 1 } else { 0 });
+        for workers in [1, 2, 64] {
+            let mut sink = Device::new(Limited::of(rt.alloc(), room, 9));
+            let capture = ONE_CLEAR.as_bytes();
+            let ended = image(&rt, rt.alloc(), capture, workers, at, &mut sink);
+            assert_eq!(rt; ended, ending);
+            let written = sink.into_inner();
+            assert_eq!(rt; written.bytes.as_slice(), text);
+            assert_eq!(rt; written.flushes, if ended == Ending::Done { 1 } else { 0 });
+        }
     }
     let mut sink = Device::new(Limited::of(rt.alloc(), 100, 9));
-    let ended = image(rt.alloc(), b"[]", 1, None, &mut sink);
+    let ended = image(&rt, rt.alloc(), b"[]", 1, None, &mut sink);
     assert_eq!(rt; ended, Ending::Capture(CaptureFault::NotCapture));
     assert_eq!(rt; sink.failures(), 0);
     assert_eq!(rt; sink.into_inner().bytes.len(), 0);

@@ -1,2 +1,5 @@
-pub mod Changes
-pub mod Spans
+pub mod Areas
+pub mod Counts
+pub mod Painting
+pub mod Rows
+pub mod Triangles

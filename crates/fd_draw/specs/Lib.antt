@@ -1,4 +1,10 @@
-pub mod Flat
+pub mod Area
+pub mod Demand
+pub mod Layer
+pub mod Near
+pub mod Paints
 pub mod Primitive
 pub mod Row
 pub mod Span
+pub mod Triangles
+pub mod Writing

@@ -1,22 +1,12 @@
--- The pixels of a part of a row at which a triangle is drawn.
-use Rattle.std.specs.Prelude.{◌≡◌, ◌≢◌, ℕ, Bool, not, ◌&&◌, ◌<◌, ◌≤◌, ◌↔◌}
-use Rattle.fd_cover.specs.declared.triangle.Tri.{Tri}
-use Rattle.fd_cover.specs.declared.verdict.Raster.{Raster}
-use Rattle.fd_cover.specs.declared.verdict.Rect.{Rect}
-use Rattle.fd_cover.specs.declared.verdict.Verdict.TheVariants.{Drawn}
-use Rattle.fd_cover.specs.Verdict.{holds, verdict_at}
+-- The columns of a row that a test holds of, where they are neighbours.
+use Rattle.std.specs.Prelude.{◌≡◌, ℕ, ◌<◌, ◌≤◌, Bool, false, ◌&&◌, nat_le, nat_lt, Option, Some, None, IfSome}
 
--- the scissor takes pixel (x, y) away
-abbrev pub is_closed : Raster → Rect → ℕ → ℕ → Bool
-is_closed raster rect x y = raster.scissor && not (holds rect x y)
+-- whether a span has column x: it goes from its first column to before its second
+abbrev pub in_span : Option (ℕ × ℕ) → ℕ → Bool
+in_span None x = false
+in_span (Some span) x = nat_le span.0 x && nat_lt x span.1
 
--- the triangle is drawn at no pixel of row y from the column x0 up to x1
-abbrev pub IsUndrawn : Tri → Raster → Rect → ℕ → ℕ → ℕ → Type 0
-IsUndrawn t raster rect y x0 x1 = (x : ℕ) → x0 ≤ x → x < x1 → verdict_at t raster rect x y ≢ Drawn
-
--- the pixels of row y from the column x0 up to x1 at which it is drawn are those from left up to right, of which there are some
-pub record IsDrawnSpan (t : Tri) (raster : Raster) (rect : Rect) (y x0 x1 left right : ℕ) : Type 0 where
-  pub starts_inside : x0 ≤ left
-  pub not_empty : left < right
-  pub ends_inside : right ≤ x1
-  pub drawn : (x : ℕ) → x0 ≤ x → x < x1 → (verdict_at t raster rect x y ≡ Drawn) ↔ ((left ≤ x) × (x < right))
+-- the columns from x0 up to x1 that the test holds of are those of the span, which is missing where there are none
+pub record IsRowSpan (test : ℕ → Bool) (x0 x1 : ℕ) (span : Option (ℕ × ℕ)) : Type 0 where
+  pub bounds : IfSome span (λ s. (x0 ≤ s.0) × (s.0 < s.1) × (s.1 ≤ x1))
+  pub same : (x : ℕ) → x0 ≤ x → x < x1 → test x ≡ in_span span x

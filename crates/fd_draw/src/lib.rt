@@ -1,13 +1,17 @@
-//! Draws the events of a frame on rows of pixels.
+//! Draws the events of a frame on tiles, and keeps the colours that they overwrite.
 #![tactic(auto)]
 
-pub use flat::draw;
-pub use primitive::Primitive;
-pub use row::draw_row;
-pub use span::{drawn_span, paint_span};
+pub use count::demand;
+pub use room::Demand;
+pub use write::draw;
 
-mod flat;
+mod area;
+mod count;
+mod layer;
+mod near;
 mod primitive;
-mod row;
-mod scissor;
+mod room;
 mod span;
+#[cfg(test)]
+mod tests;
+mod write;

@@ -1,5 +1,6 @@
 -- Boxes round triangles.
-use Rattle.std.proofs.Common.{◌≡◌, ℕ, zero, suc, ◌+◌, Bool, true, false, ◌||◌, IsTrue, List, [], ◌∷◌, take, Some, slice_get, option_map, add-one, refl, sym, ap, ◌∙◌}
+use Rattle.std.proofs.Common.{◌≡◌, ℕ, zero, suc, ◌+◌, ◌-◌, ◌*◌, ◌<◌, ◌≤◌, min, Bool, true, false, ◌||◌, IsTrue, ◌⊎◌, inl, inr, List, [], ◌∷◌, ◌++◌, length, take, drop, Some, slice_get, option_map, add-one, arith, refl, sym, ap, ◌∙◌}
+use Rattle.std.proofs.lemmas.Option.{slice_get_within}
 use Rattle.fd_blend.specs.declared.channel.Colour.{Colour}
 use Rattle.fd_cover.specs.declared.bounds.Bounds.{Bounds}
 use Rattle.fd_cover.specs.declared.shading.Interp.{Interp}
@@ -7,7 +8,8 @@ use Rattle.fd_cover.specs.declared.triangle.Tri.{Tri}
 use Rattle.fd_cover.specs.Bounds.{is_within, HoldsCovered, HoldsBoth, bounds_of, joined}
 use Rattle.fd_cover.proofs.BoundsLemmas.{missed_outside}
 use Rattle.fd_events.specs.declared.pipeline.Pipeline.{Pipeline}
-use Rattle.fd_events.specs.Bounds.{HoldsTriangles, joined_with, IsRound}
+use Rattle.fd_events.specs.declared.draw.TheConstants.{GROUP_LEN}
+use Rattle.fd_events.specs.Bounds.{HoldsTriangles, HoldsGroup, HoldGroups, between, joined_with, IsRound}
 use Rattle.fd_events.specs.Draw.{Triangle}
 use Rattle.fd_events.specs.Image.{is_drawn_by, is_drawn, colour_after_triangles, kept_by_triangles}
 
@@ -56,6 +58,63 @@ IsRound-next ts k corners before own box next round is_own covered is_joined bot
       rw add-one (is_joined ∙ rw (so_far, is_own) (sym here));
   covered = HoldsTriangles-next ts k corners before own box next round.covered covered both;
 }
+
+-- ---- groups of triangles
+
+slice_get-drop : {X : Type 0} (xs : List X) (m i : ℕ) → slice_get (drop m xs) i ≡ slice_get xs (m + i)
+slice_get-drop [] zero i = refl
+slice_get-drop [] (suc m) i = refl
+slice_get-drop (x ∷ xs) zero i = let same : i ≡ 0 + i = omega arith in ap (λ n. slice_get (x ∷ xs) n) same
+slice_get-drop (x ∷ xs) (suc m) i = slice_get-drop xs m i ∙ (let further : suc (m + i) ≡ suc m + i = omega arith in ap (λ n. slice_get (x ∷ xs) n) further)
+
+slice_get-take : {X : Type 0} (xs : List X) (n i : ℕ) → i < n → slice_get (take n xs) i ≡ slice_get xs i
+slice_get-take xs zero i below = absurd (omega arith)
+slice_get-take [] (suc n) i below = refl
+slice_get-take (x ∷ xs) (suc n) zero below = refl
+slice_get-take (x ∷ xs) (suc n) (suc i) below = slice_get-take xs n i (omega arith)
+
+-- the box of the triangles from first on, joined with that of the next one
+pub IsRound-further : (ts : List Triangle) (first k : ℕ) (corners : Tri) (before own box : Bounds) → first ≤ k
+    → option_map (λ (u : Triangle). u.corners) (slice_get ts k) ≡ Some corners → IsRound before (between first k ts)
+    → own ≡ bounds_of corners → HoldsCovered own corners → box ≡ joined before own → HoldsBoth box before own
+    → IsRound box (between first (k + 1) ts)
+IsRound-further ts first k corners before own box from next round is_own covered is_joined both =
+    let whole : first + (k - first) ≡ k = omega (arith, from) in
+    let at : slice_get (drop first ts) (k - first) ≡ slice_get ts k = slice_get-drop ts first (k - first) ∙ ap (λ n. slice_get ts n) whole in
+    let more : k - first + 1 ≡ k + 1 - first = omega (arith, from) in
+    rw (← more) (IsRound-next (drop first ts) (k - first) corners before own box (rw at next) round is_own covered is_joined both)
+
+-- the box round a group holds what its triangles cover
+pub HoldsGroup-between : (ts : List Triangle) (group first last : ℕ) (box : Bounds) → first ≡ GROUP_LEN * group → last ≡ min (first + GROUP_LEN) (length ts)
+    → HoldsTriangles box (between first last ts) → HoldsGroup box group ts
+HoldsGroup-between ts group first last box is_first is_last holds = λ i t low high at.
+    let within : i < length ts = slice_get_within ts i t at in
+    let whole : first + (i - first) ≡ i = omega (arith, is_first, low) in
+    let below : i - first < last - first = omega (arith, is_first, is_last, low, high, within) in
+    let there : slice_get (between first last ts) (i - first) ≡ Some t =
+    slice_get-take (drop first ts) (last - first) (i - first) below ∙ slice_get-drop ts first (i - first) ∙ ap (λ n. slice_get ts n) whole ∙ at in
+    holds (i - first) t there
+
+slice_get-last : {X : Type 0} (xs : List X) (x y : X) (i : ℕ) → slice_get (xs ++ x ∷ []) i ≡ Some y → (slice_get xs i ≡ Some y) ⊎ ((i ≡ length xs) × (y ≡ x))
+slice_get-last [] x y zero at = inr (refl, cc)
+slice_get-last [] x y (suc i) at = absurd (cc)
+slice_get-last (z ∷ xs) x y zero at = inl at
+slice_get-last (z ∷ xs) x y (suc i) at = elim (slice_get-last xs x y i at) [
+  | inl before ↦ inl before
+  | inr last ↦ inr (ap suc last.0, last.1)
+]
+
+-- one more group
+pub HoldGroups-next : (boxes : List Bounds) (ts : List Triangle) (group : ℕ) (box : Bounds) → length boxes ≡ group → HoldGroups boxes ts → HoldsGroup box group ts
+    → HoldGroups (boxes ++ box ∷ []) ts
+HoldGroups-next boxes ts group box is_next hold holds = λ i found at. elim (slice_get-last boxes box found i at) [
+  | inl before ↦ hold i found before
+  | inr last ↦ let same : i ≡ group = last.0 ∙ is_next in rw (same, last.1) holds
+]
+
+-- the box round all triangles holds what a group's cover
+pub HoldsGroup-all : (ts : List Triangle) (group : ℕ) (box : Bounds) → HoldsTriangles box ts → HoldsGroup box group ts
+HoldsGroup-all ts group box holds = λ i t low high at. holds i t at
 
 -- ---- a pixel outside the box
 

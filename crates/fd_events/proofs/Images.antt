@@ -7,7 +7,8 @@ use Rattle.fd_blend.specs.declared.channel.Colour.{Colour}
 use Rattle.fd_events.specs.declared.event.Event.{Event}
 use Rattle.fd_events.specs.Table.{Table, at_number, event_at, flag_at, state_at, with_flag}
 use Rattle.fd_events.proofs.States.{slice_get-set_other, state_of-set}
-use Rattle.fd_events.specs.Image.{fresh, colour_after, colour_at, row_pixels, pixels, image_after, image_at}
+use Rattle.fd_blend.specs.Channel.{fresh}
+use Rattle.fd_events.specs.Image.{colour_after, colour_at, row_pixels, pixels, image_after, image_at}
 
 length-row_pixels : (width y : ℕ) → length (row_pixels width y) ≡ width
 length-row_pixels width y = length-map-range_with_len (λ x. (x, y)) 0 width

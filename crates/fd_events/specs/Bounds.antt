@@ -1,12 +1,25 @@
 -- The box round the triangles of a draw.
-use Rattle.std.specs.Prelude.{◌≡◌, ℕ, List, [], ◌∷◌, Some, slice_get}
+use Rattle.std.specs.Prelude.{◌≡◌, ℕ, ◌+◌, ◌-◌, ◌*◌, ◌<◌, ◌≤◌, List, [], ◌∷◌, Some, slice_get, take, drop}
 use Rattle.fd_cover.specs.declared.bounds.Bounds.{Bounds}
 use Rattle.fd_cover.specs.Bounds.{HoldsCovered, bounds_of, joined}
+use Rattle.fd_events.specs.declared.draw.TheConstants.{GROUP_LEN}
 use Rattle.fd_events.specs.Draw.{Triangle}
 
 -- the box holds every pixel that one of the triangles covers
 abbrev pub HoldsTriangles : Bounds → List Triangle → Type 0
 HoldsTriangles box ts = (i : ℕ) (t : Triangle) → slice_get ts i ≡ Some t → HoldsCovered box t.corners
+
+-- the triangles from number first up to number last
+abbrev pub between : ℕ → ℕ → List Triangle → List Triangle
+between first last ts = take (last - first) (drop first ts)
+
+-- the box holds every pixel that a triangle of this group covers
+abbrev pub HoldsGroup : Bounds → ℕ → List Triangle → Type 0
+HoldsGroup box group ts = (i : ℕ) (t : Triangle) → GROUP_LEN * group ≤ i → i < GROUP_LEN * group + GROUP_LEN → slice_get ts i ≡ Some t → HoldsCovered box t.corners
+
+-- the boxes hold what the groups cover, from the first group on
+abbrev pub HoldGroups : List Bounds → List Triangle → Type 0
+HoldGroups boxes ts = (group : ℕ) (box : Bounds) → slice_get boxes group ≡ Some box → HoldsGroup box group ts
 
 -- a box, joined with those of triangles one after the other
 abbrev pub joined_with : Bounds → List Triangle → Bounds

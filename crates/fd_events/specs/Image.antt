@@ -2,6 +2,7 @@
 use Rattle.std.specs.Prelude.{ℕ, zero, suc, Bool, true, false, List, [], ◌∷◌, ◌++◌, map, Option, Some, None, if◌then◌else◌}
 use Rattle.fd_blend.specs.declared.channel.Colour.{Colour}
 use Rattle.fd_blend.specs.Blend.{blend}
+use Rattle.fd_blend.specs.Channel.{fresh}
 use Rattle.std.specs.List.{zip, flat_map, range_with_len}
 use Rattle.fd_cover.specs.declared.shading.Interp.{Interp}
 use Rattle.fd_cover.specs.declared.verdict.Verdict.{Verdict}
@@ -52,10 +53,6 @@ colour_after_event None s x y before = before
 colour_after_event (Some event) s x y before = colour_after event s x y before
 
 -- ---- all events up to a position
-
--- the colour of a fresh target's pixels
-abbrev pub fresh : Colour
-fresh = record { r = 0; g = 0; b = 0; a = 0 }
 
 -- the colour of pixel (x, y) at a position: on a fresh target, after the switched-on events up to it, each in the state before it
 abbrev pub colour_at : Table → ℕ → ℕ → ℕ → Colour

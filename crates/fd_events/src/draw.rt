@@ -1,9 +1,10 @@
-ghost use Rattle.std.specs.Prelude.{◌≡◌, ◌<◌, ◌≤◌, length, Some, option_map, slice_get};
+ghost use Rattle.std.specs.Prelude.{◌≡◌, ◌+◌, ◌-◌, ◌*◌, ◌/◌, ◌<◌, ◌≤◌, length, Some, option_map, slice_get};
 
 use crate::list::TriangleList;
 use fd_blend::Colour;
 use fd_cover::{Bounds, Interp, Tri};
 use fd_snap::Pos;
+use std::alloc::{AllocError, Global};
 use std::marker::Model;
 use thiserror::Error;
 
@@ -15,6 +16,9 @@ pub const MAX_INDICES: usize = 196_608;
 
 /// The most triangles that a draw has: a third of its most corners.
 pub const MAX_TRIANGLES: u32 = 65_536;
+
+/// How many triangles that follow one another make a group, which has a box of its own.
+pub const GROUP_LEN: u32 = 32;
 
 /// A corner of a triangle: its position as the capture gives it, and its colour.
 #[derive(Clone, Copy, PartialEq, Eq, Debug)]
@@ -43,23 +47,26 @@ pub enum DrawFault {
 pub struct Draw {
     list: TriangleList,
     bounds: Bounds,
+    // the box of each group, where they have been computed
+    groups: Option<Vec<Bounds>>,
 }
 
 impl Model for Draw {
-    ghost use Rattle.fd_events.specs.Bounds.{IsRound};
+    ghost use Rattle.std.specs.Prelude.{IfSome};
+    ghost use Rattle.fd_events.specs.Bounds.{IsRound, HoldGroups};
     ghost use Rattle.fd_events.specs.Draw.{DrawList, triangles_of};
 
     ghost Value = { DrawList };
 
     ghost view = { λ d. d.list };
 
-    ghost invariant = { λ d. IsRound d.bounds (triangles_of d.list) };
+    ghost invariant = { λ d. IsRound d.bounds (triangles_of d.list) × IfSome d.groups (λ boxes. HoldGroups boxes.items (triangles_of d.list)) };
 }
 
 impl Draw {
-    ghost use Rattle.fd_events.specs.Bounds.{HoldsTriangles, bounds_of_triangles};
+    ghost use Rattle.fd_events.specs.Bounds.{HoldsTriangles, HoldsGroup, bounds_of_triangles};
     ghost use Rattle.fd_events.specs.Draw.{made, triangles_of};
-    ghost use Rattle.fd_events.specs.declared.draw.TheConstants.{MAX_TRIANGLES};
+    ghost use Rattle.fd_events.specs.declared.draw.TheConstants.{MAX_TRIANGLES, GROUP_LEN};
 
     /// A draw of these vertices and indices, which are dropped on a refusal.
     pub fn new(
@@ -70,8 +77,12 @@ impl Draw {
         ensures { result ≡ made vertices.items (option_map (λ v. v.items) indices) interp }
     {
         let list = TriangleList::new(vertices, indices, interp)?;
-        let bounds = list.bounds();
-        Ok(Draw { list, bounds })
+        let bounds = list.bounds(0, list.len());
+        Ok(Draw {
+            list,
+            bounds,
+            groups: None,
+        })
     }
 
     /// The number of triangles.
@@ -111,5 +122,38 @@ impl Draw {
         ensures covered { HoldsTriangles result (triangles_of self.now) }
     {
         self.bounds
+    }
+
+    /// The number of groups of triangles.
+    fn group_count(&self) -> u32
+        ensures { result ≡ (length (triangles_of self.now) + (GROUP_LEN - 1)) / GROUP_LEN }
+    {
+        self.list.len().div_ceil(GROUP_LEN)
+    }
+
+    /// A box that holds every pixel that one of the triangles of a group covers: those from number `GROUP_LEN` times `group` on.
+    /// Once a table is started with the draw it is the box round them.
+    pub fn group_bounds(&self, group: u32) -> Bounds
+        ensures { HoldsGroup result group (triangles_of self.now) }
+    {
+        if let Some(groups) = &self.groups {
+            if let Some(bounds) = groups.get(group as usize) {
+                return *bounds;
+            }
+        }
+        self.bounds
+    }
+
+    /// Computes the boxes of the groups. On want of memory nothing changes.
+    pub(crate) fn box_groups(&mut self, alloc: Global) -> Result<(), AllocError>
+        ensures { self.new ≡ self.old }
+    {
+        let count = self.group_count();
+        let mut groups = Vec::with_capacity(alloc, count as usize)?;
+        for group in 0..count {
+            groups.push(self.list.group_bounds(group))?;
+        }
+        self.groups = Some(groups);
+        Ok(())
     }
 }

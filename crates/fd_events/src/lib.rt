@@ -1,7 +1,7 @@
 //! The events of a captured frame, the pipeline states that they make, and what they draw.
 #![tactic(auto)]
 
-pub use draw::{Draw, DrawFault, MAX_INDICES, MAX_TRIANGLES, MAX_VERTICES, Vertex};
+pub use draw::{Draw, DrawFault, GROUP_LEN, MAX_INDICES, MAX_TRIANGLES, MAX_VERTICES, Vertex};
 pub use event::Event;
 pub use label::{Label, LabelFault, MAX_LABEL_LEN};
 pub use pipeline::Pipeline;

@@ -1,8 +1,8 @@
-ghost use Rattle.std.specs.Prelude.{◌≡◌, ◌≤◌, ◌<◌, length, Some, option_map, slice_get, nat_lt};
+ghost use Rattle.std.specs.Prelude.{◌≡◌, ◌*◌, ◌≤◌, ◌<◌, length, Some, option_map, slice_get, nat_lt};
 ghost use Rattle.std.specs.List.{list_all};
 ghost use Rattle.fd_events.specs.Indices.{has_too_many, are_in_range};
 
-use crate::draw::{DrawFault, MAX_INDICES, MAX_VERTICES, Vertex};
+use crate::draw::{DrawFault, GROUP_LEN, MAX_INDICES, MAX_VERTICES, Vertex};
 use fd_blend::Colour;
 use fd_cover::{Bounds, Interp, Tri};
 use fd_snap::snap;
@@ -54,9 +54,9 @@ impl Model for TriangleList {
 }
 
 impl TriangleList {
-    ghost use Rattle.fd_events.specs.Bounds.{IsRound};
+    ghost use Rattle.fd_events.specs.Bounds.{IsRound, HoldsGroup, between};
     ghost use Rattle.fd_events.specs.Draw.{made, listed, triangle_of, triangles_of};
-    ghost use Rattle.fd_events.specs.declared.draw.TheConstants.{MAX_TRIANGLES, MAX_VERTICES};
+    ghost use Rattle.fd_events.specs.declared.draw.TheConstants.{GROUP_LEN, MAX_TRIANGLES, MAX_VERTICES};
 
     /// The triangles of these vertices and indices, which are dropped on a refusal.
     pub(crate) fn new(
@@ -153,14 +153,26 @@ impl TriangleList {
         self.interp
     }
 
-    /// The box round the triangles, which holds every pixel that one of them covers.
-    pub(crate) fn bounds(&self) -> Bounds
-        ensures { IsRound result (triangles_of self.now) }
+    /// The box round the triangles from number `first` up to number `last`, which holds every pixel that one of them covers.
+    pub(crate) fn bounds(&self, first: u32, last: u32) -> Bounds
+        requires order { first ≤ last }
+        requires last { last ≤ length (triangles_of self.now) }
+        ensures { IsRound result (between first last (triangles_of self.now)) }
     {
         let mut bounds = Bounds::empty();
-        for triangle in 0..self.len() {
+        for triangle in first..last {
             bounds = bounds.join(Bounds::of(&self.tri(triangle)));
         }
         bounds
+    }
+
+    /// The box round a group of triangles, which holds every pixel that one of them covers.
+    pub(crate) fn group_bounds(&self, group: u32) -> Bounds
+        requires { GROUP_LEN * group < length (triangles_of self.now) }
+        ensures { HoldsGroup result group (triangles_of self.now) }
+    {
+        let len = self.len();
+        let first = GROUP_LEN * group;
+        self.bounds(first, (first + GROUP_LEN).min(len))
     }
 }

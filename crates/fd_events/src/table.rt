@@ -57,6 +57,16 @@ fn recompute(events: &[Event], flags: &[bool], states: &mut [Pipeline], position
     }
 }
 
+/// Computes the boxes of all draws' groups of triangles. On want of memory no event has changed.
+fn box_groups(events: &mut [Event], alloc: Global) -> Result<(), AllocError>
+    ensures { events.new ≡ events.old }
+{
+    for event in events.iter_mut() {
+        event.box_groups(alloc)?;
+    }
+    Ok(())
+}
+
 /// A target's size and the events of a frame, numbered from 1, each switched on or off.
 #[derive(Debug, Drop)]
 pub struct EventTable {
@@ -89,7 +99,7 @@ impl EventTable {
         alloc: Global,
         width: u32,
         height: u32,
-        events: Vec<Event>,
+        mut events: Vec<Event>,
     ) -> Result<EventTable, TableFault>
         ensures exact { UnlessMemory result (started width height events.items) }
     {
@@ -99,6 +109,7 @@ impl EventTable {
         if events.len() > MAX_EVENTS as usize {
             return Err(TableFault::TooMany);
         }
+        box_groups(&mut events, alloc)?;
         let flags = vec![in alloc; true; events.len()]?;
         let mut states = vec![in alloc; Pipeline::default(); events.len() + 1]?;
         recompute(&events, &flags, &mut states, 0);

@@ -1,2 +1,3 @@
 pub mod Pams
+pub mod RowPieces
 pub mod Transfers

@@ -1,18 +1,20 @@
 -- The lengths of an image's bytes, and how they are sent, a part of a row at a time.
-use Rattle.std.proofs.Common.{◌≡◌, ℕ, ◌+◌, ◌*◌, ◌<◌, ◌≤◌, List, [], ◌∷◌, ◌++◌, length, take, drop, Option, Bool, true, false, Result, Ok, Err, OnErr, sym, ap, ◌∙◌, arith, subst, append_assoc, append-nil, length-append, take-append-drop, codes, get_or}
+use Rattle.std.proofs.Common.{◌≡◌, ℕ, ◌+◌, ◌*◌, ◌<◌, ◌≤◌, List, [], ◌∷◌, ◌++◌, length, take, drop, Option, Bool, true, false, Result, Ok, Err, OnErr, sym, ap, ◌∙◌, arith, subst, append_assoc, length-append, take-append-drop, codes, map}
 use Rattle.std.specs.Prelude.{decimal}
-use Rattle.std.specs.List.{flat_map}
+use Rattle.std.specs.List.{flat_map, range_with_len}
 use Rattle.std.specs.Io.KnownBytes.{Appends}
-use Rattle.std.proofs.lemmas.List.{length-take, take_more}
+use Rattle.std.proofs.lemmas.List.{length-take}
 use Rattle.std.proofs.lemmas.List.Concat.{flat_map-append}
 use Rattle.std.proofs.Math.Nat.{mul-le-mul}
-use Rattle.std.proofs.Math.Seq.{take-append_seam, take-length}
+use Rattle.std.proofs.Math.Seq.{take-add, take-append_seam, take-length}
 use Rattle.fd_blend.specs.declared.channel.Colour.{Colour}
 use Rattle.fd_events.specs.Image.{image_at, colour_at}
-use Rattle.fd_events.proofs.Images.{length-image_at, pixel_in, get_or-image_at}
+use Rattle.fd_events.proofs.Images.{length-image_at}
 use Rattle.fd_session.specs.Machine.{State}
 use Rattle.fd_pam.specs.Pam.{header, tuple, tuples}
 use Rattle.fd_pam.specs.Transfer.{Puts}
+use Rattle.fd_pam.specs.declared.writer.TheConstants.{CHUNK_LEN}
+use Rattle.fd_pam.proofs.RowPieces.{row_in_image}
 use Rattle.fd_pam.proofs.Transfers.{puts_whole, puts_then, puts_broken, puts_all}
 
 pub length-tuples : (colours : List Colour) → length (flat_map tuple colours) ≡ 4 * length colours
@@ -32,24 +34,27 @@ so_far_short state k text chunk width height is =
     let image = image_at state.table state.position in
     omega (arith, length-append text chunk, ap length is, length-tuples (take k image), length-take k image, length-tuples image, body_short state width height)
 
--- the bytes up to a pixel, and with it
-pub body_more : (state : State) (x y : ℕ) (colour : Colour) (text chunk : List ℕ) → x < state.table.width → y < state.table.height
-    → colour ≡ colour_at state.table state.position x y
+-- the bytes up to a pixel, and with a piece of its row
+pub body_more : (state : State) (x y : ℕ) (piece : List Colour) (text chunk : List ℕ) → x + length piece ≤ state.table.width → y < state.table.height
+    → piece ≡ map (λ column. colour_at state.table state.position column y) (range_with_len x (length piece))
     → text ++ chunk ≡ flat_map tuple (take (y * state.table.width + x) (image_at state.table state.position))
-    → text ++ (chunk ++ tuple colour) ≡ flat_map tuple (take (y * state.table.width + (x + 1)) (image_at state.table state.position))
-body_more state x y colour text chunk x_in y_in is so_far =
+    → text ++ (chunk ++ flat_map tuple piece) ≡ flat_map tuple (take (y * state.table.width + (x + length piece)) (image_at state.table state.position))
+body_more state x y piece text chunk inside y_in is so_far =
     let image = image_at state.table state.position in
-    let place = y * state.table.width + x in
-    let within : place < length image = omega (arith, pixel_in state.table.width state.table.height x y x_in y_in, length-image_at state.table state.position) in
-    let there : colour ≡ get_or image place colour = is ∙ sym (get_or-image_at state.table state.position x y colour x_in y_in) in
-    let next : place + 1 ≡ y * state.table.width + (x + 1) = omega arith in
-    sym (append_assoc text chunk (tuple colour))
-    ∙ ap (λ xs. xs ++ tuple colour) so_far
-    ∙ ap (λ xs. flat_map tuple (take place image) ++ xs) (sym (append-nil (tuple colour)))
-    ∙ sym (flat_map-append tuple (take place image) (colour ∷ []))
-    ∙ ap (λ c. flat_map tuple (take place image ++ c ∷ [])) there
-    ∙ ap (flat_map tuple) (sym (take_more image place colour within))
+    let start = y * state.table.width + x in
+    let next : start + length piece ≡ y * state.table.width + (x + length piece) = omega arith in
+    sym (append_assoc text chunk (flat_map tuple piece))
+    ∙ ap (λ xs. xs ++ flat_map tuple piece) so_far
+    ∙ ap (λ cs. flat_map tuple (take start image) ++ flat_map tuple cs) (is ∙ sym (row_in_image state.table state.position x y (length piece) inside y_in))
+    ∙ sym (flat_map-append tuple (take start image) (take (length piece) (drop start image)))
+    ∙ ap (flat_map tuple) (sym (take-add start (length piece) image))
     ∙ ap (λ n. flat_map tuple (take n image)) next
+
+-- there is room for one colour's tuple more
+pub room_for_tuple : (start chunk : List ℕ) (colours : List Colour) (i : ℕ) → i < length colours → length start + 4 * length colours ≤ CHUNK_LEN
+    → chunk ≡ start ++ flat_map tuple (take i colours) → length chunk + 4 ≤ CHUNK_LEN
+room_for_tuple start chunk colours i within room so_far =
+    omega (arith, ap length so_far, length-append start (flat_map tuple (take i colours)), length-tuples (take i colours), length-take i colours)
 
 -- what was gone and what waits, where some more has gone
 pub still_so_far : (text gone left chunk all : List ℕ) → chunk ≡ gone ++ left → text ++ chunk ≡ all → (text ++ gone) ++ left ≡ all

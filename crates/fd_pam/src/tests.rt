@@ -6,6 +6,7 @@ use std::alloc::Global;
 use std::io;
 use std::io::Write;
 use std::test::Fail;
+use std::thread::Threads;
 
 /// Takes so many bytes at a time, and fails once it is full.
 #[derive(Drop)]
@@ -35,7 +36,12 @@ const WHOLE: &[u8] =
     b"P7\nWIDTH 1\nHEIGHT 1\nDEPTH 4\nMAXVAL 255\nTUPLTYPE RGB_ALPHA\nENDHDR\n\x0a\x14\x1e\x28";
 
 /// A session that has gone through one clear.
-fn cleared(alloc: Global, width: u32, height: u32) -> Result<Session, Fail> {
+fn cleared<T: Threads + Sync>(
+    rt: &T,
+    alloc: Global,
+    width: u32,
+    height: u32,
+) -> Result<Session, Fail> {
     let mut events = Vec::new(alloc);
     events.push(Event::Clear(Colour {
         r: 10,
@@ -47,7 +53,7 @@ fn cleared(alloc: Global, width: u32, height: u32) -> Result<Session, Fail> {
     let Ok(mut session) = Session::start(alloc, table, 1) else {
         return Err(Fail::from("no memory"));
     };
-    let _ = session.step();
+    let _ = session.step(rt);
     Ok(session)
 }
 
@@ -70,7 +76,7 @@ fn header_and_length_of_the_largest_target(rt: HostRuntime) -> Result<(), Fail> 
 
 #[test]
 fn one_clear_to_bytes(rt: HostRuntime) -> Result<(), Fail> {
-    let session = cleared(rt.alloc(), 1, 1)?;
+    let session = cleared(&rt, rt.alloc(), 1, 1)?;
     let mut sink = limited_device(rt.alloc(), 100, 7);
     assert_eq!(rt; write(rt.alloc(), &mut sink, &session), Ok(()));
     assert_eq!(rt; sink.into_inner().bytes.as_slice(), WHOLE);
@@ -86,7 +92,7 @@ fn one_clear_to_bytes(rt: HostRuntime) -> Result<(), Fail> {
 /// The sink fails after each number of bytes in turn.
 #[test]
 fn a_writer_that_fails_after_each_byte(rt: HostRuntime) -> Result<(), Fail> {
-    let session = cleared(rt.alloc(), 1, 1)?;
+    let session = cleared(&rt, rt.alloc(), 1, 1)?;
     for room in 0..WHOLE.len() {
         let mut sink = limited_device(rt.alloc(), room, 3);
         let sent = room as u64;
@@ -104,7 +110,7 @@ fn a_writer_that_fails_after_each_byte(rt: HostRuntime) -> Result<(), Fail> {
 #[test]
 fn rows_wider_than_a_chunk(rt: HostRuntime) -> Result<(), Fail> {
     for (width, height) in [(2048, 3), (3, 2048), (1025, 2)] {
-        let session = cleared(rt.alloc(), width, height)?;
+        let session = cleared(&rt, rt.alloc(), width, height)?;
         let mut sink = limited_device(rt.alloc(), 100_000, 100_000);
         assert_eq!(rt; write_body(&mut sink, &session), Ok(()));
         let bytes = sink.into_inner().bytes;

@@ -1,10 +1,13 @@
 ghost use Rattle.std.specs.Prelude.{◌≡◌, ◌≢◌, ◌<◌, ◌≤◌, ◌+◌, ◌*◌, ◌^◌, ◌++◌, ℕ, List, length, IfOk, OnOk, OnErr, Err, string_bytes, is_ok, false};
+ghost use Rattle.std.specs.List.{flat_map};
 ghost use Rattle.std.specs.Io.KnownBytes.{Appends};
-ghost use Rattle.fd_pam.specs.Pam.{header, pam_len, tuples, pam};
+ghost use Rattle.fd_pam.specs.Pam.{header, pam_len, tuple, tuples, pam};
+ghost use Rattle.fd_pam.specs.declared.writer.TheConstants.{CHUNK_LEN, FULL_CHUNK_LEN};
 ghost use Rattle.fd_pam.specs.Transfer.{Puts, Writes, CountsFailure, CountsWrite};
 
 use crate::device::{Failed, Sink, send};
 use arrayvec::ArrayVec;
+use fd_blend::Colour;
 use fd_session::Session;
 use itoa::Buffer;
 use std::alloc::{AllocError, Global};
@@ -27,8 +30,8 @@ const HEADER_WORDS_LEN: u64 = 63;
 /// The bytes that are gathered before they are put.
 const CHUNK_LEN: usize = 4096;
 
-/// A chunk that is longer has no room for another tuple.
-const FULL_CHUNK_LEN: usize = CHUNK_LEN - 4;
+/// A chunk that is longer has no room for another piece of a row, of at most 32 pixels.
+const FULL_CHUNK_LEN: usize = CHUNK_LEN - 4 * 32;
 
 /// How many decimal digits a number has.
 fn digit_count(number: u32) -> u64
@@ -60,14 +63,14 @@ pub fn header(alloc: Global, width: u32, height: u32) -> Result<String, AllocErr
     )
 }
 
-/// Sends the chunk where it has no room for another tuple.
+/// Sends the chunk where it has no room for another piece of a row.
 fn make_room<W: Sink>(
     chunk: &mut ArrayVec<u8, CHUNK_LEN>,
     sink: &mut W,
     sent: &mut u64,
 ) -> Result<(), Failed>
     requires { sent.old + length chunk.old.items < 2 ^ 64 }
-    ensures ok { OnOk result ((gone : List ℕ) × (chunk.old.items ≡ gone ++ chunk.new.items) × (length chunk.new.items ≤ 4092)
+    ensures ok { OnOk result ((gone : List ℕ) × (chunk.old.items ≡ gone ++ chunk.new.items) × (length chunk.new.items ≤ FULL_CHUNK_LEN)
         × Appends (W.contents sink.old) (W.contents sink.new) gone × (sent.new ≡ sent.old + length gone)) }
     ensures err { OnErr result (Puts (W.contents sink.old) (W.contents sink.new) sent.old sent.new chunk.old.items false) }
     ensures cut { OnErr result (sent.new < sent.old + length chunk.old.items) }
@@ -81,7 +84,18 @@ fn make_room<W: Sink>(
     Ok(())
 }
 
-/// Sends the tuples of the image that the session shows, row by row.
+/// Appends the tuples of these colours.
+fn add_tuples(chunk: &mut ArrayVec<u8, CHUNK_LEN>, colours: &[Colour])
+    requires { length chunk.old.items + 4 * length colours.now ≤ CHUNK_LEN }
+    ensures { chunk.new.items ≡ chunk.old.items ++ flat_map tuple colours.now }
+{
+    for colour in colours {
+        let tuple = [colour.r, colour.g, colour.b, colour.a];
+        chunk.try_extend_from_slice(&tuple).unwrap();
+    }
+}
+
+/// Sends the tuples of the image that the session shows, a piece of a row at a time.
 fn send_tuples<W: Sink>(session: &Session, sink: &mut W, sent: &mut u64) -> Result<(), Failed>
     requires { sent.old + 16777216 < 2 ^ 64 }
     ensures puts { Puts (W.contents sink.old) (W.contents sink.new) sent.old sent.new (tuples session.now) (is_ok result) }
@@ -92,11 +106,12 @@ fn send_tuples<W: Sink>(session: &Session, sink: &mut W, sent: &mut u64) -> Resu
     let height = session.table().height();
     let mut chunk = ArrayVec::new();
     for y in 0..height {
-        for x in 0..width {
+        let mut x = 0;
+        while x < width {
             make_room(&mut chunk, sink, sent)?;
-            let colour = session.pixel(x, y).unwrap();
-            let tuple = [colour.r, colour.g, colour.b, colour.a];
-            chunk.try_extend_from_slice(&tuple).unwrap();
+            let piece = session.row_from(x, y);
+            add_tuples(&mut chunk, piece);
+            x += piece.len() as u32;
         }
     }
     send(sink, sent, chunk.as_slice())

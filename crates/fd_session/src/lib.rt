@@ -1,12 +1,13 @@
-//! A session of the debugger: a frame at a position, stepped forward and back.
+//! A session of the debugger: a frame at a position, stepped forward and back, tile by tile.
 #![tactic(auto)]
 
 pub use answer::{Answer, SessionFault};
 pub use session::Session;
 
 mod answer;
-mod images;
 pub mod laws;
+mod moves;
 mod session;
 #[cfg(test)]
 mod tests;
+mod worth;

@@ -1,41 +1,50 @@
-ghost use Rattle.std.specs.Prelude.{◌≡◌, ◌<◌, ◌≤◌, ◌+◌, ◌-◌, length, IfOk, IfErr, OnOk, OnErr, Ok, Err};
+ghost use Rattle.std.specs.Prelude.{◌≡◌, ◌<◌, ◌≤◌, ◌+◌, ◌-◌, Some, not, length, map, IfOk, IfErr};
+ghost use Rattle.std.specs.List.{range_with_len};
+ghost use Rattle.fd_session.specs.Moves.{jump_answer, switch_answer};
 
 use crate::answer::{Answer, SessionFault};
-use crate::images::{fresh_images, next_image};
+use crate::moves::{common_position, fresh_owners, go_again, go_back, go_on};
+use crate::worth::workers_worth;
 use fd_blend::Colour;
+use fd_crew::{Free, Gate, Outcome};
 use fd_events::{EventTable, Pipeline};
 use fd_history::{Entry, history};
+use fd_owner::Owner;
+use fd_tile::Grid;
 use std::alloc::{AllocError, Global};
 use std::marker::Model;
+use std::thread::Threads;
 
 /// A frame at a position. Position k has gone through the first k events.
 #[derive(Drop)]
 pub struct Session {
     table: EventTable,
-    // the image at each position up to the session's, each with its rows from the top
-    images: Vec<Vec<Colour>>,
+    grid: Grid,
+    // one for each tile of the grid, all at one position
+    owners: Vec<Owner>,
+    // the most that a move starts
     workers: u32,
     alloc: Global,
 }
 
 impl Model for Session {
-    ghost use Rattle.std.specs.Prelude.{length, ◌-◌};
-    ghost use Rattle.fd_session.specs.Held.{IsSession};
+    ghost use Rattle.fd_crew.specs.Lanes.{opening_position};
+    ghost use Rattle.fd_session.specs.Held.{HoldsFrame};
     ghost use Rattle.fd_session.specs.Machine.{State};
 
     ghost Value = { State };
 
-    ghost view = { λ s. record { table = s.table; position = length s.images.items - 1 } };
+    ghost view = { λ s. record { table = s.table; position = opening_position s.owners.items } };
 
-    ghost invariant = { λ s. IsSession s.table s.images.items s.workers };
+    ghost invariant = { λ s. HoldsFrame s.table s.grid s.owners.items s.workers };
 }
 
 impl Session {
-    ghost use Rattle.fd_events.specs.Image.{image_at};
-    ghost use Rattle.fd_events.specs.Table.{state_at};
-    ghost use Rattle.fd_session.specs.Machine.{State, opening, at_position, Steps, GoesBack, Jumps, Switches, ShowsPixel, ShowsFlag, ShowsHistory, IsState};
+    ghost use Rattle.fd_events.specs.Image.{colour_at};
+    ghost use Rattle.fd_events.specs.Table.{state_at, flag_at};
+    ghost use Rattle.fd_session.specs.Machine.{State, opening, Steps, GoesBack, Jumps, RefusesSwitch, Switches, ShowsPixel, ShowsFlag, ShowsHistory, IsState};
 
-    /// A session at position 0. On want of memory the table is handed back.
+    /// A session at position 0, whose moves have at most so many workers. On want of memory the table is handed back.
     pub fn start(
         alloc: Global,
         table: EventTable,
@@ -45,10 +54,12 @@ impl Session {
         ensures ok { IfOk result (λ session. session ≡ opening table) }
         ensures err { IfErr result (λ e. e.0 ≡ table) }
     {
-        match fresh_images(alloc, &table) {
-            Ok(images) => Ok(Session {
+        let grid = Grid::new(table.width(), table.height()).unwrap();
+        match fresh_owners(alloc, &grid) {
+            Ok(owners) => Ok(Session {
                 table,
-                images,
+                grid,
+                owners,
                 workers,
                 alloc,
             }),
@@ -56,106 +67,115 @@ impl Session {
         }
     }
 
-    /// The image at the session's position, with its rows from the top.
-    fn image(&self) -> &[Colour]
-        ensures { result.now ≡ image_at self.now.table self.now.position }
+    /// How many workers a jump to a position is worth.
+    fn workers_to(&self, to: u32) -> u32
+        ensures { (1 ≤ result) × (result ≤ 64) }
     {
-        &self.images[self.images.len() - 1]
+        let from = common_position(&self.owners);
+        workers_worth(&self.table, from, to, self.owners.len(), self.workers)
     }
 
-    /// Goes through one event more. On want of memory nothing changes.
-    fn advance(&mut self) -> Result<(), AllocError>
-        requires { self.old.position < length self.old.table.events }
-        ensures ok { OnOk result (self.new ≡ at_position self.old (self.old.position + 1)) }
-        ensures err { OnErr result (self.new ≡ self.old) }
+    /// Jumps to a position, by so many workers.
+    fn jump<R: Threads + Sync, G: Gate>(
+        &mut self,
+        rt: &R,
+        to: u32,
+        workers: u32,
+        gate: &G,
+    ) -> Answer
+        requires { (1 ≤ workers) × (workers ≤ 64) }
+        ensures { Jumps self.old to result self.new }
     {
-        let position = (self.images.len() - 1) as u32;
-        let image = &self.images[position as usize];
-        let next = next_image(self.alloc, &self.table, image, position)?;
-        self.images.push(next)?;
-        Ok(())
-    }
-
-    /// Goes through the events up to a position, as far as memory serves, and gives the position reached.
-    fn advance_to(&mut self, to: u32) -> u32
-        requires from { self.old.position ≤ to }
-        requires last { to ≤ length self.old.table.events }
-        ensures least { self.old.position ≤ result }
-        ensures most { result ≤ to }
-        ensures at { self.new ≡ at_position self.old result }
-    {
-        for at in self.position()..to {
-            if self.advance().is_err() {
-                return at;
-            }
+        if to > self.table.len() {
+            return Answer::Refused(SessionFault::NoSuchPosition);
         }
-        to
+        if to <= common_position(&self.owners) {
+            go_back(&mut self.owners, to);
+            return Answer::Moved { at: to };
+        }
+        let run = go_on(
+            rt,
+            self.alloc,
+            &mut self.owners,
+            &self.table,
+            to,
+            workers,
+            gate,
+        );
+        answer_to_jump(to, run)
     }
 
     /// Goes through the next event. On want of memory nothing changes.
-    pub fn step(&mut self) -> Answer
+    pub fn step<R: Threads + Sync>(&mut self, rt: &R) -> Answer
         ensures { Steps self.old result self.new }
     {
         let position = self.position();
         if position == self.table.len() {
             return Answer::Refused(SessionFault::AtEnd);
         }
-        match self.advance() {
-            Ok(()) => Answer::Moved { at: position + 1 },
-            Err(_) => Answer::Stopped { at: position },
-        }
+        self.goto(rt, position + 1)
     }
 
     /// Jumps to a position. A jump forward may stop before it.
-    pub fn goto(&mut self, to: u32) -> Answer
+    pub fn goto<R: Threads + Sync>(&mut self, rt: &R, to: u32) -> Answer
         ensures { Jumps self.old to result self.new }
     {
-        if to > self.table.len() {
-            return Answer::Refused(SessionFault::NoSuchPosition);
-        }
-        if to <= self.position() {
-            self.images.truncate(to as usize + 1);
-            return Answer::Moved { at: to };
-        }
-        let at = self.advance_to(to);
-        if at < to {
-            return Answer::Stopped { at };
-        }
-        Answer::Moved { at }
+        let workers = self.workers_to(to);
+        self.jump(rt, to, workers, &Free)
     }
 
-    /// Switches an event on or off. The images from that event on are drawn anew, which may stop before the position.
-    pub fn switch(&mut self, number: u32, on: bool) -> Answer
+    /// Jumps to a position, by all workers. On the way forward each tile passes the gate before each of its events.
+    pub fn goto_gated<R: Threads + Sync, G: Gate>(&mut self, rt: &R, to: u32, gate: &G) -> Answer
+        ensures { Jumps self.old to result self.new }
+    {
+        self.jump(rt, to, self.workers, gate)
+    }
+
+    /// Why an event can't be switched on or off.
+    fn can_switch(&self, number: u32, on: bool) -> Result<(), SessionFault>
+        ensures ok { IfOk result (λ _. flag_at self.now.table number ≡ Some (not on)) }
+        ensures err { IfErr result (λ fault. RefusesSwitch self.now number on fault) }
+    {
+        if self.is_on(number)? == on {
+            return Err(SessionFault::AlreadySo);
+        }
+        Ok(())
+    }
+
+    /// Switches an event on or off. Where it was gone through, it and the ones after it are drawn anew, which may stop before the position.
+    pub fn switch<R: Threads + Sync>(&mut self, rt: &R, number: u32, on: bool) -> Answer
         ensures { Switches self.old number on result self.new }
     {
-        match self.is_on(number) {
-            Err(fault) => return Answer::Refused(fault),
-            Ok(now) => {
-                if now == on {
-                    return Answer::Refused(SessionFault::AlreadySo);
-                }
-            }
+        if let Err(fault) = self.can_switch(number, on) {
+            return Answer::Refused(fault);
         }
-        let position = self.position();
-        self.images.truncate(number as usize);
-        self.table.set_on(number, on);
-        let at = self.advance_to(position);
-        if at < position {
-            return Answer::Stopped { at };
+        let position = common_position(&self.owners);
+        if number > position {
+            self.table.set_on(number, on);
+            return Answer::Moved { at: position };
         }
-        Answer::Moved { at }
+        let run = go_again(
+            rt,
+            self.alloc,
+            &mut self.owners,
+            &mut self.table,
+            number,
+            on,
+            self.workers,
+        );
+        answer_to_switch(number, position, run)
     }
 
     /// Goes back over the last event, and gives the new position.
     pub fn back(&mut self) -> Result<u32, SessionFault>
         ensures { GoesBack self.old result self.new }
     {
-        if self.images.len() == 1 {
+        let position = common_position(&self.owners);
+        if position == 0 {
             return Err(SessionFault::AtStart);
         }
-        let position = self.images.len() - 2;
-        self.images.truncate(position + 1);
-        Ok(position as u32)
+        go_back(&mut self.owners, position - 1);
+        Ok(position - 1)
     }
 
     /// How many events have been gone through.
@@ -163,7 +183,7 @@ impl Session {
         ensures position { result ≡ self.now.position }
         ensures valid { IsState self.now }
     {
-        (self.images.len() - 1) as u32
+        common_position(&self.owners)
     }
 
     /// The table, with its flags as they are now.
@@ -197,9 +217,23 @@ impl Session {
         if x >= self.table.width() || y >= self.table.height() {
             return Err(SessionFault::NoSuchPixel);
         }
-        let image = self.image();
-        let place = y as usize * self.table.width() as usize + x as usize;
-        Ok(image[place])
+        let owner = &self.owners[self.grid.tile_of(x, y)];
+        Ok(owner.pixel(x, y))
+    }
+
+    /// The colours of row y at the session's position, from column x to the right border of the tile there.
+    #[doc(hidden)]
+    pub fn row_from(&self, x: u32, y: u32) -> &[Colour]
+        requires column { x < self.now.table.width }
+        requires row { y < self.now.table.height }
+        ensures some { 0 < length result.now }
+        ensures inside { x + length result.now ≤ self.now.table.width }
+        ensures short { length result.now ≤ 32 }
+        ensures colours { result.now ≡ map (λ column. colour_at self.now.table self.now.position column y) (range_with_len x (length result.now)) }
+    {
+        let number = self.grid.tile_of(x, y);
+        let left = self.grid.place(number).left;
+        &self.owners[number].row(y)[(x - left) as usize..]
     }
 
     ghost use Rattle.std.specs.Prelude.{◌*◌};
@@ -221,3 +255,29 @@ impl Session {
         }
     }
 }
+
+/// The answer to a jump for which the crew ran.
+fn answer_to_jump(to: u32, run: Result<Outcome, AllocError>) -> Answer
+    ensures { result ≡ jump_answer to run }
+{
+    match run {
+        Ok(Outcome::Reached) => Answer::Moved { at: to },
+        Ok(Outcome::Stopped { at }) => Answer::Stopped { at },
+        Err(_) => Answer::Refused(SessionFault::Memory),
+    }
+}
+
+/// The answer to a switch for which the crew ran. Without memory for a run, the owners stand just before the event.
+fn answer_to_switch(number: u32, position: u32, run: Result<Outcome, AllocError>) -> Answer
+    requires { 1 ≤ number }
+    ensures { result ≡ switch_answer number position run }
+{
+    match run {
+        Ok(Outcome::Reached) => Answer::Moved { at: position },
+        Ok(Outcome::Stopped { at }) => Answer::Stopped { at },
+        Err(_) => Answer::Stopped { at: number - 1 },
+    }
+}
+
+#[cfg(test)]
+mod tests;

@@ -5,6 +5,7 @@ use fd_pam::{Device, Sink, Source};
 use std::alloc::Global;
 use std::cell::Cell;
 use std::process::Abort;
+use std::thread::Threads;
 
 const INPUT: &[u8] = b"step\nshow\nquit\n";
 
@@ -13,7 +14,7 @@ const OUTPUT: &[u8] =
 
 /// How a run ends over these devices, and what is then written.
 fn expect_run(
-    rt: &impl Abort,
+    rt: &(impl Abort + Threads + Sync),
     alloc: Global,
     reader: Pieces<'_>,
     writer: Limited,
@@ -22,7 +23,7 @@ fn expect_run(
 ) {
     let mut source = Device::new(reader);
     let mut sink = Device::new(writer);
-    let ended = serve(alloc, ONE_CLEAR.as_bytes(), 1, &mut source, &mut sink);
+    let ended = serve(rt, alloc, ONE_CLEAR.as_bytes(), 1, &mut source, &mut sink);
     assert_eq!(rt; ended, ending);
     let read_faults = if ending == Ending::Read { 1 } else { 0 };
     assert_eq!(rt; source.failures(), read_faults);
@@ -79,7 +80,14 @@ fn a_writer_that_fails_after_each_byte(rt: HostRuntime) {
     );
     let mut source = Device::new(Pieces::of(INPUT, 100));
     let mut sink = Device::new(Interrupted(false));
-    let ended = serve(rt.alloc(), ONE_CLEAR.as_bytes(), 1, &mut source, &mut sink);
+    let ended = serve(
+        &rt,
+        rt.alloc(),
+        ONE_CLEAR.as_bytes(),
+        1,
+        &mut source,
+        &mut sink,
+    );
     assert_eq!(rt; ended, Ending::Write { sent: 0 });
 }
 
@@ -116,7 +124,11 @@ fn a_reader_that_fails_after_each_byte(rt: HostRuntime) {
     }
 }
 
-fn notes_of_run<'a>(rt: &impl Abort, alloc: Global, flushed: &'a Cell<usize>) -> [usize; 3] {
+fn notes_of_run<'a>(
+    rt: &(impl Abort + Threads + Sync),
+    alloc: Global,
+    flushed: &'a Cell<usize>,
+) -> [usize; 3] {
     let lines = [
         b"step\n".as_slice(),
         b"show\n".as_slice(),
@@ -132,7 +144,7 @@ fn notes_of_run<'a>(rt: &impl Abort, alloc: Global, flushed: &'a Cell<usize>) ->
         waiting: 0,
         flushed,
     });
-    let ending = serve(alloc, ONE_CLEAR.as_bytes(), 1, &mut source, &mut sink);
+    let ending = serve(rt, alloc, ONE_CLEAR.as_bytes(), 1, &mut source, &mut sink);
     assert_eq!(rt; ending, Ending::Done);
     source.into_inner().notes
 }
@@ -145,10 +157,16 @@ fn replies_before_it_reads_on(rt: HostRuntime) {
 }
 
 /// How a run on one byte again and again ends, and how much is then written.
-fn expect_count(rt: &impl Abort, alloc: Global, reader: Again, ending: Ending, length: usize) {
+fn expect_count(
+    rt: &(impl Abort + Threads + Sync),
+    alloc: Global,
+    reader: Again,
+    ending: Ending,
+    length: usize,
+) {
     let mut source = Device::new(reader);
     let mut sink = Device::new(Count(0));
-    let ended = serve(alloc, ONE_CLEAR.as_bytes(), 1, &mut source, &mut sink);
+    let ended = serve(rt, alloc, ONE_CLEAR.as_bytes(), 1, &mut source, &mut sink);
     assert_eq!(rt; ended, ending);
     assert_eq!(rt; sink.into_inner().0, length);
 }

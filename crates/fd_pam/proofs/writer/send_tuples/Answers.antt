@@ -1,9 +1,10 @@
-use Rattle.std.proofs.Common.{◌≡◌, ◌+◌, ◌*◌, ◌++◌, ◌∙◌, ap, length, arith, length-append}
+use Rattle.std.proofs.Common.{◌≡◌, ◌+◌, ◌*◌, ◌<◌, ◌++◌, ◌∙◌, ap, length, arith, length-append}
 use Rattle.std.proofs.KnownBytes.{Appends-trans}
 use Rattle.std.proofs.lemmas.Result.{err_from_is_err_and}
 use Rattle.fd_events.specs.Table.{Table}
+use Rattle.std.specs.List.{flat_map}
 use Rattle.fd_pam.specs.Pam.{tuple}
-use Rattle.fd_pam.proofs.Pams.{so_far_short, body_more, still_so_far, body_broken, body_cut, cut_after, body_last, rows_all}
+use Rattle.fd_pam.proofs.Pams.{so_far_short, body_more, still_so_far, body_broken, body_cut, cut_after, body_last, length-tuples, rows_all}
 use Rattle.fd_pam.proofs.writer.send_tuples.Goals as goal
 
 pub make_room-requires : goal.make_room-requires
@@ -40,18 +41,21 @@ loop-x-preserved g c =
     let y = c.loop-y.y in
     let x = c.loop-x.x in
     let gone = c.in_ok-make_room.ensures.ok in
-    let shown = rw c.unwrap-colour.ensures at c.pixel.ensures in
-    let colour = c.unwrap-colour.result in
-    let extended : c.try_extend_from_slice.new.self.items ≡ c.make_room.new.chunk.items ++ tuple colour = rw c.unwrap.ensures at c.try_extend_from_slice.ensures.ok in
+    let piece = c.row_from-piece.result.now in
+    let height : c.height-height.result ≡ state.table.height = c.height-height.ensures.value ∙ ap (λ (t : Table). t.height) c.table-2.ensures in
+    let width : c.width-width.result ≡ state.table.width = c.width-width.ensures.value ∙ ap (λ (t : Table). t.width) c.table.ensures in
+    let row : y < state.table.height = omega (arith, c.loop-y-test.true, height) in
+    let added : c.add_tuples.new.chunk.items ≡ c.make_room.new.chunk.items ++ flat_map tuple piece = c.add_tuples.ensures in
     record {
       text = inv.text ++ gone.0;
       appended = Appends-trans _ (g.W.Sink.contents c.loop-x.sink) _ inv.text gone.0 inv.appended gone.3;
       counted = omega (arith, gone.4, inv.counted, length-append inv.text gone.0);
       so_far =
-          ap (λ xs. (inv.text ++ gone.0) ++ xs) extended
-          ∙ body_more state x y colour (inv.text ++ gone.0) c.make_room.new.chunk.items shown.0 shown.1 shown.2
+          ap (λ xs. (inv.text ++ gone.0) ++ xs) added
+          ∙ body_more state x y piece (inv.text ++ gone.0) c.make_room.new.chunk.items c.row_from-piece.ensures.inside row c.row_from-piece.ensures.colours
           (still_so_far inv.text gone.0 c.make_room.new.chunk.items c.loop-x.chunk.items _ gone.1 inv.so_far);
-      short = omega (arith, gone.2, ap length extended, length-append c.make_room.new.chunk.items (tuple colour));
+      within = omega (arith, width, c.row_from-piece.ensures.inside);
+      short = omega (arith, gone.2, c.row_from-piece.ensures.short, ap length added, length-append c.make_room.new.chunk.items (flat_map tuple piece), length-tuples piece);
       failures = c.in_ok-make_room.ensures.failures ∙ inv.failures;
     }
 

@@ -1,8 +1,9 @@
-use Rattle.std.proofs.Common.{◌≡◌, ◌+◌, ◌*◌, ◌≤◌, ◌++◌, List, ℕ, length, take}
+use Rattle.std.proofs.Common.{◌≡◌, ◌+◌, ◌-◌, ◌*◌, ◌≤◌, ◌++◌, List, ℕ, length, take}
 use Rattle.std.specs.List.{flat_map}
 use Rattle.std.specs.Io.KnownBytes.{Appends}
 use Rattle.fd_events.specs.Image.{image_at}
 use Rattle.fd_pam.specs.Pam.{tuple}
+use Rattle.fd_pam.specs.declared.writer.TheConstants.{CHUNK_LEN}
 use Rattle.fd_pam.proofs.writer.send_tuples.Given as goal
 
 -- the rows above were sent or wait in the chunk
@@ -13,7 +14,7 @@ invariant-loop-y g l =
       appended : Appends (g.W.Sink.contents l.fn.sink) (g.W.Sink.contents l.sink) text;
       counted : l.sent ≡ l.fn.sent + length text;
       so_far : text ++ l.chunk.items ≡ flat_map tuple (take (l.y * l.session.table.width) (image_at l.session.table l.session.position));
-      short : length l.chunk.items ≤ 4096;
+      short : length l.chunk.items ≤ CHUNK_LEN;
       failures : g.W.Sink.failure_count l.sink ≡ g.W.Sink.failure_count l.fn.sink;
     }
 
@@ -25,6 +26,10 @@ invariant-loop-x g l =
       appended : Appends (g.W.Sink.contents l.fn.sink) (g.W.Sink.contents l.sink) text;
       counted : l.sent ≡ l.fn.sent + length text;
       so_far : text ++ l.chunk.items ≡ flat_map tuple (take (l.y * l.session.table.width + l.x) (image_at l.session.table l.session.position));
-      short : length l.chunk.items ≤ 4096;
+      within : l.x ≤ l.width;
+      short : length l.chunk.items ≤ CHUNK_LEN;
       failures : g.W.Sink.failure_count l.sink ≡ g.W.Sink.failure_count l.fn.sink;
     }
+
+abbrev pub decreases-loop-x : goal.decreases-loop-x
+decreases-loop-x g l = l.width - l.x

@@ -1,0 +1,315 @@
+-- What every run of the crew's world keeps.
+use Rattle.std.proofs.Common.{◌≡◌, ℕ, zero, suc, ◌+◌, ◌-◌, ◌<◌, ◌≤◌, ◌≢◌, ◌⊎◌, inl, inr, ⊎_elim, true, false, List, [], ◌∷◌, set, min, sym, refl, ap, ◌∙◌, subst, arith}
+use mathlib.Core.Option.{Option, none, some, some-injective, some-ne-none}
+use mathlib.Core.Logic.{dite}
+use native.Mathlib.Decide.{ℕ_discrete}
+use lib.ListN.{get_elem?}
+use Rattle.std.specs.List.{AllZip}
+use Rattle.std.proofs.lemmas.Bool.{cases_lt}
+use Rattle.atomic_table.proofs.Lists.{at_set, set_else}
+use Rattle.fd_events.specs.Table.{Table}
+use Rattle.fd_tile.specs.declared.place.Place.{Place}
+use Rattle.fd_owner.specs.History.{History, position, extend, extend_to, drop_last}
+use Rattle.fd_owner.proofs.Histories.{position_extend, extend_more, extend_none, drop_extend, position_extend_to, position_drop}
+use Rattle.fd_crew.specs.World.{Lane, Worker, World, Action, look, draw, refuse, lower, leave, home, IsIn, MayDraw, AllLeft, NoneAbove, with_worker, with_history, Steps, Runs, Opens, least_or, WentOn, CrewWorld}
+
+abbrev At : {A : Type 0} → List A → ℕ → A → Type 0
+At l i a = get_elem? l i ≡ some a
+
+abbrev In : ℕ → List ℕ → Type 0
+In r [] = ⊥
+In r (x ∷ xs) = (r ≡ x) ⊎ In r xs
+
+true_false : {P : Type 0} → true ≡ false → P
+true_false e = absurd (cc)
+
+placed : {A : Type 0} (l : List A) (i : ℕ) (v w : A) → At l i v → At (set l i w) i w
+placed [] i v w e = absurd (some-ne-none v (sym e))
+placed (x ∷ xs) zero v w e = refl
+placed (x ∷ xs) (suc i) v w e = placed xs i v w e
+
+same_there : {A : Type 0} (l : List A) (i : ℕ) (a b : A) → At l i a → At l i b → a ≡ b
+same_there l i a b e f = some-injective a b (sym e ∙ f)
+
+abbrev Kin : Table → ℕ → Lane → Lane → Type 0
+Kin table o a b = WentOn table a b × (position a.history ≡ o)
+
+record Owed (x : World) (r : ℕ) : Type 0 where
+  w : ℕ
+  p : Worker
+  at : At x.workers w p
+  owes : p.owed ≡ some r
+
+record Inv (table : Table) (o target : ℕ) (x0 x : World) : Type 0 where
+  lanes : AllZip (Kin table o) x0.lanes x.lanes
+  floor : o ≤ x.fence
+  fence : (x.fence ≡ target) ⊎ In x.fence x.refused
+  seen : (w : ℕ) (p : Worker) → At x.workers w p → (x.fence ≤ p.seen) × (p.seen ≤ target)
+  owes : (w : ℕ) (p : Worker) → At x.workers w p → p.left ≡ true → p.owed ≡ none
+  owed_in : (w : ℕ) (p : Worker) (q : ℕ) → At x.workers w p → p.owed ≡ some q → In q x.refused
+  refused : (r : ℕ) → In r x.refused → (o ≤ r) × (r < target) × ((x.fence ≤ r) ⊎ Owed x r)
+  owners : (t : ℕ) (l : Lane) → At x.lanes t l → (p : Worker) × At x.workers l.owner p
+  after : (t : ℕ) (l : Lane) → At x.lanes t l → o ≤ position l.history
+  done : (t : ℕ) (l : Lane) (w : ℕ) (p : Worker) → At x.lanes t l → At x.workers w p → l.owner ≡ w → p.left ≡ true → x.fence ≤ position l.history
+
+-- a number that is no more than any of these is no more than their least
+under_least : (x f : ℕ) (xs : List ℕ) → f ≤ x → ((r : ℕ) → In r xs → f ≤ r) → f ≤ min x (least_or x xs)
+under_least x f [] a b = omega arith
+under_least x f (y ∷ ys) a b = let r = under_least y f ys (b y (inl refl)) (λ r h. b r (inr h)) in omega arith
+
+among_least : (x f : ℕ) (xs : List ℕ) → f ≤ x → ((r : ℕ) → In r xs → f ≤ r) → (f ≡ x) ⊎ In f xs → f ≡ min x (least_or x xs)
+among_least x f [] a b (inl e) = omega arith
+among_least x f [] a b (inr h) = absurd h
+among_least x f (y ∷ ys) a b (inl e) = let r = under_least y f ys (b y (inl refl)) (λ r h. b r (inr h)) in omega arith
+among_least x f (y ∷ ys) a b (inr h) = let r = among_least y f ys (b y (inl refl)) (λ r k. b r (inr k)) h in omega arith
+
+least_is : (rs : List ℕ) (n f : ℕ) → (f ≡ n) ⊎ In f rs → ((r : ℕ) → In r rs → (f ≤ r) × (r < n)) → f ≡ least_or n rs
+least_is [] n f (inl e) b = e
+least_is [] n f (inr h) b = absurd h
+least_is (x ∷ xs) n f (inl e) b = let c = b x (inl refl) in let c0 = c.0 in let c1 = c.1 in absurd (omega arith)
+least_is (x ∷ xs) n f (inr h) b = among_least x f xs (b x (inl refl)).0 (λ r k. (b r (inr k)).0) h
+
+module _ (table : Table) (o target : ℕ) (x0 : World) where
+  abbrev I : World → Type 0
+  I x = Inv table o target x0 x
+
+  -- one worker changes, and perhaps the fence goes down
+  record Change (x : World) (w : ℕ) (p p' : Worker) (fence' : ℕ) (refused' : List ℕ) : Type 0 where
+    at : At x.workers w p
+    lower : (fence' ≤ x.fence) × (o ≤ fence')
+    least : (fence' ≡ target) ⊎ In fence' refused'
+    seen : (fence' ≤ p'.seen) × (p'.seen ≤ target)
+    owes : p'.left ≡ true → p'.owed ≡ none
+    owed_in : (q : ℕ) → p'.owed ≡ some q → In q refused'
+    more : (r : ℕ) → In r x.refused → In r refused'
+    refused : (r : ℕ) → In r refused' → (o ≤ r) × (r < target) × ((fence' ≤ r) ⊎ ((p'.owed ≡ some r) ⊎ ((v : ℕ) × (u : Worker) × At x.workers v u × (u.owed ≡ some r) × (v ≢ w))))
+    done : p'.left ≡ true → (t : ℕ) (l : Lane) → At x.lanes t l → l.owner ≡ w → fence' ≤ position l.history
+
+  changed : (x : World) (w : ℕ) (p p' : Worker) (fence' : ℕ) (refused' : List ℕ) → I x → Change x w p p' fence' refused' → I (record { lanes = x.lanes; workers = set x.workers w p'; fence = fence'; refused = refused' })
+  changed x w p p' fence' refused' i c =
+      let down = c.lower in
+      record {
+        lanes = i.lanes;
+        floor = omega arith;
+        fence = c.least;
+        seen = λ j b e. ⊎_elim (λ t. subst (λ (u : Worker). (fence' ≤ u.seen) × (u.seen ≤ target)) t.1 c.seen) (λ t. let s = i.seen j b t.1 in (omega arith, s.1)) (at_set x.workers w j p' b e);
+        owes = λ j b e out. ⊎_elim (λ t. subst (λ (u : Worker). u.left ≡ true → u.owed ≡ none) t.1 c.owes out) (λ t. i.owes j b t.1 out) (at_set x.workers w j p' b e);
+        owed_in = λ j b q e owed. ⊎_elim (λ t. c.owed_in q (ap (λ (u : Worker). u.owed) t.1 ∙ owed)) (λ t. c.more q (i.owed_in j b q t.1 owed)) (at_set x.workers w j p' b e);
+        refused = λ r there. let f = c.refused r there in (
+          f.0,
+          f.1,
+          ⊎_elim (λ le. inl le)
+              (λ s. ⊎_elim (λ mine. inr (record { w = w; p = p'; at = placed x.workers w p p' c.at; owes = mine })) (λ (v, u, e, owed, other). inr (record { w = v; p = u; at = set_else x.workers w v p' other ∙ e; owes = owed })) s) f.2,
+        );
+        owners = λ t l e. let h = i.owners t l e in dite (ℕ_discrete l.owner w) (λ is. (p', subst (λ (n : ℕ). At (set x.workers w p') n p') (sym is) (placed x.workers w p p' c.at))) (λ other. (h.0, set_else x.workers w l.owner p' other ∙ h.1));
+        after = i.after;
+        done = λ t l j b e f own out. ⊎_elim (λ s. c.done (ap (λ (u : Worker). u.left) s.1 ∙ out) t l e (own ∙ s.0)) (λ s. let d = i.done t l j b e s.1 own out in omega arith) (at_set x.workers w j p' b f);
+      }
+
+  zip_set : (xs ys : List Lane) (t : ℕ) (l l' : Lane) → AllZip (Kin table o) xs ys → At ys t l → ((a : Lane) → Kin table o a l → Kin table o a l') → AllZip (Kin table o) xs (set ys t l')
+  zip_set [] [] t l l' a e f = absurd (some-ne-none l (sym e))
+  zip_set [] (y ∷ ys) t l l' a e f = absurd a
+  zip_set (x ∷ xs) [] t l l' a e f = absurd a
+  zip_set (x ∷ xs) (y ∷ ys) zero l l' a e f = (f x (subst (λ (z : Lane). Kin table o x z) (some-injective y l e) a.0), a.1)
+  zip_set (x ∷ xs) (y ∷ ys) (suc t) l l' a e f = (a.0, zip_set xs ys t l l' a.1 e f)
+
+  abbrev moved_lane : Lane → History → Lane
+  moved_lane l h = record { owner = l.owner; place = l.place; history = h }
+
+  moved : (x : World) (t : ℕ) (l : Lane) (h : History) → I x → At x.lanes t l → ((a : Lane) → Kin table o a l → Kin table o a (moved_lane l h)) → o ≤ position h
+      → ((w : ℕ) (p : Worker) → At x.workers w p → l.owner ≡ w → p.left ≡ true → x.fence ≤ position h) → I (with_history x t l h)
+  moved x t l h i at kin le out = record {
+    lanes = zip_set x0.lanes x.lanes t l (moved_lane l h) i.lanes at kin;
+    floor = i.floor;
+    fence = i.fence;
+    seen = i.seen;
+    owes = i.owes;
+    owed_in = i.owed_in;
+    refused = λ r there. let f = i.refused r there in (f.0, f.1, ⊎_elim (λ a. inl a) (λ q. inr (record { w = q.w; p = q.p; at = q.at; owes = q.owes })) f.2);
+    owners = λ j b e. ⊎_elim (λ s. subst (λ (z : Lane). (p : Worker) × At x.workers z.owner p) s.1 (i.owners t l at)) (λ s. i.owners j b s.1) (at_set x.lanes t j (moved_lane l h) b e);
+    after = λ j b e. ⊎_elim (λ s. subst (λ (z : Lane). o ≤ position z.history) s.1 le) (λ s. i.after j b s.1) (at_set x.lanes t j (moved_lane l h) b e);
+    done = λ j b w p e f own gone. ⊎_elim (λ s. subst (λ (z : Lane). x.fence ≤ position z.history) s.1 (out w p f (ap (λ (z : Lane). z.owner) s.1 ∙ own) gone)) (λ s. i.done j b w p s.1 f own gone) (at_set x.lanes t j (moved_lane l h) b e);
+  }
+
+  seen_top : (x : World) (w : ℕ) (p : Worker) → I x → At x.workers w p → x.fence ≤ target
+  seen_top x w p i at = let s = i.seen w p at in omega (arith, s.0, s.1)
+
+  -- the other that owes r is another worker, or this one
+  still_owed : (x : World) (w : ℕ) (p : Worker) (r : ℕ) → At x.workers w p → Owed x r → (p.owed ≡ some r) ⊎ ((v : ℕ) × (u : Worker) × At x.workers v u × (u.owed ≡ some r) × (v ≢ w))
+  still_owed x w p r at q = dite (ℕ_discrete q.w w)
+      (λ is. inl (ap (λ (u : Worker). u.owed) (same_there x.workers w p q.p at (subst (λ (n : ℕ). At x.workers n q.p) is q.at)) ∙ q.owes))
+      (λ other. inr (q.w, q.p, q.at, q.owes, other))
+
+  looked : (x : World) (w : ℕ) (p : Worker) → I x → IsIn x w p → I (with_worker x w (record { seen = x.fence; owed = p.owed; left = false }))
+  looked x w p i in' =
+      let top = seen_top x w p i in'.0 in
+      let floor = i.floor in
+      changed x w p (record { seen = x.fence; owed = p.owed; left = false }) x.fence x.refused i (record {
+        at = in'.0;
+        lower = (omega arith, floor);
+        least = i.fence;
+        seen = (omega arith, top);
+        owes = λ out. true_false (sym out);
+        owed_in = λ q e. i.owed_in w p q in'.0 e;
+        more = λ r h. h;
+        refused = λ r h. let f = i.refused r h in (f.0, f.1, ⊎_elim (λ a. inl a) (λ q. inr (still_owed x w p r in'.0 q)) f.2);
+        done = λ out t l e own. true_false (sym out);
+      })
+
+  refused' : (x : World) (w t : ℕ) (p : Worker) (l : Lane) → I x → MayDraw x w t p l
+      → I (record { lanes = x.lanes; workers = set x.workers w (record { seen = p.seen; owed = some (position l.history); left = false }); fence = x.fence; refused = position l.history ∷ x.refused })
+  refused' x w t p l i may =
+      let at = may.0.0 in
+      let s = i.seen w p at in
+      let under = may.4 in
+      let low = i.after t l may.1 in
+      let floor = i.floor in
+      changed x w p (record { seen = p.seen; owed = some (position l.history); left = false }) x.fence (position l.history ∷ x.refused) i (record {
+        at = at;
+        lower = (omega arith, floor);
+        least = ⊎_elim (λ e. inl e) (λ h. inr (inr h)) i.fence;
+        seen = s;
+        owes = λ out. true_false (sym out);
+        owed_in = λ q e. inl (sym (some-injective (position l.history) q e));
+        more = λ r h. inr h;
+        refused = λ r h. ⊎_elim (λ is. let top = s.1 in (omega arith, omega arith, inr (inl (ap (λ (n : ℕ). let o : Option ℕ = some n in o) (sym is)))))
+            (λ h'. let f = i.refused r h' in (f.0, f.1, ⊎_elim (λ a. inl a) (λ q. ⊎_elim (λ mine. absurd (some-ne-none r (sym mine ∙ may.3))) (λ other. inr (inr other)) (still_owed x w p r at q)) f.2)) h;
+        done = λ out t l e own. true_false (sym out);
+      })
+
+  le_cases : (m n : ℕ) → (m ≤ n) ⊎ (n ≤ m)
+  le_cases m n = ⊎_elim (λ l. inl (omega arith)) (λ r. inr (omega arith)) (cases_lt m n)
+
+  min_in : (m n : ℕ) (rs : List ℕ) → (m ≡ target) ⊎ In m rs → In n rs → (m ≤ n) ⊎ (n ≤ m) → (min m n ≡ target) ⊎ In (min m n) rs
+  min_in m n rs a b (inl le) = let e : min m n ≡ m = omega arith in ⊎_elim (λ is. inl (e ∙ is)) (λ h. inr (subst (λ (k : ℕ). In k rs) (sym e) h)) a
+  min_in m n rs a b (inr le) = let e : min m n ≡ n = omega arith in inr (subst (λ (k : ℕ). In k rs) (sym e) b)
+
+  lowered : (x : World) (w : ℕ) (p : Worker) (at : ℕ) → I x → IsIn x w p → p.owed ≡ some at
+      → I (record { lanes = x.lanes; workers = set x.workers w (record { seen = min x.fence at; owed = none; left = false }); fence = min x.fence at; refused = x.refused })
+  lowered x w p at i in' owes =
+      let top = seen_top x w p i in'.0 in
+      let floor = i.floor in
+      let there = i.owed_in w p at in'.0 owes in
+      let f = i.refused at there in
+      let above = f.0 in
+      changed x w p (record { seen = min x.fence at; owed = none; left = false }) (min x.fence at) x.refused i (record {
+        at = in'.0;
+        lower = (omega arith, omega arith);
+        least = min_in x.fence at x.refused i.fence there (le_cases x.fence at);
+        seen = (omega arith, omega arith);
+        owes = λ out. refl;
+        owed_in = λ q e. absurd (some-ne-none q (sym e));
+        more = λ r h. h;
+        refused = λ r h. let h' = i.refused r h in (
+          h'.0,
+          h'.1,
+          ⊎_elim (λ a. inl (omega arith)) (λ q. ⊎_elim (λ mine. let is : at ≡ r = some-injective at r (sym owes ∙ mine) in inl (omega arith)) (λ other. inr (inr other)) (still_owed x w p r in'.0 q)) h'.2,
+        );
+        done = λ out t l e own. true_false (sym out);
+      })
+
+  left' : (x : World) (w : ℕ) (p : Worker) → I x → IsIn x w p → p.owed ≡ none → ((t : ℕ) (l : Lane) → At x.lanes t l → l.owner ≡ w → p.seen ≤ position l.history) → I (with_worker x w (record { seen = p.seen; owed = none; left = true }))
+  left' x w p i in' none' done =
+      let s = i.seen w p in'.0 in
+      let under = s.0 in
+      let floor = i.floor in
+      changed x w p (record { seen = p.seen; owed = none; left = true }) x.fence x.refused i (record {
+        at = in'.0;
+        lower = (omega arith, floor);
+        least = i.fence;
+        seen = s;
+        owes = λ out. refl;
+        owed_in = λ q e. absurd (some-ne-none q (sym e));
+        more = λ r h. h;
+        refused = λ r h. let f = i.refused r h in (f.0, f.1, ⊎_elim (λ a. inl a) (λ q. ⊎_elim (λ mine. absurd (some-ne-none r (sym mine ∙ none'))) (λ other. inr (inr other)) (still_owed x w p r in'.0 q)) f.2);
+        done = λ out t l e own. let d = done t l e own in omega arith;
+      })
+
+  drawn : (x : World) (w t : ℕ) (p : Worker) (l : Lane) → I x → MayDraw x w t p l → I (with_history x t l (extend table l.place l.history))
+  drawn x w t p l i may =
+      let h : History = extend table l.place l.history in
+      let long : position h ≡ position l.history + 1 = position_extend table l.place l.history in
+      let low = i.after t l may.1 in
+      moved x t l h i may.1
+      (λ a k. let on = k.0 in let after = on.after in (
+        record {
+          owner = on.owner;
+          place = on.place;
+          after = omega arith;
+          history = ap (λ (q : Place). extend table q l.history) on.place ∙ (ap (λ (g : History). extend table a.place g) on.history ∙ (extend_more table a.place (position l.history) a.history after ∙ ap (λ (n : ℕ). extend_to table a.place n a.history) (sym long)));
+        },
+        k.1,
+      ))
+      (omega arith)
+      (λ v u e own out. let same = same_there x.workers w p u may.0.0 (subst (λ (n : ℕ). At x.workers n u) (sym own ∙ may.2) e) in true_false (sym out ∙ (ap (λ (z : Worker). z.left) (sym same) ∙ may.0.1)))
+
+  -- an extended list, one image shorter
+  shorter : (place : Place) (to : ℕ) (h : History) → position h < to → drop_last (extend_to table place to h) ≡ extend_to table place (to - 1) h
+  shorter place to h less =
+      let e : to - 1 + 1 ≡ to = omega arith in
+      ap drop_last (ap (λ (n : ℕ). extend_to table place n h) (sym e) ∙ sym (extend_more table place (to - 1) h (omega arith))) ∙ drop_extend table place (extend_to table place (to - 1) h)
+
+  went_home : (x : World) (t : ℕ) (l : Lane) → I x → At x.lanes t l → x.fence < position l.history → I (with_history x t l (drop_last l.history))
+  went_home x t l i at above =
+      let floor = i.floor in
+      moved x t l (drop_last l.history) i at
+      (λ a k. let on = k.0 in let is = k.1 in
+      let e : drop_last l.history ≡ extend_to table a.place (position l.history - 1) a.history = ap drop_last on.history ∙ shorter a.place (position l.history) a.history (omega arith) in
+      let long : position (drop_last l.history) ≡ position l.history - 1 = ap position e ∙ position_extend_to table a.place (position l.history - 1) a.history (omega arith) in
+      (record { owner = on.owner; place = on.place; after = omega arith; history = e ∙ ap (λ (n : ℕ). extend_to table a.place n a.history) (sym long) }, k.1))
+      (let long = position_drop l.history in omega arith)
+      (λ w p e own out. let long = position_drop l.history in omega arith)
+
+  step_kept : (x y : World) (a : Action) → I x → Steps table x a y → I y
+  step_kept x y (look w) i s = subst I (sym s.2) (looked x w s.0 i s.1)
+  step_kept x y (draw w t) i s = subst I (sym s.3) (drawn x w t s.0 s.1 i s.2)
+  step_kept x y (refuse w t) i s = subst I (sym s.3) (refused' x w t s.0 s.1 i s.2)
+  step_kept x y (lower w) i s = subst I (sym s.4) (lowered x w s.0 s.1 i s.2 s.3)
+  step_kept x y (leave w) i s = subst I (sym s.2) (left' x w s.0 i s.1.0 s.1.1 s.1.2)
+  step_kept x y (home t) i s = subst I (sym s.4) (went_home x t s.0 i s.2 s.3)
+
+  runs_kept : (actions : List Action) (x y : World) → I x → Runs table x actions y → I y
+  runs_kept [] x y i r = subst I r i
+  runs_kept (a ∷ actions) x y i r = runs_kept actions r.0 y (step_kept x r.0 a i r.1) r.2
+
+  went_none : (l : Lane) → WentOn table l l
+  went_none l = record { owner = refl; place = refl; after = omega arith; history = sym (extend_none table l.place l.history) }
+
+  kin_none : (ls : List Lane) → ((t : ℕ) (l : Lane) → At ls t l → position l.history ≡ o) → AllZip (Kin table o) ls ls
+  kin_none [] f = tt
+  kin_none (l ∷ ls) f = ((went_none l, f 0 l refl), kin_none ls (λ t m e. f (suc t) m e))
+
+  opened : Opens o target x0 → I x0
+  opened open' =
+      let within = open'.within in
+      let at_target = open'.fence in
+      record {
+        lanes = kin_none x0.lanes (λ t l e. (open'.lanes t l e).0);
+        floor = omega arith;
+        fence = inl at_target;
+        seen = λ w p e. let h = open'.workers w p e in let s = h.0 in (omega arith, omega arith);
+        owes = λ w p e out. (open'.workers w p e).1;
+        owed_in = λ w p q e owed. absurd (some-ne-none q (sym owed ∙ (open'.workers w p e).1));
+        refused = λ r h. absurd (subst (λ (rs : List ℕ). In r rs) open'.refused h);
+        owners = λ t l e. (open'.lanes t l e).1;
+        after = λ t l e. let at = (open'.lanes t l e).0 in omega arith;
+        done = λ t l w p e f own out. true_false (sym out ∙ (open'.workers w p f).2);
+      }
+
+  went_zip : (xs ys : List Lane) → AllZip (Kin table o) xs ys → AllZip (WentOn table) xs ys
+  went_zip [] [] a = tt
+  went_zip [] (y ∷ ys) a = absurd a
+  went_zip (x ∷ xs) [] a = absurd a
+  went_zip (x ∷ xs) (y ∷ ys) a = (a.0.0, went_zip xs ys a.1)
+
+  ended : (y : World) → I y → AllLeft y → NoneAbove y → ((t : ℕ) (l : Lane) → At y.lanes t l → position l.history ≡ y.fence) × (y.fence ≡ least_or target y.refused)
+  ended y i gone none_above = (
+    (λ t l e. let p = i.owners t l e in let low = i.done t l l.owner p.0 e p.1 refl (gone l.owner p.0 p.1) in let high = none_above t l e in omega arith),
+    least_is y.refused target y.fence i.fence
+        (λ r h. let f = i.refused r h in (⊎_elim (λ a. a) (λ q. absurd (some-ne-none r (sym q.owes ∙ i.owes q.w q.p q.at (gone q.w q.p q.at)))) f.2, f.1)),
+  )
+
+pub world_law : CrewWorld
+world_law table o target x y actions open' runs =
+    let i = runs_kept table o target x actions x y (opened table o target x open') runs in
+    (went_zip table o target x x.lanes y.lanes i.lanes, λ gone none_above. ended table o target x y i gone none_above)

@@ -1,0 +1,150 @@
+-- How lanes go back, and how a run ends.
+use Rattle.std.proofs.Common.{◌≡◌, ℕ, ◌+◌, ◌-◌, ◌<◌, ◌≤◌, inl, inr, ⊎_elim, List, [], ◌∷◌, ◌++◌, length, take, drop, set, get_or, sym, ap, ◌∙◌, subst, arith, All}
+use Rattle.std.specs.Prelude.{Option, Some}
+use Rattle.std.specs.List.{AllZip}
+use Rattle.std.proofs.lemmas.List.{take_more, take_more_set, take_all, drop_more}
+use Rattle.std.proofs.lemmas.List.Elements.{AllZip-push, All-head, All-tail, All-cons, All-nil}
+use Rattle.fd_events.specs.Table.{Table}
+use Rattle.fd_owner.specs.History.{History, position, first_frames, drop_last}
+use Rattle.fd_owner.proofs.Histories.{drop_first, position_first, first_all, first_extend_to}
+use Rattle.fd_crew.specs.declared.fence.View.{View}
+use Rattle.fd_crew.specs.declared.crew.Outcome.TheVariants.{Reached, Stopped}
+use Rattle.fd_owner.specs.Shown.{Shown, gone_back}
+use Rattle.fd_crew.specs.Lanes.{gone_back_to, RefusedAt, IsQuiet, Drawn, AnyZip, Worked, CanRun, GoneTo, RefusedNoLower, EndsAs}
+
+with_history : (s : Shown) (h k : History) → h ≡ k → (let a : Shown = record { place = s.place; history = h; refusals = s.refusals; refused_at = s.refused_at } in a) ≡ record { place = s.place; history = k; refusals = s.refusals; refused_at = s.refused_at }
+with_history s h k e = λ i. record { place = s.place; history = e i; refusals = s.refusals; refused_at = s.refused_at }
+
+pub back_none : (old : Shown) → old ≡ gone_back_to (position old.history) old
+back_none old = with_history old old.history (first_frames (position old.history) old.history) (sym (first_all (position old.history) old.history (omega arith)))
+
+pub back_more : (old now next : Shown) → now ≡ gone_back_to (position now.history) old → position now.history ≤ position old.history → next ≡ gone_back now → (position next.history ≡ position now.history - 1) × (next ≡ gone_back_to (position next.history) old)
+back_more old now next is le goes =
+    let k : ℕ = position now.history in
+    let a : next ≡ gone_back (gone_back_to k old) = goes ∙ ap gone_back is in
+    let b : gone_back (gone_back_to k old) ≡ gone_back_to (k - 1) old = with_history old (drop_last (first_frames k old.history)) (first_frames (k - 1) old.history) (drop_first k old.history le) in
+    let at : position next.history ≡ k - 1 = ap (λ (s : Shown). position s.history) (a ∙ b) ∙ position_first (k - 1) old.history (omega arith) in
+    (at, (a ∙ b) ∙ ap (λ (n : ℕ). gone_back_to n old) (sym at))
+
+-- what stands at i in two lists that go on alike from i
+pub alike_at : {L : Type 0} (old now : List L) (i : ℕ) (x : L) → i < length old → length now ≡ length old → x ≡ get_or now i x → drop i now ≡ drop i old → x ≡ get_or old i x
+alike_at old now i x in' long is rest =
+    let a = drop_more now i x (omega arith) in
+    let b = drop_more old i x in' in
+    let both : get_or now i x ∷ drop (i + 1) now ≡ get_or old i x ∷ drop (i + 1) old = sym a ∙ (rest ∙ b) in cc
+
+module _ {L : Type 0} (R : L → L → Type 0) where
+  pub zip_next : (old now : List L) (i : ℕ) (x y : L) → i < length old → length now ≡ length old → x ≡ get_or old i x → AllZip R (take i old) (take i now) → R x y → AllZip R (take (i + 1) old) (take (i + 1) (set now i y))
+  zip_next old now i x y in' long is all here =
+      let e : take (i + 1) old ≡ take i old ++ x ∷ [] = take_more old i x in' ∙ ap (λ (z : L). take i old ++ z ∷ []) (sym is) in
+      let f : take (i + 1) (set now i y) ≡ take i now ++ y ∷ [] = take_more_set now i y (omega arith) in
+      subst (λ (xs : List L). AllZip R xs (take (i + 1) (set now i y))) (sym e) (subst (λ (ys : List L). AllZip R (take i old ++ x ∷ []) ys) (sym f) (AllZip-push R (take i old) (take i now) x y all here))
+
+  pub zip_whole : (old now : List L) (i : ℕ) → length old ≤ i → length now ≡ length old → AllZip R (take i old) (take i now) → AllZip R old now
+  zip_whole old now i le long all =
+      subst (λ (xs : List L). AllZip R xs now) (take_all i old le) (subst (λ (ys : List L). AllZip R (take i old) ys) (take_all i now (omega arith)) all)
+
+  zip_through : (B C : L → L → Type 0) (P : L → Type 0) → ((x y z : L) → P x → R x y → B y z → C x z) → (xs ys zs : List L) → All P xs → AllZip R xs ys → AllZip B ys zs → AllZip C xs zs
+  zip_through B C P f [] [] [] p a b = tt
+  zip_through B C P f [] [] (z ∷ zs) p a b = absurd b
+  zip_through B C P f [] (y ∷ ys) zs p a b = absurd a
+  zip_through B C P f (x ∷ xs) [] zs p a b = absurd a
+  zip_through B C P f (x ∷ xs) (y ∷ ys) [] p a b = absurd b
+  zip_through B C P f (x ∷ xs) (y ∷ ys) (z ∷ zs) p a b = (f x y z (All-head P x xs p) a.0 b.0, zip_through B C P f xs ys zs (All-tail P x xs p) a.1 b.1)
+
+  any_through : (B C : L → L → Type 0) → ((x y z : L) → R x y → B y z → C x z) → (xs ys zs : List L) → AnyZip R xs ys → AllZip B ys zs → AnyZip C xs zs
+  any_through B C f [] ys zs a b = absurd a
+  any_through B C f (x ∷ xs) [] zs a b = absurd a
+  any_through B C f (x ∷ xs) (y ∷ ys) [] a b = absurd b
+  any_through B C f (x ∷ xs) (y ∷ ys) (z ∷ zs) a b = ⊎_elim (λ h. inl (f x y z h b.0)) (λ t. inr (any_through B C f xs ys zs t b.1)) a
+
+  -- what holds of each of the second list
+  all_second : (P : L → Type 0) → ((x y : L) → R x y → P y) → (xs ys : List L) → AllZip R xs ys → All P ys
+  all_second P f [] [] a = All-nil P
+  all_second P f [] (y ∷ ys) a = absurd a
+  all_second P f (x ∷ xs) [] a = absurd a
+  all_second P f (x ∷ xs) (y ∷ ys) a = All-cons P y ys (f x y a.0) (all_second P f xs ys a.1)
+
+  -- a fact that follows from one item of the first list
+  any_first : (P : L → Type 0) (Q : Type 0) → ((x y : L) → P x → R x y → Q) → (xs ys : List L) → All P xs → AnyZip R xs ys → Q
+  any_first P Q f [] ys p a = absurd a
+  any_first P Q f (x ∷ xs) [] p a = absurd a
+  any_first P Q f (x ∷ xs) (y ∷ ys) p a = ⊎_elim (λ h. f x y (All-head P x xs p) h) (λ t. any_first P Q f xs ys (All-tail P x xs p) t) a
+
+-- one lane that was drawn on and then went back
+gone : (table : Table) (target seen low at : ℕ) (x y z : Shown) → Drawn table target seen low x y → at ≤ seen → position x.history ≤ at → z ≡ gone_back_to at y → GoneTo table at x z
+gone table target seen low at x y z d under after back =
+    let reached = d.reached in
+    record {
+      place = ap (λ (s : Shown). s.place) back ∙ d.place;
+      history = ap (λ (s : Shown). s.history) back ∙ (ap (λ (h : History). first_frames at h) d.history ∙ first_extend_to table x.place at (position y.history) x.history after (omega arith));
+      after = after;
+    }
+
+quiet_back : (at : ℕ) (x y z : Shown) → IsQuiet x y → z ≡ gone_back_to at y → IsQuiet x z
+quiet_back at x y z q back = record { refusals = ap (λ (s : Shown). s.refusals) back ∙ q.refusals; refused_at = ap (λ (s : Shown). s.refused_at) back ∙ q.refused_at }
+
+quiet : (table : Table) (target seen low at : ℕ) (x y z : Shown) → Drawn table target seen low x y → low ≡ target → z ≡ gone_back_to at y → IsQuiet x z
+quiet table target seen low at x y z d is back = ⊎_elim (λ q. quiet_back at x y z q back) (λ t. let a = t.2 in let b = t.3 in absurd (omega arith)) d.refusals
+
+some_same : (m n : ℕ) (o : Option ℕ) → o ≡ Some m → o ≡ Some n → m ≡ n
+some_same m n o a b = let e : Some m ≡ Some n = sym a ∙ b in cc
+
+no_lower : (table : Table) (target seen low at : ℕ) (x y z : Shown) → Drawn table target seen low x y → at ≡ low → z ≡ gone_back_to at y → RefusedNoLower at x z
+no_lower table target seen low at x y z d is back rose r there =
+    let same : z.refusals ≡ y.refusals = ap (λ (s : Shown). s.refusals) back in
+    let there' : y.refused_at ≡ Some r = sym (ap (λ (s : Shown). s.refused_at) back) ∙ there in
+    ⊎_elim (λ q. let e = q.refusals in absurd (omega arith)) (λ t. let e : t.0 ≡ r = some_same t.0 r y.refused_at t.1.there there' in let under = t.2 in omega arith) d.refusals
+
+refused_back : (low at : ℕ) (x y z : Shown) → RefusedAt low x y → at ≡ low → z ≡ gone_back_to at y → RefusedAt at x z
+refused_back low at x y z r is back =
+    let same : z.refusals ≡ y.refusals = ap (λ (s : Shown). s.refusals) back in
+    let after = r.after in
+    record {
+      there = ap (λ (s : Shown). s.refused_at) back ∙ (r.there ∙ ap (λ (n : ℕ). let o : Option ℕ = Some n in o) (sym is));
+      rose = ⊎_elim (λ less. inl (omega arith)) (λ full. inr (same ∙ full)) r.rose;
+      after = omega arith;
+    }
+
+module _ {L : Type 0} (shown : L → Shown) (fits : L → Table → Type 0) (table : Table) (target : ℕ) where
+  abbrev Done : View → L → L → Type 0
+  Done v x y = Drawn table target v.seen v.low (shown x) (shown y) × fits y table
+
+  abbrev Back : ℕ → L → L → Type 0
+  Back at x y = shown y ≡ gone_back_to at (shown x)
+
+  pub can_all : (o : ℕ) (old : List L) → All (λ l. position (shown l).history ≡ o) old → o ≤ target → All (λ l. fits l table) old → All (CanRun shown fits table target) old
+  can_all o old p le f = λ k d in'. let e = p k d in' in record { within = omega arith; fits_table = f k d in' }
+
+  pub above_all : (v w : View) (at : ℕ) (old mid : List L) → Worked shown fits table target v w old mid → at ≤ w.seen → All (λ l. at ≤ position (shown l).history) mid
+  above_all v w at old mid worked under = all_second (Done w) (λ l. at ≤ position (shown l).history) (λ x y d. let r = d.0.reached in omega arith) old mid worked.lanes
+
+  pub fits_all : (v w : View) (old mid new : List L) → Worked shown fits table target v w old mid → AllZip (λ x y. (t : Table) → fits x t → fits y t) mid new → All (λ l. fits l table) new
+  fits_all v w old mid new worked back = all_second (λ x z. fits z table) (λ l. fits l table) (λ x z f. f) old new
+      (zip_through (Done w) (λ x y. (t : Table) → fits x t → fits y t) (λ x z. fits z table) (λ x. Unit {0}) (λ x y z u d f. f table d.1) old mid new (λ k d in'. tt) worked.lanes back)
+
+  module _ (o at : ℕ) (v w : View) (old mid new : List L) (together : All (λ l. position (shown l).history ≡ o) old) (within : o ≤ target) (open' : v.low ≡ target) (is : at ≡ w.low) (under : at ≤ w.seen)
+      (worked : Worked shown fits table target v w old mid) (back : AllZip (Back at) mid new) where
+    opening_below : o ≤ at
+    opening_below = ⊎_elim (λ e. omega arith)
+        (λ any. let h : o ≤ w.low = any_first (λ x y. RefusedAt w.low (shown x) (shown y)) (λ l. position (shown l).history ≡ o) (o ≤ w.low) (λ x y p r. let a = r.after in omega arith) old mid together any in omega arith)
+        worked.low
+
+    pub ends_reached : at ≡ target → EndsAs shown table target old new Reached
+    ends_reached there =
+        let low = opening_below in
+        zip_through (Done w) (Back at) (λ x z. GoneTo table target (shown x) (shown z) × IsQuiet (shown x) (shown z)) (λ l. position (shown l).history ≡ o)
+        (λ x y z p d b. (subst (λ (n : ℕ). GoneTo table n (shown x) (shown z)) there (gone table target w.seen w.low at (shown x) (shown y) (shown z) d.0 under (omega arith) b), quiet table target w.seen w.low at (shown x) (shown y) (shown z) d.0 (sym is ∙ there) b))
+        old mid new together worked.lanes back
+
+    pub ends_stopped : ¬ (at ≡ target) → EndsAs shown table target old new (Stopped at)
+    ends_stopped not =
+        let low = opening_below in
+        let lower = worked.lower in (
+          omega arith,
+          zip_through (Done w) (Back at) (λ x z. GoneTo table at (shown x) (shown z) × RefusedNoLower at (shown x) (shown z)) (λ l. position (shown l).history ≡ o)
+              (λ x y z p d b. (gone table target w.seen w.low at (shown x) (shown y) (shown z) d.0 under (omega arith) b, no_lower table target w.seen w.low at (shown x) (shown y) (shown z) d.0 is b)) old mid new together worked.lanes back,
+          ⊎_elim (λ e. absurd (not (is ∙ (e ∙ open'))))
+              (λ any. any_through (λ x y. RefusedAt w.low (shown x) (shown y)) (Back at) (λ x z. RefusedAt at (shown x) (shown z)) (λ x y z r b. refused_back w.low at (shown x) (shown y) (shown z) r is b) old mid new any back)
+              worked.low,
+        )

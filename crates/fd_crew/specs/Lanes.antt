@@ -1,0 +1,82 @@
+-- What a run does to its lanes: what it promises of them, and what each worker hands on.
+use Rattle.std.specs.Prelude.{◌≡◌, ℕ, ◌<◌, ◌≤◌, ◌⊎◌, List, [], ◌∷◌, Some}
+use Rattle.std.specs.List.{AllZip}
+use Rattle.fd_events.specs.Table.{Table}
+use Rattle.fd_owner.specs.History.{position, extend_to, first_frames}
+use Rattle.fd_owner.specs.Shown.{Shown}
+use Rattle.fd_crew.specs.declared.fence.View.{View}
+use Rattle.fd_crew.specs.declared.crew.Outcome.{Outcome}
+use Rattle.fd_crew.specs.declared.crew.Outcome.TheVariants.{Reached, Stopped}
+
+-- ---- one lane, before and after
+
+-- the lane has gone back to this position
+abbrev pub gone_back_to : ℕ → Shown → Shown
+gone_back_to to lane = record { place = lane.place; history = first_frames to lane.history; refusals = lane.refusals; refused_at = lane.refused_at }
+
+-- the lane has gone on through the next events to this position
+pub record GoneTo (table : Table) (to : ℕ) (old new : Shown) : Type 0 where
+  pub place : new.place ≡ old.place
+  pub history : new.history ≡ extend_to table old.place to old.history
+  pub after : position old.history ≤ to
+
+-- nothing was refused
+pub record IsQuiet (old new : Shown) : Type 0 where
+  pub refusals : new.refusals ≡ old.refusals
+  pub refused_at : new.refused_at ≡ old.refused_at
+
+-- the refusals rose, or stand at the greatest number
+abbrev pub Rose : Shown → Shown → Type 0
+Rose old new = (old.refusals < new.refusals) ⊎ (new.refusals ≡ 18446744073709551615)
+
+-- the lane refused at this position
+pub record RefusedAt (at : ℕ) (old new : Shown) : Type 0 where
+  pub there : new.refused_at ≡ Some at
+  pub rose : Rose old new
+  pub after : position old.history ≤ at
+
+-- if the refusals of the lane rose, it refused at no lower position
+abbrev pub RefusedNoLower : ℕ → Shown → Shown → Type 0
+RefusedNoLower at old new = old.refusals < new.refusals → (r : ℕ) → new.refused_at ≡ Some r → at ≤ r
+
+-- ---- a run
+
+-- R holds somewhere of the items of two lists
+abbrev pub AnyZip : {A B : Type 0} → (A → B → Type 0) → List A → List B → Type 0
+AnyZip R [] ys = ⊥
+AnyZip R (x ∷ xs) [] = ⊥
+AnyZip R (x ∷ xs) (y ∷ ys) = R x y ⊎ AnyZip R xs ys
+
+-- the position at which the lanes stand, where they stand at one
+abbrev pub opening_position : List Shown → ℕ
+opening_position [] = 0
+opening_position (lane ∷ lanes) = position lane.history
+
+-- how a run of the lanes to the target ends: all stand at the target and none refused, or all stand at the least position at which one refused
+abbrev pub EndsAs : {L : Type 0} → (L → Shown) → Table → ℕ → List L → List L → Outcome → Type 0
+EndsAs shown table target old new Reached = AllZip (λ x y. GoneTo table target (shown x) (shown y) × IsQuiet (shown x) (shown y)) old new
+EndsAs shown table target old new (Stopped at) =
+    (at < target) × AllZip (λ x y. GoneTo table at (shown x) (shown y) × RefusedNoLower at (shown x) (shown y)) old new × AnyZip (λ x y. RefusedAt at (shown x) (shown y)) old new
+
+-- ---- a worker
+
+-- a lane that can go on to the target
+pub record CanRun {L : Type 0} (shown : L → Shown) (fits : L → Table → Type 0) (table : Table) (target : ℕ) (lane : L) : Type 0 where
+  pub within : position (shown lane).history ≤ target
+  pub fits_table : fits lane table
+
+-- how a worker leaves a lane: it went on through the next events, at least to what the worker saw last, and refused nothing, or once, no lower than the worker lowered the fence
+pub record Drawn (table : Table) (target seen low : ℕ) (old new : Shown) : Type 0 where
+  pub place : new.place ≡ old.place
+  pub history : new.history ≡ extend_to table old.place (position new.history) old.history
+  pub after : position old.history ≤ position new.history
+  pub within : position new.history ≤ target
+  pub reached : seen ≤ position new.history
+  pub refusals : IsQuiet old new ⊎ ((at : ℕ) × RefusedAt at old new × (low ≤ at) × (at < target))
+
+-- what a worker hands on, or neighbouring workers together: each of their lanes, and that the fence was lowered by a refusal alone
+pub record Worked {L : Type 0} (shown : L → Shown) (fits : L → Table → Type 0) (table : Table) (target : ℕ) (before after : View) (old new : List L) : Type 0 where
+  pub lanes : AllZip (λ x y. Drawn table target after.seen after.low (shown x) (shown y) × fits y table) old new
+  pub low : (after.low ≡ before.low) ⊎ AnyZip (λ x y. RefusedAt after.low (shown x) (shown y)) old new
+  pub lower : (after.low ≤ before.low) × (after.seen ≤ before.seen)
+  pub share : after.share ≡ before.share

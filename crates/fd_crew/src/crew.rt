@@ -1,0 +1,226 @@
+//! The crew: workers in threads of their own, each with lanes of its own, and all of them under one fence.
+//!
+//! A run forward goes in three steps. The fence is raised at the target; nothing else is allocated here, and no lane has moved yet. The workers take
+//! their lanes forward, each as far as the fence lets it (`draw_lane`). When the last one has come back the fence is taken away, and each lane that
+//! ran on past it goes back (`run_back`).
+ghost use Rattle.std.specs.Prelude.{◌≡◌, ◌<◌, ◌≤◌, ◌^◌, ◌+◌, ◌⊎◌, length, map, All, MatchResult};
+ghost use Rattle.std.specs.List.{AllZip};
+ghost use Rattle.fd_events.specs.Table.{Table};
+ghost use Rattle.fd_owner.specs.History.{position};
+ghost use denote.Param.Send.{IsSync, IsSend};
+ghost use Rattle.fd_crew.specs.Fence.{CanWork};
+ghost use Rattle.fd_crew.specs.Seats.{crew_of, target_of};
+ghost use Rattle.fd_crew.specs.Parts.{IsPart, lanes_of, lower_lanes, upper_lanes};
+ghost use Rattle.fd_crew.specs.Lanes.{CanRun, Drawn, RefusedAt, Worked, EndsAs, opening_position, gone_back_to};
+
+use crate::fence::{Fence, Post};
+use crate::lane::{Gate, Lane};
+use crate::part::Part;
+use fd_events::EventTable;
+use std::alloc::{AllocError, Global};
+use std::thread::{Threads, join_mut};
+
+/// How a run forward ended.
+#[derive(Clone, Copy, PartialEq, Eq, Debug)]
+pub enum Outcome {
+    /// All lanes stand at the target, and none refused.
+    Reached,
+    /// All lanes stand at this position, the least one at which a lane refused.
+    Stopped { at: u32 },
+}
+
+/// Takes one lane forward until it stands at the fence or above it. Where it refuses a step, it lowers the fence to where it stands, and ends.
+/// No lock, and no wait for another worker: one load of the fence before each step, and at most one atomic minimum.
+fn draw_lane<L: Lane, G: Gate, S: Post>(
+    fence: &Fence,
+    gate: &G,
+    table: &EventTable,
+    number: usize,
+    seat: &mut S,
+    lane: &mut L,
+)
+    requires seat { S.stands fence.now seat.old }
+    requires can { CanWork (crew_of fence.now) (length table.now.events) (S.view seat.old) }
+    requires lane { CanRun L.shown L.fits table.now (target_of fence.now) lane.old }
+    ensures seat { S.stands fence.now seat.new }
+    ensures share { (S.view seat.new).share ≡ (S.view seat.old).share }
+    ensures lower { ((S.view seat.new).low ≤ (S.view seat.old).low) × ((S.view seat.new).seen ≤ (S.view seat.old).seen) }
+    ensures low { ((S.view seat.new).low ≡ (S.view seat.old).low) ⊎ RefusedAt (S.view seat.new).low (L.shown lane.old) (L.shown lane.new) }
+    ensures lane { Drawn table.now (target_of fence.now) (S.view seat.new).seen (S.view seat.new).low (L.shown lane.old) (L.shown lane.new) }
+    ensures fits { L.fits lane.new table.now }
+{
+    loop {
+        let limit = seat.look(fence);
+        let position = lane.position();
+        if u64::from(position) >= limit {
+            return;
+        }
+        gate.pass(number, position + 1);
+        if lane.forward(table).is_err() {
+            seat.lower(fence, u64::from(position));
+            return;
+        }
+    }
+}
+
+/// One worker: takes its lanes forward, one after the other.
+fn draw_lanes<L: Lane, G: Gate, S: Post>(
+    fence: &Fence,
+    gate: &G,
+    table: &EventTable,
+    first: usize,
+    seat: &mut S,
+    lanes: &mut [L],
+)
+    requires seat { S.stands fence.now seat.old }
+    requires can { CanWork (crew_of fence.now) (length table.now.events) (S.view seat.old) }
+    requires room { first + length lanes.old < 2 ^ 64 }
+    requires lanes { All (CanRun L.shown L.fits table.now (target_of fence.now)) lanes.old }
+    ensures seat { S.stands fence.now seat.new }
+    ensures worked { Worked L.shown L.fits table.now (target_of fence.now) (S.view seat.old) (S.view seat.new) lanes.old lanes.new }
+{
+    for (index, lane) in lanes.iter_mut().enumerate() {
+        draw_lane(fence, gate, table, first + index, seat, lane);
+    }
+}
+
+/// Two neighbouring parts of the crew side by side: the upper one in this thread, the lower one in a new thread, or in this one afterwards where none
+/// can be started. It is a function of its own, and its closures capture only references to its parameters, since only then is it known what they
+/// leave in the two halves of the lanes.
+#[cycle(range)]
+fn run_both<R: Threads + Sync, L: Lane, G: Gate, S: Post>(
+    rt: &R,
+    fence: &Fence,
+    gate: &G,
+    table: &EventTable,
+    lower: &Part,
+    upper: &Part,
+    seat: &mut S,
+    other: &mut S,
+    lanes: &mut [L],
+)
+    requires seats { S.stands fence.now seat.old × S.stands fence.now other.old }
+    requires can { CanWork (crew_of fence.now) (length table.now.events) (S.view seat.old) × CanWork (crew_of fence.now) (length table.now.events) (S.view other.old) }
+    requires workers { ((S.view seat.old).share ≡ lower.now.workers) × ((S.view other.old).share ≡ upper.now.workers) }
+    requires parts { IsPart lower.now × IsPart upper.now × (lower.now.first_lane + lanes_of lower.now ≡ upper.now.first_lane) }
+    requires owned { length lanes.old ≡ lanes_of lower.now + lanes_of upper.now }
+    requires lanes { All (CanRun L.shown L.fits table.now (target_of fence.now)) lanes.old }
+    ensures seats { S.stands fence.now seat.new × S.stands fence.now other.new }
+    ensures lower { Worked L.shown L.fits table.now (target_of fence.now) (S.view seat.old) (S.view seat.new) (lower_lanes lower.now upper.now lanes.old) (lower_lanes lower.now upper.now lanes.new) }
+    ensures upper { Worked L.shown L.fits table.now (target_of fence.now) (S.view other.old) (S.view other.new) (upper_lanes lower.now upper.now lanes.old) (upper_lanes lower.now upper.now lanes.new) }
+{
+    let (front, back) = lanes.split_at_mut(upper.first_lane - lower.first_lane);
+    join_mut(
+        rt,
+        &mut ||
+            requires threads { IsSync R.row × IsSend L.row × IsSync G.row × IsSend S.row }
+            requires seat { S.stands fence.now seat.now }
+            requires can { CanWork (crew_of fence.now) (length table.now.events) (S.view seat.now) }
+            requires workers { (S.view seat.now).share ≡ lower.now.workers }
+            requires part { IsPart lower.now }
+            requires owned { length front.now ≡ lanes_of lower.now }
+            requires lanes { All (CanRun L.shown L.fits table.now (target_of fence.now)) front.now }
+            ensures seat { S.stands fence.entry.now seat.exit.now }
+            ensures worked { Worked L.shown L.fits table.entry.now (target_of fence.entry.now) (S.view seat.entry.now) (S.view seat.exit.now) front.entry.now front.exit.now }
+        { run_range(rt, fence, gate, table, lower, seat, front) },
+        &mut ||
+            requires threads { IsSync R.row × IsSend L.row × IsSync G.row × IsSend S.row }
+            requires seat { S.stands fence.now other.now }
+            requires can { CanWork (crew_of fence.now) (length table.now.events) (S.view other.now) }
+            requires workers { (S.view other.now).share ≡ upper.now.workers }
+            requires part { IsPart upper.now }
+            requires owned { length back.now ≡ lanes_of upper.now }
+            requires lanes { All (CanRun L.shown L.fits table.now (target_of fence.now)) back.now }
+            ensures seat { S.stands fence.entry.now other.exit.now }
+            ensures worked { Worked L.shown L.fits table.entry.now (target_of fence.entry.now) (S.view other.entry.now) (S.view other.exit.now) back.entry.now back.exit.now }
+        { run_range(rt, fence, gate, table, upper, other, back) },
+    );
+}
+
+/// A part of the crew, with the lanes that its workers own. It is cut in two until one worker is left, or at most one lane: that this thread does itself.
+#[cycle(range)]
+fn run_range<R: Threads + Sync, L: Lane, G: Gate, S: Post>(
+    rt: &R,
+    fence: &Fence,
+    gate: &G,
+    table: &EventTable,
+    part: &Part,
+    seat: &mut S,
+    lanes: &mut [L],
+)
+    requires seat { S.stands fence.now seat.old }
+    requires can { CanWork (crew_of fence.now) (length table.now.events) (S.view seat.old) }
+    requires workers { (S.view seat.old).share ≡ part.now.workers }
+    requires part { IsPart part.now }
+    requires owned { length lanes.old ≡ lanes_of part.now }
+    requires lanes { All (CanRun L.shown L.fits table.now (target_of fence.now)) lanes.old }
+    ensures seat { S.stands fence.now seat.new }
+    ensures worked { Worked L.shown L.fits table.now (target_of fence.now) (S.view seat.old) (S.view seat.new) lanes.old lanes.new }
+{
+    if part.workers < 2 || lanes.len() < 2 {
+        draw_lanes(fence, gate, table, part.first_lane, seat, lanes);
+        return;
+    }
+    let (lower, upper) = part.halves();
+    let mut other = seat.split(fence);
+    run_both(
+        rt, fence, gate, table, &lower, &upper, seat, &mut other, lanes,
+    );
+    seat.join(fence, other);
+}
+
+/// Takes one lane back to a position.
+fn take_back<L: Lane>(lane: &mut L, to: u32)
+    requires { to ≤ position (L.shown lane.old).history }
+    ensures moved { L.shown lane.new ≡ gone_back_to to (L.shown lane.old) }
+    ensures fits { (table : Table) → L.fits lane.old table → L.fits lane.new table }
+{
+    while lane.position() > to {
+        lane.back();
+    }
+}
+
+/// Takes all lanes back to a position, in the calling thread.
+pub fn run_back<L: Lane>(lanes: &mut [L], to: u32)
+    requires { All (λ l. to ≤ position (L.shown l).history) lanes.old }
+    ensures moved { AllZip (λ x y. L.shown y ≡ gone_back_to to (L.shown x)) lanes.old lanes.new }
+    ensures fits { AllZip (λ x y. (table : Table) → L.fits x table → L.fits y table) lanes.old lanes.new }
+{
+    for lane in lanes.iter_mut() {
+        take_back(lane, to);
+    }
+}
+
+/// Takes all lanes, which stand at one position, forward to the target. Of `workers` workers, worker w owns the lanes from number
+/// `w * lanes.len() / workers` up to the next worker's first one. Where a lane refuses, all lanes end at the least position at which one refused.
+/// An `Err` says that there was no memory for the fence; then no lane has moved.
+///
+/// So it ends for every number of workers and every schedule. Which lanes refuse may differ from run to run, as memory may.
+/// The bound is `Threads` without `Wait`: nothing waits but the join of a thread, so the call returns if the lanes and the gate do.
+pub fn run_forward<R: Threads + Sync, L: Lane, G: Gate>(
+    rt: &R,
+    alloc: Global,
+    lanes: &mut [L],
+    table: &EventTable,
+    target: u32,
+    workers: u32,
+    gate: &G,
+) -> Result<Outcome, AllocError>
+    requires together { All (λ l. position (L.shown l).history ≡ opening_position (map L.shown lanes.old)) lanes.old }
+    requires target { (opening_position (map L.shown lanes.old) ≤ target) × (target ≤ length table.now.events) }
+    requires workers { (1 ≤ workers) × (workers ≤ 64) }
+    requires fits { All (λ l. L.fits l table.now) lanes.old }
+    ensures ended { MatchResult result (λ outcome. EndsAs L.shown table.now target lanes.old lanes.new outcome) (λ _. lanes.new ≡ lanes.old) }
+    ensures fits { All (λ l. L.fits l table.now) lanes.new }
+{
+    let (fence, mut seat) = Fence::raise(alloc, target, workers)?;
+    let part = Part::whole(lanes.len(), workers);
+    run_range(rt, &fence, gate, table, &part, &mut seat, lanes);
+    let at = fence.close(seat) as u32;
+    run_back(lanes, at);
+    Ok(if at == target {
+        Outcome::Reached
+    } else {
+        Outcome::Stopped { at }
+    })
+}

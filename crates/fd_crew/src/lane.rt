@@ -1,0 +1,58 @@
+//! Lanes, which go through the events of a table one by one and back, and the gate before each step.
+ghost use Rattle.std.specs.Prelude.{◌≡◌, ◌<◌, length, MatchResult};
+ghost use Rattle.fd_owner.specs.History.{position};
+ghost use Rattle.fd_owner.specs.Shown.{gone_forward, gone_back, refused};
+
+use fd_events::EventTable;
+use fd_owner::Refused;
+
+/// What a worker takes forward and back: a place with the list of its images, the opening one and one for each event that it went through.
+/// The position is the number of those events. A lane moves to the thread of the worker that owns it, and no other thread sees it until the worker has left.
+pub trait Lane: Send {
+    ghost use Rattle.fd_events.specs.Table.{Table};
+    ghost use Rattle.fd_owner.specs.Shown.{Shown};
+
+    /// All that a caller sees of the lane.
+    ghost shown: { Self → Shown };
+
+    /// What the lane asks of a table.
+    ghost fits: { Self → Table → Type 0 };
+
+    fn position(&self) -> u32
+        ensures { result ≡ position (shown self.now).history };
+
+    /// How often the lane has refused a step, which stays at `u64::MAX` once there.
+    fn refusals(&self) -> u64
+        ensures { result ≡ (shown self.now).refusals };
+
+    /// The position at which it refused last.
+    fn refused_at(&self) -> Option<u32>
+        ensures { result ≡ (shown self.now).refused_at };
+
+    /// Goes through the next event. A refusal changes nothing but `refusals` and `refused_at`.
+    fn forward(&mut self, table: &EventTable) -> Result<(), Refused>
+        requires below { position (shown self.old).history < length table.now.events }
+        requires fits { fits self.old table.now }
+        ensures moved { MatchResult result (λ _. shown self.new ≡ gone_forward table.now (shown self.old)) (λ _. shown self.new ≡ refused (shown self.old)) }
+        ensures fits { fits self.new table.now };
+
+    /// Goes back over the last event: the exact inverse of the step forward, which can't be refused.
+    fn back(&mut self)
+        requires { 0 < position (shown self.old).history }
+        ensures moved { shown self.new ≡ gone_back (shown self.old) }
+        ensures fits { (table : Table) → fits self.old table → fits self.new table };
+}
+
+/// What each worker passes right before it takes a lane through an event, after its look at the fence.
+/// A gate may hold a lane as long as it likes, as a test does that wants one lane ahead of another. No result depends on it.
+pub trait Gate: Sync {
+    fn pass(&self, lane: usize, event: u32);
+}
+
+/// A gate that holds nobody.
+#[derive(Clone, Copy)]
+pub struct Free;
+
+impl Gate for Free {
+    fn pass(&self, _lane: usize, _event: u32) {}
+}

@@ -1,0 +1,334 @@
+//! Runs of a crew over fake lanes, whose place has no pixel, and a table of markers; and one over the owners of two tiles.
+ghost use Rattle.std.specs.Prelude.{◌≡◌, ◌≤◌, length, IfOk};
+ghost use Rattle.fd_owner.specs.History.{position};
+
+use crate::{Free, Gate, Lane, Outcome, run_back, run_forward};
+use fd_blend::Colour;
+use fd_events::{Event, EventTable, Label};
+use fd_owner::{Owner, Refused};
+use fd_tile::{Place, Tile};
+use std::alloc::Global;
+use std::process::Abort;
+use std::sync::atomic::{AtomicU64, Ordering};
+use std::test::Fail;
+use std::thread;
+
+/// How often a gate looks at what it waits for before it gives up.
+const TURNS: u32 = 10_000_000;
+
+/// A table of so many markers.
+fn markers(alloc: Global, count: u32) -> Result<EventTable, Fail>
+    requires { count ≤ 9 }
+    ensures { IfOk result (λ table. length table.events ≡ count) }
+{
+    let mut events = Vec::new(alloc);
+    for _ in 0..count {
+        events.push(Event::Marker(Label::new(String::new(alloc))?))?;
+    }
+    Ok(EventTable::start(alloc, 1, 1, events)?)
+}
+
+/// A lane that refuses one event once.
+#[derive(Drop)]
+struct Fake<'a> {
+    position: u32,
+    refusals: u64,
+    refused_at: Option<u32>,
+    refuses: Option<u32>,
+    // the flag that its gate sets, and whether the lane went on before
+    flag: Option<&'a AtomicU64>,
+    went_early: bool,
+}
+
+impl<'a> Fake<'a> {
+    fn new(refuses: Option<u32>) -> Fake<'a>
+        ensures { result.position ≡ 0 }
+    {
+        Fake {
+            position: 0,
+            refusals: 0,
+            refused_at: None,
+            refuses,
+            flag: None,
+            went_early: false,
+        }
+    }
+
+    fn flagged(flag: &'a AtomicU64) -> Fake<'a>
+        ensures { result.position ≡ 0 }
+    {
+        Fake {
+            flag: Some(flag),
+            ..Fake::new(None)
+        }
+    }
+}
+
+impl<'a> Lane for Fake<'a> {
+    ghost use Rattle.fd_crew.specs.Fakes.{shown_fake};
+
+    ghost shown = { λ l. shown_fake l.position l.refusals l.refused_at };
+
+    ghost fits = { λ l table. Unit {0} };
+
+    fn position(&self) -> u32 {
+        self.position
+    }
+
+    fn refusals(&self) -> u64 {
+        self.refusals
+    }
+
+    fn refused_at(&self) -> Option<u32> {
+        self.refused_at
+    }
+
+    fn forward(&mut self, table: &EventTable) -> Result<(), Refused> {
+        let _count = table.len();
+        self.went_early |= self
+            .flag
+            .is_some_and(|flag| flag.load(Ordering::SeqCst) == 0);
+        if self.refuses == Some(self.position + 1) {
+            self.refuses = None;
+            self.refused_at = Some(self.position);
+            self.refusals = self.refusals.saturating_add(1);
+            return Err(Refused);
+        }
+        self.position += 1;
+        Ok(())
+    }
+
+    fn back(&mut self) {
+        self.position -= 1;
+    }
+}
+
+#[test]
+fn a_lane_refuses_once(rt: HostRuntime) -> Result<(), Fail> {
+    let table = markers(rt.alloc(), 9)?;
+    let mut lanes = [Fake::new(None), Fake::new(Some(3))];
+    let outcome = run_forward(&rt, rt.alloc(), &mut lanes, &table, 9, 2, &Free)?;
+    assert!(rt; outcome == Outcome::Stopped { at: 2 });
+    assert!(rt; lanes[0].position == 2 && lanes[1].position == 2);
+    assert!(rt; lanes[0].refusals == 0 && lanes[1].refusals == 1);
+    assert!(rt; lanes[1].refused_at == Some(2));
+    let outcome = run_forward(&rt, rt.alloc(), &mut lanes, &table, 9, 2, &Free)?;
+    assert!(rt; outcome == Outcome::Reached);
+    assert!(rt; lanes[0].position == 9 && lanes[1].position == 9);
+    run_back(&mut lanes, 4);
+    assert!(rt; lanes[0].position == 4 && lanes[1].position == 4);
+    Ok(())
+}
+
+#[test]
+fn two_lanes_refuse_and_the_lower_counts(rt: HostRuntime) -> Result<(), Fail> {
+    let table = markers(rt.alloc(), 9)?;
+    for workers in [1, 2, 3] {
+        let mut lanes = [Fake::new(Some(5)), Fake::new(None), Fake::new(Some(3))];
+        let outcome = run_forward(&rt, rt.alloc(), &mut lanes, &table, 9, workers, &Free)?;
+        assert!(rt; outcome == Outcome::Stopped { at: 2 }, "{workers} workers");
+        assert!(rt; lanes[0].position == 2 && lanes[1].position == 2 && lanes[2].position == 2);
+        assert!(rt; lanes[1].refusals == 0 && lanes[2].refusals == 1);
+    }
+    Ok(())
+}
+
+#[test]
+fn refusals_at_their_greatest_number(rt: HostRuntime) -> Result<(), Fail> {
+    let table = markers(rt.alloc(), 9)?;
+    let mut lanes = [Fake::new(Some(1))];
+    lanes[0].refusals = u64::MAX;
+    let outcome = run_forward(&rt, rt.alloc(), &mut lanes, &table, 9, 1, &Free)?;
+    assert!(rt; outcome == Outcome::Stopped { at: 0 });
+    assert!(rt; lanes[0].position == 0 && lanes[0].refusals == u64::MAX);
+    assert!(rt; lanes[0].refused_at == Some(0));
+    Ok(())
+}
+
+/// Counts the calls of `pass`.
+#[derive(Drop)]
+struct Counts {
+    calls: AtomicU64,
+}
+
+impl Gate for Counts {
+    fn pass(&self, _lane: usize, _event: u32) {
+        self.calls.fetch_add(1, Ordering::SeqCst);
+    }
+}
+
+#[test]
+fn any_number_of_workers_reaches_the_target(rt: HostRuntime) -> Result<(), Fail> {
+    let table = markers(rt.alloc(), 9)?;
+    for workers in [1, 2, 3, 64] {
+        assert!(rt; 1 <= workers && workers <= 64);
+        let mut lanes = [Fake::new(None), Fake::new(None), Fake::new(None)];
+        let outcome = run_forward(&rt, rt.alloc(), &mut lanes, &table, 9, workers, &Free)?;
+        assert!(rt; outcome == Outcome::Reached);
+        assert!(rt; lanes[0].position == 9 && lanes[1].position == 9 && lanes[2].position == 9);
+        assert!(rt; lanes[0].refusals == 0 && lanes[1].refusals == 0 && lanes[2].refusals == 0);
+        let gate = Counts {
+            calls: AtomicU64::new(0),
+        };
+        let outcome = run_forward(&rt, rt.alloc(), &mut lanes, &table, 9, workers, &gate)?;
+        assert!(rt; outcome == Outcome::Reached && gate.calls.load(Ordering::SeqCst) == 0);
+        let mut none: [Fake<'_>; 0] = [];
+        let outcome = run_forward(&rt, rt.alloc(), &mut none, &table, 9, workers, &gate)?;
+        assert!(rt; outcome == Outcome::Reached && gate.calls.load(Ordering::SeqCst) == 0);
+    }
+    Ok(())
+}
+
+/// Each lane sets its flag and waits for the flags of all lanes.
+#[derive(Drop)]
+struct Meets<'a> {
+    flags: &'a [AtomicU64],
+    gave_up: AtomicU64,
+}
+
+impl<'a> Gate for Meets<'a> {
+    fn pass(&self, lane: usize, _event: u32) {
+        if let Some(flag) = self.flags.get(lane) {
+            flag.store(1, Ordering::SeqCst);
+        }
+        for _ in 0..TURNS {
+            if self
+                .flags
+                .iter()
+                .all(|flag| flag.load(Ordering::SeqCst) == 1)
+            {
+                return;
+            }
+            thread::yield_now();
+        }
+        self.gave_up.fetch_add(1, Ordering::SeqCst);
+    }
+}
+
+#[test]
+fn every_worker_is_in_a_lane_at_once(rt: HostRuntime) -> Result<(), Fail> {
+    let table = markers(rt.alloc(), 1)?;
+    let flags = [AtomicU64::new(0), AtomicU64::new(0)];
+    let gate = Meets {
+        flags: &flags,
+        gave_up: AtomicU64::new(0),
+    };
+    let mut two = [Fake::flagged(&flags[0]), Fake::flagged(&flags[1])];
+    let outcome = run_forward(&rt, rt.alloc(), &mut two, &table, 1, 2, &gate)?;
+    assert!(rt; outcome == Outcome::Reached && gate.gave_up.load(Ordering::SeqCst) == 0);
+    assert!(rt;
+        two.iter()
+            .all(|lane| lane.position == 1 && !lane.went_early)
+    );
+    let flags = [
+        AtomicU64::new(0),
+        AtomicU64::new(0),
+        AtomicU64::new(0),
+        AtomicU64::new(0),
+    ];
+    let gate = Meets {
+        flags: &flags,
+        gave_up: AtomicU64::new(0),
+    };
+    let mut four = [
+        Fake::flagged(&flags[0]),
+        Fake::flagged(&flags[1]),
+        Fake::flagged(&flags[2]),
+        Fake::flagged(&flags[3]),
+    ];
+    let outcome = run_forward(&rt, rt.alloc(), &mut four, &table, 1, 4, &gate)?;
+    assert!(rt; outcome == Outcome::Reached && gate.gave_up.load(Ordering::SeqCst) == 0);
+    assert!(rt;
+        four.iter()
+            .all(|lane| lane.position == 1 && !lane.went_early)
+    );
+    Ok(())
+}
+
+/// Holds lane 0 before event 1 until lane 1 has come to event 9.
+#[derive(Drop)]
+struct Holds {
+    came: AtomicU64,
+    gave_up: AtomicU64,
+}
+
+impl Gate for Holds {
+    fn pass(&self, lane: usize, event: u32) {
+        if lane == 1 && event == 9 {
+            self.came.store(1, Ordering::SeqCst);
+        }
+        if lane == 0 && event == 1 {
+            for _ in 0..TURNS {
+                if self.came.load(Ordering::SeqCst) == 1 {
+                    return;
+                }
+                thread::yield_now();
+            }
+            self.gave_up.fetch_add(1, Ordering::SeqCst);
+        }
+    }
+}
+
+#[test]
+fn a_lane_runs_ahead_of_a_held_one(rt: HostRuntime) -> Result<(), Fail> {
+    let table = markers(rt.alloc(), 9)?;
+    let gate = Holds {
+        came: AtomicU64::new(0),
+        gave_up: AtomicU64::new(0),
+    };
+    let mut lanes = [Fake::new(None), Fake::new(None)];
+    let outcome = run_forward(&rt, rt.alloc(), &mut lanes, &table, 9, 2, &gate)?;
+    assert!(rt; outcome == Outcome::Reached && gate.gave_up.load(Ordering::SeqCst) == 0);
+    assert!(rt; lanes[0].position == 9 && lanes[1].position == 9);
+    Ok(())
+}
+
+/// The owner of a tile of one row.
+fn owner(alloc: Global, left: u32, width: u32) -> Result<Owner, Fail>
+    requires left { left ≤ 32 }
+    requires width { (1 ≤ width) × (width ≤ 32) }
+    ensures place { IfOk result (λ owner. owner.place ≡ record { left = left; top = 0; width = width; height = 1 }) }
+    ensures opening { IfOk result (λ owner. position owner.history ≡ 0) }
+{
+    let place = Place {
+        left,
+        top: 0,
+        width,
+        height: 1,
+    };
+    Ok(Owner::of(alloc, Tile::fresh(alloc, place)?))
+}
+
+/// One clear of a target of 33 by 1 pixels, which are two tiles.
+fn one_clear(alloc: Global, colour: Colour) -> Result<EventTable, Fail>
+    ensures { IfOk result (λ table. (table.width ≡ 33) × (table.height ≡ 1) × (length table.events ≡ 1)) }
+{
+    let mut events = Vec::new(alloc);
+    events.push(Event::Clear(colour))?;
+    Ok(EventTable::start(alloc, 33, 1, events)?)
+}
+
+fn colour_shown<R: Abort>(rt: &R, owner: &Owner, x: u32) -> Colour {
+    assert!(rt; owner.place().holds(x, 0));
+    owner.pixel(x, 0)
+}
+
+#[test]
+fn owners_of_two_tiles_go_on_and_back(rt: HostRuntime) -> Result<(), Fail> {
+    let colour = Colour {
+        r: 1,
+        g: 2,
+        b: 3,
+        a: 4,
+    };
+    let table = one_clear(rt.alloc(), colour)?;
+    let mut owners = [owner(rt.alloc(), 0, 32)?, owner(rt.alloc(), 32, 1)?];
+    let outcome = run_forward(&rt, rt.alloc(), &mut owners, &table, 1, 2, &Free)?;
+    assert!(rt; outcome == Outcome::Reached);
+    assert_eq!(rt; colour_shown(&rt, &owners[0], 31), colour);
+    assert_eq!(rt; colour_shown(&rt, &owners[1], 32), colour);
+    run_back(&mut owners, 0);
+    assert_eq!(rt; colour_shown(&rt, &owners[0], 31), Colour::default());
+    assert_eq!(rt; colour_shown(&rt, &owners[1], 32), Colour::default());
+    Ok(())
+}

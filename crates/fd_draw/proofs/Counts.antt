@@ -1,0 +1,258 @@
+-- How many pixels and spans of a place are written.
+use Rattle.std.proofs.Common.{◌≡◌, ℕ, zero, suc, ◌+◌, ◌-◌, ◌*◌, ◌<◌, ◌≤◌, ◌⊎◌, inl, inr, Bool, true, false, cond, eqb, ◌&&◌, refl, ap, ◌∙◌, arith, Option, max}
+use Rattle.std.specs.Prelude.{Some, None, min}
+use Rattle.std.proofs.lemmas.Bool.{cases_lt, eq-eqb, ne_eqb}
+use Rattle.std.proofs.lemmas.Bool.Decides.{nat_tests}
+use Rattle.fd_cover.specs.declared.bounds.Bounds.{Bounds}
+use Rattle.fd_cover.specs.Bounds.{is_within}
+use Rattle.fd_tile.specs.declared.place.Place.{Place}
+use Rattle.fd_tile.specs.Place.{Holds, HasRow}
+use Rattle.fd_draw.specs.Area.{IsInside, IsPart, IsWrittenIn, place_in}
+use Rattle.fd_draw.specs.Demand.{total, row_pixels, row_spans, pixels_in, spans_in}
+use Rattle.fd_draw.specs.Span.{IsRowSpan, in_span}
+use Rattle.fd_draw.specs.Writing.{in_row}
+use Rattle.fd_draw.proofs.Areas.{within_from, outside_row, outside_column}
+
+-- ---- sums
+
+pub total_same : (f g : ℕ → ℕ) (a n : ℕ) → ((k : ℕ) → a ≤ k → k < a + n → f k ≡ g k) → total f a n ≡ total g a n
+total_same f g a zero same = refl
+total_same f g a (suc n) same =
+    let here : f a ≡ g a = same a (omega arith) (omega arith) in
+    let rest : total f (a + 1) n ≡ total g (a + 1) n = total_same f g (a + 1) n (λ k low high. same k (omega arith) (omega arith)) in
+    omega (arith, here, rest)
+
+pub total_nothing : (f : ℕ → ℕ) (a n : ℕ) → ((k : ℕ) → a ≤ k → k < a + n → f k ≡ 0) → total f a n ≡ 0
+total_nothing f a zero none = refl
+total_nothing f a (suc n) none =
+    let here : f a ≡ 0 = none a (omega arith) (omega arith) in
+    let rest : total f (a + 1) n ≡ 0 = total_nothing f (a + 1) n (λ k low high. none k (omega arith) (omega arith)) in
+    omega (arith, here, rest)
+
+pub total_split : (f : ℕ → ℕ) (a n m : ℕ) → total f a (n + m) ≡ total f a n + total f (a + n) m
+total_split f a zero m =
+    let place : total f a m ≡ total f (a + 0) m = ap (λ b. total f b m) {x = a} {y = a + 0} (omega arith) in
+    let none : total f a 0 ≡ 0 = refl in
+    let whole : total f a (0 + m) ≡ total f a m = ap (λ k. total f a k) {x = 0 + m} {y = m} (omega arith) in
+    omega (arith, whole, place, none)
+total_split f a (suc n) m =
+    let rest : total f (a + 1) (n + m) ≡ total f (a + 1) n + total f (a + 1 + n) m = total_split f (a + 1) n m in
+    let place : total f (a + 1 + n) m ≡ total f (a + suc n) m = ap (λ b. total f b m) {x = a + 1 + n} {y = a + suc n} (omega arith) in
+    let step : total f a (suc n + m) ≡ f a + total f (a + 1) (n + m) = ap (λ k. total f a k) {x = suc n + m} {y = suc (n + m)} (omega arith) in
+    omega (arith, rest, place, step)
+
+-- a sum may leave out what adds nothing at both ends
+pub total_cut : (f : ℕ → ℕ) (a n b m : ℕ) → a ≤ b → b + m ≤ a + n
+    → ((k : ℕ) → a ≤ k → k < a + n → (k < b) ⊎ (b + m ≤ k) → f k ≡ 0) → total f a n ≡ total f b m
+total_cut f a n b m low high none =
+    let parts : total f a n ≡ total f a ((b - a) + (m + (a + n - (b + m)))) = ap (λ k. total f a k) {x = n} {y = (b - a) + (m + (a + n - (b + m)))} (omega arith) in
+    let first = total_split f a (b - a) (m + (a + n - (b + m))) in
+    let place : total f (a + (b - a)) (m + (a + n - (b + m))) ≡ total f b (m + (a + n - (b + m))) = ap (λ k. total f k (m + (a + n - (b + m)))) {x = a + (b - a)} {y = b} (omega arith) in
+    let second = total_split f b m (a + n - (b + m)) in
+    let before : total f a (b - a) ≡ 0 = total_nothing f a (b - a) (λ k from to. none k from (omega arith) (inl (omega arith))) in
+    let after : total f (b + m) (a + n - (b + m)) ≡ 0 = total_nothing f (b + m) (a + n - (b + m)) (λ k from to. none k (omega arith) (omega arith) (inr from)) in
+    omega (arith, parts, first, place, second, before, after)
+
+pub total_more : (f : ℕ → ℕ) (y bottom : ℕ) → y < bottom → total f y (bottom - y) ≡ f y + total f (y + 1) (bottom - (y + 1))
+total_more f y bottom below = ap (λ n. total f y n) {x = bottom - y} {y = suc (bottom - (y + 1))} (omega arith)
+
+pub total_none : (f : ℕ → ℕ) (y bottom : ℕ) → bottom ≤ y → total f y (bottom - y) ≡ 0
+total_none f y bottom past = ap (λ n. total f y n) {x = bottom - y} {y = 0} (omega arith)
+
+pub total_constant : (c a n : ℕ) → total (λ _. c) a n ≡ n * c
+total_constant c a zero =
+    let none : total (λ _. c) a 0 ≡ 0 = refl in
+    omega (arith, none)
+total_constant c a (suc n) =
+    let rest : total (λ _. c) (a + 1) n ≡ n * c = total_constant c (a + 1) n in
+    grind (arith, rest)
+
+-- ---- the pixels of a row
+
+pub in_span-inside : (l r x : ℕ) → l ≤ x → x < r → in_span (Some (l, r)) x ≡ true
+in_span-inside l r x low high = grind (arith, nat_tests)
+
+pub in_span-before : (l r x : ℕ) → x < l → in_span (Some (l, r)) x ≡ false
+in_span-before l r x low = grind (arith, nat_tests)
+
+pub in_span-after : (l r x : ℕ) → r ≤ x → in_span (Some (l, r)) x ≡ false
+in_span-after l r x high = grind (arith, nat_tests)
+
+total_span : (f : ℕ → Bool) (l r a n : ℕ) → ((x : ℕ) → a ≤ x → x < a + n → f x ≡ in_span (Some (l, r)) x)
+    → total (λ x. cond (f x) 1 0) a n ≡ min r (a + n) - max l a
+total_span f l r a zero same = omega arith
+total_span f l r a (suc n) same =
+    let rest : total (λ x. cond (f x) 1 0) (a + 1) n ≡ min r (a + 1 + n) - max l (a + 1) =
+    total_span f l r (a + 1) n (λ x low high. same x (omega arith) (omega arith)) in
+    let here : f a ≡ in_span (Some (l, r)) a = same a (omega arith) (omega arith) in
+    total_span_step f l r a n here rest (cases_lt a l) (cases_lt a r)
+  where
+    total_span_step : (f : ℕ → Bool) (l r a n : ℕ) → f a ≡ in_span (Some (l, r)) a
+        → total (λ x. cond (f x) 1 0) (a + 1) n ≡ min r (a + 1 + n) - max l (a + 1)
+        → (a < l) ⊎ (l ≤ a) → (a < r) ⊎ (r ≤ a)
+        → cond (f a) 1 0 + total (λ x. cond (f x) 1 0) (a + 1) n ≡ min r (a + suc n) - max l a
+    total_span_step f l r a n here rest (inl low) high = rw (here, in_span-before l r a low) (omega arith)
+    total_span_step f l r a n here rest (inr low) (inl high) = rw (here, in_span-inside l r a low high) (omega arith)
+    total_span_step f l r a n here rest (inr low) (inr high) = rw (here, in_span-after l r a high) (omega arith)
+
+no_pixel : (written : ℕ → ℕ → Bool) (y left width : ℕ) → ((x : ℕ) → left ≤ x → x < left + width → written x y ≡ false)
+    → total (λ x. cond (written x y) 1 0) left width ≡ 0
+no_pixel written y left width none = total_nothing (λ x. cond (written x y) 1 0) left width (λ x low high. ap (λ b. cond b 1 0) (none x low high))
+
+-- a row with a span, or without one
+pub row_pixels-span : (written : ℕ → ℕ → Bool) (p : Place) (y first last : ℕ) → IsRowSpan (λ x. written x y) p.left (p.left + p.width) (Some (first, last))
+    → row_pixels written p y ≡ last - first
+row_pixels-span written p y first last span =
+    total_span (λ x. written x y) first last p.left p.width span.same
+    ∙ omega (arith, span.bounds.0, span.bounds.1, span.bounds.2)
+
+pub row_pixels-none : (written : ℕ → ℕ → Bool) (p : Place) (y : ℕ) → IsRowSpan (λ x. written x y) p.left (p.left + p.width) None → row_pixels written p y ≡ 0
+row_pixels-none written p y span = no_pixel written y p.left p.width span.same
+
+pub row_pixels-le : (written : ℕ → ℕ → Bool) (p : Place) (y : ℕ) → row_pixels written p y ≤ p.width
+row_pixels-le written p y = total_le (λ x. written x y) p.left p.width
+  where
+    total_le : (f : ℕ → Bool) (a n : ℕ) → total (λ x. cond (f x) 1 0) a n ≤ n
+    total_le f a zero = omega arith
+    total_le f a (suc n) = step (f a) (total (λ x. cond (f x) 1 0) (a + 1) n) n (total_le f (a + 1) n)
+      where
+        step : (b : Bool) (m n : ℕ) → m ≤ n → cond b 1 0 + m ≤ suc n
+        step true m n h = omega arith
+        step false m n h = omega arith
+
+-- ---- a box in a place
+
+pub and_false : (a b : Bool) → a ≡ false → (a && b) ≡ false
+and_false a b is = rw is refl
+
+pub and_true : (a b : Bool) → a ≡ true → (a && b) ≡ b
+and_true a b is = rw is refl
+
+-- the span of a box's columns is one of the place that the box takes
+pub box_span : (covered : ℕ → ℕ → Bool) (box : Bounds) (y : ℕ) (span : Option (ℕ × ℕ)) → box.left ≤ box.right → IsRowSpan (λ x. covered x y) box.left box.right span
+    → IsRowSpan (λ x. covered x y) (place_in box).left ((place_in box).left + (place_in box).width) span
+box_span covered box y span order is =
+    let right : box.left + (box.right - box.left) ≡ box.right = omega arith in
+    rw right is
+
+-- a part of a box lies in the place that the box takes, and in each that the box lies in
+pub part_of_box : (part box : Bounds) → box.left ≤ box.right → box.top ≤ box.bottom → IsPart part box → IsInside part (place_in box)
+part_of_box part box columns rows is = record {
+  from_left = is.from_left;
+  columns = omega (arith, is.columns);
+  to_right = omega (arith, is.to_right);
+  from_top = is.from_top;
+  rows = omega (arith, is.rows);
+  to_bottom = omega (arith, is.to_bottom);
+}
+
+pub part_inside : (part box : Bounds) (p : Place) → IsInside box p → IsPart part box → IsInside part p
+part_inside part box p inside is = record {
+  from_left = omega (arith, inside.from_left, is.from_left);
+  columns = omega (arith, is.columns);
+  to_right = omega (arith, inside.to_right, is.to_right);
+  from_top = omega (arith, inside.from_top, is.from_top);
+  rows = omega (arith, is.rows);
+  to_bottom = omega (arith, inside.to_bottom, is.to_bottom);
+}
+
+-- no pixel is written in rows outside the box
+module _ (written covered : ℕ → ℕ → Bool) (p : Place) (box : Bounds) (inside : IsInside box p) (is : IsWrittenIn written covered p box) where
+  pub row_pixels-outside : (y : ℕ) → p.top ≤ y → y < p.top + p.height → (y < box.top) ⊎ (box.bottom ≤ y) → row_pixels written p y ≡ 0
+  row_pixels-outside y from to out =
+      no_pixel written y p.left p.width
+      (λ x low high. is x y (record { from_left = low; to_right = high; from_top = from; to_bottom = to }) ∙ and_false (is_within box x y) (covered x y) (outside_row box x y out))
+
+  pub row_spans-outside : (y : ℕ) → p.top ≤ y → y < p.top + p.height → (y < box.top) ⊎ (box.bottom ≤ y) → row_spans written p y ≡ 0
+  row_spans-outside y from to out = omega (arith, row_pixels-outside y from to out)
+
+  -- in the others, those that are covered in it
+  row_pixels-inside : (y : ℕ) → box.top ≤ y → y < box.bottom → row_pixels written p y ≡ row_pixels covered (place_in box) y
+  row_pixels-inside y from to =
+      let held : (x : ℕ) → p.left ≤ x → x < p.left + p.width → Holds p x y =
+      λ x low high. record { from_left = low; to_right = high; from_top = omega (arith, inside.from_top); to_bottom = omega (arith, inside.to_bottom) } in
+      total_cut (λ x. cond (written x y) 1 0) p.left p.width box.left (box.right - box.left) inside.from_left (omega (arith, inside.columns, inside.to_right))
+      (λ x low high out.
+      ap (λ b. cond b 1 0) (is x y (held x low high) ∙ and_false (is_within box x y) (covered x y) (outside_column box x y (beside x out))))
+      ∙ total_same (λ x. cond (written x y) 1 0) (λ x. cond (covered x y) 1 0) box.left (box.right - box.left)
+      (λ x low high.
+      ap (λ b. cond b 1 0)
+      (is x y (held x (omega (arith, inside.from_left)) (omega (arith, inside.to_right))) ∙ and_true (is_within box x y) (covered x y) (within_from box x y low (omega (arith, inside.columns)) from to)))
+    where
+      beside : (x : ℕ) → (x < box.left) ⊎ (box.left + (box.right - box.left) ≤ x) → (x < box.left) ⊎ (box.right ≤ x)
+      beside x (inl low) = inl low
+      beside x (inr high) = inr (omega (arith, inside.columns))
+
+  under : (y : ℕ) → (y < box.top) ⊎ (box.top + (box.bottom - box.top) ≤ y) → (y < box.top) ⊎ (box.bottom ≤ y)
+  under y (inl low) = inl low
+  under y (inr high) = inr (omega (arith, inside.rows))
+
+  -- the rows of the box are enough
+  pub pixels_in-rows : pixels_in written p ≡ total (row_pixels written p) box.top (box.bottom - box.top)
+  pixels_in-rows =
+      total_cut (row_pixels written p) p.top p.height box.top (box.bottom - box.top) inside.from_top (omega (arith, inside.rows, inside.to_bottom))
+      (λ y from to out. row_pixels-outside y from to (under y out))
+
+  pub spans_in-rows : spans_in written p ≡ total (row_spans written p) box.top (box.bottom - box.top)
+  spans_in-rows =
+      total_cut (row_spans written p) p.top p.height box.top (box.bottom - box.top) inside.from_top (omega (arith, inside.rows, inside.to_bottom))
+      (λ y from to out. row_spans-outside y from to (under y out))
+
+  -- and what is covered in it
+  pub pixels_in-box : pixels_in written p ≡ pixels_in covered (place_in box)
+  pixels_in-box =
+      pixels_in-rows
+      ∙ total_same (row_pixels written p) (row_pixels covered (place_in box)) box.top (box.bottom - box.top) (λ y from to. row_pixels-inside y from (omega (arith, inside.rows)))
+
+  pub spans_in-box : spans_in written p ≡ spans_in covered (place_in box)
+  spans_in-box =
+      spans_in-rows
+      ∙ total_same (row_spans written p) (row_spans covered (place_in box)) box.top (box.bottom - box.top) (λ y from to. ap (λ n. min 1 n) (row_pixels-inside y from (omega (arith, inside.rows))))
+
+-- nothing is written
+module _ (written : ℕ → ℕ → Bool) (p : Place) (none : (x y : ℕ) → Holds p x y → written x y ≡ false) where
+  no_row : (y : ℕ) → p.top ≤ y → y < p.top + p.height → row_pixels written p y ≡ 0
+  no_row y from to = no_pixel written y p.left p.width (λ x low high. none x y (record { from_left = low; to_right = high; from_top = from; to_bottom = to }))
+
+  pub pixels_in-nothing : pixels_in written p ≡ 0
+  pixels_in-nothing = total_nothing (row_pixels written p) p.top p.height no_row
+
+  pub spans_in-nothing : spans_in written p ≡ 0
+  spans_in-nothing = total_nothing (row_spans written p) p.top p.height (λ y from to. omega (arith, no_row y from to))
+
+-- one row is written
+module _ (written : ℕ → ℕ → Bool) (p : Place) (y : ℕ) (crossed : HasRow p y) where
+  other_row : (k : ℕ) → (k < y) ⊎ (y + 1 ≤ k) → row_pixels (in_row written y) p k ≡ 0
+  other_row k out = no_pixel (in_row written y) k p.left p.width (λ x low high. and_false (eqb k y) (written x k) (ne_eqb k y (apart out)))
+    where
+      apart : (k < y) ⊎ (y + 1 ≤ k) → k ≡ y → ⊥
+      apart (inl low) same = absurd (omega arith)
+      apart (inr high) same = absurd (omega arith)
+
+  this_row : row_pixels (in_row written y) p y ≡ row_pixels written p y
+  this_row = total_same (λ x. cond (in_row written y x y) 1 0) (λ x. cond (written x y) 1 0) p.left p.width (λ x low high. ap (λ b. cond b 1 0) (and_true (eqb y y) (written x y) (eq-eqb y y refl)))
+
+  one_row : (f : ℕ → ℕ) → ((k : ℕ) → (k < y) ⊎ (y + 1 ≤ k) → f k ≡ 0) → total f p.top p.height ≡ f y
+  one_row f none =
+      let alone : total f y 1 ≡ f y + 0 = refl in
+      total_cut f p.top p.height y 1 crossed.from_top (omega (arith, crossed.to_bottom)) (λ k from to out. none k out) ∙ omega (arith, alone)
+
+  pub pixels_in-row : pixels_in (in_row written y) p ≡ row_pixels written p y
+  pixels_in-row = one_row (row_pixels (in_row written y) p) other_row ∙ this_row
+
+  pub spans_in-row : spans_in (in_row written y) p ≡ row_spans written p y
+  spans_in-row = one_row (row_spans (in_row written y) p) (λ k out. omega (arith, other_row k out)) ∙ ap (λ n. min 1 n) this_row
+
+-- everything is written
+pub row_pixels-all : (p : Place) (y : ℕ) → row_pixels (λ _ _. true) p y ≡ p.width
+row_pixels-all p y = total_constant 1 p.left p.width ∙ omega arith
+
+pub pixels_in-all : (p : Place) → pixels_in (λ _ _. true) p ≡ p.width * p.height
+pixels_in-all p =
+    total_same (row_pixels (λ _ _. true) p) (λ _. p.width) p.top p.height (λ y from to. row_pixels-all p y)
+    ∙ total_constant p.width p.top p.height ∙ grind arith
+
+pub spans_in-all : (p : Place) → 1 ≤ p.width → spans_in (λ _ _. true) p ≡ p.height
+spans_in-all p some =
+    total_same (row_spans (λ _ _. true) p) (λ _. 1) p.top p.height (λ y from to. omega (arith, some, row_pixels-all p y))
+    ∙ total_constant 1 p.top p.height ∙ omega arith

@@ -1,0 +1,83 @@
+-- Rows that are changed pixel by pixel.
+use Rattle.std.proofs.Common.{◌≡◌, ℕ, ◌+◌, ◌-◌, ◌<◌, ◌≤◌, List, [], ◌∷◌, ◌++◌, length, take, drop, get_or, map, refl, sym, ap, ◌∙◌, arith, length-append, length-drop}
+use Rattle.std.specs.List.{enumerate_from, range_with_len}
+use Rattle.std.specs.Prelude.{replicate}
+use Rattle.std.proofs.lemmas.List.{length-map, get_or-map, ext_get_or, length-take, get_or-take, get_or-drop, get_or_append_left, get_or-append_right}
+use borrow.Rule.Slice.PartMut.{put_mid, post_of}
+use Rattle.std.proofs.lemmas.List.FromFn.{length-enumerate_from, get_or-enumerate_from, get_or-map-range_with_len, length-map-range_with_len}
+use Rattle.fd_blend.specs.declared.channel.Colour.{Colour}
+use Rattle.fd_blend.specs.Blending.{Blending}
+use Rattle.fd_blend.specs.Blend.{blend}
+use Rattle.fd_blend.specs.Channel.{fresh}
+use Rattle.fd_blend.specs.Row.{blended_row}
+use Rattle.fd_draw.specs.Row.{changed_row}
+
+pub length-changed_row : (change : ℕ → Colour → Colour) (x : ℕ) (row : List Colour) → length (changed_row change x row) ≡ length row
+length-changed_row change x row = length-map (enumerate_from x row) (λ p. change p.0 p.1) ∙ length-enumerate_from x row
+
+-- the colour at a place in a changed row
+pub get_or-changed_row : (change : ℕ → Colour → Colour) (x : ℕ) (row : List Colour) (i : ℕ) (d : Colour) → i < length row → get_or (changed_row change x row) i d ≡ change (x + i) (get_or row i d)
+get_or-changed_row change x row i d within =
+    let inside : i < length (enumerate_from x row) = omega (arith, length-enumerate_from x row, within) in
+    get_or-map (λ p. change p.0 p.1) (enumerate_from x row) i (0, d) d inside
+    ∙ ap (λ (p : ℕ × Colour). change p.0 p.1) (get_or-enumerate_from x row i (0, d) within)
+
+-- sources that are given by their columns, blended over a row
+pub blended_columns : (state : Blending) (factor : Colour) (source : ℕ → Colour) (x : ℕ) (row : List Colour)
+    → blended_row state factor (map source (range_with_len x (length row))) row ≡ changed_row (λ column before. blend state factor (source column) before) x row
+blended_columns state factor source x [] = refl
+blended_columns state factor source x (c ∷ row) = ap (λ cs. blend state factor (source x) c ∷ cs) (blended_columns state factor source (x + 1) row)
+
+-- the colours that a function of the column gives
+pub columns_from : (source : ℕ → Colour) (x n : ℕ) (sources : List Colour) → length sources ≡ n → ((i : ℕ) (d : Colour) → i < n → get_or sources i d ≡ source (x + i)) → sources ≡ map source (range_with_len x n)
+columns_from source x n sources size each =
+    let d : Colour = fresh in
+    ext_get_or d sources (map source (range_with_len x n)) (size ∙ sym (length-map-range_with_len source x n))
+    (λ i within. let inside : i < n = omega (arith, size, within) in
+    each i d inside ∙ sym (get_or-map-range_with_len source x n i (x + i) d inside refl))
+
+-- ---- a part of a list that is written
+
+module _ (a k : ℕ) (xs ys : List Colour) (inside : a + k ≤ length xs) (size : length ys ≡ k) where
+  head_size : length (take a xs) ≡ a
+  head_size = length-take a xs ∙ omega arith
+
+  pub length-put_mid : length (put_mid a k xs ys) ≡ length xs
+  length-put_mid =
+      length-append (take a xs) (ys ++ post_of a k xs)
+      ∙ omega (arith, head_size, length-append ys (post_of a k xs), length-drop k (drop a xs), length-drop a xs)
+
+  pub before_part : (i : ℕ) (d : Colour) → i < a → get_or (put_mid a k xs ys) i d ≡ get_or xs i d
+  before_part i d low = get_or_append_left (take a xs) (ys ++ post_of a k xs) d i (omega (arith, head_size)) ∙ get_or-take a xs i d low
+
+  pub in_part : (i : ℕ) (d : Colour) → i < k → get_or (put_mid a k xs ys) (a + i) d ≡ get_or ys i d
+  in_part i d low =
+      let past : a + i - a ≡ i = omega arith in
+      get_or-append_right (take a xs) (ys ++ post_of a k xs) a (a + i) d head_size (omega arith)
+      ∙ rw past (get_or_append_left ys (post_of a k xs) d i (omega arith))
+
+  pub past_part : (i : ℕ) (d : Colour) → a + k ≤ i → get_or (put_mid a k xs ys) i d ≡ get_or xs i d
+  past_part i d high =
+      let place : a + (k + (i - a - k)) ≡ i = omega arith in
+      get_or-append_right (take a xs) (ys ++ post_of a k xs) a i d head_size (omega arith)
+      ∙ get_or-append_right ys (post_of a k xs) k (i - a) d size (omega arith)
+      ∙ get_or-drop k (drop a xs) (i - a - k) d
+      ∙ get_or-drop a xs (k + (i - a - k)) d
+      ∙ ap (λ j. get_or xs j d) place
+
+-- a colour in a changed part of a row
+pub part_changed : (change : ℕ → Colour → Colour) (x a k i : ℕ) (row : List Colour) (d : Colour) → a + k ≤ length row → i < k
+    → get_or (changed_row change (x + a) (take k (drop a row))) i d ≡ change (x + (a + i)) (get_or row (a + i) d)
+part_changed change x a k i row d inside low =
+    let size : length (take k (drop a row)) ≡ k = length-take k (drop a row) ∙ omega (arith, length-drop a row) in
+    let column : x + a + i ≡ x + (a + i) = omega arith in
+    get_or-changed_row change (x + a) (take k (drop a row)) i d (omega (arith, size))
+    ∙ rw column (ap (change (x + (a + i))) (get_or-take k (drop a row) i d low ∙ get_or-drop a row i d))
+
+pub length-part : (change : ℕ → Colour → Colour) (x a k : ℕ) (row : List Colour) → a + k ≤ length row → length (changed_row change x (take k (drop a row))) ≡ k
+length-part change x a k row inside = length-changed_row change x (take k (drop a row)) ∙ length-take k (drop a row) ∙ omega (arith, length-drop a row)
+
+-- every pixel gets one colour
+pub changed_row-filled : (colour : Colour) (x : ℕ) (row : List Colour) → changed_row (λ _ _. colour) x row ≡ replicate (length row) colour
+changed_row-filled colour x [] = refl
+changed_row-filled colour x (c ∷ row) = ap (λ cs. colour ∷ cs) (changed_row-filled colour (x + 1) row)

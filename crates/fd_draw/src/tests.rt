@@ -1,0 +1,166 @@
+use crate::{Demand, demand, draw};
+use fd_blend::Colour;
+use fd_cover::{Cull, Interp, Raster, Rect};
+use fd_events::{Draw, Event, Pipeline, Vertex};
+use fd_snap::Pos;
+use fd_tile::{Place, Tile};
+use fd_undo::UndoStack;
+use std::alloc::Global;
+use std::test::Fail;
+
+fn grey(level: u8) -> Colour {
+    Colour {
+        r: level,
+        g: level,
+        b: level,
+        a: level,
+    }
+}
+
+/// A draw of triangles, each by its vertices in whole pixels and its colour.
+fn triangles(alloc: Global, triangles: &[([(i32, i32); 3], Colour)]) -> Result<Event, Fail> {
+    let mut vertices = Vec::new(alloc);
+    for (corners, colour) in triangles {
+        for (x, y) in *corners {
+            let x = x.checked_mul(65536).ok_or("in range")?;
+            let y = y.checked_mul(65536).ok_or("in range")?;
+            let pos = Pos::new(x, y).ok_or("in range")?;
+            vertices.push(Vertex {
+                pos,
+                colour: *colour,
+            })?;
+        }
+    }
+    Ok(Event::Draw(Draw::new(vertices, None, Interp::Flat)?))
+}
+
+/// Draws an event on a tile, with room for just what it writes, and says how much that is.
+fn draw_with_room(
+    event: &Event,
+    state: &Pipeline,
+    tile: &mut Tile,
+    undo: &mut UndoStack,
+) -> Result<Demand, Fail> {
+    let demand = demand(event, state, tile.place());
+    undo.reserve(demand.spans, demand.pixels)?;
+    undo.begin();
+    draw(event, state, tile, undo);
+    Ok(demand)
+}
+
+fn colour_at(tile: &Tile, x: u32, y: u32) -> Option<Colour> {
+    if tile.place().holds(x, y) {
+        Some(tile.get(x, y))
+    } else {
+        None
+    }
+}
+
+const CLOCKWISE: [(i32, i32); 3] = [(0, 0), (2, 0), (0, 2)];
+
+const COUNTER_CLOCKWISE: [(i32, i32); 3] = [(0, 0), (0, 2), (2, 0)];
+
+const CORNER: Place = Place {
+    left: 0,
+    top: 0,
+    width: 2,
+    height: 2,
+};
+
+/// On a tile that the target's borders cut, and with a scissor that leaves no pixel.
+#[test]
+fn a_clear_keeps_every_pixel(rt: HostRuntime) -> Result<(), Fail> {
+    let place = Place {
+        left: 32,
+        top: 64,
+        width: 3,
+        height: 2,
+    };
+    let mut tile = Tile::fresh(rt.alloc(), place)?;
+    let mut undo = UndoStack::new(rt.alloc());
+    let state = Pipeline {
+        raster: Raster {
+            cull: Cull::None,
+            front_ccw: false,
+            scissor: true,
+        },
+        ..Pipeline::default()
+    };
+    let demand = draw_with_room(&Event::Clear(grey(7)), &state, &mut tile, &mut undo)?;
+    assert_eq!(rt; (demand.spans, demand.pixels), (2, 6));
+    assert_eq!(rt; undo.recorded(), 6);
+    for y in 64..66 {
+        for x in 32..35 {
+            assert_eq!(rt; colour_at(&tile, x, y), Some(grey(7)));
+            assert_eq!(rt; undo.kept(0, x, y, 0), Some(grey(0)));
+            assert_eq!(rt; undo.kept(0, x, y, 1), None);
+        }
+    }
+    draw_with_room(&Event::Clear(grey(8)), &state, &mut tile, &mut undo)?;
+    assert_eq!(rt; colour_at(&tile, 34, 65), Some(grey(8)));
+    assert_eq!(rt; undo.kept(1, 34, 65, 0), Some(grey(7)));
+    Ok(())
+}
+
+#[test]
+fn triangles_are_drawn_in_their_order(rt: HostRuntime) -> Result<(), Fail> {
+    let mut tile = Tile::fresh(rt.alloc(), CORNER)?;
+    let mut undo = UndoStack::new(rt.alloc());
+    let large = [(0, 0), (4, 0), (0, 4)];
+    let event = triangles(rt.alloc(), &[(large, grey(3)), (CLOCKWISE, grey(4))])?;
+    let demand = draw_with_room(&event, &Pipeline::default(), &mut tile, &mut undo)?;
+    assert_eq!(rt; (demand.spans, demand.pixels), (3, 5));
+    assert_eq!(rt; undo.recorded(), 5);
+    assert_eq!(rt; colour_at(&tile, 0, 0), Some(grey(4)));
+    assert_eq!(rt; undo.kept(0, 0, 0, 0), Some(grey(0)));
+    assert_eq!(rt; undo.kept(0, 0, 0, 1), Some(grey(3)));
+    assert_eq!(rt; undo.kept(0, 0, 0, 2), None);
+    assert_eq!(rt; colour_at(&tile, 1, 1), Some(grey(3)));
+    assert_eq!(rt; undo.kept(0, 1, 1, 0), Some(grey(0)));
+    assert_eq!(rt; undo.kept(0, 1, 1, 1), None);
+    Ok(())
+}
+
+#[test]
+fn a_triangle_beside_the_tile_asks_for_nothing(rt: HostRuntime) -> Result<(), Fail> {
+    let place = Place {
+        left: 32,
+        top: 0,
+        width: 32,
+        height: 32,
+    };
+    let event = triangles(rt.alloc(), &[([(0, 0), (32, 0), (0, 32)], grey(3))])?;
+    let demand = demand(&event, &Pipeline::default(), place);
+    assert_eq!(rt; (demand.spans, demand.pixels), (0, 0));
+    Ok(())
+}
+
+#[test]
+fn culled_and_scissored_pixels_are_left_alone(rt: HostRuntime) -> Result<(), Fail> {
+    let mut tile = Tile::fresh(rt.alloc(), CORNER)?;
+    let mut undo = UndoStack::new(rt.alloc());
+    let culled = triangles(rt.alloc(), &[(COUNTER_CLOCKWISE, grey(3))])?;
+    let demand = draw_with_room(&culled, &Pipeline::default(), &mut tile, &mut undo)?;
+    assert_eq!(rt; (demand.spans, demand.pixels), (0, 0));
+    assert_eq!(rt; colour_at(&tile, 0, 0), Some(grey(0)));
+    let state = Pipeline {
+        raster: Raster {
+            cull: Cull::None,
+            front_ccw: false,
+            scissor: true,
+        },
+        scissor: Rect {
+            left: -5,
+            top: 0,
+            right: 9,
+            bottom: 1,
+        },
+        ..Pipeline::default()
+    };
+    let large = triangles(rt.alloc(), &[([(0, 0), (0, 4), (4, 0)], grey(5))])?;
+    let demand = draw_with_room(&large, &state, &mut tile, &mut undo)?;
+    assert_eq!(rt; (demand.spans, demand.pixels), (1, 2));
+    assert_eq!(rt; colour_at(&tile, 1, 0), Some(grey(5)));
+    assert_eq!(rt; colour_at(&tile, 0, 1), Some(grey(0)));
+    Ok(())
+}

@@ -1,0 +1,4 @@
+pub mod Histories
+pub mod Pictures
+pub mod Forward
+pub mod Records

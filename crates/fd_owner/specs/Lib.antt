@@ -1,0 +1,4 @@
+pub mod History
+pub mod Shown
+pub mod Owner
+pub mod Step

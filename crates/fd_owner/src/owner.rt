@@ -1,0 +1,183 @@
+ghost use Rattle.std.specs.Prelude.{◌≡◌, ◌+◌, ◌-◌, ◌<◌, ◌≤◌, [], length, false, None, slice_get, OnOk, OnErr};
+ghost use Rattle.fd_tile.specs.Place.{Holds, HasRow, IsTilePlace};
+ghost use Rattle.fd_tile.specs.Tile.{IsTileImage, row_of, colour_of};
+ghost use Rattle.fd_draw.specs.Paints.{Paints};
+ghost use Rattle.fd_owner.specs.History.{position, last_image, tile_image, colours_kept, colours_recorded, colour_past, kept_past};
+ghost use Rattle.fd_owner.specs.Shown.{gone_forward, gone_back, refused, IsInside};
+ghost use Rattle.fd_owner.specs.Step.{spans_past, pixels_past};
+
+use fd_blend::Colour;
+use fd_draw::Demand;
+use fd_events::EventTable;
+use fd_tile::{Place, Tile};
+use fd_undo::UndoStack;
+use std::alloc::Global;
+use std::marker::Model;
+use thiserror::Error;
+
+/// There was no memory for what the next event overwrites.
+#[derive(Debug, Drop, Error)]
+#[error("no memory for a step")]
+pub struct Refused;
+
+/// A tile and what each event overwrote on it; how often a step was refused, and at which position last.
+#[derive(Drop)]
+pub struct Owner {
+    tile: Tile,
+    undo: UndoStack,
+    refusals: u64,
+    refused_at: Option<u32>,
+}
+
+impl Model for Owner {
+    ghost use Rattle.fd_owner.specs.Owner.{history_of, IsOwner};
+    ghost use Rattle.fd_owner.specs.Shown.{Shown};
+
+    ghost Value = { Shown };
+
+    ghost view = { λ o. record { place = o.tile.place; history = history_of o.tile o.undo; refusals = o.refusals; refused_at = o.refused_at } };
+
+    ghost invariant = { λ o. IsOwner o.tile o.undo };
+}
+
+impl Owner {
+    /// An owner at position 0. Its history opens with the tile as it is.
+    pub fn of(alloc: Global, tile: Tile) -> Owner
+        ensures { result ≡ record { place = tile.place; history = record { opening = tile.rows; frames = [] }; refusals = 0; refused_at = None } }
+    {
+        Owner {
+            tile,
+            undo: UndoStack::new(alloc),
+            refusals: 0,
+            refused_at: None,
+        }
+    }
+
+    /// How many events the tile has gone through.
+    pub fn position(&self) -> u32
+        ensures { result ≡ position self.now.history }
+    {
+        self.undo.frames() as u32
+    }
+
+    /// How often a step was refused. The count stays at its greatest number.
+    pub fn refusals(&self) -> u64
+        ensures { result ≡ self.now.refusals }
+    {
+        self.refusals
+    }
+
+    /// The position at which a step was refused last.
+    pub fn refused_at(&self) -> Option<u32>
+        ensures { result ≡ self.now.refused_at }
+    {
+        self.refused_at
+    }
+
+    /// Where the tile lies. The image that is shown has a colour for each of its pixels.
+    pub fn place(&self) -> Place
+        ensures value { result ≡ self.now.place }
+        ensures filled { IsTileImage (tile_image self.now.place (last_image self.now.history)) }
+    {
+        self.tile.place()
+    }
+
+    /// The colour of pixel (x, y) of the image that is shown.
+    pub fn pixel(&self, x: u32, y: u32) -> Colour
+        requires { Holds self.now.place x y }
+        ensures { result ≡ colour_of (tile_image self.now.place (last_image self.now.history)) x y }
+    {
+        self.tile.get(x, y)
+    }
+
+    /// The colours of row y of the image that is shown, from the left.
+    pub fn row(&self, y: u32) -> &[Colour]
+        requires { HasRow self.now.place y }
+        ensures { result.now ≡ row_of (tile_image self.now.place (last_image self.now.history)) y }
+    {
+        self.tile.row(y)
+    }
+
+    /// How many colours all events overwrote.
+    pub fn recorded(&self) -> u64
+        ensures { result ≡ colours_recorded self.now.history }
+    {
+        self.undo.recorded()
+    }
+
+    /// The colour that pixel (x, y) had just before the event of this number (from 1) wrote it for the n-th time (from 0).
+    pub fn kept(&self, event: u32, x: u32, y: u32, n: usize) -> Option<Colour>
+        requires first { 1 ≤ event }
+        requires last { event ≤ position self.now.history }
+        ensures { result ≡ slice_get (colours_kept self.now.place self.now.history event x y) n }
+    {
+        self.undo.kept(event as usize - 1, x, y, n)
+    }
+
+    /// Goes through the next event. A refusal changes nothing but what is told of refusals.
+    pub fn forward(&mut self, table: &EventTable) -> Result<(), Refused>
+        requires below { position self.old.history < length table.now.events }
+        requires inside { IsInside self.old.place table.now }
+        ensures ok { OnOk result (self.new ≡ gone_forward table.now self.old) }
+        ensures refused { OnErr result (self.new ≡ refused self.old) }
+    {
+        let position = self.undo.frames() as u32;
+        let len = table.len();
+        prove!(position < len);
+        let room = demand_past(table, position, self.tile.place());
+        if self.undo.reserve(room.spans, room.pixels).is_err() {
+            self.refusals = self.refusals.saturating_add(1);
+            self.refused_at = Some(position);
+            return Err(Refused);
+        }
+        self.undo.begin();
+        draw_past(table, position, &mut self.tile, &mut self.undo);
+        Ok(())
+    }
+
+    /// Goes back over the last event: its frame is put back, and no event is read.
+    pub fn back(&mut self)
+        requires { 0 < position self.old.history }
+        ensures { self.new ≡ gone_back self.old }
+    {
+        self.undo.undo_top(&mut self.tile);
+    }
+}
+
+/// What the event after a position writes on a place, which is nothing where it is switched off.
+fn demand_past(table: &EventTable, position: u32, place: Place) -> Demand
+    requires below { position < length table.now.events }
+    requires placed { IsTilePlace place }
+    ensures spans { result.spans ≡ spans_past table.now position place }
+    ensures pixels { result.pixels ≡ pixels_past table.now position place }
+{
+    let _len = table.len();
+    let number = position + 1;
+    if table.is_on(number) {
+        fd_draw::demand(table.event(number), table.state_before(number), place)
+    } else {
+        Demand {
+            spans: 0,
+            pixels: 0,
+        }
+    }
+}
+
+/// Draws the event after a position, where it is switched on, and keeps what it overwrites.
+fn draw_past(table: &EventTable, position: u32, tile: &mut Tile, undo: &mut UndoStack)
+    requires below { position < length table.now.events }
+    requires begun { undo.old.frame_left ≡ false }
+    requires spans { spans_past table.now position tile.old.place ≤ undo.old.spans_left }
+    requires pixels { pixels_past table.now position tile.old.place ≤ undo.old.pixels_left }
+    ensures { Paints (colour_past table.now position) (kept_past table.now position) tile.old undo.old tile.new undo.new }
+{
+    let _len = table.len();
+    let _place = tile.place();
+    let number = position + 1;
+    if table.is_on(number) {
+        fd_draw::draw(table.event(number), table.state_before(number), tile, undo);
+    }
+}
+
+#[cfg(test)]
+mod tests;

@@ -1,0 +1,308 @@
+-- The histories that a table's events give, and what the moves of all owners leave of them.
+use Rattle.std.proofs.Common.{◌≡◌, ℕ, zero, suc, ◌+◌, ◌-◌, ◌*◌, ◌/◌, ◌<◌, ◌≤◌, List, [], ◌∷◌, ◌++◌, length, map, get_or, refl, sym, ap, ◌∙◌, subst, arith, All}
+use Rattle.std.specs.List.{AllZip, range_with_len}
+use Rattle.std.proofs.lemmas.List.{length-map, get_or-map, map_push}
+use Rattle.std.proofs.lemmas.List.FromFn.{length-map-range_with_len, get_or-map-range_with_len, map-range_with_len_more}
+use Rattle.std.proofs.lemmas.List.Elements.{All-head, All-tail, All-cons, All-nil, All-get_or, All-push}
+use Rattle.fd_blend.specs.declared.channel.Colour.{Colour}
+use Rattle.fd_blend.specs.Channel.{fresh}
+use Rattle.fd_tile.specs.declared.place.Place.{Place}
+use Rattle.fd_tile.specs.Place.{Holds, HasRow, over_place}
+use Rattle.fd_tile.specs.Tile.{TileImage, colour_of, row_of, painted}
+use Rattle.fd_tile.specs.Grid.{TargetSize, tile_count, place_of}
+use Rattle.fd_tile.proofs.Pixels.{colour_of-painted, over_place_same, HasRow-from_Holds}
+use Rattle.fd_events.specs.Table.{Table, IsTable}
+use Rattle.fd_events.specs.Image.{colour_at}
+use Rattle.fd_owner.specs.History.{History, position, last_image, tile_image, colour_past, extend, extend_by, extend_to, first_frames}
+use Rattle.fd_owner.specs.Shown.{Shown, IsInside}
+use Rattle.fd_owner.proofs.Histories.{position_extend_to, extend_more, extend_none, first_extend_to, last_extend}
+use Rattle.std.proofs.Common.{take, drop}
+use Rattle.fd_session.specs.Machine.{State, at_position, Jumps}
+use Rattle.std.proofs.lemmas.List.{append-nil, drop_all, take_all, length-drop}
+use Rattle.std.specs.Prelude.{Result, Ok, Err, MatchResult, None}
+use Rattle.fd_crew.specs.declared.crew.Outcome.{Outcome}
+use Rattle.fd_crew.specs.declared.crew.Outcome.TheVariants.{Reached, Stopped}
+use Rattle.fd_crew.specs.Lanes.{opening_position, GoneTo, IsQuiet, RefusedNoLower, EndsAs, gone_back_to}
+use Rattle.fd_session.specs.Held.{fresh_history, history_at, StandsAt, places_of, first_places, HoldsFrame, size_of}
+use Rattle.fd_session.specs.Moves.{IsLeftAt, IsFresh, IsFreshOwner, GoesOn, jump_answer}
+
+-- ---- one place
+pub position_at : (table : Table) (place : Place) (k : ℕ) → position (history_at table place k) ≡ k
+position_at table place k = position_extend_to table place k (fresh_history place) (omega arith)
+
+-- what a position shows is what its events give, pixel by pixel
+pub last_at : (table : Table) (place : Place) (k : ℕ) → last_image (history_at table place k) ≡ over_place place (λ x y. colour_at table k x y)
+last_at table place zero = ap last_image (extend_none table place (fresh_history place))
+last_at table place (suc k) =
+    let next : k + 1 ≡ suc k = omega arith in
+    ap (λ (n : ℕ). last_image (history_at table place n)) (sym next)
+    ∙ ap last_image (sym (extend_more table place k (fresh_history place) (omega arith)))
+    ∙ last_extend table place (history_at table place k)
+    ∙ ap (λ (n : ℕ). over_place place (λ x y. colour_past table n x y (colour_of (tile_image place (last_image (history_at table place k))) x y))) (position_at table place k)
+    ∙ ap (λ (rows : List (List Colour)). over_place place (λ x y. colour_past table k x y (colour_of (tile_image place rows) x y))) (last_at table place k)
+    ∙ over_place_same place (λ x y. colour_past table k x y (colour_of (painted place (λ a b. colour_at table k a b)) x y)) (λ x y. colour_past table k x y (colour_at table k x y))
+    (λ x y held. ap (colour_past table k x y) (colour_of-painted place (λ a b. colour_at table k a b) x y held))
+
+-- the same row by row
+row_painted : (p : Place) (f : ℕ → ℕ → Colour) (y : ℕ) → HasRow p y → row_of (painted p f) y ≡ map (λ x. f x y) (range_with_len p.left p.width)
+row_painted p f y crossed =
+    get_or-map-range_with_len (λ z. map (λ w. f w z) (range_with_len p.left p.width)) p.top p.height (y - p.top) y []
+    (omega (arith, crossed.from_top, crossed.to_bottom)) (omega (arith, crossed.from_top))
+
+drop_range : (f : ℕ → Colour) (a n i x m : ℕ) → a + i ≡ x → i + m ≡ n → drop i (map f (range_with_len a n)) ≡ map f (range_with_len x m)
+drop_range f a n zero x m at rest =
+    let same : a ≡ x = omega (arith, at) in
+    let all : n ≡ m = omega (arith, rest) in
+    ap (λ k. map f (range_with_len k n)) same ∙ ap (λ k. map f (range_with_len x k)) all
+drop_range f a zero (suc i) x m at rest = absurd (omega (arith, rest))
+drop_range f a (suc n) (suc i) x m at rest = drop_range f (a + 1) n i x m (omega (arith, at)) (omega (arith, rest))
+
+-- the part of a row from column x on
+row_part : (f : ℕ → Colour) (left width x : ℕ) (row : List Colour) → row ≡ map f (range_with_len left width) → left ≤ x → x < left + width
+    → take (length row - (x - left)) (drop (x - left) row) ≡ map f (range_with_len x (left + width - x))
+row_part f left width x row is from to =
+    take_all (length row - (x - left)) (drop (x - left) row) (omega (arith, length-drop (x - left) row))
+    ∙ ap (drop (x - left)) is
+    ∙ drop_range f left width (x - left) x (left + width - x) (omega (arith, from)) (omega (arith, from, to))
+
+extend_by_more : (table : Table) (place : Place) (more count : ℕ) (h : History) → extend_by table place more (extend_by table place count h) ≡ extend_by table place (more + count) h
+extend_by_more table place zero count h = let e : zero + count ≡ count = omega arith in ap (λ n. extend_by table place n h) (sym e)
+extend_by_more table place (suc more) count h =
+    let e : suc more + count ≡ suc (more + count) = omega arith in
+    ap (extend table place) (extend_by_more table place more count h) ∙ ap (λ n. extend_by table place n h) (sym e)
+
+-- a history that goes on from position k goes on
+pub at_further : (table : Table) (place : Place) (k to : ℕ) → k ≤ to → extend_to table place to (history_at table place k) ≡ history_at table place to
+at_further table place k to le =
+    let e : to - position (history_at table place k) + (k - 0) ≡ to - 0 = omega (arith, position_at table place k) in
+    extend_by_more table place (to - position (history_at table place k)) (k - 0) (fresh_history place)
+    ∙ ap (λ n. extend_by table place n (fresh_history place)) e
+
+pub at_less : (table : Table) (place : Place) (k to : ℕ) → to ≤ k → first_frames to (history_at table place k) ≡ history_at table place to
+at_less table place k to le = first_extend_to table place to k (fresh_history place) (omega arith) le
+
+-- ---- one owner
+pub position_stands : (table : Table) (k : ℕ) (o : Shown) → StandsAt table k o → position o.history ≡ k
+position_stands table k o at = ap position at.history ∙ position_at table o.place k
+
+pub all_together : (table : Table) (owners : List Shown) → All (StandsAt table (opening_position owners)) owners → All (λ o. position o.history ≡ opening_position owners) owners
+all_together table owners at k d below = position_stands table (opening_position owners) (get_or owners k d) (at k d below)
+
+stands_further : (table : Table) (k to : ℕ) (o p : Shown) → StandsAt table k o → GoneTo table to o p → StandsAt table to p
+stands_further table k to o p at gone =
+    let le : k ≤ to = omega (arith, gone.after, position_stands table k o at) in
+    record {
+      history = gone.history ∙ ap (λ (h : History). extend_to table o.place to h) at.history ∙ at_further table o.place k to le
+          ∙ ap (λ (q : Place). history_at table q to) (sym gone.place);
+      inside = subst (λ (q : Place). IsInside q table) (sym gone.place) at.inside;
+    }
+
+stands_less : (table : Table) (k to : ℕ) (o p : Shown) → to ≤ k → StandsAt table k o → p ≡ gone_back_to to o → StandsAt table to p
+stands_less table k to o p le at gone =
+    let placed : p.place ≡ o.place = ap (λ (s : Shown). s.place) gone in
+    record {
+      history = ap (λ (s : Shown). s.history) gone ∙ ap (first_frames to) at.history ∙ at_less table o.place k to le
+          ∙ ap (λ (q : Place). history_at table q to) (sym placed);
+      inside = subst (λ (q : Place). IsInside q table) (sym placed) at.inside;
+    }
+
+-- ---- all owners
+pub opening_same : (owners : List Shown) → opening_position (map (λ o. o) owners) ≡ opening_position owners
+opening_same [] = refl
+opening_same (o ∷ owners) = refl
+
+-- a relation of owners that moves one of them to a position moves all
+module _ (R : Shown → Shown → Type 0) (table : Table) (k to : ℕ) (step : (o p : Shown) → StandsAt table k o → R o p → (p.place ≡ o.place) × StandsAt table to p) where
+  pub left_at : (old new : List Shown) → All (StandsAt table k) old → AllZip R old new → IsLeftAt table to old new
+  left_at [] [] at moved = record { places = refl; stand = All-nil (StandsAt table to) }
+  left_at [] (p ∷ new) at moved = absurd moved
+  left_at (o ∷ old) [] at moved = absurd moved
+  left_at (o ∷ old) (p ∷ new) at moved =
+      let here = step o p (All-head (StandsAt table k) o old at) moved.0 in
+      let rest = left_at old new (All-tail (StandsAt table k) o old at) moved.1 in
+      record {
+        places = ap (λ (q : Place). q ∷ places_of new) here.0 ∙ ap (λ (l : List Place). o.place ∷ l) rest.places;
+        stand = All-cons (StandsAt table to) p new here.1 rest.stand;
+      }
+
+pub left_further : (S : Shown → Shown → Type 0) (table : Table) (k to : ℕ) (old new : List Shown) → All (StandsAt table k) old → AllZip (λ o p. GoneTo table to o p × S o p) old new → IsLeftAt table to old new
+left_further S table k to old new at moved =
+    left_at (λ o p. GoneTo table to o p × S o p) table k to (λ o p stood gone. (gone.0.place, stands_further table k to o p stood gone.0)) old new at moved
+
+pub left_less : (table : Table) (k to : ℕ) (old new : List Shown) → to ≤ k → All (StandsAt table k) old → AllZip (λ o p. p ≡ gone_back_to to o) old new → IsLeftAt table to old new
+left_less table k to old new le at moved =
+    left_at (λ o p. p ≡ gone_back_to to o) table k to (λ o p stood gone. (ap (λ (s : Shown). s.place) gone, stands_less table k to o p le stood gone)) old new at moved
+
+-- the least position of a crew that moved is no less than where it opened
+pub opening_moved : (S : Shown → Shown → Type 0) (table : Table) (to : ℕ) (old new : List Shown) → AllZip (λ o p. GoneTo table to o p × S o p) old new → opening_position old ≤ to
+opening_moved S table to [] new moved = omega arith
+opening_moved S table to (o ∷ old) [] moved = absurd moved
+opening_moved S table to (o ∷ old) (p ∷ new) moved = moved.0.0.after
+
+-- where all stand is where the first stands
+pub opening_stands : (table : Table) (k : ℕ) (owners : List Shown) → 0 < length owners → All (StandsAt table k) owners → opening_position owners ≡ k
+opening_stands table k [] some at = absurd (omega arith)
+opening_stands table k (o ∷ owners) some at = position_stands table k o (All-head (StandsAt table k) o owners at)
+
+-- how a run of the crew ends
+pub run_ends : {E : Type 0} (table : Table) (to : ℕ) (old new : List Shown) (r : Result Outcome E) → All (StandsAt table (opening_position old)) old
+    → MatchResult r (λ outcome. EndsAs (λ o. o) table to old new outcome) (λ _. new ≡ old) → MatchResult r (λ outcome. GoesOn table to old new outcome) (λ _. new ≡ old)
+run_ends table to old new (Ok Reached) at ended = left_further IsQuiet table (opening_position old) to old new at ended
+run_ends table to old new (Ok (Stopped stop)) at ended =
+    (opening_moved (RefusedNoLower stop) table stop old new ended.1, ended.0, left_further (RefusedNoLower stop) table (opening_position old) stop old new at ended.1)
+run_ends table to old new (Err e) at ended = ended
+
+-- ---- fresh owners
+pub fresh_more : (size : TargetSize) (count : ℕ) (owners : List Shown) (place : Place) (tile : TileImage) (o : Shown) → IsFresh size count owners
+    → place ≡ place_of size count → (place.left + place.width ≤ size.width) × (place.top + place.height ≤ size.height)
+    → tile ≡ painted place (λ _ _. fresh)
+    → o ≡ record { place = tile.place; history = record { opening = tile.rows; frames = [] }; refusals = 0; refused_at = None }
+    → IsFresh size (count + 1) (owners ++ o ∷ [])
+fresh_more size count owners place tile o before is within painted made =
+    let placed : o.place ≡ place = ap (λ (s : Shown). s.place) made ∙ ap (λ (t : TileImage). t.place) painted in
+    let history : o.history ≡ fresh_history o.place =
+    ap (λ (s : Shown). s.history) made ∙ ap (λ (t : TileImage). let h : History = record { opening = t.rows; frames = [] } in h) painted
+    ∙ ap fresh_history (sym placed) in
+    record {
+      places = map_push (λ (s : Shown). s.place) owners o ∙ ap (λ (l : List Place). l ++ o.place ∷ []) before.places
+          ∙ ap (λ (p : Place). first_places size count ++ p ∷ []) (placed ∙ is)
+          ∙ sym (map-range_with_len_more (place_of size) 0 count count (omega arith));
+      fresh = All-push (IsFreshOwner size) owners o before.fresh (record {
+        history = history;
+        right = subst (λ (p : Place). p.left + p.width ≤ size.width) (sym placed) within.0;
+        bottom = subst (λ (p : Place). p.top + p.height ≤ size.height) (sym placed) within.1;
+      });
+    }
+
+fresh_stands : (table : Table) (owners : List Shown) → All (IsFreshOwner (size_of table)) owners → All (StandsAt table 0) owners
+fresh_stands table [] each = All-nil (StandsAt table 0)
+fresh_stands table (o ∷ owners) each =
+    let here = All-head (IsFreshOwner (size_of table)) o owners each in
+    All-cons (StandsAt table 0) o owners
+    (record { history = here.history ∙ sym (extend_none table o.place (fresh_history o.place)); inside = record { right = here.right; bottom = here.bottom } })
+    (fresh_stands table owners (All-tail (IsFreshOwner (size_of table)) o owners each))
+
+opening_fresh : (table : Table) (owners : List Shown) → All (StandsAt table 0) owners → opening_position owners ≡ 0
+opening_fresh table [] at = refl
+opening_fresh table (o ∷ owners) at = position_stands table 0 o (All-head (StandsAt table 0) o owners at)
+
+-- ---- what a session holds
+pub held_start : (table : Table) (size : TargetSize) (owners : List Shown) (workers : ℕ) → IsTable table → size ≡ size_of table → IsFresh size (tile_count size) owners → (1 ≤ workers) × (workers ≤ 64)
+    → (opening_position owners ≡ 0) × HoldsFrame table size owners workers
+held_start table size owners workers valid sized fresh crewed =
+    let stand : All (StandsAt table 0) owners = fresh_stands table owners (subst (λ (s : TargetSize). All (IsFreshOwner s) owners) sized fresh.fresh) in
+    let at : opening_position owners ≡ 0 = opening_fresh table owners stand in (
+      at,
+      record {
+        valid = valid;
+        sized = sized;
+        places = fresh.places;
+        stand = subst (λ (k : ℕ). All (StandsAt table k) owners) (sym at) stand;
+        reached = omega (arith, at);
+        crewed = crewed;
+      },
+    )
+
+some_tiles : (a b : ℕ) → 1 ≤ a → 1 ≤ b → 0 < (a + 31) / 32 * ((b + 31) / 32)
+some_tiles a b wide high =
+    let across : 1 ≤ (a + 31) / 32 = omega arith in
+    let down : 1 ≤ (b + 31) / 32 = omega arith in
+    grind arith
+
+module _ (table : Table) (size : TargetSize) (owners : List Shown) (workers : ℕ) (held : HoldsFrame table size owners workers) where
+  pub count_held : length owners ≡ tile_count size
+  count_held =
+      sym (length-map owners (λ (o : Shown). o.place)) ∙ ap length held.places ∙ length-map-range_with_len (place_of size) 0 (tile_count size)
+
+  pub some_held : 0 < length owners
+  some_held =
+      let wide : 1 ≤ size.width = omega (arith, held.valid.min_width, ap (λ (s : TargetSize). s.width) held.sized) in
+      let high : 1 ≤ size.height = omega (arith, held.valid.min_height, ap (λ (s : TargetSize). s.height) held.sized) in
+      omega (arith, count_held, some_tiles size.width size.height wide high)
+
+  -- the owners that were lent and left at a position
+  module _ (n k : ℕ) (new : List Shown) (all : n ≡ length owners) (le : k ≤ length table.events) (left : IsLeftAt table k owners new) where
+    same_count : length new ≡ length owners
+    same_count = sym (length-map new (λ (o : Shown). o.place)) ∙ ap length left.places ∙ length-map owners (λ (o : Shown). o.place)
+
+    given_back : take n (new ++ drop (length new) owners) ≡ new
+    given_back =
+        ap (λ (l : List Shown). take n (new ++ l)) (drop_all (length new) owners (omega (arith, same_count)))
+        ∙ ap (λ (l : List Shown). take n l) (append-nil new) ∙ take_all n new (omega (arith, same_count))
+
+    pub position_left : opening_position (take n (new ++ drop (length new) owners)) ≡ k
+    position_left = ap opening_position given_back ∙ opening_stands table k new (omega (arith, same_count, some_held)) left.stand
+
+    pub held_left : HoldsFrame table size (take n (new ++ drop (length new) owners)) workers
+    held_left = record {
+      valid = held.valid;
+      sized = held.sized;
+      places = ap places_of given_back ∙ left.places ∙ held.places;
+      stand = subst (λ (l : List Shown). All (StandsAt table (opening_position l)) l) (sym given_back)
+          (subst (λ (j : ℕ). All (StandsAt table j) new) (sym (opening_stands table k new (omega (arith, same_count, some_held)) left.stand)) left.stand);
+      reached = omega (arith, position_left);
+      crewed = held.crewed;
+    }
+
+  -- the owner of tile n
+  module _ (n : ℕ) (o : Shown) (within : n < tile_count size) (is : o ≡ get_or owners n o) where
+    pub owner_placed : o.place ≡ place_of size n
+    owner_placed =
+        ap (λ (s : Shown). s.place) is
+        ∙ sym (get_or-map (λ (s : Shown). s.place) owners n o (place_of size n) (omega (arith, count_held)))
+        ∙ ap (λ (l : List Place). get_or l n (place_of size n)) held.places
+        ∙ get_or-map-range_with_len (place_of size) 0 (tile_count size) n n (place_of size n) within (omega arith)
+
+    pub owner_stands : StandsAt table (opening_position owners) o
+    owner_stands =
+        let k : ℕ = opening_position owners in
+        subst (λ (s : Shown). StandsAt table k s) (sym is) (All-get_or (StandsAt table k) owners n o (omega (arith, count_held)) held.stand)
+
+-- ---- what an owner shows
+module _ (table : Table) (k : ℕ) (o : Shown) (x y : ℕ) (stands : StandsAt table k o) (holds : Holds o.place x y) where
+  pub owner_shows : colour_of (tile_image o.place (last_image o.history)) x y ≡ colour_at table k x y
+  owner_shows =
+      ap (λ (h : History). colour_of (tile_image o.place (last_image h)) x y) stands.history
+      ∙ ap (λ (rows : List (List Colour)). colour_of (tile_image o.place rows) x y) (last_at table o.place k)
+      ∙ colour_of-painted o.place (λ a b. colour_at table k a b) x y holds
+
+  -- a row of its tile, and the part of it from column x on
+  module _ (left : ℕ) (row : List Colour) (from : left ≡ o.place.left) (read : row ≡ row_of (tile_image o.place (last_image o.history)) y) where
+    row_shows : row ≡ map (λ column. colour_at table k column y) (range_with_len o.place.left o.place.width)
+    row_shows =
+        read
+        ∙ ap (λ (h : History). row_of (tile_image o.place (last_image h)) y) stands.history
+        ∙ ap (λ (rows : List (List Colour)). row_of (tile_image o.place rows) y) (last_at table o.place k)
+        ∙ row_painted o.place (λ a b. colour_at table k a b) y (HasRow-from_Holds o.place x y holds)
+
+    pub part_within : x - left ≤ length row
+    part_within =
+        let long : length row ≡ o.place.width = ap length row_shows ∙ length-map-range_with_len (λ column. colour_at table k column y) o.place.left o.place.width in
+        omega (arith, long, from, holds.from_left, holds.to_right)
+
+    pub part_shows : take (length row - (x - left)) (drop (x - left) row) ≡ map (λ column. colour_at table k column y) (range_with_len x (o.place.left + o.place.width - x))
+    part_shows = rw from (row_part (λ column. colour_at table k column y) o.place.left o.place.width x row row_shows holds.from_left holds.to_right)
+
+-- where a run left the owners
+abbrev pub left_position : {E : Type 0} → ℕ → ℕ → Result Outcome E → ℕ
+left_position from to (Ok Reached) = to
+left_position from to (Ok (Stopped at)) = at
+left_position from to (Err e) = from
+
+pub run_left : {E : Type 0} (table : Table) (to : ℕ) (old new : List Shown) (r : Result Outcome E) → All (StandsAt table (opening_position old)) old
+    → MatchResult r (λ outcome. GoesOn table to old new outcome) (λ _. new ≡ old) → IsLeftAt table (left_position (opening_position old) to r) old new
+run_left table to old new (Ok Reached) at went = went
+run_left table to old new (Ok (Stopped stop)) at went = went.2
+run_left table to old new (Err e) at went = record { places = ap places_of went; stand = subst (λ (l : List Shown). All (StandsAt table (opening_position old)) l) (sym went) at }
+
+pub run_within : {E : Type 0} (table : Table) (from to n : ℕ) (old new : List Shown) (r : Result Outcome E) → from ≤ to → to ≤ n
+    → MatchResult r (λ outcome. GoesOn table to old new outcome) (λ _. new ≡ old) → left_position from to r ≤ n
+run_within table from to n old new (Ok Reached) le in' went = in'
+run_within table from to n old new (Ok (Stopped stop)) le in' went = omega (arith, went.1)
+run_within table from to n old new (Err e) le in' went = omega arith
+
+pub run_jumps : {E : Type 0} (table : Table) (to : ℕ) (owners new : List Shown) (r : Result Outcome E) (old : State) → old.position ≡ opening_position owners → old.position < to → to ≤ length old.table.events
+    → MatchResult r (λ outcome. GoesOn table to owners new outcome) (λ _. new ≡ owners) → Jumps old to (jump_answer to r) (at_position old (left_position (opening_position owners) to r))
+run_jumps table to owners new (Ok Reached) old is below in' went = (in', refl, refl)
+run_jumps table to owners new (Ok (Stopped stop)) old is below in' went = (in', omega (arith, went.0), went.1, refl)
+run_jumps table to owners new (Err e) old is below in' went = ((below, in'), ap (at_position old) (sym is))

@@ -1,0 +1,89 @@
+//! Moves of all owners of a frame from one position to another.
+ghost use Rattle.std.specs.Prelude.{◌≡◌, ◌-◌, ◌<◌, ◌≤◌, length, All, IfOk, MatchResult};
+ghost use Rattle.fd_tile.specs.Grid.{tile_count};
+ghost use Rattle.fd_events.specs.Table.{Table, with_flag};
+ghost use Rattle.fd_owner.specs.History.{position};
+ghost use Rattle.fd_crew.specs.Lanes.{opening_position};
+ghost use Rattle.fd_session.specs.Held.{StandsAt};
+ghost use Rattle.fd_session.specs.Moves.{IsFresh, GoesOn, GoesAgain, IsLeftAt};
+
+use crate::worth::workers_worth;
+use fd_crew::{Free, Gate, Outcome, run_back, run_forward};
+use fd_events::EventTable;
+use fd_owner::Owner;
+use fd_tile::{Grid, Tile};
+use std::alloc::{AllocError, Global};
+use std::thread::Threads;
+
+/// The position at which the owners stand.
+pub(crate) fn common_position(owners: &[Owner]) -> u32
+    ensures { result ≡ opening_position owners.now }
+{
+    match owners.first() {
+        Some(owner) => owner.position(),
+        None => 0,
+    }
+}
+
+/// An owner for each tile of the grid, at position 0.
+pub(crate) fn fresh_owners(alloc: Global, grid: &Grid) -> Result<Vec<Owner>, AllocError>
+    ensures { IfOk result (λ owners. IsFresh grid.now (tile_count grid.now) owners.items) }
+{
+    let mut owners = Vec::with_capacity(alloc, grid.count())?;
+    for number in 0..grid.count() {
+        let tile = Tile::fresh(alloc, grid.place(number))?;
+        owners.push(Owner::of(alloc, tile))?;
+    }
+    Ok(owners)
+}
+
+/// Takes all owners on to a position, or to the one before the first event that one of them refuses.
+pub(crate) fn go_on<R: Threads + Sync, G: Gate>(
+    rt: &R,
+    alloc: Global,
+    owners: &mut [Owner],
+    table: &EventTable,
+    to: u32,
+    workers: u32,
+    gate: &G,
+) -> Result<Outcome, AllocError>
+    requires stand { All (StandsAt table.now (opening_position owners.old)) owners.old }
+    requires target { (opening_position owners.old ≤ to) × (to ≤ length table.now.events) }
+    requires workers { (1 ≤ workers) × (workers ≤ 64) }
+    ensures { MatchResult result (λ outcome. GoesOn table.now to owners.old owners.new outcome) (λ _. owners.new ≡ owners.old) }
+{
+    run_forward(rt, alloc, owners, table, to, workers, gate)
+}
+
+/// Takes all owners back to a position.
+pub(crate) fn go_back(owners: &mut [Owner], to: u32)
+    requires together { All (λ owner. position owner.history ≡ opening_position owners.old) owners.old }
+    requires within { to ≤ opening_position owners.old }
+    ensures { (table : Table) → All (StandsAt table (opening_position owners.old)) owners.old → IsLeftAt table to owners.old owners.new }
+{
+    run_back(owners, to);
+}
+
+/// Switches an event that the owners have gone through, takes them back before it, and on again through it and the ones after it.
+pub(crate) fn go_again<R: Threads + Sync>(
+    rt: &R,
+    alloc: Global,
+    owners: &mut [Owner],
+    table: &mut EventTable,
+    number: u32,
+    on: bool,
+    workers: u32,
+) -> Result<Outcome, AllocError>
+    requires stand { All (StandsAt table.old (opening_position owners.old)) owners.old }
+    requires number { (1 ≤ number) × (number ≤ opening_position owners.old) }
+    requires reached { opening_position owners.old ≤ length table.old.events }
+    requires workers { (1 ≤ workers) × (workers ≤ 64) }
+    ensures table { table.new ≡ with_flag table.old number on }
+    ensures run { MatchResult result (λ outcome. GoesAgain (with_flag table.old number on) number owners.old owners.new outcome) (λ _. IsLeftAt (with_flag table.old number on) (number - 1) owners.old owners.new) }
+{
+    let position = common_position(owners);
+    go_back(owners, number - 1);
+    table.set_on(number, on);
+    let workers = workers_worth(table, number - 1, position, owners.len(), workers);
+    go_on(rt, alloc, owners, table, position, workers, &Free)
+}

@@ -1,0 +1,118 @@
+//! Frames of the tests.
+ghost use Rattle.std.specs.Prelude.{◌≤◌};
+
+use crate::Session;
+use fd_blend::{BlendOp, BlendState, Colour, Factor, Mask, Part};
+use fd_cover::{Cull, Interp, Raster, Rect};
+use fd_events::{Draw, Event, EventTable, Vertex};
+use fd_snap::Pos;
+use std::alloc::Global;
+use std::test::Fail;
+
+pub(crate) const fn colour(r: u8, g: u8, b: u8, a: u8) -> Colour {
+    Colour { r, g, b, a }
+}
+
+pub(crate) fn grey(level: u8) -> Colour {
+    colour(level, level, level, level)
+}
+
+/// A position in units of 1/65536 pixel.
+pub(crate) fn position(x: i32, y: i32) -> Result<Pos, Fail> {
+    Ok(Pos::new(x, y).ok_or("a position")?)
+}
+
+/// A triangle by its corners in pixels, and their colours.
+pub(crate) type Corners = ([(i8, i8); 3], [Colour; 3]);
+
+pub(crate) const CLOCKWISE: [(i8, i8); 3] = [(0, 0), (2, 0), (0, 2)];
+
+pub(crate) fn draw(alloc: Global, interp: Interp, triangles: &[Corners]) -> Result<Event, Fail> {
+    let mut vertices = Vec::new(alloc);
+    for (corners, colours) in triangles {
+        for ((x, y), colour) in corners.iter().zip(colours) {
+            let pos = position(i32::from(*x) * 65536, i32::from(*y) * 65536)?;
+            let colour = *colour;
+            vertices.push(Vertex { pos, colour })?;
+        }
+    }
+    Ok(Event::Draw(Draw::new(vertices, None, interp)?))
+}
+
+pub(crate) fn flat(alloc: Global, corners: [(i8, i8); 3], colour: Colour) -> Result<Event, Fail> {
+    draw(alloc, Interp::Flat, &[(corners, [colour; 3])])
+}
+
+pub(crate) fn blend(enable: bool, src: Factor, dst: Factor, bits: u8) -> Result<Event, Fail> {
+    let op = BlendOp::Add;
+    let alpha_src = Factor::One;
+    let rgb = Part { src, dst, op };
+    let alpha = Part {
+        src: alpha_src,
+        dst,
+        op,
+    };
+    let mask = Mask::from_bits(bits).ok_or("a mask")?;
+    Ok(Event::SetBlend(BlendState::new(enable, rgb, alpha, mask)?))
+}
+
+pub(crate) fn raster(cull: Cull, scissor: bool) -> Event {
+    Event::SetRaster(Raster {
+        cull,
+        front_ccw: false,
+        scissor,
+    })
+}
+
+pub(crate) fn scissor(left: i32, top: i32, right: i32, bottom: i32) -> Event {
+    Event::SetScissor(Rect {
+        left,
+        top,
+        right,
+        bottom,
+    })
+}
+
+pub(crate) fn session(
+    alloc: Global,
+    width: u32,
+    height: u32,
+    events: Vec<Event>,
+    workers: u32,
+) -> Result<Session, Fail>
+    requires { (1 ≤ workers) × (workers ≤ 64) }
+{
+    let table = EventTable::start(alloc, width, height, events)?;
+    match Session::start(alloc, table, workers) {
+        Ok(session) => Ok(session),
+        Err(_) => Err(Fail::from("memory")),
+    }
+}
+
+/// One clear on a target that is one pixel high.
+pub(crate) fn one_clear(
+    alloc: Global,
+    width: u32,
+    colour: Colour,
+    workers: u32,
+) -> Result<Session, Fail>
+    requires { (1 ≤ workers) × (workers ≤ 64) }
+{
+    let mut events = Vec::new(alloc);
+    events.push(Event::Clear(colour))?;
+    session(alloc, width, 1, events, workers)
+}
+
+/// A scissor and a mask, a clear of grey 9, and a draw on a target of two by two pixels.
+pub(crate) fn masked_and_scissored(alloc: Global, workers: u32) -> Result<Session, Fail>
+    requires { (1 ≤ workers) × (workers ≤ 64) }
+{
+    let mut events = Vec::new(alloc);
+    events.push(raster(Cull::None, true))?;
+    events.push(scissor(0, 0, 1, 1))?;
+    events.push(blend(false, Factor::One, Factor::Zero, 5)?)?;
+    events.push(Event::Clear(grey(9)))?;
+    let drawn = colour(200, 201, 202, 203);
+    events.push(flat(alloc, [(0, 0), (4, 0), (0, 4)], drawn)?)?;
+    session(alloc, 2, 2, events, workers)
+}

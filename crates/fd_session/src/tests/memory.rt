@@ -1,0 +1,95 @@
+//! Moves that meet want of memory. All memory is taken and given back bit by bit, so that a move gets a little further each time.
+use crate::tests::frames::{colour, one_clear};
+use crate::{Answer, Session, SessionFault};
+use fd_blend::Colour;
+use std::alloc::{AllocError, Global};
+use std::process::Abort;
+use std::test::Fail;
+
+const CLEARED: Colour = Colour {
+    r: 1,
+    g: 2,
+    b: 3,
+    a: 4,
+};
+
+/// The sizes of the pieces in which memory is taken. Address space alone is used up by the larger ones.
+const PIECES: [usize; 11] = [
+    1 << 46,
+    1 << 42,
+    1 << 38,
+    1 << 36,
+    1 << 34,
+    1 << 32,
+    1 << 30,
+    1 << 28,
+    1 << 24,
+    1 << 20,
+    1 << 16,
+];
+
+/// No piece of memory is smaller.
+const SMALLEST: usize = 24;
+
+/// Takes pieces of this size until there is no more of them.
+fn take_all(alloc: Global, pieces: &mut Vec<Vec<u8>>, size: usize) {
+    for _ in pieces.len()..pieces.capacity() {
+        let Ok(piece) = Vec::with_capacity(alloc, size) else {
+            return;
+        };
+        if pieces.push(piece).is_err() {
+            return;
+        }
+    }
+}
+
+/// Takes all memory, the last of it in small pieces.
+fn exhaust(alloc: Global) -> Result<Vec<Vec<u8>>, AllocError> {
+    let mut pieces = Vec::with_capacity(alloc, 200_000)?;
+    for size in PIECES {
+        take_all(alloc, &mut pieces, size);
+    }
+    take_all(alloc, &mut pieces, SMALLEST);
+    Ok(pieces)
+}
+
+/// What the two ends of a row of 33 pixels show.
+fn expect_ends(rt: &impl Abort, session: &Session, position: u32, shown: Colour) {
+    assert_eq!(rt; session.position(), position);
+    for x in [0, 32] {
+        assert_eq!(rt; session.pixel(x, 0), Ok(shown), "at {x}");
+    }
+}
+
+/// A step is refused where the crew's fence wants memory, and stops where a tile does. Either way nothing has changed.
+#[test]
+fn each_refused_allocation_of_a_step(rt: HostRuntime) -> Result<(), Fail> {
+    let fresh = colour(0, 0, 0, 0);
+    let mut session = one_clear(rt.alloc(), 33, CLEARED, 2)?;
+    let mut pieces = exhaust(rt.alloc())?;
+    let mut refused = false;
+    let mut stopped = false;
+    let mut moved = false;
+    for _ in 0..pieces.len() {
+        match session.step(&rt) {
+            Answer::Moved { at } => {
+                assert_eq!(rt; at, 1);
+                moved = true;
+                break;
+            }
+            Answer::Stopped { at } => {
+                assert_eq!(rt; at, 0);
+                stopped = true;
+            }
+            Answer::Refused(fault) => {
+                assert_eq!(rt; fault, SessionFault::Memory);
+                refused = true;
+            }
+        }
+        expect_ends(&rt, &session, 0, fresh);
+        drop(pieces.pop());
+    }
+    assert!(rt; refused && stopped && moved);
+    expect_ends(&rt, &session, 1, CLEARED);
+    Ok(())
+}

@@ -1,0 +1,95 @@
+use crate::tests::frames::{colour, grey, masked_and_scissored, one_clear, session};
+use crate::{Answer, Session, SessionFault};
+use fd_blend::Colour;
+use fd_crew::Free;
+use std::process::Abort;
+use std::test::Fail;
+
+#[test]
+fn back_restores_a_fresh_target(rt: HostRuntime) -> Result<(), Fail> {
+    for workers in [1, 2, 64] {
+        let mut session = one_clear(rt.alloc(), 1, colour(10, 20, 30, 40), workers)?;
+        assert_eq!(rt; session.step(&rt), Answer::Moved { at: 1 });
+        assert_eq!(rt; session.pixel(0, 0), Ok(colour(10, 20, 30, 40)));
+        assert_eq!(rt; session.step(&rt), Answer::Refused(SessionFault::AtEnd));
+        assert_eq!(rt; session.back(), Ok(0));
+        assert_eq!(rt; session.pixel(0, 0), Ok(grey(0)));
+        assert_eq!(rt; session.back(), Err(SessionFault::AtStart));
+    }
+    Ok(())
+}
+
+#[test]
+fn no_events_refuse_every_move(rt: HostRuntime) -> Result<(), Fail> {
+    for workers in [1, 2, 64] {
+        let mut session = session(rt.alloc(), 1, 1, Vec::new(rt.alloc()), workers)?;
+        assert_eq!(rt; session.step(&rt), Answer::Refused(SessionFault::AtEnd));
+        assert_eq!(rt; session.back(), Err(SessionFault::AtStart));
+        assert_eq!(rt; session.goto(&rt, 0), Answer::Moved { at: 0 });
+        assert_eq!(rt;
+            session.goto(&rt, 1),
+            Answer::Refused(SessionFault::NoSuchPosition)
+        );
+        assert_eq!(rt;
+            session.switch(&rt, 1, true),
+            Answer::Refused(SessionFault::NoSuchEvent)
+        );
+        assert_eq!(rt; session.pixel(0, 0), Ok(grey(0)));
+    }
+    Ok(())
+}
+
+/// What the session shows of a target of two by two pixels.
+fn expect_pixels(rt: &impl Abort, session: &Session, first: Colour, others: Colour) {
+    assert_eq!(rt; session.pixel(0, 0), Ok(first));
+    for (x, y) in [(1, 0), (0, 1), (1, 1)] {
+        assert_eq!(rt; session.pixel(x, y), Ok(others), "at {x} {y}");
+    }
+}
+
+#[test]
+fn going_back_and_forth_gives_the_same_bytes(rt: HostRuntime) -> Result<(), Fail> {
+    let drawn = colour(200, 9, 202, 9);
+    for workers in [1, 2, 64] {
+        let mut session = masked_and_scissored(rt.alloc(), workers)?;
+        assert_eq!(rt; session.goto_gated(&rt, 5, &Free), Answer::Moved { at: 5 });
+        expect_pixels(&rt, &session, drawn, grey(9));
+        assert_eq!(rt; session.goto(&rt, 0), Answer::Moved { at: 0 });
+        expect_pixels(&rt, &session, grey(0), grey(0));
+        assert_eq!(rt; session.goto(&rt, 5), Answer::Moved { at: 5 });
+        expect_pixels(&rt, &session, drawn, grey(9));
+    }
+    Ok(())
+}
+
+#[test]
+fn a_clear_reaches_each_tile(rt: HostRuntime) -> Result<(), Fail> {
+    let cleared = colour(1, 2, 3, 4);
+    for workers in [1, 2, 64] {
+        let mut session = one_clear(rt.alloc(), 70, cleared, workers)?;
+        assert_eq!(rt; session.goto_gated(&rt, 1, &Free), Answer::Moved { at: 1 });
+        for x in [0, 31, 32, 63, 64, 69] {
+            assert_eq!(rt; session.pixel(x, 0), Ok(cleared), "at {x}");
+        }
+        assert_eq!(rt; session.switch(&rt, 1, false), Answer::Moved { at: 1 });
+        assert_eq!(rt; session.pixel(64, 0), Ok(grey(0)));
+        assert_eq!(rt; session.back(), Ok(0));
+        assert_eq!(rt; session.switch(&rt, 1, true), Answer::Moved { at: 0 });
+        assert_eq!(rt; session.pixel(64, 0), Ok(grey(0)));
+    }
+    Ok(())
+}
+
+#[test]
+fn rows_are_read_tile_by_tile(rt: HostRuntime) -> Result<(), Fail> {
+    let cleared = colour(1, 2, 3, 4);
+    let mut session = one_clear(rt.alloc(), 70, cleared, 2)?;
+    assert_eq!(rt; session.step(&rt), Answer::Moved { at: 1 });
+    assert!(rt; session.table().width() == 70 && session.table().height() == 1);
+    for (x, count) in [(0, 32), (31, 1), (32, 32), (40, 24), (64, 6), (69, 1)] {
+        let row = session.row_from(x, 0);
+        assert_eq!(rt; row.len(), count, "from {x}");
+        assert!(rt; row.iter().all(|colour| *colour == cleared), "from {x}");
+    }
+    Ok(())
+}

@@ -1,0 +1,45 @@
+ghost use Rattle.std.specs.Prelude.{◌≡◌, length, IfOk};
+
+use crate::tests::frames::{colour, flat};
+use crate::worth::workers_worth;
+use fd_blend::Colour;
+use fd_events::{Event, EventTable};
+use std::alloc::Global;
+use std::test::Fail;
+
+/// On a target of 1024 by 512 pixels, which is 512 tiles.
+fn table(alloc: Global, first: Event, second: Event) -> Result<EventTable, Fail>
+    ensures { IfOk result (λ table. length table.events ≡ 2) }
+{
+    let mut events = Vec::new(alloc);
+    events.push(first)?;
+    events.push(second)?;
+    Ok(EventTable::start(alloc, 1024, 512, events)?)
+}
+
+#[test]
+fn work_decides_how_many_workers_start(rt: HostRuntime) -> Result<(), Fail> {
+    let alloc = rt.alloc();
+    let clear = Event::Clear(colour(1, 2, 3, 4));
+    let small = flat(alloc, [(0, 0), (90, 0), (0, 90)], colour(1, 2, 3, 4))?;
+    let mut table = table(alloc, clear, small)?;
+    // the clear is work for 16 workers, and the draw for none
+    for (from, to, workers, worth) in [
+        (0, 1, 64, 16),
+        (0, 2, 64, 16),
+        (0, 1, 8, 8),
+        (0, 1, 1, 1),
+        (1, 2, 64, 1),
+        (2, 0, 64, 1),
+    ] {
+        assert_eq!(rt;
+            workers_worth(&table, from, to, 512, workers),
+            worth,
+            "{from} to {to}"
+        );
+    }
+    assert_eq!(rt; workers_worth(&table, 0, 1, 3, 64), 3);
+    table.set_on(1, false);
+    assert_eq!(rt; workers_worth(&table, 0, 2, 512, 64), 1);
+    Ok(())
+}

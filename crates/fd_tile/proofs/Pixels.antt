@@ -1,0 +1,121 @@
+-- Tiles by their pixels.
+use Rattle.std.proofs.Common.{◌≡◌, ◌≢◌, ℕ, zero, suc, ◌+◌, ◌-◌, ◌<◌, ◌≤◌, List, [], ◌∷◌, ◌++◌, length, get_or, take, refl, sym, ap, ◌∙◌, arith}
+use Rattle.std.specs.Prelude.{map}
+use Rattle.std.specs.List.{refill, range_with_len}
+use Rattle.std.proofs.lemmas.List.{length-set, take_all, drop_all, append-nil, ext_get_or, get_or-set_same, get_or-set_other, set-set, set-get_or}
+use Rattle.std.proofs.lemmas.List.FromFn.{get_or-map-range_with_len, length-map-range_with_len}
+use Rattle.std.proofs.lemmas.List.Elements.{All-get_or, All-set, All-from_get_or}
+use Rattle.fd_blend.specs.declared.channel.Colour.{Colour}
+use Rattle.fd_blend.specs.Channel.{fresh}
+use Rattle.fd_tile.specs.declared.place.Place.{Place}
+use Rattle.fd_tile.specs.Place.{Holds, HasRow, IsTilePlace, over_place}
+use Rattle.fd_tile.specs.Tile.{TileImage, FillsPlace, IsTileImage, row_of, with_row, colour_of, painted, with_row_left}
+
+-- a list of the right length is left as it is
+pub refill_same : {X : Type 0} (row w : List X) → length w ≡ length row → refill (length row) row w ≡ w
+refill_same row w e =
+    ap (λ l. take (length row) (w ++ l)) (drop_all (length w) row (omega arith))
+    ∙ ap (λ l. take (length row) l) (append-nil w)
+    ∙ take_all (length row) w (omega arith)
+
+pub HasRow-from_Holds : (p : Place) (x y : ℕ) → Holds p x y → HasRow p y
+HasRow-from_Holds p x y held = record { from_top = held.from_top; to_bottom = held.to_bottom }
+
+pub Holds-in_row : (p : Place) (x y : ℕ) → HasRow p y → p.left ≤ x → x < p.left + p.width → Holds p x y
+Holds-in_row p x y row low high = record { from_left = low; to_right = high; from_top = row.from_top; to_bottom = row.to_bottom }
+
+-- ---- one row
+module _ (t : TileImage) (y : ℕ) (filled : IsTileImage t) (crossed : HasRow t.place y) where
+  row_within : y - t.place.top < length t.rows
+  row_within = omega (arith, filled.high, crossed.from_top, crossed.to_bottom)
+
+  pub length-row_of : length (row_of t y) ≡ t.place.width
+  length-row_of = All-get_or (λ r. length r ≡ t.place.width) t.rows (y - t.place.top) [] row_within filled.wide
+
+  pub with_row_left_is : (w : List Colour) → length w ≡ t.place.width → with_row_left t y w ≡ with_row t y w
+  with_row_left_is w e = ap (λ r. with_row t y r) (refill_same (row_of t y) w (e ∙ sym length-row_of))
+
+  pub row_of-with_row_same : (w : List Colour) → row_of (with_row t y w) y ≡ w
+  row_of-with_row_same w = get_or-set_same t.rows (y - t.place.top) w [] row_within
+
+  pub row_of-with_row_other : (w : List Colour) (z : ℕ) → t.place.top ≤ z → z ≢ y → row_of (with_row t y w) z ≡ row_of t z
+  row_of-with_row_other w z low other =
+      let apart : z - t.place.top ≢ y - t.place.top = λ e. other (omega (arith, crossed.from_top)) in
+      get_or-set_other t.rows (y - t.place.top) (z - t.place.top) w [] apart
+
+  pub with_row-with_row : (w v : List Colour) → with_row (with_row t y w) y v ≡ with_row t y v
+  with_row-with_row w v = ap (λ rows. record t { rows = rows }) (set-set t.rows (y - t.place.top) w v)
+
+  pub IsTileImage-with_row : (w : List Colour) → length w ≡ t.place.width → IsTileImage (with_row t y w)
+  IsTileImage-with_row w e = record {
+    placed = filled.placed;
+    high = length-set t.rows (y - t.place.top) w ∙ filled.high;
+    wide = All-set (λ r. length r ≡ t.place.width) t.rows (y - t.place.top) w e filled.wide;
+  }
+
+-- a row that is written as it is changes nothing
+pub with_row_same : (t : TileImage) (y : ℕ) → with_row t y (row_of t y) ≡ t
+with_row_same t y = ap (λ rows. record t { rows = rows }) (set-get_or t.rows (y - t.place.top) [])
+
+-- ---- all pixels
+-- rows that agree at each pixel of the place are equal
+pub rows_ext : (p : Place) (ts us : List (List Colour)) → FillsPlace p ts → FillsPlace p us
+    → ((x y : ℕ) → Holds p x y → colour_of (record { place = p; rows = ts }) x y ≡ colour_of (record { place = p; rows = us }) x y)
+    → ts ≡ us
+rows_ext p ts us filled filled' same =
+    ext_get_or [] ts us (filled.high ∙ sym filled'.high)
+    (λ i below.
+    let here : i < length us = omega (arith, filled.high, filled'.high) in
+    let left : length (get_or ts i []) ≡ p.width = All-get_or (λ r. length r ≡ p.width) ts i [] below filled.wide in
+    let right : length (get_or us i []) ≡ p.width = All-get_or (λ r. length r ≡ p.width) us i [] here filled'.wide in
+    ext_get_or fresh (get_or ts i []) (get_or us i []) (left ∙ sym right)
+    (λ j within.
+    let row : p.top + i - p.top ≡ i = omega arith in
+    let column : p.left + j - p.left ≡ j = omega arith in
+    let held : Holds p (p.left + j) (p.top + i) =
+    record { from_left = omega arith; to_right = omega arith; from_top = omega arith; to_bottom = omega (arith, filled.high) } in
+    sym (ap (λ k. get_or (get_or ts k []) (p.left + j - p.left) fresh) row ∙ ap (λ k. get_or (get_or ts i []) k fresh) column)
+    ∙ same (p.left + j) (p.top + i) held
+    ∙ (ap (λ k. get_or (get_or us k []) (p.left + j - p.left) fresh) row ∙ ap (λ k. get_or (get_or us i []) k fresh) column)))
+
+pub FillsPlace-over_place : (p : Place) (f : ℕ → ℕ → Colour) → IsTilePlace p → FillsPlace p (over_place p f)
+FillsPlace-over_place p f placed = record {
+  placed = placed;
+  high = length-map-range_with_len (λ y. map (λ x. f x y) (range_with_len p.left p.width)) p.top p.height;
+  wide = All-from_get_or (λ r. length r ≡ p.width) (over_place p f) []
+      (λ i below.
+      let row : i < p.height = omega (arith, length-map-range_with_len (λ y. map (λ x. f x y) (range_with_len p.left p.width)) p.top p.height) in
+      ap length (get_or-map-range_with_len (λ y. map (λ x. f x y) (range_with_len p.left p.width)) p.top p.height i (p.top + i) [] row refl)
+      ∙ length-map-range_with_len (λ x. f x (p.top + i)) p.left p.width);
+}
+
+-- what is painted is there
+pub colour_of-painted : (p : Place) (f : ℕ → ℕ → Colour) (x y : ℕ) → Holds p x y → colour_of (painted p f) x y ≡ f x y
+colour_of-painted p f x y held =
+    let row : y - p.top < p.height = omega (arith, held.from_top, held.to_bottom) in
+    let column : x - p.left < p.width = omega (arith, held.from_left, held.to_right) in
+    let down : p.top + (y - p.top) ≡ y = omega (arith, held.from_top) in
+    let across : p.left + (x - p.left) ≡ x = omega (arith, held.from_left) in
+    ap (λ r. get_or r (x - p.left) fresh)
+    (get_or-map-range_with_len (λ z. map (λ w. f w z) (range_with_len p.left p.width)) p.top p.height (y - p.top) y [] row down)
+    ∙ get_or-map-range_with_len (λ w. f w y) p.left p.width (x - p.left) x fresh column across
+
+-- rows with the colour that f gives at each pixel are what f gives over the place
+pub rows_from_pixels : (p : Place) (rows : List (List Colour)) (f : ℕ → ℕ → Colour) → FillsPlace p rows
+    → ((x y : ℕ) → Holds p x y → colour_of (record { place = p; rows = rows }) x y ≡ f x y) → rows ≡ over_place p f
+rows_from_pixels p rows f filled same =
+    rows_ext p rows (over_place p f) filled (FillsPlace-over_place p f filled.placed)
+    (λ x y held. same x y held ∙ sym (colour_of-painted p f x y held))
+
+pub map-range_same : {X : Type 0} (f g : ℕ → X) (a n : ℕ) → ((k : ℕ) → a ≤ k → k < a + n → f k ≡ g k) → map f (range_with_len a n) ≡ map g (range_with_len a n)
+map-range_same f g a zero same = refl
+map-range_same f g a (suc n) same =
+    ap (λ x. x ∷ map f (range_with_len (a + 1) n)) (same a (omega arith) (omega arith))
+    ∙ ap (λ l. g a ∷ l) (map-range_same f g (a + 1) n (λ k low high. same k (omega arith) (omega arith)))
+
+-- what agrees at each pixel of a place is equal over it
+pub over_place_same : {X : Type 0} (p : Place) (f g : ℕ → ℕ → X) → ((x y : ℕ) → Holds p x y → f x y ≡ g x y) → over_place p f ≡ over_place p g
+over_place_same p f g same =
+    map-range_same (λ y. map (λ x. f x y) (range_with_len p.left p.width)) (λ y. map (λ x. g x y) (range_with_len p.left p.width)) p.top p.height
+    (λ y low high. map-range_same (λ x. f x y) (λ x. g x y) p.left p.width
+    (λ x from to. same x y (record { from_left = from; to_right = to; from_top = low; to_bottom = high })))

@@ -1,0 +1,72 @@
+use crate::{Grid, Place, Tile};
+use fd_blend::Colour;
+use std::test::Fail;
+
+const NOTHING: Colour = Colour {
+    r: 0,
+    g: 0,
+    b: 0,
+    a: 0,
+};
+
+const RED: Colour = Colour {
+    r: 255,
+    g: 0,
+    b: 0,
+    a: 255,
+};
+
+#[test]
+fn a_fresh_tile_has_no_colour(rt: HostRuntime) -> Result<(), Fail> {
+    let place = Place {
+        left: 64,
+        top: 32,
+        width: 32,
+        height: 7,
+    };
+    let mut tile = Tile::fresh(rt.alloc(), place)?;
+    assert_eq!(rt; tile.place(), place);
+    for y in 32..39 {
+        for x in 64..96 {
+            assert_eq!(rt; tile.get(x, y), NOTHING);
+        }
+    }
+    tile.set(65, 38, RED);
+    assert_eq!(rt; tile.get(66, 38), NOTHING);
+    assert_eq!(rt; tile.get(65, 37), NOTHING);
+    tile.row_mut(37)[31] = RED;
+    assert_eq!(rt; tile.get(95, 37), RED);
+    Ok(())
+}
+
+#[test]
+fn borders_cut_the_last_tiles(rt: HostRuntime) -> Result<(), Fail> {
+    let Some(grid) = Grid::new(70, 33) else {
+        return Err(Fail::from("a refused size"));
+    };
+    assert_eq!(rt; grid.count(), 6);
+    assert_eq!(rt;
+        grid.place(0),
+        Place {
+            left: 0,
+            top: 0,
+            width: 32,
+            height: 32
+        }
+    );
+    assert_eq!(rt;
+        grid.place(5),
+        Place {
+            left: 64,
+            top: 32,
+            width: 6,
+            height: 1
+        }
+    );
+    assert_eq!(rt; grid.tile_of(63, 31), 1);
+    assert_eq!(rt; grid.tile_of(64, 32), 5);
+    assert!(rt; Grid::new(2048, 1).is_some());
+    assert!(rt; Grid::new(1, 2049).is_none());
+    assert!(rt; Grid::new(0, 1).is_none());
+    Ok(())
+}

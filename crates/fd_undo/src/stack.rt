@@ -1,0 +1,210 @@
+ghost use Rattle.std.specs.Prelude.{◌≡◌, ◌+◌, ◌<◌, ◌≤◌, true, false, [], ◌∷◌, ◌++◌, length, slice_get, slice_index_or, All, OnOk, OnErr};
+ghost use Rattle.fd_tile.specs.declared.place.TheConstants.{BORDER_LIMIT};
+ghost use Rattle.fd_tile.specs.Place.{Holds};
+ghost use Rattle.fd_undo.specs.Frame.{kept_row, kept_at, restored, top, older};
+ghost use Rattle.fd_undo.specs.Undo.{without_room, with_kept, recorded_in};
+
+use crate::kept::kept_in;
+use crate::restore::put_back;
+use crate::span::Span;
+use crate::stored::{INLINE_SPANS, StoredFrame, take_numbered};
+use fd_blend::Colour;
+use fd_tile::Tile;
+use smallvec::SmallVec;
+use std::alloc::Global;
+use std::marker::Model;
+use std::mem;
+use thiserror::Error;
+
+#[cfg(test)]
+mod tests;
+
+/// There is no memory for the room that was asked for.
+#[derive(Clone, Copy, Debug, PartialEq, Eq, Drop, Error)]
+#[error("no memory for undo records")]
+pub struct Full;
+
+/// What each event overwrote on a tile, a frame an event, and the room for the frame of the next one.
+#[derive(Drop)]
+pub struct UndoStack {
+    alloc: Global,
+    // how many frames there are, those that keep nothing among them
+    count: usize,
+    // the frames for which spans were reserved, oldest first
+    stored: Vec<StoredFrame>,
+    // the colours of all frames, oldest first
+    colours: Vec<Colour>,
+    // the reserved spans of the next frame
+    next: SmallVec<Span, INLINE_SPANS>,
+    frame_left: bool,
+    spans_left: usize,
+    pixels_left: usize,
+}
+
+impl Model for UndoStack {
+    ghost use Rattle.std.specs.Vec.{vec_len, vec_capacity};
+    ghost use Rattle.fd_undo.specs.Undo.{Undo};
+    ghost use Rattle.fd_undo.specs.Stored.{frames_of, IsUndoStack};
+
+    ghost Value = { Undo };
+
+    ghost view = { λ u. record {
+      frames = frames_of u.count u.stored.items u.colours.items;
+      frame_left = u.frame_left;
+      spans_left = u.spans_left;
+      pixels_left = u.pixels_left;
+    } };
+
+    ghost invariant = { λ u. IsUndoStack u.count u.stored.items u.next (vec_capacity u.stored) (vec_len u.colours) (vec_capacity u.colours) u.frame_left u.spans_left u.pixels_left };
+}
+
+impl UndoStack {
+    /// A stack without frames and without room.
+    pub fn new(alloc: Global) -> UndoStack
+        ensures { result ≡ without_room [] }
+    {
+        UndoStack {
+            alloc,
+            count: 0,
+            stored: Vec::new(alloc),
+            colours: Vec::new(alloc),
+            next: SmallVec::new(alloc),
+            frame_left: false,
+            spans_left: 0,
+            pixels_left: 0,
+        }
+    }
+
+    /// Makes room for one frame of exactly so many spans and pixels. After `Full` there is none.
+    pub fn reserve(&mut self, spans: usize, pixels: usize) -> Result<(), Full>
+        ensures ok { OnOk result (self.new ≡ record { frames = self.old.frames; frame_left = true; spans_left = spans; pixels_left = pixels }) }
+        ensures full { OnErr result (self.new ≡ without_room self.old.frames) }
+    {
+        self.drop_room();
+        if self.count == usize::MAX {
+            return Err(Full);
+        }
+        if spans > 0 {
+            self.next = SmallVec::with_capacity(self.alloc, spans).map_err(|_| Full)?;
+            self.stored.reserve(1).map_err(|_| Full)?;
+        }
+        self.colours.reserve(pixels).map_err(|_| Full)?;
+        self.frame_left = true;
+        self.spans_left = spans;
+        self.pixels_left = pixels;
+        Ok(())
+    }
+
+    /// No room is left.
+    fn drop_room(&mut self)
+        ensures { self.new ≡ without_room self.old.frames }
+    {
+        self.frame_left = false;
+        self.spans_left = 0;
+        self.pixels_left = 0;
+    }
+
+    /// Whether a reserved frame is left.
+    pub fn frame_left(&self) -> bool
+        ensures { result ≡ self.now.frame_left }
+    {
+        self.frame_left
+    }
+
+    /// How many reserved spans are left.
+    pub fn spans_left(&self) -> usize
+        ensures { result ≡ self.now.spans_left }
+    {
+        self.spans_left
+    }
+
+    /// How many reserved pixels are left.
+    pub fn pixels_left(&self) -> usize
+        ensures { result ≡ self.now.pixels_left }
+    {
+        self.pixels_left
+    }
+
+    /// Puts a new empty frame on top. It is stored only where spans were reserved for it.
+    pub fn begin(&mut self)
+        requires { self.old.frame_left ≡ true }
+        ensures { self.new ≡ record self.old { frames = self.old.frames ++ [] ∷ []; frame_left = false } }
+    {
+        if self.spans_left > 0 {
+            let spans = mem::replace(&mut self.next, SmallVec::new(self.alloc));
+            self.stored.push_reserved(StoredFrame {
+                number: self.count,
+                first: self.colours.len(),
+                spans,
+            });
+        }
+        self.count += 1;
+        self.frame_left = false;
+    }
+
+    /// Keeps the colours of row y from column x on, left to right, in the top frame.
+    pub fn keep(&mut self, x: u32, y: u32, old: &[Colour])
+        requires begun { self.old.frame_left ≡ false }
+        requires span { 0 < self.old.spans_left }
+        requires pixels { length old.now ≤ self.old.pixels_left }
+        requires right { x + length old.now ≤ BORDER_LIMIT }
+        requires bottom { y ≤ BORDER_LIMIT }
+        ensures { self.new ≡ with_kept self.old (kept_row x y old.now) }
+    {
+        self.colours.extend_from_slice(old).unwrap();
+        let top = self.stored.len() - 1;
+        self.stored[top].spans.push_reserved(Span {
+            x: x as u16,
+            y: y as u16,
+            len: old.len() as u16,
+        });
+        self.spans_left -= 1;
+        self.pixels_left -= old.len();
+    }
+
+    /// Writes the top frame's colours back, the last kept first, and drops the frame. No room is left.
+    pub fn undo_top(&mut self, tile: &mut Tile)
+        requires some { 0 < length self.old.frames }
+        requires inside { All (λ k. Holds tile.old.place k.x k.y) (top self.old.frames) }
+        ensures tile { tile.new ≡ restored (top self.old.frames) tile.old }
+        ensures frames { self.new ≡ without_room (older self.old.frames) }
+    {
+        self.frame_left = false;
+        self.spans_left = 0;
+        self.pixels_left = 0;
+        self.count -= 1;
+        if let Some(top) = take_numbered(&mut self.stored, self.count) {
+            put_back(top.spans, &mut self.colours, tile);
+        }
+    }
+
+    /// How many frames there are.
+    pub fn frames(&self) -> usize
+        ensures { result ≡ length self.now.frames }
+    {
+        self.count
+    }
+
+    /// How many pixels all frames keep.
+    pub fn recorded(&self) -> u64
+        ensures { result ≡ recorded_in self.now.frames }
+    {
+        self.colours.len() as u64
+    }
+
+    /// The n-th colour, from 0, that a frame keeps of pixel (x, y), in the order in which they were kept. Frames are numbered from 0.
+    pub fn kept(&self, frame: usize, x: u32, y: u32, n: usize) -> Option<Colour>
+        ensures { result ≡ slice_get (kept_at (slice_index_or self.now.frames frame []) x y) n }
+    {
+        match self
+            .stored
+            .binary_search_by_key(&frame, |stored| stored.number)
+        {
+            Ok(place) => {
+                let stored = &self.stored[place];
+                kept_in(&stored.spans, stored.first, &self.colours, x, y, n)
+            }
+            Err(_) => None,
+        }
+    }
+}

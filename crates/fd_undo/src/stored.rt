@@ -1,0 +1,30 @@
+ghost use Rattle.std.specs.Prelude.{◌≡◌, ◌≢◌, ◌<◌, [], ◌∷◌, ◌++◌, length, None, IfSome, vec_capacity};
+ghost use Rattle.fd_undo.specs.Stored.{top_stored};
+
+use crate::span::Span;
+use smallvec::SmallVec;
+
+/// So many spans of a frame need no memory of their own.
+pub(crate) const INLINE_SPANS: usize = 4;
+
+/// The spans of one frame, the frame's number from 0, and where its colours begin in the stack's list.
+#[derive(Drop)]
+pub(crate) struct StoredFrame {
+    pub(crate) number: usize,
+    pub(crate) first: usize,
+    pub(crate) spans: SmallVec<Span, INLINE_SPANS>,
+}
+
+/// Takes the youngest stored frame off, if it has this number.
+pub(crate) fn take_numbered(stored: &mut Vec<StoredFrame>, number: usize) -> Option<StoredFrame>
+    ensures some { IfSome result (λ f. (stored.old.items ≡ stored.new.items ++ f ∷ []) × (f.number ≡ number)) }
+    ensures none { result ≡ None → (stored.new ≡ stored.old) × (0 < length stored.old.items → (top_stored stored.old.items).number ≢ number) }
+    ensures capacity { vec_capacity stored.new ≡ vec_capacity stored.old }
+{
+    let len = stored.len();
+    if len > 0 && stored[len - 1].number == number {
+        Some(stored.take_last())
+    } else {
+        None
+    }
+}
