@@ -13,7 +13,7 @@ import time
 import captures
 
 HERE = pathlib.Path(__file__).resolve().parent
-PROGRAM = HERE.parent / "crates/framedbg/out/framedbg"
+PROGRAM = pathlib.Path(os.environ.get("FRAMEDBG", HERE.parent / "crates/framedbg/out/framedbg"))
 ROUNDS = int(os.environ.get("ROUNDS", "3"))
 
 
@@ -33,7 +33,7 @@ class Bench:
         words = [PROGRAM, "run", "--workers", str(workers), path]
         start = time.monotonic()
         child = subprocess.Popen(words, stdin=subprocess.PIPE, stdout=subprocess.PIPE)
-        child.stdin.write(("\n".join(lines) + "\nquit\n").encode())
+        child.stdin.write("".join(f"{line}\n" for line in [*lines, "quit"]).encode())
         child.stdin.close()
         replies = child.stdout.read().decode().split("\n")
         _, status, usage = os.wait4(child.pid, 0)
@@ -48,14 +48,12 @@ class Bench:
     def memory(self, path, lines):
         return self.once(path, 1, lines)[2]
 
-    def there_and_back(self, path, events, workers, rounds=1):
-        """Seconds forward to the end and seconds back, a round, without the reading."""
+    def there_and_back(self, path, events, workers):
+        """Seconds forward to the end, and seconds back from there, without the reading."""
         base = self.seconds(path, workers, [])
         forward = self.seconds(path, workers, [f"goto {events}"])
-        both = self.seconds(path, workers, [f"goto {events}", "goto 0"] * rounds)
-        whole = (both - base) / rounds
-        first = forward - base
-        return first, max(both - base - first * rounds, 0) / rounds if rounds == 1 else whole - first
+        both = self.seconds(path, workers, [f"goto {events}", "goto 0"])
+        return forward - base, both - forward
 
     def plain_figures(self, *words):
         printed = subprocess.run([self.plain, *map(str, words)], check=True, capture_output=True)
@@ -96,14 +94,14 @@ def small_triangles(bench):
 
 
 def many_markers(bench):
-    print("markers, 1,000,000 of them gone through (62,500 in 16 rounds), one worker")
-    for side in [32, 1024]:
+    print("62,500 markers forward and back, one worker")
+    for side, rounds in [(32, 16), (1024, 1)]:
         path = bench.capture("markers", captures.markers(side, side, 62_500))
         base = bench.seconds(path, 1, [])
-        whole = bench.seconds(path, 1, ["goto 62500", "goto 0"] * 16) - base
+        whole = bench.seconds(path, 1, ["goto 62500", "goto 0"] * rounds) - base
         tiles = (side // 32) ** 2
-        figure(f"  {tiles} tiles, forward and back", whole * 1e3, "ms")
-        figure(f"  {tiles} tiles, a marker and tile", whole / 1e6 / tiles * 1e9, "ns")
+        figure(f"  {tiles} tiles, {rounds} times", whole * 1e3, "ms")
+        figure(f"  {tiles} tiles, a marker and tile", whole / 62_500 / rounds / tiles * 1e9, "ns")
 
 
 def memory(bench):
@@ -122,7 +120,7 @@ def memory(bench):
 
 
 def growth(bench):
-    print("growth, forward, one worker: each line does twice or four times the work of the one before")
+    print("growth, forward, one worker: each line is twice the one before, a side of the target four times")
     for side in [512, 1024, 2048]:
         path = bench.capture("growth", captures.large(side, side, 10))
         forward, _ = bench.there_and_back(path, 11, 1)

@@ -20,6 +20,15 @@ impl<'a> Pieces<'a> {
             fails: false,
         }
     }
+
+    /// A reader that gives the same.
+    pub(crate) fn again(&self) -> Pieces<'a> {
+        Pieces {
+            bytes: self.bytes,
+            step: self.step,
+            fails: self.fails,
+        }
+    }
 }
 
 impl Read for Pieces<'_> {
@@ -54,6 +63,17 @@ impl Limited {
             step,
             flushes: 0,
             last_flush: usize::MAX,
+        }
+    }
+
+    /// A writer that takes the same, and has taken nothing yet.
+    pub(crate) fn again(&self, alloc: Global) -> Limited {
+        Limited {
+            bytes: Vec::new(alloc),
+            room: self.room,
+            step: self.step,
+            flushes: 0,
+            last_flush: self.last_flush,
         }
     }
 }

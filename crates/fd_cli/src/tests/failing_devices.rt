@@ -12,28 +12,31 @@ const INPUT: &[u8] = b"step\nshow\nquit\n";
 const OUTPUT: &[u8] =
     b"at 1\npam 69\nP7\nWIDTH 1\nHEIGHT 1\nDEPTH 4\nMAXVAL 255\nTUPLTYPE RGB_ALPHA\nENDHDR\n\x0a\x14\x1e\x28bye\n";
 
-/// How a run ends over these devices, and what is then written.
+/// How a run ends over these devices, and what is then written, whatever the number of workers.
 fn expect_run(
     rt: &(impl Abort + Threads + Sync),
     alloc: Global,
-    reader: Pieces<'_>,
-    writer: Limited,
+    reader: &Pieces<'_>,
+    writer: &Limited,
     ending: Ending,
     text: &[u8],
 ) {
-    let mut source = Device::new(reader);
-    let mut sink = Device::new(writer);
-    let ended = serve(rt, alloc, ONE_CLEAR.as_bytes(), 1, &mut source, &mut sink);
-    assert_eq!(rt; ended, ending);
-    let read_faults = if ending == Ending::Read { 1 } else { 0 };
-    assert_eq!(rt; source.failures(), read_faults);
-    let write_faults = if matches!(ending, Ending::Write { .. }) {
-        1
-    } else {
-        0
-    };
-    assert_eq!(rt; sink.failures(), write_faults);
-    assert_eq!(rt; sink.into_inner().bytes.as_slice(), text);
+    let capture = ONE_CLEAR.as_bytes();
+    for workers in [1, 2, 64] {
+        let mut source = Device::new(reader.again());
+        let mut sink = Device::new(writer.again(alloc));
+        let ended = serve(rt, alloc, capture, workers, &mut source, &mut sink);
+        assert_eq!(rt; ended, ending);
+        let read_faults = if ending == Ending::Read { 1 } else { 0 };
+        assert_eq!(rt; source.failures(), read_faults);
+        let write_faults = if matches!(ending, Ending::Write { .. }) {
+            1
+        } else {
+            0
+        };
+        assert_eq!(rt; sink.failures(), write_faults);
+        assert_eq!(rt; sink.into_inner().bytes.as_slice(), text);
+    }
 }
 
 #[test]
@@ -43,15 +46,15 @@ fn devices_that_fail_midway(rt: HostRuntime) {
     expect_run(
         &rt,
         rt.alloc(),
-        Pieces::of(INPUT, 100),
-        writer,
+        &Pieces::of(INPUT, 100),
+        &writer,
         ending,
         b"at 1\npam",
     );
     let mut reader = Pieces::of(b"step\nst", 100);
     reader.fails = true;
     let writer = Limited::of(rt.alloc(), 100, 100);
-    expect_run(&rt, rt.alloc(), reader, writer, Ending::Read, b"at 1\n");
+    expect_run(&rt, rt.alloc(), &reader, &writer, Ending::Read, b"at 1\n");
 }
 
 #[test]
@@ -63,8 +66,8 @@ fn a_writer_that_fails_after_each_byte(rt: HostRuntime) {
         expect_run(
             &rt,
             rt.alloc(),
-            Pieces::of(INPUT, 7),
-            writer,
+            &Pieces::of(INPUT, 7),
+            &writer,
             ending,
             &OUTPUT[..room],
         );
@@ -73,8 +76,8 @@ fn a_writer_that_fails_after_each_byte(rt: HostRuntime) {
     expect_run(
         &rt,
         rt.alloc(),
-        Pieces::of(INPUT, 1),
-        writer,
+        &Pieces::of(INPUT, 1),
+        &writer,
         Ending::Done,
         OUTPUT,
     );
@@ -100,8 +103,8 @@ fn a_flush_that_fails(rt: HostRuntime) {
         expect_run(
             &rt,
             rt.alloc(),
-            Pieces::of(INPUT, 100),
-            writer,
+            &Pieces::of(INPUT, 100),
+            &writer,
             ending,
             &OUTPUT[..sent],
         );
@@ -120,7 +123,7 @@ fn a_reader_that_fails_after_each_byte(rt: HostRuntime) {
             _ => (Ending::Done, 85),
         };
         let writer = Limited::of(rt.alloc(), 100, 100);
-        expect_run(&rt, rt.alloc(), reader, writer, ending, &OUTPUT[..length]);
+        expect_run(&rt, rt.alloc(), &reader, &writer, ending, &OUTPUT[..length]);
     }
 }
 
