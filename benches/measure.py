@@ -136,7 +136,7 @@ def growth(bench):
 
 
 def workers(bench):
-    print("workers: goto the end, and a single step")
+    print("workers: goto the end, and a single step with the way back")
     side = 2048
     makers = [
         ("20 large triangles", captures.large(side, side, 20), 21),
@@ -152,18 +152,16 @@ def workers(bench):
             alone = alone or forward
             figure(f"  {name}, {count} workers", forward * 1e3, "ms")
             figure(f"  {name}, {count} workers, times one", alone / forward, "")
-    steps = 400
-    for name, data in [
-        ("a marker, 64 tiles", captures.markers(256, 256, steps)),
-        ("a clear, 4,096 tiles", captures.clears(side, side, 20)),
-        ("a clear, 4 tiles", captures.clears(64, 64, steps)),
+    for name, data, number in [
+        ("a marker, 64 tiles", captures.markers(256, 256, 1), 20_000),
+        ("a clear, 4 tiles", captures.clears(64, 64, 1), 5_000),
+        ("a clear, 4,096 tiles", captures.clears(side, side, 1), 10),
     ]:
         path = bench.capture("step", data)
-        number = 20 if "4,096" in name else steps
         for count in [1, 4]:
             base = bench.seconds(path, count, [])
-            walk = bench.seconds(path, count, ["step"] * number) - base
-            figure(f"  a single step over {name}, {count} workers", walk / number * 1e6, "us")
+            walk = bench.seconds(path, count, ["step", "back"] * number) - base
+            figure(f"  step and back over {name}, {count} workers", walk / number * 1e6, "us")
 
 
 def main():

@@ -4,11 +4,11 @@ ghost use Rattle.std.specs.Prelude.{◌≤◌, length};
 use fd_events::{Draw, Event, EventTable};
 use fd_tile::TILE_SIDE;
 
-/// The work that a worker must have to be worth its thread, in pixels: 100 to 200 microseconds. This was measured on one core of
-/// an x86-64 machine that builds for x86-64-v2: an owner clears or fills a pixel, and keeps the colour before, in 3 to 6 nanoseconds.
+/// The work that a worker must have to be worth its thread, in pixels: some 200 microseconds, as `make bench` had owners clear a
+/// pixel, and keep the colour before, in 7 nanoseconds.
 const WORKER_WORK: usize = 32_768;
 
-/// The work of a step on one tile that draws nothing there, in pixels. On the same machine it took 12 to 14 nanoseconds.
+/// The work of a step on one tile that draws nothing there, in pixels. It took 8 to 9 nanoseconds, with the way back.
 const STEP_WORK: usize = 4;
 
 /// The work of looking at one triangle on one tile, in pixels.
