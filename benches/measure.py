@@ -31,10 +31,11 @@ class Bench:
     def once(self, path, workers, lines):
         """Seconds of the clock and of the processor, and the most memory in bytes, of one run."""
         words = [PROGRAM, "run", "--workers", str(workers), path]
+        commands = self.folder / "commands"
+        commands.write_text("".join(f"{line}\n" for line in [*lines, "quit"]))
         start = time.monotonic()
-        child = subprocess.Popen(words, stdin=subprocess.PIPE, stdout=subprocess.PIPE)
-        child.stdin.write("".join(f"{line}\n" for line in [*lines, "quit"]).encode())
-        child.stdin.close()
+        with open(commands, "rb") as source:
+            child = subprocess.Popen(words, stdin=source, stdout=subprocess.PIPE)
         replies = child.stdout.read().decode().split("\n")
         _, status, usage = os.wait4(child.pid, 0)
         seconds = time.monotonic() - start
