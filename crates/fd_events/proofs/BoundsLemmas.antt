@@ -9,7 +9,7 @@ use Rattle.fd_cover.specs.Bounds.{is_within, HoldsCovered, HoldsBoth, bounds_of,
 use Rattle.fd_cover.proofs.BoundsLemmas.{missed_outside}
 use Rattle.fd_events.specs.declared.pipeline.Pipeline.{Pipeline}
 use Rattle.fd_events.specs.declared.draw.TheConstants.{GROUP_LEN}
-use Rattle.fd_events.specs.Bounds.{HoldsTriangles, HoldsGroup, HoldGroups, between, joined_with, IsRound}
+use Rattle.fd_events.specs.Bounds.{HoldsTriangles, HoldsGroup, IsRoundGroup, AreRoundGroups, between, joined_with, IsRound}
 use Rattle.fd_events.specs.Draw.{Triangle}
 use Rattle.fd_events.specs.Image.{is_drawn_by, is_drawn, colour_after_triangles, kept_by_triangles}
 
@@ -105,9 +105,9 @@ slice_get-last (z ∷ xs) x y (suc i) at = elim (slice_get-last xs x y i at) [
 ]
 
 -- one more group
-pub HoldGroups-next : (boxes : List Bounds) (ts : List Triangle) (group : ℕ) (box : Bounds) → length boxes ≡ group → HoldGroups boxes ts → HoldsGroup box group ts
-    → HoldGroups (boxes ++ box ∷ []) ts
-HoldGroups-next boxes ts group box is_next hold holds = λ i found at. elim (slice_get-last boxes box found i at) [
+pub AreRoundGroups-next : (boxes : List Bounds) (ts : List Triangle) (group : ℕ) (box : Bounds) → length boxes ≡ group → AreRoundGroups boxes ts → IsRoundGroup box group ts
+    → AreRoundGroups (boxes ++ box ∷ []) ts
+AreRoundGroups-next boxes ts group box is_next hold holds = λ i found at. elim (slice_get-last boxes box found i at) [
   | inl before ↦ hold i found before
   | inr last ↦ let same : i ≡ group = last.0 ∙ is_next in rw (same, last.1) holds
 ]

@@ -1,5 +1,5 @@
 -- The box round the triangles of a draw.
-use Rattle.std.specs.Prelude.{◌≡◌, ℕ, ◌+◌, ◌-◌, ◌*◌, ◌<◌, ◌≤◌, List, [], ◌∷◌, Some, slice_get, take, drop}
+use Rattle.std.specs.Prelude.{◌≡◌, ℕ, ◌+◌, ◌-◌, ◌*◌, ◌<◌, ◌≤◌, ◌⊎◌, min, List, [], ◌∷◌, length, Some, slice_get, take, drop}
 use Rattle.fd_cover.specs.declared.bounds.Bounds.{Bounds}
 use Rattle.fd_cover.specs.Bounds.{HoldsCovered, bounds_of, joined}
 use Rattle.fd_events.specs.declared.draw.TheConstants.{GROUP_LEN}
@@ -17,10 +17,6 @@ between first last ts = take (last - first) (drop first ts)
 abbrev pub HoldsGroup : Bounds → ℕ → List Triangle → Type 0
 HoldsGroup box group ts = (i : ℕ) (t : Triangle) → GROUP_LEN * group ≤ i → i < GROUP_LEN * group + GROUP_LEN → slice_get ts i ≡ Some t → HoldsCovered box t.corners
 
--- the boxes hold what the groups cover, from the first group on
-abbrev pub HoldGroups : List Bounds → List Triangle → Type 0
-HoldGroups boxes ts = (group : ℕ) (box : Bounds) → slice_get boxes group ≡ Some box → HoldsGroup box group ts
-
 -- a box, joined with those of triangles one after the other
 abbrev pub joined_with : Bounds → List Triangle → Bounds
 joined_with box [] = box
@@ -34,3 +30,20 @@ bounds_of_triangles ts = joined_with (record { left = 0; top = 0; right = 0; bot
 pub record IsRound (box : Bounds) (ts : List Triangle) : Type 0 where
   pub value : box ≡ bounds_of_triangles ts
   pub covered : HoldsTriangles box ts
+
+-- the triangles of a group
+abbrev pub group_of : ℕ → List Triangle → List Triangle
+group_of group ts = between (GROUP_LEN * group) (min (GROUP_LEN * group + GROUP_LEN) (length ts)) ts
+
+-- the box is the one round a group of the triangles, and holds what they cover
+pub record IsRoundGroup (box : Bounds) (group : ℕ) (ts : List Triangle) : Type 0 where
+  pub value : box ≡ bounds_of_triangles (group_of group ts)
+  pub covered : HoldsGroup box group ts
+
+-- the boxes are those round the groups, from the first group on
+abbrev pub AreRoundGroups : List Bounds → List Triangle → Type 0
+AreRoundGroups boxes ts = (group : ℕ) (box : Bounds) → slice_get boxes group ≡ Some box → IsRoundGroup box group ts
+
+-- the box round a group, or the one round all triangles
+abbrev pub IsGroupBox : Bounds → ℕ → List Triangle → Type 0
+IsGroupBox box group ts = (box ≡ bounds_of_triangles (group_of group ts)) ⊎ (box ≡ bounds_of_triangles ts)

@@ -53,18 +53,18 @@ pub struct Draw {
 
 impl Model for Draw {
     ghost use Rattle.std.specs.Prelude.{IfSome};
-    ghost use Rattle.fd_events.specs.Bounds.{IsRound, HoldGroups};
+    ghost use Rattle.fd_events.specs.Bounds.{IsRound, AreRoundGroups};
     ghost use Rattle.fd_events.specs.Draw.{DrawList, triangles_of};
 
     ghost Value = { DrawList };
 
     ghost view = { λ d. d.list };
 
-    ghost invariant = { λ d. IsRound d.bounds (triangles_of d.list) × IfSome d.groups (λ boxes. HoldGroups boxes.items (triangles_of d.list)) };
+    ghost invariant = { λ d. IsRound d.bounds (triangles_of d.list) × IfSome d.groups (λ boxes. AreRoundGroups boxes.items (triangles_of d.list)) };
 }
 
 impl Draw {
-    ghost use Rattle.fd_events.specs.Bounds.{HoldsTriangles, HoldsGroup, bounds_of_triangles};
+    ghost use Rattle.fd_events.specs.Bounds.{HoldsTriangles, HoldsGroup, IsGroupBox, bounds_of_triangles};
     ghost use Rattle.fd_events.specs.Draw.{made, triangles_of};
     ghost use Rattle.fd_events.specs.declared.draw.TheConstants.{MAX_TRIANGLES, GROUP_LEN};
 
@@ -131,10 +131,11 @@ impl Draw {
         self.list.len().div_ceil(GROUP_LEN)
     }
 
-    /// A box that holds every pixel that one of the triangles of a group covers: those from number `GROUP_LEN` times `group` on.
-    /// Once a table is started with the draw it is the box round them.
+    /// The box round a group of triangles, those from number `GROUP_LEN` times `group` on; or the one round all, as long as no table
+    /// was started with the draw. Either holds every pixel that one of the group covers.
     pub fn group_bounds(&self, group: u32) -> Bounds
-        ensures { HoldsGroup result group (triangles_of self.now) }
+        ensures value { IsGroupBox result group (triangles_of self.now) }
+        ensures covered { HoldsGroup result group (triangles_of self.now) }
     {
         if let Some(groups) = &self.groups {
             if let Some(bounds) = groups.get(group as usize) {

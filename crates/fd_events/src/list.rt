@@ -54,7 +54,7 @@ impl Model for TriangleList {
 }
 
 impl TriangleList {
-    ghost use Rattle.fd_events.specs.Bounds.{IsRound, HoldsGroup, between};
+    ghost use Rattle.fd_events.specs.Bounds.{IsRound, IsRoundGroup, between};
     ghost use Rattle.fd_events.specs.Draw.{made, listed, triangle_of, triangles_of};
     ghost use Rattle.fd_events.specs.declared.draw.TheConstants.{GROUP_LEN, MAX_TRIANGLES, MAX_VERTICES};
 
@@ -169,7 +169,7 @@ impl TriangleList {
     /// The box round a group of triangles, which holds every pixel that one of them covers.
     pub(crate) fn group_bounds(&self, group: u32) -> Bounds
         requires { GROUP_LEN * group < length (triangles_of self.now) }
-        ensures { HoldsGroup result group (triangles_of self.now) }
+        ensures { IsRoundGroup result group (triangles_of self.now) }
     {
         let len = self.len();
         let first = GROUP_LEN * group;

@@ -8,4 +8,4 @@ returns-then-triangle-eq0 c = λ empty i t from to at x y within.
     let whole : GROUP_LEN * (c.args.triangle / GROUP_LEN) ≡ c.args.triangle = omega (arith, c.if-triangle-eq0.true) in
     let low : GROUP_LEN * (c.args.triangle / GROUP_LEN) ≤ i = omega (arith, whole, from) in
     let high : i < GROUP_LEN * (c.args.triangle / GROUP_LEN) + GROUP_LEN = omega (arith, whole, to) in
-    missed_outside_group t.corners c.args.window c.group_bounds.result c.shared.result (c.group_bounds.ensures i t low high at) c.shared.ensures (sym c.is_empty.ensures ∙ empty) x y within
+    missed_outside_group t.corners c.args.window c.group_bounds.result c.shared.result (c.group_bounds.ensures.covered i t low high at) c.shared.ensures (sym c.is_empty.ensures ∙ empty) x y within

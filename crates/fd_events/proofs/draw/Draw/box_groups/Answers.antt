@@ -1,7 +1,7 @@
 use Rattle.std.proofs.Common.{◌≡◌, ◌+◌, ◌++◌, ◌∷◌, [], length, length-append, sym, subst, arith}
-use Rattle.fd_events.specs.Bounds.{HoldGroups}
+use Rattle.fd_events.specs.Bounds.{AreRoundGroups}
 use Rattle.fd_events.specs.Draw.{triangles_of}
-use Rattle.fd_events.proofs.BoundsLemmas.{HoldGroups-next}
+use Rattle.fd_events.proofs.BoundsLemmas.{AreRoundGroups-next}
 use Rattle.fd_events.proofs.draw.Draw.box_groups.Goals as goal
 
 pub loop-group-preserved : goal.loop-group-preserved
@@ -9,6 +9,6 @@ loop-group-preserved c =
     let inv = c.loop-group.invariant in
     let ts = triangles_of c.self.inside.list in
     let items = c.in_ok-push.ensures.items in
-    let pushed : HoldGroups (c.loop-group.groups.items ++ c.group_bounds.result ∷ []) ts = HoldGroups-next c.loop-group.groups.items ts c.loop-group.group c.group_bounds.result inv.1 inv.2 c.group_bounds.ensures in
+    let pushed : AreRoundGroups (c.loop-group.groups.items ++ c.group_bounds.result ∷ []) ts = AreRoundGroups-next c.loop-group.groups.items ts c.loop-group.group c.group_bounds.result inv.1 inv.2 c.group_bounds.ensures in
     let longer : length (c.loop-group.groups.items ++ c.group_bounds.result ∷ []) ≡ c.loop-group.group + 1 = omega (arith, inv.1, length-append c.loop-group.groups.items (c.group_bounds.result ∷ [])) in
-    (inv.0, rw items longer, subst (λ boxes. HoldGroups boxes ts) (sym items) pushed)
+    (inv.0, rw items longer, subst (λ boxes. AreRoundGroups boxes ts) (sym items) pushed)

@@ -1,8 +1,15 @@
 use Rattle.std.proofs.Common.{◌*◌, ◌+◌, min, refl, ap, ◌∙◌}
 use Rattle.fd_events.specs.declared.draw.TheConstants.{GROUP_LEN}
+use Rattle.fd_events.specs.Bounds.{between, bounds_of_triangles}
 use Rattle.fd_events.specs.Draw.{triangles_of}
 use Rattle.fd_events.proofs.BoundsLemmas.{HoldsGroup-between}
 use Rattle.fd_events.proofs.list.TriangleList.group_bounds.Goals as goal
 
 pub returns : goal.returns
-returns c = HoldsGroup-between (triangles_of c.args.self.now) c.args.group _ _ c.bounds.result refl (c.min.ensures ∙ ap (λ n. min (GROUP_LEN * c.args.group + GROUP_LEN) n) c.len-len.ensures.value) c.bounds.ensures.covered
+returns c =
+    let ts = triangles_of c.args.self.now in
+    let last = (c.min.ensures ∙ ap (λ n. min (GROUP_LEN * c.args.group + GROUP_LEN) n) c.len-len.ensures.value) in
+    record {
+      value = c.bounds.ensures.value ∙ ap (λ n. bounds_of_triangles (between (GROUP_LEN * c.args.group) n ts)) last;
+      covered = HoldsGroup-between ts c.args.group _ _ c.bounds.result refl last c.bounds.ensures.covered;
+    }
