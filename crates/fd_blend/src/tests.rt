@@ -1,4 +1,5 @@
 use crate::{BlendFault, BlendOp, BlendState, Colour, Factor, Mask, Part, blend, blend_row};
+use std::process::Abort;
 use std::test::Fail;
 
 mod table;
@@ -138,8 +139,31 @@ fn byte(place: usize, step: usize) -> u8 {
     (place.wrapping_mul(step) % 256) as u8
 }
 
+/// Rows of all lengths that a pair of pixels, a tile's row and its neighbours make, against the blends of their places.
+fn expect_equal_row(
+    rt: &impl Abort,
+    state: &BlendState,
+    factor: Colour,
+    src: &[Colour; 65],
+    before: &[Colour; 65],
+) {
+    for len in [0, 1, 7, 31, 32, 33, 65] {
+        let mut dst = *before;
+        blend_row(state, factor, &src[..len], &mut dst[..len]);
+        for place in 0..65 {
+            let expected = if place < len {
+                blend(state, factor, src[place], before[place])
+            } else {
+                before[place]
+            };
+            assert_eq!(rt; dst[place], expected, "at {place} of {len}");
+        }
+    }
+}
+
 #[test]
 fn blend_row_equals_blend(rt: HostRuntime) -> Result<(), Fail> {
+    let factor = colour(128, 0, 255, 77);
     let mut src = [WHITE; 65];
     let mut before = [WHITE; 65];
     for place in 0..65 {
@@ -157,18 +181,12 @@ fn blend_row_equals_blend(rt: HostRuntime) -> Result<(), Fail> {
         );
     }
     for op in OPERATIONS {
-        let state = everywhere(part(Factor::SrcAlpha, Factor::InvDestAlpha, op))?;
-        for len in [0, 1, 7, 31, 32, 33, 65] {
-            let mut dst = before;
-            blend_row(&state, WHITE, &src[..len], &mut dst[..len]);
-            for place in 0..65 {
-                let expected = if place < len {
-                    blend(&state, WHITE, src[place], before[place])
-                } else {
-                    before[place]
-                };
-                assert_eq!(rt; dst[place], expected, "at {place} of {len}");
-            }
+        let rgb = part(Factor::SrcAlpha, Factor::InvDestColor, op);
+        let alpha = part(Factor::InvBlendFactor, Factor::DestAlpha, op);
+        for (enable, mask) in [(true, 15), (true, 10), (false, 15), (false, 5)] {
+            let mask = Mask::from_bits(mask).ok_or("no mask")?;
+            let state = BlendState::new(enable, rgb, alpha, mask)?;
+            expect_equal_row(&rt, &state, factor, &src, &before);
         }
     }
     Ok(())

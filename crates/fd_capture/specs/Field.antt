@@ -1,12 +1,12 @@
 -- What the values and members of a capture (RFC 8259) stand for.
-use Rattle.std.specs.Prelude.{ℕ, ◌-◌, ◌^◌, ℤ, pos, negsuc, int_le, unsigned_abs, codes, Bool, Option, Some, None, option_map, option_and_then, List, [], ◌∷◌, nat_le, ◌&&◌, if◌then◌else◌}
+use Rattle.std.specs.Prelude.{ℕ, ◌-◌, ◌^◌, ℤ, pos, negsuc, int_le, unsigned_abs, codes, Bool, Option, Some, None, option_map, option_and_then, List, [], ◌∷◌, nat_le, ◌&&◌, ◌==◌, if◌then◌else◌}
 use Prim.Native.String.{String}
 use Rattle.serde_json.specs.Data.{Data, Items, no_items, item}
 use Rattle.serde_json.specs.Find.{get, as_bool, as_number, as_i64, as_str, as_array}
 use Rattle.fd_blend.specs.declared.equation.Part.{Part}
 use Rattle.fd_cover.specs.declared.verdict.Rect.{Rect}
 use Rattle.fd_events.specs.declared.draw.Vertex.{Vertex}
-use Rattle.fd_snap.specs.declared.position.TheConstants.{POSITION_LIMIT}
+use Rattle.fd_snap.specs.Limits.{position_limit}
 use Rattle.fd_snap.specs.Point.{Point}
 use Rattle.fd_capture.specs.Spelling.{spelled_factor, spelled_op}
 use Rattle.fd_blend.specs.declared.channel.Colour.{Colour}
@@ -96,7 +96,7 @@ all_of f (d ∷ ds) = do
 
 -- a position, if its coordinates are within the limit
 abbrev pub position_of : ℤ → ℤ → Option Point
-position_of x y = if nat_le (unsigned_abs x) POSITION_LIMIT && nat_le (unsigned_abs y) POSITION_LIMIT then Some (record { x = x; y = y }) else None
+position_of x y = if nat_le (unsigned_abs x) position_limit && nat_le (unsigned_abs y) position_limit then Some (record { x = x; y = y }) else None
 
 -- ---- members of an object; no other value has any
 
@@ -124,16 +124,22 @@ part_at name d = get (codes name) d >>= part_of
 abbrev pub signed_at : String → Data → Option ℤ
 signed_at name d = get (codes name) d >>= signed_32
 
-abbrev pub vertex_of : Data → Option Vertex
-vertex_of d = do
+-- the depth of a vertex: a member of version 2, and 0 in version 1
+abbrev pub z_of : ℕ → Data → Option ℕ
+z_of version d = if version == 2 then number_at "z" 0 65535 d else Some 0
+
+-- a vertex in a capture of a version
+abbrev pub vertex_of : ℕ → Data → Option Vertex
+vertex_of version d = do
   x ← signed_at "x" d
   y ← signed_at "y" d
   position ← position_of x y
+  z ← z_of version d
   colour ← colour_at "color" d
-  Some (record { pos = position; colour = colour })
+  Some (record { pos = position; colour = colour; z = z })
 
-abbrev pub vertices_at : String → Data → Option (List Vertex)
-vertices_at name d = array_at name d >>= all_of vertex_of
+abbrev pub vertices_at : ℕ → String → Data → Option (List Vertex)
+vertices_at version name d = array_at name d >>= all_of (vertex_of version)
 
 -- indices may be missing
 abbrev pub indices_of : Option Data → Option (Option (List ℕ))

@@ -1,9 +1,8 @@
 ghost use Rattle.std.specs.Prelude.{◌≡◌};
-ghost use Rattle.serde_json.specs.Errors.{IsMemory};
-ghost use Rattle.fd_capture.specs.declared.fault.CaptureFault.TheVariants.{Memory, NotJson};
 
 use fd_events::TableFault;
-use std::alloc::{AllocError, AllocFailed};
+use fd_json::Stop;
+use std::alloc::AllocError;
 use thiserror::Error;
 
 /// Why a capture is refused: the first fault in this order, but memory may run out at any time after the first check.
@@ -19,7 +18,7 @@ pub enum CaptureFault {
     /// The value is no object of this format with a list of events.
     #[error("not a capture")]
     NotCapture,
-    /// The version isn't 1.
+    /// The version is neither 1 nor 2.
     #[error("version")]
     Version,
     /// The width or the height isn't a whole number from 1 to `MAX_SIDE`.
@@ -65,30 +64,16 @@ impl EventFault {
     }
 }
 
-impl From<AllocError> for CaptureFault {
-    ghost from_gives = { λ _ e. e ≡ Memory };
+impl From<Stop> for CaptureFault {
+    ghost use Rattle.std.specs.Prelude.{◌≡◌};
+    ghost use Rattle.fd_capture.specs.Fault.{of_stop};
 
-    fn from(_refused: AllocError) -> CaptureFault {
-        CaptureFault::Memory
-    }
-}
+    ghost from_gives = { λ stop fault. fault ≡ of_stop stop };
 
-impl<T: Drop> From<AllocFailed<T>> for CaptureFault {
-    ghost from_gives = { λ _ e. e ≡ Memory };
-
-    fn from(_refused: AllocFailed<T>) -> CaptureFault {
-        CaptureFault::Memory
-    }
-}
-
-impl From<serde_json::Error> for CaptureFault {
-    ghost from_gives = { λ error fault. (IsMemory error → fault ≡ Memory) × (¬ IsMemory error → fault ≡ NotJson) };
-
-    fn from(error: serde_json::Error) -> CaptureFault {
-        if error.is_memory() {
-            CaptureFault::Memory
-        } else {
-            CaptureFault::NotJson
+    fn from(stop: Stop) -> CaptureFault {
+        match stop {
+            Stop::NotJson => CaptureFault::NotJson,
+            Stop::Memory => CaptureFault::Memory,
         }
     }
 }
@@ -115,17 +100,6 @@ impl From<AllocError> for EventFault {
     ghost from_gives = { λ _ e. e ≡ OutOfMemory };
 
     fn from(_refused: AllocError) -> EventFault {
-        EventFault::Memory
-    }
-}
-
-impl<T: Drop> From<AllocFailed<T>> for EventFault {
-    ghost use Rattle.std.specs.Prelude.{◌≡◌};
-    ghost use Rattle.fd_capture.specs.declared.fault.EventFault.TheVariants.{Memory as OutOfMemory};
-
-    ghost from_gives = { λ _ e. e ≡ OutOfMemory };
-
-    fn from(_refused: AllocFailed<T>) -> EventFault {
         EventFault::Memory
     }
 }

@@ -42,8 +42,15 @@ pub(crate) fn array(value: &Value) -> Option<&[Value]>
     Some(value.as_array()?.as_slice())
 }
 
+/// A whole number from 0 to 65535.
+pub(crate) fn depth(value: &Value) -> Option<u16>
+    ensures { result ≡ number_between 0 65535 (view value.now) }
+{
+    u16::try_from(value.as_i64()?).ok()
+}
+
 /// A whole number from 0 to 255.
-fn byte(value: &Value) -> Option<u8>
+pub(crate) fn byte(value: &Value) -> Option<u8>
     ensures { result ≡ number_between 0 255 (view value.now) }
 {
     u8::try_from(value.as_i64()?).ok()

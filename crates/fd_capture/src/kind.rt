@@ -2,14 +2,14 @@
 ghost use Rattle.std.specs.Prelude.{◌≡◌, ok_or};
 ghost use Rattle.serde_json.specs.View.{view};
 ghost use Rattle.fd_capture.specs.Fault.{GivesEvent};
-ghost use Rattle.fd_capture.specs.Kind.{clear_of, raster_of, scissor_of, blend_of, factor_of, draw_of, marker_of};
+ghost use Rattle.fd_capture.specs.Kind.{clear_of, raster_of, scissor_of, blend_of, factor_of, marker_of, depth_of, depth_clear_of};
 
 use crate::fault::EventFault;
 use crate::field::{colour, mask, part, rect};
-use crate::{spelling, vertex};
+use crate::{field, spelling};
 use fd_blend::BlendState;
-use fd_cover::Raster;
-use fd_events::{Draw, Event, Label};
+use fd_cover::{Depth, Raster};
+use fd_events::{Event, Label};
 use serde_json::Value;
 use std::alloc::Global;
 
@@ -57,23 +57,6 @@ pub(crate) fn factor(event: &Value) -> Option<Event>
     Some(Event::SetFactor(colour(event.get("color")?)?))
 }
 
-/// `draw`: triangles by their vertices, and by indices if there are any.
-pub(crate) fn draw(alloc: Global, event: &Value) -> Result<Event, EventFault>
-    ensures { GivesEvent (λ event. event) result (ok_or (draw_of (view event.now)) EventFault.BadField) }
-{
-    let interp = event
-        .get("interp")
-        .and_then(Value::as_str)
-        .and_then(spelling::interp)
-        .ok_or(EventFault::BadField)?;
-    let vertices = vertex::vertices(alloc, event)?;
-    let indices = vertex::indices(alloc, event)?;
-    let draw = Draw::new(vertices, indices, interp)
-        .ok()
-        .ok_or(EventFault::BadField)?;
-    Ok(Event::Draw(draw))
-}
-
 /// `marker`: a name.
 pub(crate) fn marker(alloc: Global, event: &Value) -> Result<Event, EventFault>
     ensures { GivesEvent (λ event. event) result (ok_or (marker_of (view event.now)) EventFault.BadField) }
@@ -85,4 +68,22 @@ pub(crate) fn marker(alloc: Global, event: &Value) -> Result<Event, EventFault>
     let text = String::from_str(alloc, name)?;
     let label = Label::new(text).ok().ok_or(EventFault::BadField)?;
     Ok(Event::Marker(label))
+}
+
+/// `depth`: the depth state.
+pub(crate) fn depth(event: &Value) -> Option<Event>
+    ensures { result ≡ depth_of (view event.now) }
+{
+    Some(Event::SetDepth(Depth {
+        enable: event.get("enable")?.as_bool()?,
+        write: event.get("write")?.as_bool()?,
+        func: spelling::func(event.get("func")?.as_str()?)?,
+    }))
+}
+
+/// `depth_clear`: a depth.
+pub(crate) fn depth_clear(event: &Value) -> Option<Event>
+    ensures { result ≡ depth_clear_of (view event.now) }
+{
+    Some(Event::DepthClear(field::depth(event.get("depth")?)?))
 }

@@ -1,6 +1,6 @@
 use super::*;
 use fd_blend::{BlendOp, BlendState, Colour, Factor, Mask, Part};
-use fd_cover::{Cull, Interp, Raster, Rect, Tri};
+use fd_cover::{Cull, Depth, Func, Interp, Raster, Rect, Tri};
 use fd_events::{Draw, Event, EventTable};
 use fd_snap::Snapped;
 use std::alloc::Global;
@@ -60,12 +60,11 @@ fn one_clear(rt: HostRuntime) -> Result<(), Fail> {
 const BAD: Option<CaptureFault> = Some(CaptureFault::BadField { number: 1 });
 
 /// A text of the capture, what stands in its place, and the fault.
-const REFUSED_CAPTURES: [(&str, &str, CaptureFault); 5] = [
+const REFUSED_CAPTURES: [(&str, &str, CaptureFault); 4] = [
     ("40]}]}", "40]}]", CaptureFault::NotJson),
     (CAPTURE, "[]", CaptureFault::NotCapture),
     ("\"version\":1", "\"version\":9", CaptureFault::Version),
     ("\"width\":1", "\"width\":0", CaptureFault::Size),
-    ("\"width\":1", "\"width\":2049", CaptureFault::Size),
 ];
 
 /// Events, and the fault.
@@ -95,8 +94,11 @@ fn refused_captures_and_their_faults(rt: HostRuntime) -> Result<(), Fail> {
         let text = changed(alloc, old, new)?;
         assert_eq!(rt; fault_of(alloc, &text), Some(fault), "{new}");
     }
+    // Neither was accepted before the limits grew.
+    let wide = changed(alloc, "\"width\":1", "\"width\":2049")?;
+    assert_eq!(rt; fault_of(alloc, &wide), None);
     let markers = with_events(alloc, &listed(alloc, MARKER, 65_537)?)?;
-    assert_eq!(rt; fault_of(alloc, &markers), Some(CaptureFault::TooMany));
+    assert_eq!(rt; fault_of(alloc, &markers), None);
     for (events, fault) in REFUSED_EVENTS {
         let text = with_events(alloc, events)?;
         assert_eq!(rt; fault_of(alloc, &text), Some(fault), "{events}");
@@ -204,7 +206,7 @@ struct Limit {
 }
 
 /// The limits of one event's members: an event within, and one beyond.
-const MEMBER_LIMITS: [(&str, &str); 17] = [
+const MEMBER_LIMITS: [(&str, &str); 13] = [
     (
         "{\"kind\":\"clear\",\"color\":[0,0,0,0]}",
         "{\"kind\":\"clear\",\"color\":[-1,0,0,0]}",
@@ -240,22 +242,6 @@ const MEMBER_LIMITS: [(&str, &str); 17] = [
     (
         "{\"kind\":\"blend\",\"enable\":true,\"rgb\":[\"ONE\",\"ONE\",\"ADD\"],\"alpha\":[\"ONE\",\"ZERO\",\"ADD\"],\"mask\":15}",
         "{\"kind\":\"blend\",\"enable\":true,\"rgb\":[\"ONE\",\"ONE\",\"ADD\"],\"alpha\":[\"ONE\",\"ZERO\",\"ADD\"],\"mask\":16}",
-    ),
-    (
-        "{\"kind\":\"draw\",\"interp\":\"flat\",\"vertices\":[{\"x\":-536870912,\"y\":536870912,\"color\":[1,2,3,4]}]}",
-        "{\"kind\":\"draw\",\"interp\":\"flat\",\"vertices\":[{\"x\":-536870913,\"y\":536870912,\"color\":[1,2,3,4]}]}",
-    ),
-    (
-        "{\"kind\":\"draw\",\"interp\":\"flat\",\"vertices\":[{\"x\":536870912,\"y\":-536870912,\"color\":[1,2,3,4]}]}",
-        "{\"kind\":\"draw\",\"interp\":\"flat\",\"vertices\":[{\"x\":536870913,\"y\":-536870912,\"color\":[1,2,3,4]}]}",
-    ),
-    (
-        "{\"kind\":\"draw\",\"interp\":\"flat\",\"vertices\":[{\"x\":0,\"y\":-536870912,\"color\":[1,2,3,4]}]}",
-        "{\"kind\":\"draw\",\"interp\":\"flat\",\"vertices\":[{\"x\":0,\"y\":-536870913,\"color\":[1,2,3,4]}]}",
-    ),
-    (
-        "{\"kind\":\"draw\",\"interp\":\"flat\",\"vertices\":[{\"x\":0,\"y\":536870912,\"color\":[1,2,3,4]}]}",
-        "{\"kind\":\"draw\",\"interp\":\"flat\",\"vertices\":[{\"x\":0,\"y\":536870913,\"color\":[1,2,3,4]}]}",
     ),
     (
         "{\"kind\":\"draw\",\"interp\":\"flat\",\"vertices\":[{\"x\":0,\"y\":0,\"color\":[1,2,3,4]}],\"indices\":[0]}",
@@ -295,7 +281,7 @@ fn filled_up(alloc: Global, len: usize) -> Result<Vec<u8>, Fail> {
 }
 
 /// The limits of a capture's other members: a text of the capture, what stands in its place within the limit and beyond it, and the fault.
-const HEAD_LIMITS: [(&str, &str, &str, CaptureFault); 6] = [
+const HEAD_LIMITS: [(&str, &str, &str, CaptureFault); 4] = [
     (
         "\"version\":1",
         "\"version\":1",
@@ -304,8 +290,8 @@ const HEAD_LIMITS: [(&str, &str, &str, CaptureFault); 6] = [
     ),
     (
         "\"version\":1",
-        "\"version\":1",
         "\"version\":2",
+        "\"version\":3",
         CaptureFault::Version,
     ),
     (
@@ -315,21 +301,9 @@ const HEAD_LIMITS: [(&str, &str, &str, CaptureFault); 6] = [
         CaptureFault::Size,
     ),
     (
-        "\"width\":1",
-        "\"width\":2048",
-        "\"width\":2049",
-        CaptureFault::Size,
-    ),
-    (
         "\"height\":1",
         "\"height\":1",
         "\"height\":0",
-        CaptureFault::Size,
-    ),
-    (
-        "\"height\":1",
-        "\"height\":2048",
-        "\"height\":2049",
         CaptureFault::Size,
     ),
 ];
@@ -349,12 +323,6 @@ fn limits_of_captures_as_a_whole(alloc: Global) -> Result<Vec<Limit>, Fail> {
         within: nested_capture(alloc, 127)?,
         beyond: nested_capture(alloc, 128)?,
         fault: CaptureFault::NotJson,
-    })?;
-    limits.push(Limit {
-        name: "events",
-        within: with_events(alloc, &listed(alloc, MARKER, 65_536)?)?,
-        beyond: with_events(alloc, &listed(alloc, MARKER, 65_537)?)?,
-        fault: CaptureFault::TooMany,
     })?;
     Ok(limits)
 }
@@ -402,6 +370,185 @@ fn limits_of_captures(rt: HostRuntime) -> Result<(), Fail> {
     assert_eq!(rt; read(alloc, &longest).err(), None);
     let too_long = filled_up(alloc, 67_108_865)?;
     assert_eq!(rt; read(alloc, &too_long).err(), Some(CaptureFault::TooLong));
+    Ok(())
+}
+
+/// The limits that are larger than they were: a text of the capture, and what stands in its place within the limit and beyond it.
+const LARGER_SIDES: [(&str, &str, &str); 2] = [
+    ("\"width\":1", "\"width\":16384", "\"width\":16385"),
+    ("\"height\":1", "\"height\":16384", "\"height\":16385"),
+];
+
+/// Coordinates within the limit, and beyond it.
+const LARGER_COORDINATES: [(&str, &str); 4] = [
+    (
+        "\"x\":1073741824,\"y\":-1073741824",
+        "\"x\":1073741825,\"y\":-1073741824",
+    ),
+    (
+        "\"x\":-1073741824,\"y\":1073741824",
+        "\"x\":-1073741825,\"y\":1073741824",
+    ),
+    ("\"x\":0,\"y\":1073741824", "\"x\":0,\"y\":1073741825"),
+    ("\"x\":0,\"y\":-1073741824", "\"x\":0,\"y\":-1073741825"),
+];
+
+/// A draw of one vertex with these coordinates.
+fn vertex_at(alloc: Global, coordinates: &str) -> Result<String, Fail> {
+    let event = format!(in alloc;
+        "{{\"kind\":\"draw\",\"interp\":\"flat\",\"vertices\":[{{{coordinates},\"color\":[1,2,3,4]}}]}}"
+    )?;
+    with_events(alloc, &event)
+}
+
+#[test]
+fn larger_limits_of_captures(rt: HostRuntime) -> Result<(), Fail> {
+    let alloc = rt.alloc();
+    let mut limits = Vec::new(alloc);
+    for (name, within, beyond) in LARGER_SIDES {
+        limits.push(Limit {
+            name,
+            within: changed(alloc, name, within)?,
+            beyond: changed(alloc, name, beyond)?,
+            fault: CaptureFault::Size,
+        })?;
+    }
+    for (within, beyond) in LARGER_COORDINATES {
+        limits.push(Limit {
+            name: beyond,
+            within: vertex_at(alloc, within)?,
+            beyond: vertex_at(alloc, beyond)?,
+            fault: CaptureFault::BadField { number: 1 },
+        })?;
+    }
+    limits.push(Limit {
+        name: "events",
+        within: with_events(alloc, &listed(alloc, MARKER, 1_000_000)?)?,
+        beyond: with_events(alloc, &listed(alloc, MARKER, 1_000_001)?)?,
+        fault: CaptureFault::TooMany,
+    })?;
+    check_limits(&rt, alloc, limits);
+    Ok(())
+}
+
+/// A capture of version 2: a farther triangle is drawn after a nearer one, and again after the depths were cleared.
+const DEPTH_TEST: &str =
+    "{\"format\":\"framedbg\",\"version\":2,\"width\":1,\"height\":1,\"events\":[
+    {\"kind\":\"depth\",\"enable\":true,\"write\":true,\"func\":\"LESS\"},
+    {\"kind\":\"draw\",\"interp\":\"flat\",\"vertices\":[
+        {\"x\":0,\"y\":0,\"z\":1000,\"color\":[1,1,1,1]},
+        {\"x\":131072,\"y\":0,\"z\":1000,\"color\":[1,1,1,1]},
+        {\"x\":0,\"y\":131072,\"z\":1000,\"color\":[1,1,1,1]}]},
+    {\"kind\":\"draw\",\"interp\":\"flat\",\"vertices\":[
+        {\"x\":0,\"y\":0,\"z\":2000,\"color\":[2,2,2,2]},
+        {\"x\":131072,\"y\":0,\"z\":2000,\"color\":[2,2,2,2]},
+        {\"x\":0,\"y\":131072,\"z\":2000,\"color\":[2,2,2,2]}]},
+    {\"kind\":\"depth_clear\",\"depth\":65535},
+    {\"kind\":\"draw\",\"interp\":\"flat\",\"vertices\":[
+        {\"x\":0,\"y\":0,\"z\":2000,\"color\":[2,2,2,2]},
+        {\"x\":131072,\"y\":0,\"z\":2000,\"color\":[2,2,2,2]},
+        {\"x\":0,\"y\":131072,\"z\":2000,\"color\":[2,2,2,2]}]}]}";
+
+/// The capture of version 2 with a text in it replaced.
+fn changed_depth(alloc: Global, old: &str, new: &str) -> Result<String, Fail> {
+    let (before, after) = DEPTH_TEST
+        .split_once(old)
+        .ok_or("the capture has no such text")?;
+    Ok(format!(in alloc; "{before}{new}{after}")?)
+}
+
+/// What version 2 has beside version 1: a text of the capture of version 2, what stands in its place, and the fault, if there is one.
+const VERSIONS_AND_THEIR_MEMBERS: [(&str, &str, Option<CaptureFault>); 18] = [
+    (
+        "\"version\":2",
+        "\"version\":9",
+        Some(CaptureFault::Version),
+    ),
+    ("\"version\":2,", "", Some(CaptureFault::Version)),
+    (
+        "\"version\":2",
+        "\"version\":2.0",
+        Some(CaptureFault::Version),
+    ),
+    (
+        "\"version\":2",
+        "\"version\":1",
+        Some(CaptureFault::UnknownEvent { number: 1 }),
+    ),
+    ("\"z\":1000,", "", SECOND),
+    ("\"z\":2000,", "", THIRD),
+    ("\"z\":1000", "\"z\":0", None),
+    ("\"z\":1000", "\"z\":-1", SECOND),
+    ("\"z\":1000", "\"z\":65535", None),
+    ("\"z\":1000", "\"z\":65536", SECOND),
+    ("\"z\":1000", "\"z\":1000.0", SECOND),
+    ("\"depth\":65535", "\"depth\":0", None),
+    ("\"depth\":65535", "\"depth\":-1", FOURTH),
+    ("\"depth\":65535", "\"depth\":65536", FOURTH),
+    ("\"LESS\"", "\"less\"", BAD),
+    ("\"write\":true", "\"write\":1", BAD),
+    ("\"enable\":true,", "", BAD),
+    // The last version counts, and it stands behind the events.
+    ("]}]}]}", "]}]}],\"version\":1}", UNKNOWN),
+];
+
+const SECOND: Option<CaptureFault> = Some(CaptureFault::BadField { number: 2 });
+
+const THIRD: Option<CaptureFault> = Some(CaptureFault::BadField { number: 3 });
+
+const FOURTH: Option<CaptureFault> = Some(CaptureFault::BadField { number: 4 });
+
+/// In version 1 these members are ignored, and these kinds unknown.
+const IGNORED_IN_VERSION_ONE: [(&str, Option<CaptureFault>); 4] = [
+    (
+        "{\"kind\":\"draw\",\"interp\":\"flat\",\"vertices\":[{\"x\":0,\"y\":0,\"z\":65536,\"color\":[1,2,3,4]}]}",
+        None,
+    ),
+    (
+        "{\"kind\":\"draw\",\"interp\":\"flat\",\"vertices\":[{\"x\":0,\"y\":0,\"z\":[],\"color\":[1,2,3,4]}]}",
+        None,
+    ),
+    ("{\"kind\":\"depth\"}", UNKNOWN),
+    ("{\"kind\":\"depth_clear\",\"depth\":0}", UNKNOWN),
+];
+
+const UNKNOWN: Option<CaptureFault> = Some(CaptureFault::UnknownEvent { number: 1 });
+
+#[test]
+fn versions_and_their_members(rt: HostRuntime) -> Result<(), Fail> {
+    let alloc = rt.alloc();
+    let second = changed(alloc, "\"version\":1", "\"version\":2")?;
+    let table = read(alloc, second.as_bytes())?;
+    assert_eq!(rt; (table.version(), table.len()), (2, 1));
+    assert!(rt; matches!(table.event(1), Event::Clear(colour) if *colour == rgba(10, 20, 30, 40)));
+    let behind = changed(alloc, "]}]}", "]}],\"version\":2}")?;
+    let table = read(alloc, behind.as_bytes())?;
+    assert_eq!(rt; (table.version(), table.len()), (2, 1));
+    let table = read(
+        alloc,
+        changed_depth(alloc, "\"z\":1000", "\"z\":7")?.as_bytes(),
+    )?;
+    assert_eq!(rt; table.len(), 5);
+    let set = Depth {
+        enable: true,
+        write: true,
+        func: Func::Less,
+    };
+    assert!(rt; matches!(table.event(1), Event::SetDepth(depth) if *depth == set));
+    let Event::Draw(draw) = table.event(2) else {
+        return Err(Fail::from("draw"));
+    };
+    assert_eq!(rt; draw.triangles(), 1);
+    assert_eq!(rt; draw.depths(0), [7, 1000, 1000]);
+    assert!(rt; matches!(table.event(4), Event::DepthClear(65535)));
+    for (old, new, fault) in VERSIONS_AND_THEIR_MEMBERS {
+        let text = changed_depth(alloc, old, new)?;
+        assert_eq!(rt; fault_of(alloc, &text), fault, "{new}");
+    }
+    for (event, fault) in IGNORED_IN_VERSION_ONE {
+        let text = with_events(alloc, event)?;
+        assert_eq!(rt; fault_of(alloc, &text), fault, "{event}");
+    }
     Ok(())
 }
 

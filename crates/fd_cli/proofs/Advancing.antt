@@ -14,7 +14,8 @@ use Rattle.fd_cli.specs.declared.ending.Ending.TheVariants.{Done, Capture, NoSuc
 use Rattle.fd_cli.specs.declared.progress.Progress.{Progress}
 use Rattle.fd_cli.specs.Line.{command_of}
 use Rattle.fd_cli.specs.Run.{Answers}
-use Rattle.fd_cli.specs.Serving.{Answered, Replies, Stops, Serves}
+use Rattle.fd_cli.specs.Counting.{CountsReader}
+use Rattle.fd_cli.specs.Serving.{Answered, BreaksOff, Replies, Stops, Serves}
 use Rattle.fd_cli.specs.Progress.{IsServing, Advances, AfterBytes, Finishes}
 use Rattle.fd_cli.proofs.LineLemmas.{take_take_append, command_front}
 use Rattle.fd_cli.proofs.Servings.{answered_byte, answered_line}
@@ -71,38 +72,47 @@ advance_byte old new held byte other bytes count session line lines one_more sen
 command_of_line : (table : Table) (input text : List ℕ) (progress : Progress) (h : IsServing table input text progress) → command_of progress.line.items ≡ command_of h.rest
 command_of_line table input text progress h = ap command_of h.line ∙ command_front h.rest
 
+abbrev breaks_off : (old new : Progress) (before after : Option (List ℕ)) (replies : Replies old.session (command_of old.line.items) new.session before after old.sent new.sent false)
+    → (table : Table) (input text : List ℕ) → IsServing table input text old → BreaksOff table input (text ++ replies.puts.taken) new.sent
+breaks_off old new before after replies table input text h =
+    record {
+      text = text;
+      lines = h.lines;
+      rest = h.rest;
+      state = old.session;
+      reply = replies.reply;
+      unsent = replies.puts.left;
+      last = new.session;
+      answered = h.answered;
+      answers = subst (λ c. Answers old.session c replies.reply new.session) (command_of_line table input text old h) replies.answers;
+      wrote = append_assoc text replies.puts.taken replies.puts.left ∙ ap (λ xs. text ++ xs) (sym replies.puts.whole);
+      count = omega (arith, replies.puts.counted, h.sent_count, length-append text replies.puts.taken);
+    }
+
 -- a reply that breaks off
-pub advance_fault : (old new : Progress) (before after : Option (List ℕ)) (byte : ℕ)
+pub advance_fault : (old new : Progress) (before after : Option (List ℕ)) (byte : ℕ) → byte ≡ 10 → old.bytes < 268435456 → old.lines < 1000000
     → Replies old.session (command_of old.line.items) new.session before after old.sent new.sent false
     → Advances old new before after (byte ∷ []) (Err (Write new.sent))
-advance_fault old new before after byte replies =
+advance_fault old new before after byte feed bytes count replies =
     record {
       written = replies.puts.taken;
       appended = replies.puts.appended;
       after = λ table input text h. record {
         input = input;
-        more = byte ∷ [];
-        text = text;
-        lines = h.lines;
-        rest = h.rest;
-        state = old.session;
-        reply = replies.reply;
-        unsent = replies.puts.left;
-        last = new.session;
-        whole = refl;
-        answered = h.answered;
-        answers = subst (λ c. Answers old.session c replies.reply new.session) (command_of_line table input text old h) replies.answers;
-        wrote = append_assoc text replies.puts.taken replies.puts.left ∙ ap (λ xs. text ++ xs) (sym replies.puts.whole);
-        count = omega (arith, replies.puts.counted, h.sent_count, length-append text replies.puts.taken);
+        more = [];
+        whole = ap (λ b. input ++ b ∷ []) feed;
+        within = omega (arith, bytes, h.byte_count);
+        broken = breaks_off old new before after replies table input text h;
+        count = omega (arith, count, h.line_count);
       };
     }
 
 -- a quit
-pub advance_quit : (old new : Progress) (before after : Option (List ℕ)) (byte : ℕ) → byte ≡ 10
+pub advance_quit : (old new : Progress) (before after : Option (List ℕ)) (byte : ℕ) → byte ≡ 10 → old.bytes < 268435456
     → Replies old.session (command_of old.line.items) new.session before after old.sent new.sent true
     → command_of old.line.items ≡ Ok Quit
     → Advances old new before after (byte ∷ []) (Err Done)
-advance_quit old new before after byte feed replies quit =
+advance_quit old new before after byte feed bytes replies quit =
     let all = puts_all before after old.sent new.sent replies.reply replies.puts in
     let bye = subst (λ c. Answers old.session c replies.reply new.session) quit replies.answers in
     record {
@@ -116,6 +126,7 @@ advance_quit old new before after byte feed replies quit =
         rest = h.rest;
         state = old.session;
         whole = ap (λ b. input ++ b ∷ []) feed;
+        within = omega (arith, bytes, h.byte_count);
         answered = h.answered;
         quit = sym (command_of_line table input text old h) ∙ quit;
         wrote = ap (λ xs. text ++ xs) bye.0;
@@ -182,6 +193,7 @@ stops_more table taken written more Done h =
       rest = h.rest;
       state = h.state;
       whole = ap (λ t. t ++ more) h.whole ∙ append_assoc h.input (10 ∷ h.more) more;
+      within = h.within;
       answered = h.answered;
       quit = h.quit;
       wrote = h.wrote;
@@ -193,17 +205,9 @@ stops_more table taken written more (Write sent) h =
     record {
       input = h.input;
       more = h.more ++ more;
-      text = h.text;
-      lines = h.lines;
-      rest = h.rest;
-      state = h.state;
-      reply = h.reply;
-      unsent = h.unsent;
-      last = h.last;
-      whole = ap (λ t. t ++ more) h.whole ∙ append_assoc h.input h.more more;
-      answered = h.answered;
-      answers = h.answers;
-      wrote = h.wrote;
+      whole = ap (λ t. t ++ more) h.whole ∙ append_assoc h.input (10 ∷ h.more) more;
+      within = h.within;
+      broken = h.broken;
       count = h.count;
     }
 stops_more table taken written more TooMuch h =
@@ -284,28 +288,16 @@ finish_line old new before after some replies =
     }
 
 -- the reply to the unfinished line breaks off
-pub finish_fault : (old new : Progress) (before after : Option (List ℕ))
+pub finish_fault : (old new : Progress) (before after : Option (List ℕ)) → 0 < length old.line.items
     → Replies old.session (command_of old.line.items) new.session before after old.sent new.sent false → Finishes old before after (Write new.sent)
-finish_fault old new before after replies =
+finish_fault old new before after some replies =
     record {
       written = replies.puts.taken;
       appended = replies.puts.appended;
-      after = λ table input text h. record {
-        input = input;
-        more = [];
-        text = text;
-        lines = h.lines;
-        rest = h.rest;
-        state = old.session;
-        reply = replies.reply;
-        unsent = replies.puts.left;
-        last = new.session;
-        whole = sym (append-nil input);
-        answered = h.answered;
-        answers = subst (λ c. Answers old.session c replies.reply new.session) (command_of_line table input text old h) replies.answers;
-        wrote = append_assoc text replies.puts.taken replies.puts.left ∙ ap (λ xs. text ++ xs) (sym replies.puts.whole);
-        count = omega (arith, replies.puts.counted, h.sent_count, length-append text replies.puts.taken);
-      };
+      after = λ table input text h. inr (
+        refl,
+        record { broken = breaks_off old new before after replies table input text h; some = rest_some h.rest (omega (arith, ap length h.line)) },
+      );
     }
 
 -- the start of a run
@@ -334,7 +326,7 @@ serves_stop table taken written Done ended h = inl h
 serves_stop table taken written (Capture fault) ended h = absurd h
 serves_stop table taken written NoSuchPosition ended h = absurd h
 serves_stop table taken written Read ended h = absurd h
-serves_stop table taken written (Write sent) ended h = h
+serves_stop table taken written (Write sent) ended h = inl h
 serves_stop table taken written TooMuch ended h = h
 serves_stop table taken written Memory ended h = absurd h
 
@@ -356,3 +348,18 @@ front_of k slice rest within = take-append-le k slice rest within
 pub end_reached : (old new : Bool) (n size : ℕ) → new ≡ (old || ((n == 0) && ltb 0 size)) → n ≡ 0 → 0 < size → new ≡ true
 end_reached old new n size is none room =
     is ∙ ap (λ k. old || ((k == 0) && ltb 0 size)) none ∙ ap (λ b. old || b) (lt-ltb 0 size room) ∙ or_right old true refl
+
+-- what ends a run in the middle of its input is no fault of the reader
+pub reader_kept : (table : Table) (taken written : List ℕ) (ending : Ending) (old new : ℕ) → Stops table taken written ending → new ≡ old → CountsReader ending old new
+reader_kept table taken written Done old new h e = e
+reader_kept table taken written (Capture fault) old new h e = absurd h
+reader_kept table taken written NoSuchPosition old new h e = absurd h
+reader_kept table taken written Read old new h e = absurd h
+reader_kept table taken written (Write sent) old new h e = e
+reader_kept table taken written TooMuch old new h e = e
+reader_kept table taken written Memory old new h e = absurd h
+
+-- nor is what ends it at the input's end
+pub reader_kept_end : (ending : Ending) (old new : ℕ) → (ending ≡ Done) ⊎ ((sent : ℕ) × (ending ≡ Write sent)) → new ≡ old → CountsReader ending old new
+reader_kept_end ending old new (inl p) e = subst (λ x. CountsReader x old new) (sym p) e
+reader_kept_end ending old new (inr p) e = subst (λ x. CountsReader x old new) (sym p.1) e

@@ -3,14 +3,14 @@ use Rattle.std.proofs.Common.{◌≡◌, ℕ, ◌+◌, ◌-◌, ◌<◌, ◌≤�
 use Rattle.std.specs.Prelude.{not}
 use Rattle.fd_blend.specs.declared.channel.Colour.{Colour}
 use Rattle.fd_events.specs.Table.{flag_at}
-use Rattle.fd_events.specs.Image.{colour_at}
+use Rattle.fd_events.specs.Image.{colour_at, stored_at}
 use Rattle.fd_history.specs.declared.entry.Entry.{Entry}
 use Rattle.fd_history.specs.History.{history_at}
 use Rattle.fd_session.specs.declared.answer.Answer.{Answer}
 use Rattle.fd_session.specs.declared.answer.Answer.TheVariants.{Moved, Stopped, Refused}
 use Rattle.fd_session.specs.declared.answer.SessionFault.{SessionFault}
 use Rattle.fd_session.specs.declared.answer.SessionFault.TheVariants.{AtEnd, AtStart, NoSuchPosition, NoSuchEvent, AlreadySo, NoSuchPixel, Memory}
-use Rattle.fd_session.specs.Machine.{State, at_position, with_flag_at, Steps, GoesBack, Jumps, Switches, ShowsPixel, ShowsHistory}
+use Rattle.fd_session.specs.Machine.{State, at_position, with_flag_at, Steps, GoesBack, Jumps, Switches, ShowsPixel, ShowsDepth, ShowsHistory}
 use Rattle.fd_cli.specs.declared.command.Command.{Command}
 use Rattle.fd_cli.specs.declared.command.Command.TheVariants.{Step, Back, Goto, On, Off, Pixel, History, State as ShowState, Events, Show, Quit}
 use Rattle.fd_cli.specs.declared.command.CommandFault.{CommandFault}
@@ -119,14 +119,22 @@ Inside old x y = (x < old.table.width) × (y < old.table.height)
 abbrev Outside : State → ℕ → ℕ → Type 0
 Outside old x y = x < old.table.width → y < old.table.height → ⊥
 
-pixel_one : (old : State) (x y : ℕ) (outcome : Result Colour SessionFault) (text : List ℕ) (new : State) → ShowsPixel old x y outcome → text ≡ pixel_line outcome → new ≡ old
-    → OneOf (Inside old x y) (Outside old x y) (text, new) (pixel_line (Ok (colour_at old.table old.position x y)), old) (refused old NoSuchPixel)
-pixel_one old x y (Ok colour) text new h is same = inl ((h.0, h.1), pair text _ new old (is ∙ ap (λ c. pixel_line (Ok c)) h.2) same)
-pixel_one old x y (Err fault) text new h is same = inr (h.1, pair text _ new old (is ∙ ap refusal_line h.0) same)
+pixel_one : (old : State) (x y : ℕ) (colour : Result Colour SessionFault) (depth : Result ℕ SessionFault) (text : List ℕ) (new : State)
+    → ShowsPixel old x y colour → ShowsDepth old x y depth → text ≡ pixel_line old.table.version colour depth → new ≡ old
+    → OneOf (Inside old x y) (Outside old x y) (text, new)
+    (pixel_line old.table.version (Ok (colour_at old.table old.position x y)) (Ok (stored_at old.table old.position x y)), old) (refused old NoSuchPixel)
+pixel_one old x y (Ok colour) (Ok depth) text new h e is same =
+    inl (
+      (h.0, h.1),
+      pair text _ new old
+          (is ∙ ap (λ c. pixel_line old.table.version (Ok c) (Ok depth)) h.2 ∙ ap (λ d. pixel_line old.table.version (Ok (colour_at old.table old.position x y)) (Ok d)) e.2) same,
+    )
+pixel_one old x y (Ok colour) (Err fault) text new h e is same = inr (e.1, pair text _ new old (is ∙ ap refusal_line e.0) same)
+pixel_one old x y (Err fault) depth text new h e is same = inr (h.1, pair text _ new old (is ∙ ap refusal_line h.0) same)
 
-history_one : (old : State) (x y : ℕ) (outcome : Result (List Entry) SessionFault) (text : List ℕ) (new : State) → ShowsHistory old x y outcome → text ≡ history_text outcome → new ≡ old
-    → (NamesMemory text → ⊥) → OneOf (Inside old x y) (Outside old x y) (text, new) (entry_list (history_at old.table old.position x y), old) (refused old NoSuchPixel)
-history_one old x y (Ok entries) text new h is same free = inl ((h.0, h.1), pair text _ new old (is ∙ ap entry_list h.2) same)
+history_one : (old : State) (x y : ℕ) (outcome : Result (List Entry) SessionFault) (text : List ℕ) (new : State) → ShowsHistory old x y outcome → text ≡ history_text old.table.version outcome → new ≡ old
+    → (NamesMemory text → ⊥) → OneOf (Inside old x y) (Outside old x y) (text, new) (entry_list old.table.version (history_at old.table old.position x y), old) (refused old NoSuchPixel)
+history_one old x y (Ok entries) text new h is same free = inl ((h.0, h.1), pair text _ new old (is ∙ ap (entry_list old.table.version) h.2) same)
 history_one old x y (Err NoSuchPixel) text new h is same free = inr (h, pair text _ new old is same)
 history_one old x y (Err Memory) text new h is same free = absurd (free (inr is))
 history_one old x y (Err AtEnd) text new h is same free = absurd h
@@ -160,7 +168,7 @@ answers_agree old (Ok (Off number)) text new other last h k free free_too =
     switch_one old number false h.0 text new h.1 h.2 free ∙ sym (switch_one old number false k.0 other last k.1 k.2 free_too)
 answers_agree old (Ok (Pixel x y)) text new other last h k free free_too =
     one_of_agree _ _ _ _ (text, new) (other, last) (λ (c : Inside old x y) (d : Outside old x y). d c.0 c.1)
-    (pixel_one old x y h.0 text new h.1 h.2 h.3) (pixel_one old x y k.0 other last k.1 k.2 k.3)
+    (pixel_one old x y h.0 h.1 text new h.2 h.3 h.4 h.5) (pixel_one old x y k.0 k.1 other last k.2 k.3 k.4 k.5)
 answers_agree old (Ok (History x y)) text new other last h k free free_too =
     one_of_agree _ _ _ _ (text, new) (other, last) (λ (c : Inside old x y) (d : Outside old x y). d c.0 c.1)
     (history_one old x y h.0 text new h.1 h.2 h.3 free) (history_one old x y k.0 other last k.1 k.2 k.3 free_too)

@@ -3,6 +3,9 @@ use Rattle.std.proofs.Common.{◌≡◌, ℕ, ◌^◌, ◌<◌, ◌≤◌, List,
 use Rattle.std.specs.Prelude.{decimal}
 use Rattle.std.proofs.lemmas.Fmt.{length-decimal-le}
 use Rattle.std.proofs.Math.Nat.{mul-le-mul}
+use Rattle.fd_cli.specs.Limits.{most_reply_bytes}
+use Rattle.fd_snap.specs.Limits.{most_pixels}
+use Rattle.fd_pam.specs.Limits.{most_tuple_bytes}
 use Rattle.fd_pam.specs.Pam.{header, tuples, pam, pam_len}
 use Rattle.fd_pam.specs.Transfer.{Puts}
 use Rattle.fd_pam.proofs.Pams.{body_short, length-body, length-header}
@@ -22,7 +25,7 @@ length-number_line word n fits short =
       length-append word (codes " "),
     )
 
-pub header_short : (width height : ℕ) → width ≤ 2048 → height ≤ 2048 → length (header width height) ≤ 200
+pub header_short : (width height : ℕ) → width ≤ most_pixels → height ≤ most_pixels → length (header width height) ≤ 200
 header_short width height w h =
     omega (arith, length-header width height, length-decimal-le 20 width (omega arith) (omega arith) (omega arith), length-decimal-le 20 height (omega arith) (omega arith) (omega arith))
 
@@ -30,19 +33,19 @@ header_short width height w h =
 abbrev pub show_line : State → List ℕ
 show_line state = number_line (codes "pam") (pam_len state.table.width state.table.height)
 
-line_short : (state : State) → state.table.width ≤ 2048 → state.table.height ≤ 2048 → length (show_line state) ≤ 60
+line_short : (state : State) → state.table.width ≤ most_pixels → state.table.height ≤ most_pixels → length (show_line state) ≤ 60
 line_short state width height =
     let w = state.table.width in
     let h = state.table.height in
-    let fits : pam_len w h < 2 ^ 64 = omega (arith, header_short w h width height, mul-le-mul {n₁ = w} {m₁ = h} {n₂ = 2048} {m₂ = 2048} width height) in
+    let fits : pam_len w h < 2 ^ 64 = omega (arith, header_short w h width height, mul-le-mul {n₁ = w} {m₁ = h} {n₂ = most_pixels} {m₂ = most_pixels} width height) in
     length-number_line (codes "pam") (pam_len w h) fits (omega arith)
 
 -- each part of the reply is short
-pub parts_short : (state : State) → state.table.width ≤ 2048 → state.table.height ≤ 2048
-    → (length (show_line state) ≤ 60) × (length (header state.table.width state.table.height) ≤ 200) × (length (tuples state) ≤ 16777216)
+pub parts_short : (state : State) → state.table.width ≤ most_pixels → state.table.height ≤ most_pixels
+    → (length (show_line state) ≤ 60) × (length (header state.table.width state.table.height) ≤ 200) × (length (tuples state) ≤ most_tuple_bytes)
 parts_short state width height = (line_short state width height, header_short state.table.width state.table.height width height, body_short state width height)
 
-show_short : (state : State) → state.table.width ≤ 2048 → state.table.height ≤ 2048 → length (show_text state) ≤ 2 ^ 40
+show_short : (state : State) → state.table.width ≤ most_pixels → state.table.height ≤ most_pixels → length (show_text state) ≤ most_reply_bytes
 show_short state width height =
     let parts = parts_short state width height in
     omega (
@@ -55,16 +58,16 @@ show_short state width height =
     )
 
 abbrev pub Shows : State → Option (List ℕ) → Option (List ℕ) → ℕ → ℕ → Bool → Type 0
-Shows state a b m n ok = (text : List ℕ) × ((text ≡ show_text state) ⊎ (text ≡ refusal_line Memory)) × (length text ≤ 2 ^ 40) × Puts a b m n text ok
+Shows state a b m n ok = (text : List ℕ) × ((text ≡ show_text state) ⊎ (text ≡ refusal_line Memory)) × (length text ≤ most_reply_bytes) × Puts a b m n text ok
 
 -- the first line breaks off
-pub shows_line : (state : State) (a b : Option (List ℕ)) (m n : ℕ) → state.table.width ≤ 2048 → state.table.height ≤ 2048
+pub shows_line : (state : State) (a b : Option (List ℕ)) (m n : ℕ) → state.table.width ≤ most_pixels → state.table.height ≤ most_pixels
     → Puts a b m n (show_line state) false → Shows state a b m n false
 shows_line state a b m n width height line =
     (show_text state, inl refl, show_short state width height, puts_broken a b m n (show_line state) (pam state) line)
 
 -- the header breaks off
-pub shows_header : (state : State) (a b c : Option (List ℕ)) (m n k : ℕ) → state.table.width ≤ 2048 → state.table.height ≤ 2048
+pub shows_header : (state : State) (a b c : Option (List ℕ)) (m n k : ℕ) → state.table.width ≤ most_pixels → state.table.height ≤ most_pixels
     → Puts a b m n (show_line state) true
     → Puts b c n k (header state.table.width state.table.height) false → Shows state a c m k false
 shows_header state a b c m n k width height line head = (
@@ -76,7 +79,7 @@ shows_header state a b c m n k width height line head = (
 )
 
 -- the body was sent, or breaks off
-pub shows_body : (state : State) (a b c d : Option (List ℕ)) (m n k l : ℕ) (ok : Bool) → state.table.width ≤ 2048 → state.table.height ≤ 2048
+pub shows_body : (state : State) (a b c d : Option (List ℕ)) (m n k l : ℕ) (ok : Bool) → state.table.width ≤ most_pixels → state.table.height ≤ most_pixels
     → Puts a b m n (show_line state) true
     → Puts b c n k (header state.table.width state.table.height) true
     → Puts c d k l (tuples state) ok → Shows state a d m l ok

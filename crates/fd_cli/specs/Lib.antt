@@ -1,3 +1,4 @@
+pub mod Limits
 pub mod Show
 pub mod Sending
 pub mod Line
@@ -9,3 +10,5 @@ pub mod Progress
 pub mod Report
 pub mod Listing
 pub mod Agreeing
+pub mod Counting
+pub mod VersionOne

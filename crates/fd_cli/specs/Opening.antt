@@ -1,6 +1,7 @@
 -- How a call on a capture ends before it does anything else.
-use Rattle.std.specs.Prelude.{◌≡◌, ◌≢◌, ℕ, List, Result, Ok, Err}
+use Rattle.std.specs.Prelude.{◌≡◌, ◌≢◌, ◌<◌, ℕ, List, length, Result, Ok, Err}
 use Rattle.fd_capture.specs.Capture.{capture_of}
+use Rattle.fd_capture.specs.Limits.{most_bytes}
 use Rattle.fd_capture.specs.declared.fault.CaptureFault.TheVariants as fault
 use Rattle.fd_events.specs.Table.{Table}
 use Rattle.fd_cli.specs.declared.ending.Ending.{Ending}
@@ -20,3 +21,7 @@ EndsUnread capture TooMuch = ⊥
 abbrev pub Opens : List ℕ → Result Table Ending → Type 0
 Opens capture (Ok table) = capture_of capture ≡ Ok table
 Opens capture (Err ending) = EndsUnread capture ending
+
+-- A capture that is too long is refused as that, whatever memory there is.
+abbrev pub RefusesTooLong : List ℕ → Ending → Type 0
+RefusesTooLong capture ending = most_bytes < length capture → ending ≡ Capture fault.TooLong

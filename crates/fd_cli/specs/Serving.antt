@@ -1,6 +1,7 @@
 -- What a run of the program takes and writes, by how it ends.
 use Rattle.std.specs.Prelude.{◌≡◌, ◌≢◌, ℕ, ◌^◌, ◌<◌, ◌≤◌, List, [], ◌∷◌, ◌++◌, Result, Ok, Bool, true, codes, length, Option, ◌⊎◌}
 use Rattle.std.specs.List.{AllByRecursion}
+use Rattle.fd_cli.specs.Limits.{most_reply_bytes}
 use Rattle.fd_events.specs.Table.{Table}
 use Rattle.fd_session.specs.Machine.{State, opening}
 use Rattle.fd_cli.specs.declared.command.Command.{Command}
@@ -32,6 +33,7 @@ pub record StopsAtQuit (table : Table) (taken written : List ℕ) : Type 0 where
   pub rest : List ℕ
   pub state : State
   pub whole : taken ≡ input ++ 10 ∷ more
+  pub within : length input < 268435456
   pub answered : Answered table input text lines rest state
   pub quit : command_of rest ≡ Ok Quit
   pub wrote : written ≡ text ++ codes "bye\n"
@@ -65,10 +67,8 @@ pub record PassesBound (table : Table) (taken written : List ℕ) : Type 0 where
   pub answered : Answered table input written lines rest state
   pub bound : (length input ≡ 268435456) ⊎ (length lines ≡ 1000000)
 
--- The writer took a front of the replies to a front of the input: the last reply breaks off.
-pub record BreaksOff (table : Table) (taken written : List ℕ) (sent : ℕ) : Type 0 where
-  pub input : List ℕ
-  pub more : List ℕ
+-- The writer took a front of the replies to the lines of this input and to the line behind them: the last reply breaks off.
+pub record BreaksOff (table : Table) (input written : List ℕ) (sent : ℕ) : Type 0 where
   pub text : List ℕ
   pub lines : List (List ℕ)
   pub rest : List ℕ
@@ -76,11 +76,24 @@ pub record BreaksOff (table : Table) (taken written : List ℕ) (sent : ℕ) : T
   pub reply : List ℕ
   pub unsent : List ℕ
   pub last : State
-  pub whole : taken ≡ input ++ more
   pub answered : Answered table input text lines rest state
   pub answers : Answers state (command_of rest) reply last
   pub wrote : written ++ unsent ≡ text ++ reply
   pub count : sent ≡ length written
+
+-- It does so within the input, at a line that a line feed ends, with no bound passed.
+pub record BreaksOffWithin (table : Table) (taken written : List ℕ) (sent : ℕ) : Type 0 where
+  pub input : List ℕ
+  pub more : List ℕ
+  pub whole : taken ≡ input ++ 10 ∷ more
+  pub within : length input < 268435456
+  pub broken : BreaksOff table input written sent
+  pub count : length broken.lines < 1000000
+
+-- It does so at the end of the input, at the line that no line feed ends.
+pub record BreaksOffLast (table : Table) (taken written : List ℕ) (sent : ℕ) : Type 0 where
+  pub broken : BreaksOff table taken written sent
+  pub some : 0 < length broken.rest
 
 -- What ends a run in the middle of its input.
 abbrev pub Stops : Table → List ℕ → List ℕ → Ending → Type 0
@@ -88,7 +101,7 @@ Stops table taken written Done = StopsAtQuit table taken written
 Stops table taken written (Capture fault) = ⊥
 Stops table taken written NoSuchPosition = ⊥
 Stops table taken written Read = ⊥
-Stops table taken written (Write sent) = BreaksOff table taken written sent
+Stops table taken written (Write sent) = BreaksOffWithin table taken written sent
 Stops table taken written TooMuch = PassesBound table taken written
 Stops table taken written Memory = ⊥
 
@@ -98,7 +111,7 @@ Serves table taken written Done ended = StopsAtQuit table taken written ⊎ ((en
 Serves table taken written (Capture fault) ended = ⊥
 Serves table taken written NoSuchPosition ended = ⊥
 Serves table taken written Read ended = AnswersLines table taken written
-Serves table taken written (Write sent) ended = BreaksOff table taken written sent
+Serves table taken written (Write sent) ended = BreaksOffWithin table taken written sent ⊎ ((ended ≡ true) × BreaksOffLast table taken written sent)
 Serves table taken written TooMuch ended = PassesBound table taken written
 Serves table taken written Memory ended = (taken ≡ []) × (written ≡ [])
 
@@ -120,4 +133,4 @@ pub record Replies (old : State) (command : Result Command CommandFault) (new : 
   pub reply : List ℕ
   pub answers : Answers old command reply new
   pub puts : Puts held_old held_new sent_old sent_new reply ok
-  pub short : ok ≡ true → length reply ≤ 2 ^ 40
+  pub short : ok ≡ true → length reply ≤ most_reply_bytes

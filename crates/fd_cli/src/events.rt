@@ -1,5 +1,6 @@
 //! The list of a table's events.
 ghost use Rattle.std.specs.Prelude.{◌≡◌, ◌<◌, ◌≤◌, ◌+◌, ◌^◌, length, is_ok, true};
+ghost use Rattle.fd_cli.specs.Limits.{most_reply_bytes};
 ghost use Rattle.fd_pam.specs.Transfer.{Puts, CountsFailure};
 ghost use Rattle.fd_cli.specs.Text.{event_list};
 
@@ -15,9 +16,9 @@ pub(crate) fn send_events<W: Sink>(
     sink: &mut W,
     sent: &mut u64,
 ) -> Result<(), Failed>
-    requires { sent.old + 2 ^ 40 < 2 ^ 64 }
+    requires { sent.old + most_reply_bytes < 2 ^ 64 }
     ensures puts { Puts (W.contents sink.old) (W.contents sink.new) sent.old sent.new (event_list table.now position) (is_ok result) }
-    ensures short { is_ok result ≡ true → length (event_list table.now position) ≤ 2 ^ 40 }
+    ensures short { is_ok result ≡ true → length (event_list table.now position) ≤ most_reply_bytes }
     ensures failures { CountsFailure (W.failure_count sink.old) (W.failure_count sink.new) (is_ok result) }
 {
     let mut chunk = Chunk::new();

@@ -1,7 +1,8 @@
 //! The image of a capture at a position.
 ghost use Rattle.std.specs.Prelude.{◌≡◌, ◌≤◌, ℕ, List};
 ghost use Rattle.std.specs.Io.KnownBytes.{Appends};
-ghost use Rattle.fd_pam.specs.Transfer.{Rises};
+ghost use Rattle.fd_cli.specs.Counting.{CountsWriter};
+ghost use Rattle.fd_cli.specs.Opening.{RefusesTooLong};
 ghost use Rattle.fd_cli.specs.Listing.{ShowsState, ImagesTable, WritesImage};
 
 use crate::ending::Ending;
@@ -16,7 +17,7 @@ use std::thread::Threads;
 /// Writes the image that the session shows, and flushes.
 fn write_shown<W: Sink>(alloc: Global, session: &Session, sink: &mut W) -> Ending
     ensures writes { (written : List ℕ) × Appends (W.contents sink.old) (W.contents sink.new) written × ShowsState session.now written result }
-    ensures write { (sent : ℕ) → result ≡ Ending.Write sent → Rises (W.failure_count sink.old) (W.failure_count sink.new) }
+    ensures failures { CountsWriter result (W.failure_count sink.old) (W.failure_count sink.new) }
 {
     let (width, height) = target_size(session);
     let sent = pam_len(width, height);
@@ -41,7 +42,7 @@ fn write_table<T: Threads + Sync, W: Sink>(
 ) -> Ending
     requires { (1 ≤ workers) × (workers ≤ 64) }
     ensures writes { (written : List ℕ) × Appends (W.contents sink.old) (W.contents sink.new) written × ImagesTable table at written result }
-    ensures write { (sent : ℕ) → result ≡ Ending.Write sent → Rises (W.failure_count sink.old) (W.failure_count sink.new) }
+    ensures failures { CountsWriter result (W.failure_count sink.old) (W.failure_count sink.new) }
 {
     let to = at.unwrap_or(table.len());
     let Ok(mut session) = Session::start(alloc, table, workers) else {
@@ -67,8 +68,9 @@ pub fn image<T: Threads + Sync, W: Sink>(
 ) -> Ending
     requires { (1 ≤ workers) × (workers ≤ 64) }
     ensures writes { (written : List ℕ) × Appends (W.contents sink.old) (W.contents sink.new) written × WritesImage capture.now at written result }
+    ensures too_long { RefusesTooLong capture.now result }
     // The writer failed only where its count of failures tells so.
-    ensures write { (sent : ℕ) → result ≡ Ending.Write sent → Rises (W.failure_count sink.old) (W.failure_count sink.new) }
+    ensures failures { CountsWriter result (W.failure_count sink.old) (W.failure_count sink.new) }
 {
     match open(alloc, capture) {
         Ok(table) => write_table(rt, alloc, table, workers, at, sink),

@@ -1,9 +1,12 @@
 //! The list of a capture's events.
 ghost use Rattle.std.specs.Prelude.{◌≡◌, ◌<◌, ◌+◌, ◌^◌, ℕ, List, is_ok};
 ghost use Rattle.std.specs.Io.KnownBytes.{Appends};
+ghost use Rattle.fd_cli.specs.Limits.{most_reply_bytes};
+ghost use Rattle.fd_cli.specs.Opening.{RefusesTooLong};
 ghost use Rattle.fd_cli.specs.Listing.{WritesText, ListsEvents};
 ghost use Rattle.fd_cli.specs.Text.{event_list};
-ghost use Rattle.fd_pam.specs.Transfer.{Rises, Puts, CountsFailure};
+ghost use Rattle.fd_pam.specs.Transfer.{Puts, CountsFailure};
+ghost use Rattle.fd_cli.specs.Counting.{CountsWriter};
 
 use crate::ending::Ending;
 use crate::events::send_events;
@@ -14,7 +17,7 @@ use std::alloc::Global;
 
 /// Sends the list of a table's events at position 0, and flushes.
 fn send_list<W: Sink>(table: &EventTable, sink: &mut W, sent: &mut u64) -> Result<(), Failed>
-    requires { sent.old + 2 ^ 40 < 2 ^ 64 }
+    requires { sent.old + most_reply_bytes < 2 ^ 64 }
     ensures puts { Puts (W.contents sink.old) (W.contents sink.new) sent.old sent.new (event_list table.now 0) (is_ok result) }
     ensures failures { CountsFailure (W.failure_count sink.old) (W.failure_count sink.new) (is_ok result) }
 {
@@ -25,7 +28,7 @@ fn send_list<W: Sink>(table: &EventTable, sink: &mut W, sent: &mut u64) -> Resul
 /// Writes the list of a table's events at position 0.
 fn list_table<W: Sink>(table: &EventTable, sink: &mut W) -> Ending
     ensures writes { (written : List ℕ) × Appends (W.contents sink.old) (W.contents sink.new) written × WritesText (event_list table.now 0) written result }
-    ensures write { (sent : ℕ) → result ≡ Ending.Write sent → Rises (W.failure_count sink.old) (W.failure_count sink.new) }
+    ensures failures { CountsWriter result (W.failure_count sink.old) (W.failure_count sink.new) }
 {
     let mut sent = 0;
     match send_list(table, sink, &mut sent) {
@@ -39,8 +42,9 @@ fn list_table<W: Sink>(table: &EventTable, sink: &mut W) -> Ending
 /// Nothing is written where the capture is refused or memory is wanted.
 pub fn list_events<W: Sink>(alloc: Global, capture: &[u8], sink: &mut W) -> Ending
     ensures lists { (written : List ℕ) × Appends (W.contents sink.old) (W.contents sink.new) written × ListsEvents capture.now written result }
+    ensures too_long { RefusesTooLong capture.now result }
     // The writer failed only where its count of failures tells so.
-    ensures write { (sent : ℕ) → result ≡ Ending.Write sent → Rises (W.failure_count sink.old) (W.failure_count sink.new) }
+    ensures failures { CountsWriter result (W.failure_count sink.old) (W.failure_count sink.new) }
 {
     match open(alloc, capture) {
         Ok(table) => list_table(&table, sink),

@@ -1,4 +1,6 @@
 //! The table of a capture.
+ghost use Rattle.std.specs.Prelude.{◌≡◌, ◌<◌, length, Err};
+ghost use Rattle.fd_capture.specs.Limits.{most_bytes};
 ghost use Rattle.fd_cli.specs.Opening.{Opens};
 
 use crate::ending::Ending;
@@ -8,7 +10,8 @@ use std::alloc::Global;
 
 /// The table of a capture, or how a call on it ends.
 pub(crate) fn open(alloc: Global, capture: &[u8]) -> Result<EventTable, Ending>
-    ensures { Opens capture.now result }
+    ensures opens { Opens capture.now result }
+    ensures too_long { most_bytes < length capture.now → result ≡ Err (Ending.Capture CaptureFault.TooLong) }
 {
     match read(alloc, capture) {
         Ok(table) => Ok(table),

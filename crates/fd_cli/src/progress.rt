@@ -1,6 +1,7 @@
 //! A run, byte by byte of its input.
-ghost use Rattle.std.specs.Prelude.{◌≡◌, ◌<◌, ◌+◌, ◌^◌, ◌⊎◌, ℕ, [], ◌∷◌, Err, OnOk};
-ghost use Rattle.fd_pam.specs.Transfer.{Rises};
+ghost use Rattle.std.specs.Prelude.{◌≡◌, ◌<◌, ◌+◌, ◌^◌, ◌⊎◌, ℕ, [], ◌∷◌, Err, OnOk, IfErr};
+ghost use Rattle.fd_cli.specs.Limits.{most_reply_bytes};
+ghost use Rattle.fd_cli.specs.Counting.{CountsWriter};
 
 use crate::ending::Ending;
 use crate::reply::answer;
@@ -41,7 +42,7 @@ impl Progress {
         ensures advances { Advances self.old self.new (W.contents sink.old) (W.contents sink.new) (byte ∷ []) result }
         ensures room { OnOk result (HasRoom self.new) }
         ensures ok { OnOk result (W.failure_count sink.new ≡ W.failure_count sink.old) }
-        ensures write { (sent : ℕ) → result ≡ Err (Ending.Write sent) → Rises (W.failure_count sink.old) (W.failure_count sink.new) }
+        ensures write { IfErr result (λ ending. CountsWriter ending (W.failure_count sink.old) (W.failure_count sink.new)) }
     {
         if self.bytes >= MAX_BYTES || self.lines >= MAX_LINES {
             return Err(Ending::TooMuch);
@@ -72,7 +73,7 @@ impl Progress {
         ensures advances { Advances self.old self.new (W.contents sink.old) (W.contents sink.new) bytes.now result }
         ensures room { OnOk result (HasRoom self.new) }
         ensures ok { OnOk result (W.failure_count sink.new ≡ W.failure_count sink.old) }
-        ensures write { (sent : ℕ) → result ≡ Err (Ending.Write sent) → Rises (W.failure_count sink.old) (W.failure_count sink.new) }
+        ensures write { IfErr result (λ ending. CountsWriter ending (W.failure_count sink.old) (W.failure_count sink.new)) }
     {
         for byte in bytes {
             self.take_byte(rt, alloc, *byte, sink)?;
@@ -87,10 +88,10 @@ impl Progress {
         alloc: Global,
         sink: &mut W,
     ) -> Ending
-        requires { self.old.sent + 2 ^ 40 < 2 ^ 64 }
+        requires { self.old.sent + most_reply_bytes < 2 ^ 64 }
         ensures finishes { Finishes self.old (W.contents sink.old) (W.contents sink.new) result }
         ensures only { (result ≡ Ending.Done) ⊎ ((sent : ℕ) × (result ≡ Ending.Write sent)) }
-        ensures write { (sent : ℕ) → result ≡ Ending.Write sent → Rises (W.failure_count sink.old) (W.failure_count sink.new) }
+        ensures write { CountsWriter result (W.failure_count sink.old) (W.failure_count sink.new) }
     {
         if self.line.is_empty() {
             return Ending::Done;

@@ -1,12 +1,14 @@
 //! The replies to commands.
-ghost use Rattle.std.specs.Prelude.{◌≡◌, ◌<◌, ◌≤◌, ◌+◌, ◌^◌, ◌↔◌, List, Result, Ok, IsTrue, IfOk, length, is_ok, true};
+ghost use Rattle.std.specs.Prelude.{◌≡◌, ℕ, ◌<◌, ◌≤◌, ◌+◌, ◌^◌, ◌↔◌, List, Result, Ok, IsTrue, IfOk, length, is_ok, true};
+ghost use Rattle.fd_cli.specs.Limits.{most_reply_bytes};
+ghost use Rattle.fd_blend.specs.declared.channel.Colour.{Colour};
 ghost use Rattle.fd_history.specs.declared.entry.Entry.{Entry};
-ghost use Rattle.fd_session.specs.Machine.{ShowsHistory};
+ghost use Rattle.fd_session.specs.Machine.{ShowsPixel, ShowsDepth, ShowsHistory};
 ghost use Rattle.fd_session.specs.declared.answer.SessionFault.{SessionFault};
 ghost use Rattle.fd_cli.specs.Line.{command_of};
 ghost use Rattle.fd_pam.specs.Transfer.{Puts, CountsFailure};
 ghost use Rattle.fd_cli.specs.Serving.{Replies};
-ghost use Rattle.fd_cli.specs.Text.{answer_line, history_text};
+ghost use Rattle.fd_cli.specs.Text.{answer_line, pixel_line, history_text};
 
 use crate::command::{Command, CommandFault, read_command};
 use crate::entries::send_entries;
@@ -39,6 +41,35 @@ fn send_answer<W: Sink>(answer: Answer, sink: &mut W, sent: &mut u64) -> Result<
     }
 }
 
+/// Sends the reply to `pixel`.
+fn send_pixel<W: Sink>(
+    session: &Session,
+    x: u32,
+    y: u32,
+    sink: &mut W,
+    sent: &mut u64,
+) -> Result<(), Failed>
+    requires { sent.old + 256 < 2 ^ 64 }
+    ensures puts { (colour : Result Colour SessionFault) × (depth : Result ℕ SessionFault) × ShowsPixel session.now x y colour × ShowsDepth session.now x y depth
+        × (length (pixel_line session.now.table.version colour depth) ≤ 256)
+        × Puts (W.contents sink.old) (W.contents sink.new) sent.old sent.new (pixel_line session.now.table.version colour depth) (is_ok result) }
+    ensures failures { CountsFailure (W.failure_count sink.old) (W.failure_count sink.new) (is_ok result) }
+{
+    let colour = session.pixel(x, y);
+    let depth = session.depth(x, y);
+    match colour {
+        Ok(colour) => match depth {
+            Ok(depth) => send(
+                sink,
+                sent,
+                pixel_line(session.table().version(), colour, depth).as_slice(),
+            ),
+            Err(fault) => send(sink, sent, refusal_line(fault)),
+        },
+        Err(fault) => send(sink, sent, refusal_line(fault)),
+    }
+}
+
 /// Sends the reply to `history`.
 fn send_history<W: Sink>(
     alloc: Global,
@@ -48,14 +79,14 @@ fn send_history<W: Sink>(
     sink: &mut W,
     sent: &mut u64,
 ) -> Result<(), Failed>
-    requires { sent.old + 2 ^ 40 < 2 ^ 64 }
+    requires { sent.old + most_reply_bytes < 2 ^ 64 }
     ensures puts { (outcome : Result (List Entry) SessionFault) × ShowsHistory session.now x y outcome
-        × (is_ok result ≡ true → length (history_text outcome) ≤ 2 ^ 40)
-        × Puts (W.contents sink.old) (W.contents sink.new) sent.old sent.new (history_text outcome) (is_ok result) }
+        × (is_ok result ≡ true → length (history_text session.now.table.version outcome) ≤ most_reply_bytes)
+        × Puts (W.contents sink.old) (W.contents sink.new) sent.old sent.new (history_text session.now.table.version outcome) (is_ok result) }
     ensures failures { CountsFailure (W.failure_count sink.old) (W.failure_count sink.new) (is_ok result) }
 {
     match session.history(alloc, x, y) {
-        Ok(entries) => send_entries(&entries, sink, sent),
+        Ok(entries) => send_entries(session.table().version(), &entries, sink, sent),
         Err(fault) => send(sink, sent, refusal_line(fault)),
     }
 }
@@ -69,7 +100,7 @@ fn reply<T: Threads + Sync, W: Sink>(
     sink: &mut W,
     sent: &mut u64,
 ) -> Result<(), Failed>
-    requires { sent.old + 2 ^ 40 < 2 ^ 64 }
+    requires { sent.old + most_reply_bytes < 2 ^ 64 }
     ensures replies { Replies session.old command session.new (W.contents sink.old) (W.contents sink.new) sent.old sent.new (is_ok result) }
     ensures failures { CountsFailure (W.failure_count sink.old) (W.failure_count sink.new) (is_ok result) }
 {
@@ -83,12 +114,13 @@ fn reply<T: Threads + Sync, W: Sink>(
         Ok(Command::Goto(to)) => send_answer(session.goto(rt, to), sink, sent),
         Ok(Command::On(number)) => send_answer(session.switch(rt, number, true), sink, sent),
         Ok(Command::Off(number)) => send_answer(session.switch(rt, number, false), sink, sent),
-        Ok(Command::Pixel(x, y)) => match session.pixel(x, y) {
-            Ok(colour) => send(sink, sent, pixel_line(colour).as_slice()),
-            Err(fault) => send(sink, sent, refusal_line(fault)),
-        },
+        Ok(Command::Pixel(x, y)) => send_pixel(session, x, y, sink, sent),
         Ok(Command::History(x, y)) => send_history(alloc, session, x, y, sink, sent),
-        Ok(Command::State) => send(sink, sent, state_line(session.state()).as_slice()),
+        Ok(Command::State) => send(
+            sink,
+            sent,
+            state_line(session.table().version(), session.state()).as_slice(),
+        ),
         Ok(Command::Events) => send_events(session.table(), session.position(), sink, sent),
         Ok(Command::Show) => show(alloc, session, sink, sent),
         Ok(Command::Quit) => send(sink, sent, b"bye\n"),
@@ -104,7 +136,7 @@ pub(crate) fn answer<T: Threads + Sync, W: Sink>(
     sink: &mut W,
     sent: &mut u64,
 ) -> Result<bool, Failed>
-    requires { sent.old + 2 ^ 40 < 2 ^ 64 }
+    requires { sent.old + most_reply_bytes < 2 ^ 64 }
     ensures replies { Replies session.old (command_of line.now) session.new (W.contents sink.old) (W.contents sink.new) sent.old sent.new (is_ok result) }
     ensures quit { IfOk result (λ quit. IsTrue quit ↔ (command_of line.now ≡ Ok Command.Quit)) }
     ensures failures { CountsFailure (W.failure_count sink.old) (W.failure_count sink.new) (is_ok result) }

@@ -1,8 +1,9 @@
 //! A run of commands on a capture.
 ghost use Rattle.std.specs.Prelude.{◌≡◌, ◌≤◌, ℕ, List, length};
 ghost use Rattle.std.specs.Io.KnownBytes.{Consumes, Appends};
+ghost use Rattle.fd_cli.specs.Opening.{RefusesTooLong};
 ghost use Rattle.fd_cli.specs.Serving.{Serves, ServesCapture};
-ghost use Rattle.fd_pam.specs.Transfer.{Rises};
+ghost use Rattle.fd_cli.specs.Counting.{CountsReader, CountsWriter};
 
 use crate::ending::Ending;
 use crate::opening::open;
@@ -27,8 +28,8 @@ fn serve_table<T: Threads + Sync, R: Source, W: Sink>(
     ensures serves { (taken : List ℕ) × (written : List ℕ) × Consumes (R.remaining source.old) (R.remaining source.new) taken
         × Appends (W.contents sink.old) (W.contents sink.new) written
         × (length taken ≤ 268435457) × Serves table taken written result (R.has_ended source.new) }
-    ensures read { result ≡ Ending.Read → Rises (R.failure_count source.old) (R.failure_count source.new) }
-    ensures write { (sent : ℕ) → result ≡ Ending.Write sent → Rises (W.failure_count sink.old) (W.failure_count sink.new) }
+    ensures read { CountsReader result (R.failure_count source.old) (R.failure_count source.new) }
+    ensures write { CountsWriter result (W.failure_count sink.old) (W.failure_count sink.new) }
 {
     let Ok(session) = Session::start(alloc, table, workers) else {
         return Ending::Memory;
@@ -72,9 +73,10 @@ pub fn serve<T: Threads + Sync, R: Source, W: Sink>(
     ensures serves { (taken : List ℕ) × (written : List ℕ) × Consumes (R.remaining source.old) (R.remaining source.new) taken
         × Appends (W.contents sink.old) (W.contents sink.new) written
         × (length taken ≤ 268435457) × ServesCapture capture.now taken written result (R.has_ended source.new) }
+    ensures too_long { RefusesTooLong capture.now result }
     // The reader or the writer failed only where its count of failures tells so.
-    ensures read { result ≡ Ending.Read → Rises (R.failure_count source.old) (R.failure_count source.new) }
-    ensures write { (sent : ℕ) → result ≡ Ending.Write sent → Rises (W.failure_count sink.old) (W.failure_count sink.new) }
+    ensures read { CountsReader result (R.failure_count source.old) (R.failure_count source.new) }
+    ensures write { CountsWriter result (W.failure_count sink.old) (W.failure_count sink.new) }
 {
     match open(alloc, capture) {
         Ok(table) => serve_table(rt, alloc, table, workers, source, sink),

@@ -1,5 +1,8 @@
 //! The reply to `show`.
 ghost use Rattle.std.specs.Prelude.{codes, string_bytes, IfOk, ◌≡◌, ◌<◌, ◌≤◌, ◌+◌, ◌^◌, ◌⊎◌, ℕ, List, length, is_ok};
+ghost use Rattle.fd_cli.specs.Limits.{most_reply_bytes};
+ghost use Rattle.fd_snap.specs.Limits.{most_pixels};
+ghost use Rattle.fd_pam.specs.Limits.{most_tuple_bytes};
 ghost use Rattle.fd_pam.specs.Pam.{header, pam_len, tuples};
 ghost use Rattle.fd_pam.specs.Transfer.{Puts, CountsFailure};
 ghost use Rattle.fd_session.specs.declared.answer.SessionFault.TheVariants.{Memory};
@@ -16,8 +19,8 @@ use std::alloc::{AllocError, Global};
 pub(crate) fn target_size(session: &Session) -> (u32, u32)
     ensures width { result.0 ≡ session.now.table.width }
     ensures height { result.1 ≡ session.now.table.height }
-    ensures narrow { result.0 ≤ 2048 }
-    ensures low { result.1 ≤ 2048 }
+    ensures narrow { result.0 ≤ most_pixels }
+    ensures low { result.1 ≤ most_pixels }
 {
     let table = session.table();
     (table.width(), table.height())
@@ -25,7 +28,7 @@ pub(crate) fn target_size(session: &Session) -> (u32, u32)
 
 /// Sends the tuples of the image that the session shows.
 fn send_body<W: Sink>(session: &Session, sink: &mut W, sent: &mut u64) -> Result<(), Failed>
-    requires { sent.old + 16777216 < 2 ^ 64 }
+    requires { sent.old + most_tuple_bytes < 2 ^ 64 }
     ensures puts { Puts (W.contents sink.old) (W.contents sink.new) sent.old sent.new (tuples session.now) (is_ok result) }
     ensures failures { CountsFailure (W.failure_count sink.old) (W.failure_count sink.new) (is_ok result) }
 {
@@ -46,8 +49,8 @@ fn send_body<W: Sink>(session: &Session, sink: &mut W, sent: &mut u64) -> Result
 /// The line with the length of the image file that the session shows.
 fn length_line(session: &Session) -> ArrayVec<u8, 64>
     ensures line { result.items ≡ number_line (codes "pam") (pam_len session.now.table.width session.now.table.height) }
-    ensures narrow { session.now.table.width ≤ 2048 }
-    ensures low { session.now.table.height ≤ 2048 }
+    ensures narrow { session.now.table.width ≤ most_pixels }
+    ensures low { session.now.table.height ≤ most_pixels }
 {
     let (width, height) = target_size(session);
     number_line(b"pam", pam_len(width, height))
@@ -68,8 +71,8 @@ pub(crate) fn show<W: Sink>(
     sink: &mut W,
     sent: &mut u64,
 ) -> Result<(), Failed>
-    requires { sent.old + 2 ^ 40 < 2 ^ 64 }
-    ensures puts { (text : List ℕ) × ((text ≡ show_text session.now) ⊎ (text ≡ refusal_line Memory)) × (length text ≤ 2 ^ 40)
+    requires { sent.old + most_reply_bytes < 2 ^ 64 }
+    ensures puts { (text : List ℕ) × ((text ≡ show_text session.now) ⊎ (text ≡ refusal_line Memory)) × (length text ≤ most_reply_bytes)
         × Puts (W.contents sink.old) (W.contents sink.new) sent.old sent.new text (is_ok result) }
     ensures failures { CountsFailure (W.failure_count sink.old) (W.failure_count sink.new) (is_ok result) }
 {

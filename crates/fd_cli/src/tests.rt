@@ -1,6 +1,6 @@
 use crate::tests::captures::{
-    ALPHA_SCALED, CULLED_THEN_SCISSORED, INDEXED, LINEAR_RED, MASKED_AND_SCISSORED, NO_EVENTS,
-    ONE_CLEAR, TWO_TRIANGLES,
+    ALPHA_SCALED, CULLED_THEN_SCISSORED, DEPTH_TEST, INDEXED, LINEAR_RED, MANY_TILES,
+    MASKED_AND_SCISSORED, NO_EVENTS, ONE_CLEAR, TWO_TRIANGLES,
 };
 use crate::tests::devices::{Limited, Pieces};
 use crate::{Command, CommandFault, Ending, image, list_events, read_command, serve};
@@ -259,6 +259,67 @@ fn markers_factors_and_negative_numbers(rt: HostRuntime) {
     let text =
         b"at 5\nevents 5 at 5\n1 on marker a b\n2 on marker \n3 on scissor -2147483648 -1 0 2147483647\n4 on blend 1 INV_BLEND_FACTOR INV_DEST_ALPHA REV_SUBTRACT INV_BLEND_FACTOR INV_DEST_ALPHA REV_SUBTRACT 0\n5 on factor 0 1 2 3\n";
     expect_replies(&rt, rt.alloc(), capture, b"goto 5\nevents\n", text);
+}
+
+#[test]
+fn a_nearer_triangle_wins(rt: HostRuntime) {
+    let input =
+        b"goto 3\npixel 0 0\ngoto 5\npixel 0 0\ngoto 3\npixel 0 0\noff 2\npixel 0 0\npixel 1 0\n";
+    let text =
+        b"at 3\npixel 1 1 1 1 1000\nat 5\npixel 2 2 2 2 2000\nat 3\npixel 1 1 1 1 1000\nat 3\npixel 2 2 2 2 2000\nrefused 6 no such pixel\n";
+    expect_replies(&rt, rt.alloc(), DEPTH_TEST, input, text);
+}
+
+#[test]
+fn history_shows_depths(rt: HostRuntime) {
+    let text =
+        b"at 5\nhistory 4\n2 0 drawn 1 1 1 1 0 0 0 0 1 1 1 1 1000 65535 1000\n3 0 depthfailed 2 2 2 2 1 1 1 1 1 1 1 1 2000 1000 1000\n4 - drawn 0 0 0 0 1 1 1 1 1 1 1 1 65535 1000 65535\n5 0 drawn 2 2 2 2 1 1 1 1 2 2 2 2 2000 65535 2000\nstate cull back ccw 0 scissor 0 rect 0 0 0 0 blend 0 ONE ZERO ADD ONE ZERO ADD mask 15 factor 255 255 255 255 depth 1 1 LESS\nevents 5 at 5\n1 on depth 1 1 LESS\n2 on draw 1 flat\n3 on draw 1 flat\n4 on depth_clear 65535\n5 on draw 1 flat\n";
+    expect_replies(
+        &rt,
+        rt.alloc(),
+        DEPTH_TEST,
+        b"goto 5\nhistory 0 0\nstate\nevents\n",
+        text,
+    );
+}
+
+/// How a capture is refused, and that nothing is then written.
+fn expect_refused(rt: &impl Abort, alloc: Global, capture: &str, fault: CaptureFault) {
+    let mut sink = Device::new(Limited::of(alloc, 100, 100));
+    let ended = list_events(alloc, capture.as_bytes(), &mut sink);
+    assert_eq!(rt; ended, Ending::Capture(fault));
+    assert_eq!(rt; sink.into_inner().bytes.len(), 0);
+}
+
+#[test]
+fn versions_and_their_members(rt: HostRuntime) -> Result<(), Fail> {
+    let alloc = rt.alloc();
+    let (front, back) = ONE_CLEAR.split_once(r#""version":1"#).ok_or("no version")?;
+    let second = format!(in alloc; "{front}\"version\":2{back}")?;
+    let text =
+        b"at 1\npam 69\nP7\nWIDTH 1\nHEIGHT 1\nDEPTH 4\nMAXVAL 255\nTUPLTYPE RGB_ALPHA\nENDHDR\n\x0a\x14\x1e\x28bye\n";
+    expect_replies(&rt, alloc, second.as_str(), b"step\nshow\nquit\n", text);
+    let ninth = format!(in alloc; "{front}\"version\":9{back}")?;
+    expect_refused(&rt, alloc, ninth.as_str(), CaptureFault::Version);
+    let (front, back) = DEPTH_TEST.split_once(r#""z":1000,"#).ok_or("no depth")?;
+    let without = format!(in alloc; "{front}{back}")?;
+    let fault = CaptureFault::BadField { number: 2 };
+    expect_refused(&rt, alloc, without.as_str(), fault);
+    let (front, back) = DEPTH_TEST.split_once(r#""version":2"#).ok_or("no version")?;
+    let first = format!(in alloc; "{front}\"version\":1{back}")?;
+    let fault = CaptureFault::UnknownEvent { number: 1 };
+    expect_refused(&rt, alloc, first.as_str(), fault);
+    Ok(())
+}
+
+/// Moves on 64 tiles, which several workers share where there are several.
+#[test]
+fn moves_over_many_tiles(rt: HostRuntime) {
+    let input =
+        b"goto 4\npixel 100 100\npixel 255 255\npixel 0 254\noff 3\npixel 100 100\ngoto 6\npixel 127 127\npixel 128 128\nback\nback\npixel 0 0\non 3\npixel 0 0\n";
+    let text =
+        b"at 4\npixel 11 22 3 4\npixel 1 2 3 4\npixel 11 22 3 4\nat 4\npixel 1 22 3 4\nat 6\npixel 5 6 37 8\npixel 5 6 7 8\nat 5\nat 4\npixel 1 22 3 4\nat 4\npixel 11 22 3 4\n";
+    expect_replies(&rt, rt.alloc(), MANY_TILES, input, text);
 }
 
 #[test]

@@ -1,12 +1,12 @@
 //! The texts of lines, and of the words that they are made of.
-ghost use Rattle.std.specs.Prelude.{◌≡◌, ◌≤◌, ◌+◌, ◌++◌, length, Ok};
-ghost use Rattle.fd_capture.specs.Spelling.{factor_text, op_text, cull_text, interp_text};
-ghost use Rattle.fd_cli.specs.Text.{word, number_word, signed_word, truth_word, flag_word, colour_words, rect_words, part_words, equation_words, event_words, event_line, events_head, state_line, pixel_line, triangle_word, verdict_text, entry_line};
+ghost use Rattle.std.specs.Prelude.{◌≡◌, ◌==◌, ◌≤◌, ◌+◌, ◌++◌, codes, length, Ok};
+ghost use Rattle.fd_capture.specs.Spelling.{factor_text, op_text, cull_text, func_text, interp_text};
+ghost use Rattle.fd_cli.specs.Text.{word, number_word, signed_word, truth_word, flag_word, colour_words, rect_words, part_words, equation_words, depth_words, line_end, event_words, event_line, events_head, state_line, pixel_line, triangle_word, verdict_text, entry_line};
 
 use arrayvec::ArrayVec;
 use bitflags::Flags;
 use fd_blend::{BlendOp, BlendState, Colour, Factor, Part};
-use fd_cover::{Cull, Interp, Raster, Rect, Verdict};
+use fd_cover::{Cull, Depth, Func, Interp, Raster, Rect, Verdict};
 use fd_events::{Draw, Event, Label, Pipeline};
 use fd_history::Entry;
 use itoa::Buffer;
@@ -23,28 +23,37 @@ fn append(line: &mut Line, text: &[u8])
     line.try_extend_from_slice(text).unwrap();
 }
 
-/// A number.
-fn number_word(number: u32) -> Line
-    ensures items { result.items ≡ number_word number }
-    ensures short { length result.items ≤ 11 }
+/// Appends a number.
+fn add_number(line: &mut Line, number: u32)
+    requires { length line.old.items + 11 ≤ 256 }
+    ensures items { line.new.items ≡ line.old.items ++ number_word number }
+    ensures len { length line.new.items ≤ length line.old.items + 11 }
 {
     let mut digits = Buffer::new();
-    let mut line = Line::new();
-    append(&mut line, b" ");
-    append(&mut line, digits.format(number).as_bytes());
-    line
+    append(line, b" ");
+    append(line, digits.format(number).as_bytes());
 }
 
-/// A number of one byte.
-fn byte_word(number: u8) -> Line
-    ensures items { result.items ≡ number_word number }
-    ensures short { length result.items ≤ 4 }
+/// Appends a number of one byte.
+fn add_byte(line: &mut Line, number: u8)
+    requires { length line.old.items + 4 ≤ 256 }
+    ensures items { line.new.items ≡ line.old.items ++ number_word number }
+    ensures len { length line.new.items ≤ length line.old.items + 4 }
 {
     let mut digits = Buffer::new();
-    let mut line = Line::new();
-    append(&mut line, b" ");
-    append(&mut line, digits.format(number).as_bytes());
-    line
+    append(line, b" ");
+    append(line, digits.format(number).as_bytes());
+}
+
+/// Appends a number of two bytes.
+fn add_half(line: &mut Line, number: u16)
+    requires { length line.old.items + 6 ≤ 256 }
+    ensures items { line.new.items ≡ line.old.items ++ number_word number }
+    ensures len { length line.new.items ≤ length line.old.items + 6 }
+{
+    let mut digits = Buffer::new();
+    append(line, b" ");
+    append(line, digits.format(number).as_bytes());
 }
 
 /// A number that may be negative.
@@ -127,40 +136,60 @@ fn interp_word(interp: Interp) -> &'static [u8]
     }
 }
 
+fn func_word(func: Func) -> &'static [u8]
+    ensures word { result.now ≡ word (func_text func) }
+    ensures short { length result.now ≤ 14 }
+{
+    match func {
+        Func::Never => b" NEVER",
+        Func::Less => b" LESS",
+        Func::Equal => b" EQUAL",
+        Func::LessEqual => b" LESS_EQUAL",
+        Func::Greater => b" GREATER",
+        Func::NotEqual => b" NOT_EQUAL",
+        Func::GreaterEqual => b" GREATER_EQUAL",
+        Func::Always => b" ALWAYS",
+    }
+}
+
 fn verdict_word(verdict: Verdict) -> &'static [u8]
     ensures word { result.now ≡ word (verdict_text verdict) }
-    ensures short { length result.now ≤ 10 }
+    ensures short { length result.now ≤ 12 }
 {
     match verdict {
         Verdict::Missed => b" missed",
         Verdict::Culled => b" culled",
         Verdict::Scissored => b" scissored",
+        Verdict::DepthFailed => b" depthfailed",
         Verdict::Drawn => b" drawn",
     }
 }
 
-/// A triangle's number, or that there is none.
-fn triangle_word(triangle: Option<u32>) -> Line
-    ensures items { result.items ≡ triangle_word triangle }
-    ensures short { length result.items ≤ 11 }
+/// Appends a triangle's number, or that there is none.
+fn add_triangle(line: &mut Line, triangle: Option<u32>)
+    requires { length line.old.items + 11 ≤ 256 }
+    ensures items { line.new.items ≡ line.old.items ++ triangle_word triangle }
+    ensures len { length line.new.items ≤ length line.old.items + 11 }
 {
     match triangle {
-        None => after(b" -", b""),
-        Some(number) => number_word(number),
+        None => append(line, b" -"),
+        Some(number) => add_number(line, number),
     }
 }
 
-fn colour_words(colour: Colour) -> Line
-    ensures items { result.items ≡ colour_words colour }
-    ensures short { length result.items ≤ 16 }
+/// Appends the four channels of a colour.
+fn add_colour(line: &mut Line, colour: Colour)
+    requires { length line.old.items + 16 ≤ 256 }
+    ensures items { line.new.items ≡ line.old.items ++ colour_words colour }
+    ensures len { length line.new.items ≤ length line.old.items + 16 }
 {
-    let mut line = byte_word(colour.r);
-    append(&mut line, byte_word(colour.g).as_slice());
-    append(&mut line, byte_word(colour.b).as_slice());
-    append(&mut line, byte_word(colour.a).as_slice());
-    line
+    add_byte(line, colour.r);
+    add_byte(line, colour.g);
+    add_byte(line, colour.b);
+    add_byte(line, colour.a);
 }
 
+/// The four sides of a rectangle.
 fn rect_words(rect: Rect) -> Line
     ensures items { result.items ≡ rect_words rect }
     ensures short { length result.items ≤ 48 }
@@ -172,43 +201,76 @@ fn rect_words(rect: Rect) -> Line
     line
 }
 
-fn part_words(part: Part) -> Line
-    ensures items { result.items ≡ part_words part }
-    ensures short { length result.items ≤ 47 }
+/// Appends a part of a blend equation.
+fn add_part(line: &mut Line, part: Part)
+    requires { length line.old.items + 47 ≤ 256 }
+    ensures items { line.new.items ≡ line.old.items ++ part_words part }
+    ensures len { length line.new.items ≤ length line.old.items + 47 }
 {
-    let mut line = Line::new();
-    append(&mut line, factor_word(part.src));
-    append(&mut line, factor_word(part.dst));
-    append(&mut line, operation_word(part.op));
-    line
+    append(line, factor_word(part.src));
+    append(line, factor_word(part.dst));
+    append(line, operation_word(part.op));
 }
 
-fn equation_words(blend: BlendState) -> Line
-    ensures items { result.items ≡ equation_words blend }
-    ensures short { length result.items ≤ 96 }
+/// Appends whether blending is on, and both parts of its equation.
+fn add_equation(line: &mut Line, blend: BlendState)
+    requires { length line.old.items + 96 ≤ 256 }
+    ensures items { line.new.items ≡ line.old.items ++ equation_words blend }
+    ensures len { length line.new.items ≤ length line.old.items + 96 }
 {
-    let mut line = Line::new();
-    append(&mut line, truth_word(blend.enable()));
-    append(&mut line, part_words(blend.rgb()).as_slice());
-    append(&mut line, part_words(blend.alpha()).as_slice());
-    line
+    append(line, truth_word(blend.enable()));
+    add_part(line, blend.rgb());
+    add_part(line, blend.alpha());
 }
 
-/// The line of a pixel's colour.
-pub(crate) fn pixel_line(colour: Colour) -> Line
-    ensures { result.items ≡ pixel_line (Ok colour) }
+/// Appends a depth state.
+fn add_depth(line: &mut Line, depth: Depth)
+    requires { length line.old.items + 18 ≤ 256 }
+    ensures items { line.new.items ≡ line.old.items ++ depth_words depth }
+    ensures len { length line.new.items ≤ length line.old.items + 18 }
+{
+    append(line, truth_word(depth.enable));
+    append(line, truth_word(depth.write));
+    append(line, func_word(depth.func));
+}
+
+/// Whether the replies on a capture of a version show depths.
+fn shows_depths(version: u32) -> bool
+    ensures { result ≡ (version == 2) }
+{
+    version == 2
+}
+
+/// The line of a pixel, in the replies on a capture of a version.
+pub(crate) fn pixel_line(version: u32, colour: Colour, depth: u16) -> Line
+    ensures { result.items ≡ pixel_line version (Ok colour) (Ok depth) }
 {
     let mut line = Line::new();
     append(&mut line, b"pixel");
-    append(&mut line, colour_words(colour).as_slice());
+    add_colour(&mut line, colour);
+    if shows_depths(version) {
+        add_half(&mut line, depth);
+    }
     append(&mut line, b"\n");
     line
 }
 
-/// The line of a pipeline's state.
+/// Ends the line of a pipeline's state, in the replies on a capture of a version.
+fn end_state(line: &mut Line, version: u32, depth: Depth)
+    requires { length line.old.items + 25 ≤ 256 }
+    ensures { line.new.items ≡ line.old.items ++ line_end version (codes " depth" ++ depth_words depth) }
+{
+    if shows_depths(version) {
+        append(line, b" depth");
+        add_depth(line, depth);
+    }
+    append(line, b"\n");
+}
+
+/// The line of a pipeline's state, in the replies on a capture of a version.
 #[tactic(auto, unfolding(crate::specs::Text::state_line))]
-pub(crate) fn state_line(state: &Pipeline) -> Line
-    ensures { result.items ≡ state_line state.now }
+pub(crate) fn state_line(version: u32, state: &Pipeline) -> Line
+    ensures { result.items ≡ state_line version state.now }
 {
     let mut line = Line::new();
     append(&mut line, b"state cull");
@@ -220,80 +282,90 @@ pub(crate) fn state_line(state: &Pipeline) -> Line
     append(&mut line, b" rect");
     append(&mut line, rect_words(state.scissor).as_slice());
     append(&mut line, b" blend");
-    append(&mut line, equation_words(state.blend).as_slice());
+    add_equation(&mut line, state.blend);
     append(&mut line, b" mask");
-    append(&mut line, byte_word(state.blend.mask().bits()).as_slice());
+    add_byte(&mut line, state.blend.mask().bits());
     append(&mut line, b" factor");
-    append(&mut line, colour_words(state.factor).as_slice());
-    append(&mut line, b"\n");
+    add_colour(&mut line, state.factor);
+    end_state(&mut line, version, state.depth);
     line
 }
 
-fn raster_words(raster: Raster) -> Line
-    ensures items { result.items ≡ event_words (Event.SetRaster raster) }
-    ensures short { length result.items ≤ 160 }
+/// Appends a raster state as an event.
+fn add_raster(line: &mut Line, raster: Raster)
+    requires { length line.old.items + 160 ≤ 256 }
+    ensures items { line.new.items ≡ line.old.items ++ event_words (Event.SetRaster raster) }
+    ensures len { length line.new.items ≤ length line.old.items + 160 }
 {
-    let mut line = Line::new();
-    append(&mut line, b" raster");
-    append(&mut line, cull_word(raster.cull));
-    append(&mut line, truth_word(raster.front_ccw));
-    append(&mut line, truth_word(raster.scissor));
-    line
+    append(line, b" raster");
+    append(line, cull_word(raster.cull));
+    append(line, truth_word(raster.front_ccw));
+    append(line, truth_word(raster.scissor));
 }
 
-fn blend_words(blend: BlendState) -> Line
-    ensures items { result.items ≡ event_words (Event.SetBlend blend) }
-    ensures short { length result.items ≤ 160 }
+/// Appends a blend state as an event.
+fn add_blend(line: &mut Line, blend: BlendState)
+    requires { length line.old.items + 160 ≤ 256 }
+    ensures items { line.new.items ≡ line.old.items ++ event_words (Event.SetBlend blend) }
+    ensures len { length line.new.items ≤ length line.old.items + 160 }
 {
-    let mut line = Line::new();
-    append(&mut line, b" blend");
-    append(&mut line, equation_words(blend).as_slice());
-    append(&mut line, byte_word(blend.mask().bits()).as_slice());
-    line
+    append(line, b" blend");
+    add_equation(line, blend);
+    add_byte(line, blend.mask().bits());
 }
 
-fn draw_words(draw: &Draw) -> Line
-    ensures items { result.items ≡ event_words (Event.Draw draw.now) }
-    ensures short { length result.items ≤ 160 }
+/// Appends a clear of depths as an event.
+fn add_depth_clear(line: &mut Line, depth: u16)
+    requires { length line.old.items + 160 ≤ 256 }
+    ensures items { line.new.items ≡ line.old.items ++ event_words (Event.DepthClear depth) }
+    ensures len { length line.new.items ≤ length line.old.items + 160 }
 {
-    let mut line = Line::new();
-    append(&mut line, b" draw");
-    append(&mut line, number_word(draw.triangles()).as_slice());
-    append(&mut line, interp_word(draw.interp()));
-    line
+    append(line, b" depth_clear");
+    add_half(line, depth);
 }
 
-fn marker_words(name: &Label) -> Line
-    ensures items { result.items ≡ event_words (Event.Marker name.now) }
-    ensures short { length result.items ≤ 160 }
+/// Appends a draw as an event.
+fn add_draw(line: &mut Line, draw: &Draw)
+    requires { length line.old.items + 160 ≤ 256 }
+    ensures items { line.new.items ≡ line.old.items ++ event_words (Event.Draw draw.now) }
+    ensures len { length line.new.items ≤ length line.old.items + 160 }
 {
-    after(b" marker ", name.as_str().as_bytes())
+    append(line, b" draw");
+    add_number(line, draw.triangles());
+    append(line, interp_word(draw.interp()));
 }
 
-fn after(word: &[u8], others: &[u8]) -> Line
-    requires { length word.now + length others.now ≤ 160 }
-    ensures items { result.items ≡ word.now ++ others.now }
-    ensures short { length result.items ≤ length word.now + length others.now }
-{
-    let mut line = Line::new();
-    append(&mut line, word);
-    append(&mut line, others);
-    line
-}
-
-/// What stands behind an event's number and flag.
-fn event_words(event: &Event) -> Line
-    ensures items { result.items ≡ event_words event.now }
-    ensures short { length result.items ≤ 160 }
+/// Appends what stands behind an event's number and flag.
+fn add_event(line: &mut Line, event: &Event)
+    requires { length line.old.items + 160 ≤ 256 }
+    ensures items { line.new.items ≡ line.old.items ++ event_words event.now }
+    ensures len { length line.new.items ≤ length line.old.items + 160 }
 {
     match event {
-        Event::Clear(colour) => after(b" clear", colour_words(*colour).as_slice()),
-        Event::SetRaster(raster) => raster_words(*raster),
-        Event::SetScissor(rect) => after(b" scissor", rect_words(*rect).as_slice()),
-        Event::SetBlend(blend) => blend_words(*blend),
-        Event::SetFactor(colour) => after(b" factor", colour_words(*colour).as_slice()),
-        Event::Draw(draw) => draw_words(draw),
-        Event::Marker(name) => marker_words(name),
+        Event::Clear(colour) => {
+            append(line, b" clear");
+            add_colour(line, *colour);
+        }
+        Event::SetRaster(raster) => add_raster(line, *raster),
+        Event::SetScissor(rect) => {
+            append(line, b" scissor");
+            append(line, rect_words(*rect).as_slice());
+        }
+        Event::SetBlend(blend) => add_blend(line, *blend),
+        Event::SetFactor(colour) => {
+            append(line, b" factor");
+            add_colour(line, *colour);
+        }
+        Event::SetDepth(depth) => {
+            append(line, b" depth");
+            add_depth(line, *depth);
+        }
+        Event::DepthClear(depth) => add_depth_clear(line, *depth),
+        Event::Draw(draw) => add_draw(line, draw),
+        Event::Marker(name) => {
+            append(line, b" marker ");
+            append(line, name.as_str().as_bytes());
+        }
     }
 }
 
@@ -306,7 +378,7 @@ pub(crate) fn event_line(number: u32, event: &Event, on: bool) -> Line
     let mut line = Line::new();
     append(&mut line, digits.format(number).as_bytes());
     append(&mut line, flag_word(on));
-    append(&mut line, event_words(event).as_slice());
+    add_event(&mut line, event);
     append(&mut line, b"\n");
     line
 }
@@ -317,27 +389,41 @@ pub(crate) fn events_head(count: u32, position: u32) -> Line
 {
     let mut line = Line::new();
     append(&mut line, b"events");
-    append(&mut line, number_word(count).as_slice());
+    add_number(&mut line, count);
     append(&mut line, b" at");
-    append(&mut line, number_word(position).as_slice());
+    add_number(&mut line, position);
     append(&mut line, b"\n");
     line
 }
 
-/// The line of an entry of a pixel's history.
+/// Ends the line of an entry of a pixel's history, in the replies on a capture of a version.
+fn end_entry(line: &mut Line, version: u32, entry: &Entry)
+    requires { length line.old.items + 19 ≤ 256 }
+    ensures items { line.new.items ≡ line.old.items ++ line_end version (number_word entry.now.source_depth ++ number_word entry.now.depth_before ++ number_word entry.now.depth_after) }
+    ensures len { length line.new.items ≤ length line.old.items + 19 }
+{
+    if shows_depths(version) {
+        add_half(line, entry.source_depth);
+        add_half(line, entry.depth_before);
+        add_half(line, entry.depth_after);
+    }
+    append(line, b"\n");
+}
+
+/// The line of an entry of a pixel's history, in the replies on a capture of a version.
 #[tactic(auto, unfolding(crate::specs::Text::entry_line))]
-pub(crate) fn entry_line(entry: &Entry) -> Line
-    ensures items { result.items ≡ entry_line entry.now }
-    ensures short { length result.items ≤ 96 }
+pub(crate) fn entry_line(version: u32, entry: &Entry) -> Line
+    ensures items { result.items ≡ entry_line version entry.now }
+    ensures short { length result.items ≤ 112 }
 {
     let mut digits = Buffer::new();
     let mut line = Line::new();
     append(&mut line, digits.format(entry.event).as_bytes());
-    append(&mut line, triangle_word(entry.triangle).as_slice());
+    add_triangle(&mut line, entry.triangle);
     append(&mut line, verdict_word(entry.verdict));
-    append(&mut line, colour_words(entry.source).as_slice());
-    append(&mut line, colour_words(entry.before).as_slice());
-    append(&mut line, colour_words(entry.after).as_slice());
-    append(&mut line, b"\n");
+    add_colour(&mut line, entry.source);
+    add_colour(&mut line, entry.before);
+    add_colour(&mut line, entry.after);
+    end_entry(&mut line, version, entry);
     line
 }

@@ -6,3 +6,7 @@ pub mod CoverLemmas
 pub mod EdgeLemmas
 pub mod ShadeLemmas
 pub mod HalfLineLemmas
+pub mod VersionOnes
+pub mod ReciprocalLemmas
+pub mod WalkLemmas
+pub mod RowsLemmas

@@ -1,7 +1,11 @@
 pub mod Bounds
 pub mod Covers
 pub mod Cross
+pub mod Depth
+pub mod Rows
 pub mod Shade
 pub mod SharedEdge
 pub mod Span
 pub mod Verdict
+pub mod VersionOne
+pub mod Walk

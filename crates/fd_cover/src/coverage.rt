@@ -1,9 +1,9 @@
 ghost use Rattle.std.specs.Prelude.{◌≡◌, ◌<◌};
 ghost use Rattle.fd_cover.specs.Covers.{covers, admits, same_sign, is_top, is_left};
-ghost use Rattle.fd_cover.specs.declared.triangle.TheConstants.{TARGET_LIMIT};
+ghost use Rattle.fd_snap.specs.Limits.{most_pixels};
 
 use crate::point::{Point, cross};
-use crate::triangle::{TARGET_LIMIT, Tri};
+use crate::triangle::Tri;
 
 /// Whether two sides are both above 0 or both below.
 fn same_sign(a: i64, b: i64) -> bool
@@ -46,8 +46,8 @@ fn admits(u: Point, v: Point, opposite: Point, point: Point) -> bool
 /// Direct3D 11.3 functional specification, section 3.4.2, triangle rasterization rules.
 #[tactic(auto, unfolding(crate::specs::Covers::covers))]
 pub fn covers(triangle: &Tri, x: u32, y: u32) -> bool
-    requires column { x < TARGET_LIMIT }
-    requires row { y < TARGET_LIMIT }
+    requires column { x < most_pixels }
+    requires row { y < most_pixels }
     ensures { result ≡ covers triangle.now x y }
 {
     let a = Point::vertex(triangle.a);

@@ -1,20 +1,25 @@
-//! Coverage of pixels by triangles, culling, scissor and source colours, in whole numbers of 64 bits.
+//! Coverage of pixels by triangles, culling, scissor, depth test and source colours, in whole numbers of 64 bits.
 #![tactic(auto)]
 
 pub use bounds::Bounds;
 pub use coverage::covers;
-pub use shading::{Interp, shade};
-pub use span::row_span;
-pub use triangle::{TARGET_LIMIT, Tri};
+pub use depth::{Depth, Func, depth_at, depth_row};
+pub use rows::{Rows, row_span};
+pub use shading::{Interp, SHADED_ROW, shade, shade_row};
+pub use triangle::Tri;
 pub use verdict::{Cull, Raster, Rect, Verdict, verdict_at};
 
 mod bounds;
 mod coverage;
+mod depth;
+mod edge;
+mod lanes;
 /// Laws of the definitions.
 pub mod laws;
 mod point;
+mod reciprocal;
+mod rows;
 mod shading;
-mod span;
 #[cfg(test)]
 mod tests;
 mod triangle;

@@ -1,15 +1,11 @@
 ghost use Rattle.std.specs.Prelude.{◌≡◌, ◌≤◌, ◌<◌, ◌^◌, ◌-ℤ◌, unsigned_abs};
 ghost use Rattle.fd_cover.specs.Cross.{cross, centre};
-ghost use Rattle.fd_cover.specs.declared.triangle.TheConstants.{TARGET_LIMIT};
+ghost use Rattle.fd_snap.specs.Limits.{most_pixels};
 
-use crate::triangle::TARGET_LIMIT;
 use fd_snap::Snapped;
 use std::marker::Model;
 
-/// The largest absolute value of a point's coordinate, in 1/256 pixel: a snapped vertex and each pixel's centre are within it.
-const POINT_LIMIT: u32 = 1 << 22;
-
-/// A vertex or a pixel's centre, in 1/256 pixel.
+/// A vertex or a pixel's centre, in 1/256 pixel. A centre is no further out than a vertex can be.
 #[derive(Clone, Copy)]
 pub(crate) struct Point {
     x: i32,
@@ -19,13 +15,13 @@ pub(crate) struct Point {
 impl Model for Point {
     ghost use Rattle.std.specs.Prelude.{◌≤◌, unsigned_abs};
     ghost use Rattle.fd_snap.specs.Point as geometry;
-    ghost use Rattle.fd_cover.specs.declared.point.TheConstants.{POINT_LIMIT};
+    ghost use Rattle.fd_snap.specs.Limits.{snapped_limit};
 
     ghost Value = { geometry.Point };
 
     ghost view = { λ p. record { x = p.x; y = p.y } };
 
-    ghost invariant = { λ p. (unsigned_abs p.x ≤ POINT_LIMIT) × (unsigned_abs p.y ≤ POINT_LIMIT) };
+    ghost invariant = { λ p. (unsigned_abs p.x ≤ snapped_limit) × (unsigned_abs p.y ≤ snapped_limit) };
 
     ghost inverse = { λ q. record { x = q.x; y = q.y } };
 }
@@ -43,8 +39,8 @@ impl Point {
 
     /// The centre of a pixel.
     pub(crate) fn centre(x: u32, y: u32) -> Point
-        requires column { x < TARGET_LIMIT }
-        requires row { y < TARGET_LIMIT }
+        requires column { x < most_pixels }
+        requires row { y < most_pixels }
         ensures { result ≡ centre x y }
     {
         Point {
@@ -61,7 +57,7 @@ impl Point {
     }
 
     /// How far another point is to the right of this one.
-    fn right_to(self, other: Point) -> i64
+    pub(crate) fn right_to(self, other: Point) -> i64
         ensures value { result ≡ other.x -ℤ self.x }
         ensures bound { unsigned_abs result ≤ 2 ^ 23 }
     {

@@ -1,11 +1,23 @@
-ghost use Rattle.std.specs.Prelude.{◌≡◌, ◌<◌, ◌≤◌, ◌+◌, ◌*◌, ◌^◌, IsTrue};
+ghost use Rattle.std.specs.Prelude.{◌≡◌, ℕ, ◌<◌, ◌≤◌, ◌+◌, ◌-◌, ◌*◌, ◌/◌, ◌%◌, ◌^◌, IsTrue, length, map};
+ghost use Rattle.std.specs.List.{range_with_len};
 ghost use Rattle.fd_cover.specs.Covers.{covers};
 ghost use Rattle.fd_cover.specs.Shade.{area_of, weight_a, weight_b, weight_c, IsNearestLarger, IsNearestMean, rounded_quotient, colour_of, shaded};
-ghost use Rattle.fd_cover.specs.declared.triangle.TheConstants.{TARGET_LIMIT};
+ghost use Rattle.fd_cover.specs.Walk.{IsNear};
+ghost use Rattle.fd_snap.specs.Limits.{most_pixels};
+ghost use Rattle.fd_cover.specs.declared.shading.TheConstants.{SHADED_ROW};
 
+use crate::lanes::{colour_of, moved};
 use crate::point::{Point, doubled_area};
-use crate::triangle::{TARGET_LIMIT, Tri};
+use crate::reciprocal::Reciprocal;
+use crate::triangle::Tri;
 use fd_blend::Colour;
+use std::simd::prelude::*;
+
+/// The most pixels of a row that are shaded in one call.
+pub const SHADED_ROW: usize = 32;
+
+/// The units of a depth's fraction on a walk along a row.
+const DEPTH_UNITS: u128 = 1 << 48;
 
 /// How a triangle's colour comes from those of its vertices: the first one's, or between the three.
 #[derive(Clone, Copy, Debug, PartialEq, Eq)]
@@ -16,21 +28,19 @@ pub enum Interp {
 
 /// For each vertex, twice the area of a pixel's centre with the edge opposite to it.
 #[derive(Clone, Copy)]
-struct Weights {
+pub(crate) struct Weights {
     a: u64,
     b: u64,
     c: u64,
-    ghost a_small: { a ≤ 2 ^ 47 },
-    ghost b_small: { b ≤ 2 ^ 47 },
-    ghost c_small: { c ≤ 2 ^ 47 },
+    ghost small: { a + b + c ≤ 2 ^ 47 },
     ghost some: { 0 < a + b + c },
 }
 
 impl Weights {
     /// The weights at a covered pixel.
-    fn at(triangle: &Tri, x: u32, y: u32) -> Weights
-        requires column { x < TARGET_LIMIT }
-        requires row { y < TARGET_LIMIT }
+    pub(crate) fn at(triangle: &Tri, x: u32, y: u32) -> Weights
+        requires column { x < most_pixels }
+        requires row { y < most_pixels }
         requires covered { IsTrue (covers triangle.now x y) }
         ensures a { result.a ≡ weight_a triangle.now x y }
         ensures b { result.b ≡ weight_b triangle.now x y }
@@ -41,16 +51,29 @@ impl Weights {
         let b = Point::vertex(triangle.b);
         let c = Point::vertex(triangle.c);
         let point = Point::centre(x, y);
+        let area = doubled_area(a, b, c);
+        let by_a = doubled_area(b, c, point);
+        let by_b = doubled_area(c, a, point);
         Weights {
-            a: doubled_area(b, c, point),
-            b: doubled_area(c, a, point),
-            c: doubled_area(a, b, point),
+            a: by_a,
+            b: by_b,
+            c: area - by_a - by_b,
         }
     }
 
-    /// The weighted mean of three channels, rounded to the nearest byte, up at a half.
+    /// The weighted mean of three numbers of 16 bits, rounded to the nearest, up at a half.
     ///
-    /// Each weight is at most 2^47, so the doubled sum of their products with bytes stays below 2^58 and fits 64 bits.
+    /// The weights add up to 2^47 at most, so twice the sum of their products and once their sum stay below 2^47 times 2^17 and fit 64 bits.
+    pub(crate) fn mean_depth(self, a: u16, b: u16, c: u16) -> u16
+        ensures value { result ≡ rounded_quotient (self.a + self.b + self.c) (self.a * a + self.b * b + self.c * c) }
+        ensures nearest { IsNearestLarger (self.a + self.b + self.c) (self.a * a + self.b * b + self.c * c) result }
+    {
+        let area = self.a + self.b + self.c;
+        let total = self.a * u64::from(a) + self.b * u64::from(b) + self.c * u64::from(c);
+        ((2 * total + area) / (2 * area)) as u16
+    }
+
+    /// The weighted mean of three channels, rounded to the nearest byte, up at a half.
     fn mean(self, a: u8, b: u8, c: u8) -> u8
         ensures value { result ≡ rounded_quotient (self.a + self.b + self.c) (self.a * a + self.b * b + self.c * c) }
         ensures nearest { IsNearestLarger (self.a + self.b + self.c) (self.a * a + self.b * b + self.c * c) result }
@@ -58,6 +81,54 @@ impl Weights {
         let area = self.a + self.b + self.c;
         let total = self.a * u64::from(a) + self.b * u64::from(b) + self.c * u64::from(c);
         ((2 * total + area) / (2 * area)) as u8
+    }
+
+    /// The rounded mean of three depths before its fraction is dropped, in units of 2^-48.
+    pub(crate) fn depth_quotient(self, a: u16, b: u16, c: u16) -> u64
+        ensures near { IsNear (2 ^ 48) (2 * (self.a * a + self.b * b + self.c * c) + (self.a + self.b + self.c)) (2 * (self.a + self.b + self.c)) result }
+        ensures bound { result + 96 < 2 ^ 64 }
+        ensures depths { (a < 2 ^ 16) × ((b < 2 ^ 16) × (c < 2 ^ 16)) }
+    {
+        let area = self.a + self.b + self.c;
+        let total = self.a * u64::from(a) + self.b * u64::from(b) + self.c * u64::from(c);
+        (u128::from(2 * total + area) * DEPTH_UNITS / u128::from(2 * area)) as u64
+    }
+
+    /// What is divided by twice the area to round the weighted mean of three channels.
+    fn numerator(self, a: u8, b: u8, c: u8) -> u64
+        ensures value { result ≡ 2 * (self.a * a + self.b * b + self.c * c) + (self.a + self.b + self.c) }
+        ensures bound { result ≤ 511 * (self.a + self.b + self.c) }
+        ensures bytes { (a < 256) × ((b < 256) × (c < 256)) }
+    {
+        let area = self.a + self.b + self.c;
+        let total = self.a * u64::from(a) + self.b * u64::from(b) + self.c * u64::from(c);
+        2 * total + area
+    }
+}
+
+/// How one channel, or the depth, goes along a row of covered pixels: its rounded value is the highest byte of the place, and the next pixel's place is a step on.
+/// A depth has the highest two bytes and 48 bits of fraction, and is walked only where those are fine enough.
+///
+/// A channel's place has 56 bits of fraction and begins 96 units above its quotient. Each quotient is less than 3 units too low, so in 32 pixels
+/// a place is above the exact one by less than 192 units, and never below it. An exact quotient whose next whole number is not reached
+/// is below it by at least 2^56 units through twice the area, which is at most 2^48: 256 units. So the whole part is exact, and no remainder is kept.
+#[derive(Clone, Copy)]
+pub(crate) struct Walk {
+    pub(crate) place: u64,
+    pub(crate) step: u64,
+}
+
+impl Walk {
+    /// The walk from a pixel with the quotient `first` whose neighbour to the right has the quotient `second`.
+    pub(crate) fn between(first: u64, second: u64) -> Walk
+        requires first { first + 96 < 2 ^ 64 }
+        ensures place { result.place ≡ first + 96 }
+        ensures step { result.step ≡ (second + (2 ^ 64 - first)) % 2 ^ 64 }
+    {
+        Walk {
+            place: first + 96,
+            step: second.wrapping_sub(first),
+        }
     }
 }
 
@@ -67,8 +138,8 @@ impl Weights {
 /// rounded to the nearest byte, the larger on a tie.
 #[tactic(auto, unfolding(crate::specs::Shade::shaded))]
 pub fn shade(triangle: &Tri, colours: &[Colour; 3], interp: Interp, x: u32, y: u32) -> Colour
-    requires column { x < TARGET_LIMIT }
-    requires row { y < TARGET_LIMIT }
+    requires column { x < most_pixels }
+    requires row { y < most_pixels }
     requires covered { IsTrue (covers triangle.now x y) }
     ensures value { result ≡ shaded triangle.now interp (colour_of colours.now 0) (colour_of colours.now 1) (colour_of colours.now 2) x y }
     ensures linear { interp ≡ Interp.Linear → IsNearestMean triangle.now (colour_of colours.now 0) (colour_of colours.now 1) (colour_of colours.now 2) x y result }
@@ -83,6 +154,77 @@ pub fn shade(triangle: &Tri, colours: &[Colour; 3], interp: Interp, x: u32, y: u
                 g: weights.mean(a.g, b.g, c.g),
                 b: weights.mean(a.b, b.b, c.b),
                 a: weights.mean(a.a, b.a, c.a),
+            }
+        }
+    }
+}
+
+/// The source colours of a linear triangle at two or more neighbouring covered pixels.
+fn shade_linear(triangle: &Tri, colours: &[Colour; 3], x: u32, y: u32, out: &mut [Colour])
+    requires some { 2 ≤ length out.old }
+    requires few { length out.old ≤ SHADED_ROW }
+    requires row { y < most_pixels }
+    requires columns { x + length out.old ≤ most_pixels }
+    requires covered { (column : ℕ) → x ≤ column → column < x + length out.old → IsTrue (covers triangle.now column y) }
+    ensures { out.new ≡ map (λ column. shaded triangle.now Interp.Linear (colour_of colours.now 0) (colour_of colours.now 1) (colour_of colours.now 2) column y) (range_with_len x (length out.old)) }
+{
+    let [a, b, c] = *colours;
+    let area = doubled_area(
+        Point::vertex(triangle.a),
+        Point::vertex(triangle.b),
+        Point::vertex(triangle.c),
+    );
+    let first = Weights::at(triangle, x, y);
+    let second = Weights::at(triangle, x + 1, y);
+    let area = Reciprocal::of(2 * area);
+    let red = Walk::between(
+        area.quotient(first.numerator(a.r, b.r, c.r)),
+        area.quotient(second.numerator(a.r, b.r, c.r)),
+    );
+    let green = Walk::between(
+        area.quotient(first.numerator(a.g, b.g, c.g)),
+        area.quotient(second.numerator(a.g, b.g, c.g)),
+    );
+    let blue = Walk::between(
+        area.quotient(first.numerator(a.b, b.b, c.b)),
+        area.quotient(second.numerator(a.b, b.b, c.b)),
+    );
+    let alpha = Walk::between(
+        area.quotient(first.numerator(a.a, b.a, c.a)),
+        area.quotient(second.numerator(a.a, b.a, c.a)),
+    );
+    let mut places = u64x4::from_array([red.place, green.place, blue.place, alpha.place]);
+    let steps = u64x4::from_array([red.step, green.step, blue.step, alpha.step]);
+    for i in 0..out.len() {
+        out[i] = colour_of(places);
+        places = moved(places, steps);
+    }
+}
+
+/// The source colours of a triangle at neighbouring covered pixels of row y from column x on, from the colours of its vertices.
+///
+/// Each is what `shade` says; one division serves the whole row.
+pub fn shade_row(
+    triangle: &Tri,
+    colours: &[Colour; 3],
+    interp: Interp,
+    x: u32,
+    y: u32,
+    out: &mut [Colour],
+)
+    requires few { length out.old ≤ SHADED_ROW }
+    requires row { y < most_pixels }
+    requires columns { x + length out.old ≤ most_pixels }
+    requires covered { (column : ℕ) → x ≤ column → column < x + length out.old → IsTrue (covers triangle.now column y) }
+    ensures { out.new ≡ map (λ column. shaded triangle.now interp (colour_of colours.now 0) (colour_of colours.now 1) (colour_of colours.now 2) column y) (range_with_len x (length out.old)) }
+{
+    match interp {
+        Interp::Flat => out.fill(colours[0]),
+        Interp::Linear => {
+            if 2 <= out.len() {
+                shade_linear(triangle, colours, x, y, out);
+            } else if out.len() == 1 {
+                out[0] = shade(triangle, colours, interp, x, y);
             }
         }
     }

@@ -1,11 +1,10 @@
 ghost use Rattle.std.specs.Prelude.{◌≡◌, ◌<◌, ℤ};
-ghost use Rattle.fd_cover.specs.Cross.{cross};
 ghost use Rattle.fd_cover.specs.Verdict.{is_front, is_dropped, is_in_range, holds, verdict_at, is_culled};
-ghost use Rattle.fd_cover.specs.declared.triangle.TheConstants.{TARGET_LIMIT};
+ghost use Rattle.fd_snap.specs.Limits.{most_pixels};
 
 use crate::coverage::covers;
-use crate::point::{Point, cross};
-use crate::triangle::{TARGET_LIMIT, Tri};
+use crate::depth::{Depth, depth_at};
+use crate::triangle::Tri;
 
 /// Which triangles are dropped by the way they face: none, the front-facing or the back-facing ones.
 #[derive(Clone, Copy, Debug, PartialEq, Eq)]
@@ -32,12 +31,14 @@ pub struct Rect {
     pub bottom: i32,
 }
 
-/// What becomes of a triangle at a pixel: not covered, dropped by the way it faces, outside the scissor rectangle, or drawn.
+/// What becomes of a triangle at a pixel: not covered, dropped by the way it faces, outside the scissor rectangle, not let pass by the
+/// depth test, or drawn.
 #[derive(Clone, Copy, Debug, PartialEq, Eq)]
 pub enum Verdict {
     Missed,
     Culled,
     Scissored,
+    DepthFailed,
     Drawn,
 }
 
@@ -81,18 +82,27 @@ impl Raster {
     pub fn culls(&self, triangle: &Tri) -> bool
         ensures { result ≡ is_culled self.now triangle.now }
     {
-        self.drops(area(triangle))
+        self.drops(triangle.area())
     }
 }
 
-/// What becomes of a triangle at a pixel: the first verdict that applies, in their order.
+/// What becomes of a triangle at a pixel with a stored depth: the first verdict that applies, in their order.
 ///
-/// Direct3D 11.3 functional specification, section 15, culling and scissor test.
+/// Direct3D 11.3 functional specification, section 15, culling and scissor test, and section 17, depth comparison.
 #[tactic(auto, unfolding(crate::specs::Verdict::verdict_at))]
-pub fn verdict_at(triangle: &Tri, raster: &Raster, rect: &Rect, x: u32, y: u32) -> Verdict
-    requires column { x < TARGET_LIMIT }
-    requires row { y < TARGET_LIMIT }
-    ensures { result ≡ verdict_at triangle.now raster.now rect.now x y }
+pub fn verdict_at(
+    triangle: &Tri,
+    depths: &[u16; 3],
+    raster: &Raster,
+    rect: &Rect,
+    depth: &Depth,
+    stored: u16,
+    x: u32,
+    y: u32,
+) -> Verdict
+    requires column { x < most_pixels }
+    requires row { y < most_pixels }
+    ensures { result ≡ verdict_at triangle.now depths.now raster.now rect.now depth.now stored x y }
 {
     if !covers(triangle, x, y) {
         Verdict::Missed
@@ -100,18 +110,9 @@ pub fn verdict_at(triangle: &Tri, raster: &Raster, rect: &Rect, x: u32, y: u32) 
         Verdict::Culled
     } else if raster.scissor && !rect.holds(x, y) {
         Verdict::Scissored
+    } else if !depth.passes(depth_at(triangle, depths, x, y), stored) {
+        Verdict::DepthFailed
     } else {
         Verdict::Drawn
     }
-}
-
-/// Twice the triangle's signed area.
-fn area(triangle: &Tri) -> i64
-    ensures { result ≡ cross triangle.now.a triangle.now.b triangle.now.c }
-{
-    cross(
-        Point::vertex(triangle.a),
-        Point::vertex(triangle.b),
-        Point::vertex(triangle.c),
-    )
 }

@@ -87,14 +87,20 @@ quiet_back at x y z q back = record { refusals = ap (λ (s : Shown). s.refusals)
 quiet : (table : Table) (target seen low at : ℕ) (x y z : Shown) → Drawn table target seen low x y → low ≡ target → z ≡ gone_back_to at y → IsQuiet x z
 quiet table target seen low at x y z d is back = ⊎_elim (λ q. quiet_back at x y z q back) (λ t. let a = t.2 in let b = t.3 in absurd (omega arith)) d.refusals
 
-some_same : (m n : ℕ) (o : Option ℕ) → o ≡ Some m → o ≡ Some n → m ≡ n
-some_same m n o a b = let e : Some m ≡ Some n = sym a ∙ b in cc
+refused_back_to : (r at : ℕ) (x y z : Shown) → RefusedAt r x y → z ≡ gone_back_to at y → RefusedAt r x z
+refused_back_to r at x y z a back =
+    let same : z.refusals ≡ y.refusals = ap (λ (s : Shown). s.refusals) back in
+    record {
+      there = ap (λ (s : Shown). s.refused_at) back ∙ a.there;
+      rose = ⊎_elim (λ less. inl (omega arith)) (λ full. inr (same ∙ full)) a.rose;
+      after = a.after;
+    }
 
 no_lower : (table : Table) (target seen low at : ℕ) (x y z : Shown) → Drawn table target seen low x y → at ≡ low → z ≡ gone_back_to at y → RefusedNoLower at x z
-no_lower table target seen low at x y z d is back rose r there =
-    let same : z.refusals ≡ y.refusals = ap (λ (s : Shown). s.refusals) back in
-    let there' : y.refused_at ≡ Some r = sym (ap (λ (s : Shown). s.refused_at) back) ∙ there in
-    ⊎_elim (λ q. let e = q.refusals in absurd (omega arith)) (λ t. let e : t.0 ≡ r = some_same t.0 r y.refused_at t.1.there there' in let under = t.2 in omega arith) d.refusals
+no_lower table target seen low at x y z d is back = ⊎_elim
+    (λ q. inl (quiet_back at x y z q back))
+    (λ t. let under = t.2 in inr (t.0, refused_back_to t.0 at x y z t.1 back, omega arith))
+    d.refusals
 
 refused_back : (low at : ℕ) (x y z : Shown) → RefusedAt low x y → at ≡ low → z ≡ gone_back_to at y → RefusedAt at x z
 refused_back low at x y z r is back =

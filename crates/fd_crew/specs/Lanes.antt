@@ -35,9 +35,9 @@ pub record RefusedAt (at : ℕ) (old new : Shown) : Type 0 where
   pub rose : Rose old new
   pub after : position old.history ≤ at
 
--- if the refusals of the lane rose, it refused at no lower position
+-- the lane refused nothing, or at no lower position
 abbrev pub RefusedNoLower : ℕ → Shown → Shown → Type 0
-RefusedNoLower at old new = old.refusals < new.refusals → (r : ℕ) → new.refused_at ≡ Some r → at ≤ r
+RefusedNoLower at old new = IsQuiet old new ⊎ ((r : ℕ) × RefusedAt r old new × (at ≤ r))
 
 -- ---- a run
 

@@ -25,7 +25,7 @@ fn markers(alloc: Global, count: u32) -> Result<EventTable, Fail>
     for _ in 0..count {
         events.push(Event::Marker(Label::new(String::new(alloc))?))?;
     }
-    Ok(EventTable::start(alloc, 1, 1, events)?)
+    Ok(EventTable::start(alloc, 2, 1, 1, events)?)
 }
 
 /// A lane that refuses one event once.
@@ -245,6 +245,106 @@ fn every_worker_is_in_a_lane_at_once(rt: HostRuntime) -> Result<(), Fail> {
     Ok(())
 }
 
+/// Sets the flag of each lane that passes, and holds none.
+#[derive(Drop)]
+struct Tells<'a> {
+    flags: &'a [AtomicU64],
+}
+
+impl<'a> Gate for Tells<'a> {
+    fn pass(&self, lane: usize, _event: u32) {
+        if let Some(flag) = self.flags.get(lane) {
+            flag.store(1, Ordering::SeqCst);
+        }
+    }
+}
+
+/// Two workers have five lanes, so that one of them has three.
+#[test]
+fn each_lane_passes_by_its_own_number(rt: HostRuntime) -> Result<(), Fail> {
+    let table = markers(rt.alloc(), 1)?;
+    for workers in [1, 2, 3] {
+        let flags = [
+            AtomicU64::new(0),
+            AtomicU64::new(0),
+            AtomicU64::new(0),
+            AtomicU64::new(0),
+            AtomicU64::new(0),
+        ];
+        let gate = Tells { flags: &flags };
+        let mut lanes = [
+            Fake::flagged(&flags[0]),
+            Fake::flagged(&flags[1]),
+            Fake::flagged(&flags[2]),
+            Fake::flagged(&flags[3]),
+            Fake::flagged(&flags[4]),
+        ];
+        let outcome = run_forward(&rt, rt.alloc(), &mut lanes, &table, 1, workers, &gate)?;
+        assert!(rt; outcome == Outcome::Reached, "{workers} workers");
+        assert!(rt;
+            lanes
+                .iter()
+                .all(|lane| lane.position == 1 && !lane.went_early)
+        );
+    }
+    Ok(())
+}
+
+/// Holds lane 2 until lane 0 has come to an event, and lane 0 until lane 3 has; and counts how often lane 0 passes.
+#[derive(Drop)]
+struct Waits {
+    first: AtomicU64,
+    last: AtomicU64,
+    gave_up: AtomicU64,
+}
+
+impl Waits {
+    fn wait(&self, other: &AtomicU64) {
+        for _ in 0..TURNS {
+            if other.load(Ordering::SeqCst) > 0 {
+                return;
+            }
+            thread::yield_now();
+        }
+        self.gave_up.fetch_add(1, Ordering::SeqCst);
+    }
+}
+
+impl Gate for Waits {
+    fn pass(&self, lane: usize, _event: u32) {
+        match lane {
+            0 => {
+                self.first.fetch_add(1, Ordering::SeqCst);
+                self.wait(&self.last);
+            }
+            2 => self.wait(&self.first),
+            3 => self.last.store(1, Ordering::SeqCst),
+            _ => {}
+        }
+    }
+}
+
+/// Lane 2 refuses its second event, and its worker goes on with lane 3. Only then may lane 0 go on, which looks again before its second event.
+#[test]
+fn a_refusal_holds_the_others(rt: HostRuntime) -> Result<(), Fail> {
+    let table = markers(rt.alloc(), 9)?;
+    let gate = Waits {
+        first: AtomicU64::new(0),
+        last: AtomicU64::new(0),
+        gave_up: AtomicU64::new(0),
+    };
+    let mut lanes = [
+        Fake::new(None),
+        Fake::new(None),
+        Fake::new(Some(2)),
+        Fake::new(None),
+    ];
+    let outcome = run_forward(&rt, rt.alloc(), &mut lanes, &table, 9, 2, &gate)?;
+    assert!(rt; outcome == Outcome::Stopped { at: 1 });
+    assert!(rt; gate.first.load(Ordering::SeqCst) == 1 && gate.gave_up.load(Ordering::SeqCst) == 0);
+    Ok(())
+}
+
 /// Holds lane 0 before event 1 until lane 1 has come to event 9.
 #[derive(Drop)]
 struct Holds {
@@ -305,7 +405,7 @@ fn one_clear(alloc: Global, colour: Colour) -> Result<EventTable, Fail>
 {
     let mut events = Vec::new(alloc);
     events.push(Event::Clear(colour))?;
-    Ok(EventTable::start(alloc, 33, 1, events)?)
+    Ok(EventTable::start(alloc, 2, 33, 1, events)?)
 }
 
 fn colour_shown<R: Abort>(rt: &R, owner: &Owner, x: u32) -> Colour {

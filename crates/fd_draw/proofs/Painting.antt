@@ -1,10 +1,12 @@
 -- Drawing, pixel by pixel.
-use Rattle.std.proofs.Common.{◌≡◌, ℕ, ◌+◌, ◌-◌, ◌<◌, ◌≤◌, Bool, true, false, ◌||◌, cond, eqb, List, [], ◌∷◌, ◌++◌, length, get_or, take, drop, refl, sym, ap, ◌∙◌, subst, arith, append_assoc, length-drop, inl, inr, ◌⊎◌}
+use Rattle.std.proofs.Common.{◌≡◌, ◌≢◌, ℕ, ◌+◌, ◌-◌, ◌<◌, ◌≤◌, Bool, true, false, ◌||◌, cond, eqb, List, [], ◌∷◌, ◌++◌, length, get_or, take, drop, replicate, refl, sym, ap, ◌∙◌, subst, arith, append_assoc, length-drop, inl, inr, ◌⊎◌}
 use Rattle.std.specs.Prelude.{◌&&◌, All, Option, Some, None, IfSome, nat_lt}
+use Rattle.std.specs.List.{zip, refill}
 use Rattle.std.proofs.lemmas.Bool.{eq-eqb, ne_eqb, cases_lt, cases_eq}
 use Rattle.std.proofs.lemmas.Bool.Decides.{nat_tests}
 use Rattle.std.proofs.lemmas.List.{append-nil, length_push, length-take, get_or-take, get_or-drop}
 use Rattle.std.proofs.lemmas.List.Elements.{All-nil, All-cons, All-append}
+use Rattle.std.proofs.lemmas.Slice.Zip.{get_or-zip}
 use borrow.Rule.Slice.PartMut.{put_mid}
 use Rattle.fd_blend.specs.declared.channel.Colour.{Colour}
 use Rattle.fd_blend.specs.Channel.{fresh}
@@ -12,16 +14,17 @@ use Rattle.fd_cover.specs.declared.bounds.Bounds.{Bounds}
 use Rattle.fd_cover.specs.Bounds.{is_within}
 use Rattle.fd_tile.specs.declared.place.Place.{Place}
 use Rattle.fd_tile.specs.Place.{Holds, HasRow}
-use Rattle.fd_tile.specs.Tile.{TileImage, IsTileImage, row_of, colour_of, with_row, with_row_left}
-use Rattle.fd_tile.proofs.Pixels.{length-row_of, row_of-with_row_same, row_of-with_row_other, IsTileImage-with_row, with_row_left_is}
+use Rattle.fd_tile.specs.Tile.{Pixel, fresh_pixel, TileImage, FillsPlace, IsTileImage, row_in, with_row_in, value_in, row_of, depth_row_of, colour_of, depth_of, pixel_of, with_row, with_row_left, with_depth_row_left}
+use Rattle.fd_tile.proofs.Pixels.{length-row_in, row_in-same, row_in-other, left_row_is, with_row_in-as_it_is, FillsPlace-with_row_in}
 use Rattle.fd_undo.specs.Frame.{KeptPixel, kept_at, kept_row, top, older}
 use Rattle.fd_undo.specs.Undo.{Undo, with_kept}
 use Rattle.fd_undo.proofs.KeptAt.{kept_at-append, kept_at-other_row, kept_at-before, kept_at-after, kept_at-inside}
 use Rattle.fd_undo.proofs.Restored.{Inside}
 use Rattle.fd_undo.proofs.FrameLemmas.{top-push, older-push}
+use Rattle.fd_undo.proofs.Zips.{length-zip_equal}
 use Rattle.fd_draw.specs.Area.{IsInside, IsWrittenIn}
 use Rattle.fd_draw.specs.Demand.{pixels_in, spans_in}
-use Rattle.fd_draw.specs.Writing.{Writes, after_where, kept_where, in_row}
+use Rattle.fd_draw.specs.Writing.{Writes, after_where, kept_where, keep_each, between, in_row}
 use Rattle.fd_draw.specs.Paints.{Paints}
 use Rattle.fd_draw.specs.Row.{changed_row}
 use Rattle.fd_draw.specs.Span.{IsRowSpan, in_span}
@@ -31,7 +34,7 @@ use Rattle.fd_draw.proofs.Rows.{length-changed_row, get_or-changed_row, length-p
 
 -- ---- one after another
 
-module _ (A B : ℕ → ℕ → Colour → Colour) (R S : ℕ → ℕ → Colour → List Colour) (t t' t'' : TileImage) (u u' u'' : Undo) where
+module _ (A B : ℕ → ℕ → Pixel → Pixel) (R S : ℕ → ℕ → Pixel → List Pixel) (t t' t'' : TileImage) (u u' u'' : Undo) where
   pub Paints-then : Paints A R t u t' u' → Paints B S t' u' t'' u''
       → Paints (λ x y c. B x y (A x y c)) (λ x y c. R x y c ++ S x y (A x y c)) t u t'' u''
   Paints-then first second =
@@ -42,30 +45,35 @@ module _ (A B : ℕ → ℕ → Colour → Colour) (R S : ℕ → ℕ → Colour
         below = second.below ∙ first.below;
         begun = second.begun;
         some = λ before. second.some (first.some before);
-        colours = λ x y held. second.colours x y (onto x y held) ∙ ap (λ c. B x y c) (first.colours x y held);
+        pixels = λ x y held. second.pixels x y (onto x y held) ∙ ap (λ c. B x y c) (first.pixels x y held);
         kept = λ x y held. second.kept x y (onto x y held)
-            ∙ ap (λ l. l ++ S x y (colour_of t' x y)) (first.kept x y held)
-            ∙ append_assoc (kept_at (top u.frames) x y) (R x y (colour_of t x y)) (S x y (colour_of t' x y))
-            ∙ ap (λ c. kept_at (top u.frames) x y ++ (R x y (colour_of t x y) ++ S x y c)) (first.colours x y held);
+            ∙ ap (λ l. l ++ S x y (pixel_of t' x y)) (first.kept x y held)
+            ∙ append_assoc (kept_at (top u.frames) x y) (R x y (pixel_of t x y)) (S x y (pixel_of t' x y))
+            ∙ ap (λ c. kept_at (top u.frames) x y ++ (R x y (pixel_of t x y) ++ S x y c)) (first.pixels x y held);
         inside = λ before.
             subst (λ p. All (λ k. Holds p k.x k.y) (top u''.frames)) first.placed
             (second.inside (subst (λ p. All (λ k. Holds p k.x k.y) (top u'.frames)) (sym first.placed) (first.inside before)));
       }
 
-module _ (A B : ℕ → ℕ → Colour → Colour) (R S : ℕ → ℕ → Colour → List Colour) (t t' : TileImage) (u u' : Undo) where
-  -- the same by other words
-  pub Paints-same : ((x y : ℕ) (c : Colour) → Holds t.place x y → A x y c ≡ B x y c) → ((x y : ℕ) (c : Colour) → Holds t.place x y → R x y c ≡ S x y c)
+module _ (A B : ℕ → ℕ → Pixel → Pixel) (R S : ℕ → ℕ → Pixel → List Pixel) (t t' : TileImage) (u u' : Undo) where
+  -- the same by other words, where it is said of the pixels that are there
+  pub Paints-same-here : ((x y : ℕ) → Holds t.place x y → A x y (pixel_of t x y) ≡ B x y (pixel_of t x y)) → ((x y : ℕ) → Holds t.place x y → R x y (pixel_of t x y) ≡ S x y (pixel_of t x y))
       → Paints A R t u t' u' → Paints B S t u t' u'
-  Paints-same after kept painted = record {
+  Paints-same-here after kept painted = record {
     placed = painted.placed;
     filled = painted.filled;
     below = painted.below;
     begun = painted.begun;
     some = painted.some;
-    colours = λ x y held. painted.colours x y held ∙ after x y (colour_of t x y) held;
-    kept = λ x y held. painted.kept x y held ∙ ap (λ l. kept_at (top u.frames) x y ++ l) (kept x y (colour_of t x y) held);
+    pixels = λ x y held. painted.pixels x y held ∙ after x y held;
+    kept = λ x y held. painted.kept x y held ∙ ap (λ l. kept_at (top u.frames) x y ++ l) (kept x y held);
     inside = painted.inside;
   }
+
+  -- the same of any pixels
+  pub Paints-same : ((x y : ℕ) (c : Pixel) → Holds t.place x y → A x y c ≡ B x y c) → ((x y : ℕ) (c : Pixel) → Holds t.place x y → R x y c ≡ S x y c)
+      → Paints A R t u t' u' → Paints B S t u t' u'
+  Paints-same after kept painted = Paints-same-here (λ x y held. after x y (pixel_of t x y) held) (λ x y held. kept x y (pixel_of t x y) held) painted
 
 -- nothing is drawn
 pub Paints-nothing : (t : TileImage) (u : Undo) → IsTileImage t → u.frame_left ≡ false → Paints (λ x y c. c) (λ x y c. []) t u t u
@@ -75,63 +83,61 @@ Paints-nothing t u filled begun = record {
   below = refl;
   begun = begun;
   some = λ before. before;
-  colours = λ x y held. refl;
+  pixels = λ x y held. refl;
   kept = λ x y held. sym (append-nil (kept_at (top u.frames) x y));
   inside = λ before. before;
 }
 
 -- ---- pixels that are written in turn
 
-two_colours : (b e : Bool) (paint : Colour → Colour) (c : Colour) → (b && e) ≡ false → cond e (paint (cond b (paint c) c)) (cond b (paint c) c) ≡ cond (b || e) (paint c) c
-two_colours true true paint c apart = absurd (cc)
-two_colours true false paint c apart = refl
-two_colours false true paint c apart = refl
-two_colours false false paint c apart = refl
+two_pixels : (b e : Bool) (paint : Pixel → Pixel) (c : Pixel) → (b && e) ≡ false → cond e (paint (cond b (paint c) c)) (cond b (paint c) c) ≡ cond (b || e) (paint c) c
+two_pixels true true paint c apart = absurd (cc)
+two_pixels true false paint c apart = refl
+two_pixels false true paint c apart = refl
+two_pixels false false paint c apart = refl
 
-two_kept : (b e : Bool) (paint : Colour → Colour) (c : Colour) → (b && e) ≡ false → cond b (c ∷ []) [] ++ cond e (cond b (paint c) c ∷ []) [] ≡ cond (b || e) (c ∷ []) []
-two_kept true true paint c apart = absurd (cc)
-two_kept true false paint c apart = refl
-two_kept false true paint c apart = refl
-two_kept false false paint c apart = refl
+two_kept : (b e : Bool) (paint : Pixel → Pixel) (keep : Pixel → List Pixel) (c : Pixel) → (b && e) ≡ false → cond b (keep c) [] ++ cond e (keep (cond b (paint c) c)) [] ≡ cond (b || e) (keep c) []
+two_kept true true paint keep c apart = absurd (cc)
+two_kept true false paint keep c apart = append-nil (keep c)
+two_kept false true paint keep c apart = refl
+two_kept false false paint keep c apart = refl
 
-module _ (paint : ℕ → ℕ → Colour → Colour) where
+module _ (paint : ℕ → ℕ → Pixel → Pixel) (keep : ℕ → ℕ → Pixel → List Pixel) where
   -- other pixels after some
   pub Paints-both : (first second both : ℕ → ℕ → Bool) (t t' t'' : TileImage) (u u' u'' : Undo)
       → ((x y : ℕ) → (first x y && second x y) ≡ false) → ((x y : ℕ) → both x y ≡ (first x y || second x y))
-      → Paints (after_where first paint) (kept_where first) t u t' u' → Paints (after_where second paint) (kept_where second) t' u' t'' u''
-      → Paints (after_where both paint) (kept_where both) t u t'' u''
+      → Paints (after_where first paint) (kept_where first keep) t u t' u' → Paints (after_where second paint) (kept_where second keep) t' u' t'' u''
+      → Paints (after_where both paint) (kept_where both keep) t u t'' u''
   Paints-both first second both t t' t'' u u' u'' apart joined before now =
-      Paints-same _ (after_where both paint) _ (kept_where both) t t'' u u''
-      (λ x y c held. two_colours (first x y) (second x y) (paint x y) c (apart x y) ∙ ap (λ b. cond b (paint x y c) c) (sym (joined x y)))
-      (λ x y c held. two_kept (first x y) (second x y) (paint x y) c (apart x y) ∙ ap (λ b. cond b (c ∷ []) []) (sym (joined x y)))
-      (Paints-then (after_where first paint) (after_where second paint) (kept_where first) (kept_where second) t t' t'' u u' u'' before now)
+      Paints-same _ (after_where both paint) _ (kept_where both keep) t t'' u u''
+      (λ x y c held. two_pixels (first x y) (second x y) (paint x y) c (apart x y) ∙ ap (λ b. cond b (paint x y c) c) (sym (joined x y)))
+      (λ x y c held. two_kept (first x y) (second x y) (paint x y) (keep x y) c (apart x y) ∙ ap (λ b. cond b (keep x y c) []) (sym (joined x y)))
+      (Paints-then (after_where first paint) (after_where second paint) (kept_where first keep) (kept_where second keep) t t' t'' u u' u'' before now)
 
   -- the same pixels by other words
   pub Paints-as : (first second : ℕ → ℕ → Bool) (t t' : TileImage) (u u' : Undo) → ((x y : ℕ) → Holds t.place x y → first x y ≡ second x y)
-      → Paints (after_where first paint) (kept_where first) t u t' u' → Paints (after_where second paint) (kept_where second) t u t' u'
+      → Paints (after_where first paint) (kept_where first keep) t u t' u' → Paints (after_where second paint) (kept_where second keep) t u t' u'
   Paints-as first second t t' u u' same =
-      Paints-same (after_where first paint) (after_where second paint) (kept_where first) (kept_where second) t t' u u'
+      Paints-same (after_where first paint) (after_where second paint) (kept_where first keep) (kept_where second keep) t t' u u'
       (λ x y c held. ap (λ b. cond b (paint x y c) c) (same x y held))
-      (λ x y c held. ap (λ b. cond b (c ∷ []) []) (same x y held))
+      (λ x y c held. ap (λ b. cond b (keep x y c) []) (same x y held))
 
   -- no pixel of the place is written
   pub Paints-unwritten : (written : ℕ → ℕ → Bool) (t : TileImage) (u : Undo) → IsTileImage t → u.frame_left ≡ false → ((x y : ℕ) → Holds t.place x y → written x y ≡ false)
-      → Paints (after_where written paint) (kept_where written) t u t u
+      → Paints (after_where written paint) (kept_where written keep) t u t u
   Paints-unwritten written t u filled begun none =
-      Paints-same (λ x y c. c) (after_where written paint) (λ x y c. []) (kept_where written) t t u u
+      Paints-same (λ x y c. c) (after_where written paint) (λ x y c. []) (kept_where written keep) t t u u
       (λ x y c held. sym (ap (λ b. cond b (paint x y c) c) (none x y held)))
-      (λ x y c held. sym (ap (λ b. cond b (c ∷ []) []) (none x y held)))
+      (λ x y c held. sym (ap (λ b. cond b (keep x y c) []) (none x y held)))
       (Paints-nothing t u filled begun)
 
-  pub Writes-nothing : (written : ℕ → ℕ → Bool) (t : TileImage) (u : Undo) → IsTileImage t → u.frame_left ≡ false → ((x y : ℕ) → Holds t.place x y → written x y ≡ false)
-      → Writes written paint t u t u
-  Writes-nothing written t u filled begun none =
-      let no_spans : spans_in written t.place ≡ 0 = spans_in-nothing written t.place none in
-      let no_pixels : pixels_in written t.place ≡ 0 = pixels_in-nothing written t.place none in
+  pub Writes-nothing : (spans pixels : ℕ) (written : ℕ → ℕ → Bool) (t : TileImage) (u : Undo) → IsTileImage t → u.frame_left ≡ false → ((x y : ℕ) → Holds t.place x y → written x y ≡ false)
+      → Writes spans pixels written paint keep t u t u
+  Writes-nothing spans pixels written t u filled begun none =
       record {
         painted = Paints-unwritten written t u filled begun none;
-        spans = omega (arith, no_spans);
-        pixels = omega (arith, no_pixels);
+        spans = omega arith;
+        pixels = omega arith;
       }
 
 -- ---- row after row
@@ -158,13 +164,13 @@ row_apart y row = grind (arith, nat_tests)
 next_row : (y row : ℕ) → nat_lt y (row + 1) ≡ (nat_lt y row || eqb y row)
 next_row y row = grind (arith, nat_tests)
 
-module _ (written : ℕ → ℕ → Bool) (paint : ℕ → ℕ → Colour → Colour) where
+module _ (written : ℕ → ℕ → Bool) (paint : ℕ → ℕ → Pixel → Pixel) (keep : ℕ → ℕ → Pixel → List Pixel) where
   pub Paints-row : (row : ℕ) (t t' t'' : TileImage) (u u' u'' : Undo)
-      → Paints (after_where (above written row) paint) (kept_where (above written row)) t u t' u'
-      → Paints (after_where (in_row written row) paint) (kept_where (in_row written row)) t' u' t'' u''
-      → Paints (after_where (above written (row + 1)) paint) (kept_where (above written (row + 1))) t u t'' u''
+      → Paints (after_where (above written row) paint) (kept_where (above written row) keep) t u t' u'
+      → Paints (after_where (in_row written row) paint) (kept_where (in_row written row) keep) t' u' t'' u''
+      → Paints (after_where (above written (row + 1)) paint) (kept_where (above written (row + 1)) keep) t u t'' u''
   Paints-row row t t' t'' u u' u'' =
-      Paints-both paint (above written row) (in_row written row) (above written (row + 1)) t t' t'' u u' u''
+      Paints-both paint keep (above written row) (in_row written row) (above written (row + 1)) t t' t'' u u' u''
       (λ x y. apart_rows (nat_lt y row) (eqb y row) (written x y) (row_apart y row))
       (λ x y. joined_rows (nat_lt y row) (eqb y row) (nat_lt y (row + 1)) (written x y) (next_row y row))
 
@@ -181,54 +187,44 @@ module _ (written : ℕ → ℕ → Bool) (paint : ℕ → ℕ → Colour → Co
         anything false = refl
     not_above x y held (inr past) = and_false (nat_lt y box.top) (written x y) (grind (arith, nat_tests))
 
-    pub Paints-first : (u : Undo) → IsTileImage t → u.frame_left ≡ false → Paints (after_where (above written box.top) paint) (kept_where (above written box.top)) t u t u
-    Paints-first u filled begun = Paints-unwritten paint (above written box.top) t u filled begun (λ x y held. not_above x y held (cases_lt y box.top))
+    pub Paints-first : (u : Undo) → IsTileImage t → u.frame_left ≡ false → Paints (after_where (above written box.top) paint) (kept_where (above written box.top) keep) t u t u
+    Paints-first u filled begun = Paints-unwritten paint keep (above written box.top) t u filled begun (λ x y held. not_above x y held (cases_lt y box.top))
 
     all_above : (row x y : ℕ) → box.bottom ≤ row → Holds t.place x y → (y < row) ⊎ (row ≤ y) → above written row x y ≡ written x y
     all_above row x y last held (inl low) = let here : nat_lt y row ≡ true = grind (arith, nat_tests) in rw here refl
     all_above row x y last held (inr past) =
         and_false (nat_lt y row) (written x y) (grind (arith, nat_tests)) ∙ sym (outside x y held (inr (omega arith)))
 
-    pub Paints-last : (row : ℕ) (t' : TileImage) (u u' : Undo) → box.bottom ≤ row → Paints (after_where (above written row) paint) (kept_where (above written row)) t u t' u'
-        → Paints (after_where written paint) (kept_where written) t u t' u'
-    Paints-last row t' u u' last = Paints-as paint (above written row) written t t' u u' (λ x y held. all_above row x y last held (cases_lt y row))
+    pub Paints-last : (row : ℕ) (t' : TileImage) (u u' : Undo) → box.bottom ≤ row → Paints (after_where (above written row) paint) (kept_where (above written row) keep) t u t' u'
+        → Paints (after_where written paint) (kept_where written keep) t u t' u'
+    Paints-last row t' u u' last = Paints-as paint keep (above written row) written t t' u u' (λ x y held. all_above row x y last held (cases_lt y row))
 
--- ---- a span that is kept and then painted
+-- ---- a span that is kept and then written
 
-kept_row-inside : (p : Place) (x y : ℕ) (old : List Colour) → HasRow p y → p.left ≤ x → x + length old ≤ p.left + p.width → Inside p (kept_row x y old)
+kept_row-inside : (p : Place) (x y : ℕ) (old : List Pixel) → HasRow p y → p.left ≤ x → x + length old ≤ p.left + p.width → Inside p (kept_row x y old)
 kept_row-inside p x y [] crossed low high = All-nil (λ (k : KeptPixel). Holds p k.x k.y)
 kept_row-inside p x y (c ∷ cs) crossed low high =
-    All-cons (λ (k : KeptPixel). Holds p k.x k.y) (record { x = x; y = y; colour = c }) (kept_row (x + 1) y cs)
+    All-cons (λ (k : KeptPixel). Holds p k.x k.y) (record { x = x; y = y; pixel = c }) (kept_row (x + 1) y cs)
     (record { from_left = low; to_right = omega arith; from_top = crossed.from_top; to_bottom = crossed.to_bottom })
     (kept_row-inside p (x + 1) y cs crossed (omega arith) (omega arith))
 
--- the pixels of row y from `first` to before `last` are kept, and then painted
-module _ (written : ℕ → ℕ → Bool) (paint : ℕ → ℕ → Colour → Colour) (y first last start len : ℕ) (t : TileImage) (u : Undo) (filled : IsTileImage t) (crossed : HasRow t.place y)
+-- the tile with new colours and depths in row y
+abbrev pub with_rows : TileImage → ℕ → List Colour → List ℕ → TileImage
+with_rows t y cs ds = record { place = t.place; rows = with_row_in t.place t.rows y cs; depths = with_row_in t.place t.depths y ds }
+
+-- what such rows have for column x
+abbrev pub pair_at : TileImage → List Colour → List ℕ → ℕ → Pixel
+pair_at t cs ds x = (get_or cs (x - t.place.left) fresh, get_or ds (x - t.place.left) 65535)
+
+-- the pixels of row y from `first` to before `last` are kept, and the row then has these colours and depths
+module _ (written : ℕ → ℕ → Bool) (paint : ℕ → ℕ → Pixel → Pixel) (y first last : ℕ) (t : TileImage) (u : Undo) (filled : IsTileImage t) (crossed : HasRow t.place y)
     (begun : u.frame_left ≡ false) (span : IsRowSpan (λ x. written x y) t.place.left (t.place.left + t.place.width) (Some (first, last)))
-    (from : start ≡ first - t.place.left) (long : len ≡ last - first) where
-  fits : start + len ≤ length (row_of t y)
-  fits = omega (arith, length-row_of t y filled crossed, span.bounds.0, span.bounds.1, span.bounds.2)
-
-  abbrev pub old : List Colour
-  old = take len (drop start (row_of t y))
-
-  abbrev pub painted : List Colour
-  painted = changed_row (λ x c. paint x y c) first old
-
-  abbrev pub row' : List Colour
-  row' = put_mid start len (row_of t y) painted
-
-  pub length-old : length old ≡ len
-  length-old = omega (arith, length-take len (drop start (row_of t y)), length-drop start (row_of t y), fits)
-
-  length-painted : length painted ≡ len
-  length-painted = length-changed_row (λ x c. paint x y c) first old ∙ length-old
-
-  pub wide' : length row' ≡ t.place.width
-  wide' = length-put_mid start len (row_of t y) painted fits length-painted ∙ length-row_of t y filled crossed
-
+    (cs : List Colour) (ds : List ℕ) (old : List Pixel) (wide : length cs ≡ t.place.width) (deep : length ds ≡ t.place.width) (long : length old ≡ last - first)
+    (was : (x : ℕ) → first ≤ x → x < last → get_or old (x - first) fresh_pixel ≡ pixel_of t x y)
+    (beside : (x : ℕ) → Holds t.place x y → (x < first) ⊎ (last ≤ x) → pair_at t cs ds x ≡ pixel_of t x y)
+    (within : (x : ℕ) → Holds t.place x y → first ≤ x → x < last → pair_at t cs ds x ≡ paint x y (pixel_of t x y)) where
   abbrev pub t' : TileImage
-  t' = with_row t y row'
+  t' = with_rows t y cs ds
 
   abbrev pub u' : Undo
   u' = with_kept u (kept_row first y old)
@@ -242,51 +238,42 @@ module _ (written : ℕ → ℕ → Bool) (paint : ℕ → ℕ → Colour → Co
   in_this_row : (x : ℕ) → Holds t.place x y → in_row written y x y ≡ in_span (Some (first, last)) x
   in_this_row x held = ap (λ b. b && written x y) (eq-eqb y y refl) ∙ span.same x held.from_left held.to_right
 
-  colour_of' : (x : ℕ) → colour_of t' x y ≡ get_or row' (x - t.place.left) fresh
-  colour_of' x = ap (λ r. get_or r (x - t.place.left) fresh) (row_of-with_row_same t y filled crossed row')
+  pixel_of' : (x : ℕ) → pixel_of t' x y ≡ pair_at t cs ds x
+  pixel_of' x =
+      ap (λ r. (get_or r (x - t.place.left) fresh, depth_of t' x y)) (row_in-same t.place t.rows y filled.colours crossed cs)
+      ∙ ap (λ r. (get_or cs (x - t.place.left) fresh, get_or r (x - t.place.left) 65535)) (row_in-same t.place t.depths y filled.depths crossed ds)
+
+  other_pixel : (x z : ℕ) → Holds t.place x z → z ≢ y → pixel_of t' x z ≡ pixel_of t x z
+  other_pixel x z held other =
+      ap (λ r. (get_or r (x - t.place.left) fresh, depth_of t' x z)) (row_in-other t.place t.rows y filled.colours crossed cs z held.from_top other)
+      ∙ ap (λ r. (colour_of t x z, get_or r (x - t.place.left) 65535)) (row_in-other t.place t.depths y filled.depths crossed ds z held.from_top other)
 
   -- what becomes of a pixel, and what is kept of it
   abbrev Right : ℕ → ℕ → Type 0
-  Right x z = (colour_of t' x z ≡ after_where (in_row written y) paint x z (colour_of t x z)) × (kept_at (kept_row first y old) x z ≡ kept_where (in_row written y) x z (colour_of t x z))
+  Right x z = (pixel_of t' x z ≡ after_where (in_row written y) paint x z (pixel_of t x z)) × (kept_at (kept_row first y old) x z ≡ kept_where (in_row written y) keep_each x z (pixel_of t x z))
 
-  untouched : (x z : ℕ) → in_row written y x z ≡ false → colour_of t' x z ≡ colour_of t x z → kept_at (kept_row first y old) x z ≡ [] → Right x z
+  untouched : (x z : ℕ) → in_row written y x z ≡ false → pixel_of t' x z ≡ pixel_of t x z → kept_at (kept_row first y old) x z ≡ [] → Right x z
   untouched x z none same empty = (
-    same ∙ sym (ap (λ b. cond b (paint x z (colour_of t x z)) (colour_of t x z)) none),
-    empty ∙ sym (ap (λ b. cond b (colour_of t x z ∷ []) []) none),
+    same ∙ sym (ap (λ b. cond b (paint x z (pixel_of t x z)) (pixel_of t x z)) none),
+    empty ∙ sym (ap (λ b. cond b (pixel_of t x z ∷ []) []) none),
   )
 
   before_it : (x : ℕ) → Holds t.place x y → x < first → Right x y
   before_it x held low =
-      let column : x - t.place.left < start = omega (arith, held.from_left) in
-      untouched x y (in_this_row x held ∙ in_span-before first last x low)
-      (colour_of' x ∙ before_part start len (row_of t y) painted fits length-painted (x - t.place.left) fresh column)
-      (kept_at-before first y x y old low)
+      untouched x y (in_this_row x held ∙ in_span-before first last x low) (pixel_of' x ∙ beside x held (inl low)) (kept_at-before first y x y old low)
 
   after_it : (x : ℕ) → Holds t.place x y → last ≤ x → Right x y
   after_it x held high =
-      let column : start + len ≤ x - t.place.left = omega (arith, held.from_left, span.bounds.0, span.bounds.1) in
-      untouched x y (in_this_row x held ∙ in_span-after first last x high)
-      (colour_of' x ∙ past_part start len (row_of t y) painted fits length-painted (x - t.place.left) fresh column)
-      (kept_at-after first y x y old (omega (arith, length-old, span.bounds.1)))
+      untouched x y (in_this_row x held ∙ in_span-after first last x high) (pixel_of' x ∙ beside x held (inr high))
+      (kept_at-after first y x y old (omega (arith, long, span.bounds.1)))
 
   in_it : (x : ℕ) → Holds t.place x y → first ≤ x → x < last → Right x y
   in_it x held low high =
-      let yes : in_row written y x y ≡ true = in_this_row x held ∙ in_span-inside first last x low high in
-      let place : start + (x - first) ≡ x - t.place.left = omega (arith, held.from_left, span.bounds.0) in
-      let column : first + (x - first) ≡ x = omega arith in
-      let short : x - first < len = omega arith in
-      let was : get_or old (x - first) fresh ≡ colour_of t x y =
-      get_or-take len (drop start (row_of t y)) (x - first) fresh short
-      ∙ get_or-drop start (row_of t y) (x - first) fresh ∙ ap (λ k. get_or (row_of t y) k fresh) place in
-      let new : get_or row' (x - t.place.left) fresh ≡ paint x y (colour_of t x y) =
-      ap (λ k. get_or row' k fresh) (sym place)
-      ∙ in_part start len (row_of t y) painted fits length-painted (x - first) fresh short
-      ∙ get_or-changed_row (λ x c. paint x y c) first old (x - first) fresh (omega (arith, length-old))
-      ∙ ap (λ k. paint k y (get_or old (x - first) fresh)) column ∙ ap (λ c. paint x y c) was in (
-        colour_of' x ∙ new ∙ sym (ap (λ b. cond b (paint x y (colour_of t x y)) (colour_of t x y)) yes),
-        kept_at-inside first y x old low (omega (arith, length-old, span.bounds.1))
-            ∙ ap (λ c. c ∷ []) was
-            ∙ sym (ap (λ b. cond b (colour_of t x y ∷ []) []) yes),
+      let yes : in_row written y x y ≡ true = in_this_row x held ∙ in_span-inside first last x low high in (
+        pixel_of' x ∙ within x held low high ∙ sym (ap (λ b. cond b (paint x y (pixel_of t x y)) (pixel_of t x y)) yes),
+        kept_at-inside first y x old low (omega (arith, long, span.bounds.1))
+            ∙ ap (λ c. c ∷ []) (was x low high)
+            ∙ sym (ap (λ b. cond b (pixel_of t x y ∷ []) []) yes),
       )
 
   this_row : (x : ℕ) → Holds t.place x y → (x < first) ⊎ (first ≤ x) → (x < last) ⊎ (last ≤ x) → Right x y
@@ -296,23 +283,22 @@ module _ (written : ℕ → ℕ → Bool) (paint : ℕ → ℕ → Colour → Co
 
   each : (x z : ℕ) → Holds t.place x z → (z ≡ y) ⊎ (z ≡ y → ⊥) → Right x z
   each x z held (inr other) =
-      untouched x z (and_false (eqb z y) (written x z) (ne_eqb z y other))
-      (ap (λ r. get_or r (x - t.place.left) fresh) (row_of-with_row_other t y filled crossed row' z held.from_top other))
+      untouched x z (and_false (eqb z y) (written x z) (ne_eqb z y other)) (other_pixel x z held other)
       (kept_at-other_row first y x z old (λ e. other (sym e)))
   each x z held (inl same) = subst (λ k. Right x k) (sym same) (this_row x (subst (λ k. Holds t.place x k) same held) (cases_lt x first) (cases_lt x last))
 
-  pub Paints-span : Paints (after_where (in_row written y) paint) (kept_where (in_row written y)) t u t' u'
+  pub Paints-span : Paints (after_where (in_row written y) paint) (kept_where (in_row written y) keep_each) t u t' u'
   Paints-span = record {
     placed = refl;
-    filled = IsTileImage-with_row t y filled crossed row' wide';
+    filled = record { colours = FillsPlace-with_row_in t.place t.rows y filled.colours crossed cs wide; depths = FillsPlace-with_row_in t.place t.depths y filled.depths crossed ds deep };
     below = older-push (older u.frames) (top u.frames ++ kept_row first y old);
     begun = begun;
     some = λ _. omega (arith, length_push (older u.frames) (top u.frames ++ kept_row first y old));
-    colours = λ x z held. (each x z held (cases_eq z y)).0;
+    pixels = λ x z held. (each x z held (cases_eq z y)).0;
     kept = λ x z held. kept' x z ∙ ap (λ ks. kept_at (top u.frames) x z ++ ks) (each x z held (cases_eq z y)).1;
     inside = λ before. subst (λ ks. Inside t.place ks) (sym (top-push (older u.frames) (top u.frames ++ kept_row first y old)))
         (All-append (λ (k : KeptPixel). Holds t.place k.x k.y) (top u.frames) (kept_row first y old) before
-        (kept_row-inside t.place first y old crossed span.bounds.0 (omega (arith, length-old, span.bounds.1, span.bounds.2))));
+        (kept_row-inside t.place first y old crossed span.bounds.0 (omega (arith, long, span.bounds.1, span.bounds.2))));
   }
 
 -- ---- the same, as the code goes
@@ -344,66 +330,106 @@ span_written written covered p box y span inside is from to given = record {
     at x (inr low) (inl high) = and_true (is_within box x y) (covered x y) (within_from box x y low high from to) ∙ given.same x low high
     at x (inr low) (inr high) = out x (inr high)
 
--- p is the place as it was read, and row and lent are row y as it was read and lent
-module _ (written covered : ℕ → ℕ → Bool) (paint : ℕ → ℕ → Colour → Colour) (y first last : ℕ) (t : TileImage) (u : Undo) (p : Place) (read : p ≡ t.place) (filled : IsTileImage t)
-    (box : Bounds) (inside : IsInside box t.place) (is : IsWrittenIn written covered t.place box) (from_top : box.top ≤ y) (to_bottom : y < box.bottom)
-    (given : IsRowSpan (λ x. covered x y) box.left box.right (Some (first, last))) where
-  crossed : HasRow t.place y
-  crossed = record { from_top = omega (arith, inside.from_top); to_bottom = omega (arith, inside.to_bottom) }
-
-  span_at : IsRowSpan (λ x. written x y) t.place.left (t.place.left + t.place.width) (Some (first, last))
-  span_at = span_written written covered t.place box y (Some (first, last)) inside is from_top to_bottom given
-
-  pub span_pixels : pixels_in (in_row written y) t.place ≡ last - first
-  span_pixels = pixels_in-row written t.place y crossed ∙ row_pixels-span written t.place y first last span_at
-
-  pub span_spans : spans_in (in_row written y) t.place ≡ 1
-  span_spans = spans_in-row written t.place y crossed ∙ omega (arith, row_pixels-span written t.place y first last span_at, given.bounds.1)
+-- p is the place as it was read, and the rows are those as they were read and lent
+module _ (paint : ℕ → ℕ → Colour → Colour) (y first last : ℕ) (t : TileImage) (u : Undo) (p : Place) (read : p ≡ t.place) (filled : IsTileImage t) (crossed : HasRow t.place y)
+    (from_left : t.place.left ≤ first) (some : first < last) (to_right : last ≤ t.place.left + t.place.width) where
+  span_at : IsRowSpan (λ x. between first last x y) t.place.left (t.place.left + t.place.width) (Some (first, last))
+  span_at = record { bounds = (from_left, some, to_right); same = λ x low high. refl }
 
   read_left : p.left ≡ t.place.left
   read_left = ap (λ (q : Place). q.left) read
 
-  span_long : last - p.left - (first - p.left) ≡ last - first
-  span_long = omega (arith, read_left, span_at.bounds.0, given.bounds.1)
+  -- the part of a row that the code reads and writes
+  abbrev pub part : {X : Type 0} → List X → List X
+  part row = take (last - p.left - (first - p.left)) (drop (first - p.left) row)
 
-  pub span_old : (row : List Colour) → row ≡ row_of t y → length (take (last - p.left - (first - p.left)) (drop (first - p.left) row)) ≡ last - first
-  span_old row same =
-      omega (
-        arith,
-        length-take (last - p.left - (first - p.left)) (drop (first - p.left) row),
-        length-drop (first - p.left) row,
-        ap length same,
-        length-row_of t y filled crossed,
-        read_left,
-        span_at.bounds.0,
-        span_at.bounds.1,
-        span_at.bounds.2,
-      )
+  pub part_len : {X : Type 0} (row : List X) → length row ≡ t.place.width → length (part row) ≡ last - first
+  part_len row wide =
+      omega (arith, length-take (last - p.left - (first - p.left)) (drop (first - p.left) row), length-drop (first - p.left) row, wide, read_left, span_at.bounds.0, span_at.bounds.1, span_at.bounds.2)
 
-  pub Paints-code : (row lent pixels : List Colour) (u'' : Undo) → u.frame_left ≡ false → row ≡ row_of t y → lent ≡ row_of t y
-      → pixels ≡ changed_row (λ x c. paint x y c) first (take (last - p.left - (first - p.left)) (drop (first - p.left) lent))
-      → u'' ≡ with_kept u (kept_row first y (take (last - p.left - (first - p.left)) (drop (first - p.left) row)))
-      → Paints (after_where (in_row written y) paint) (kept_where (in_row written y)) t u
+  pub part_at : {X : Type 0} (row : List X) (d : X) (x : ℕ) → first ≤ x → x < last → get_or (part row) (x - first) d ≡ get_or row (x - t.place.left) d
+  part_at row d x low high =
+      let short : x - first < last - p.left - (first - p.left) = omega (arith, read_left, span_at.bounds.0) in
+      let place : first - p.left + (x - first) ≡ x - t.place.left = omega (arith, read_left, span_at.bounds.0) in
+      get_or-take (last - p.left - (first - p.left)) (drop (first - p.left) row) (x - first) d short
+      ∙ get_or-drop (first - p.left) row (x - first) d ∙ ap (λ k. get_or row k d) place
+
+  pub wide_row : length (row_of t y) ≡ t.place.width
+  wide_row = length-row_in t.place t.rows y filled.colours crossed
+
+  pub wide_depths : length (depth_row_of t y) ≡ t.place.width
+  wide_depths = length-row_in t.place t.depths y filled.depths crossed
+
+  abbrev pub old_pixels : List Pixel
+  old_pixels = zip (part (row_of t y)) (part (depth_row_of t y))
+
+  old_long : length old_pixels ≡ last - first
+  old_long =
+      length-zip_equal (part (row_of t y)) (part (depth_row_of t y)) (part_len (depth_row_of t y) wide_depths ∙ sym (part_len (row_of t y) wide_row)) ∙ part_len (row_of t y) wide_row
+
+  old_was : (x : ℕ) → first ≤ x → x < last → get_or old_pixels (x - first) fresh_pixel ≡ pixel_of t x y
+  old_was x low high =
+      let in_colours : x - first < length (part (row_of t y)) = omega (arith, part_len (row_of t y) wide_row) in
+      let in_depths : x - first < length (part (depth_row_of t y)) = omega (arith, part_len (depth_row_of t y) wide_depths) in
+      get_or-zip (part (row_of t y)) (part (depth_row_of t y)) (x - first) fresh_pixel in_colours in_depths
+      ∙ ap (λ c. (c, get_or (part (depth_row_of t y)) (x - first) 65535)) (part_at (row_of t y) fresh x low high)
+      ∙ ap (λ d. (colour_of t x y, d)) (part_at (depth_row_of t y) 65535 x low high)
+
+  abbrev pub painted : List Colour
+  painted = changed_row (λ x c. paint x y c) first (part (row_of t y))
+
+  abbrev pub new_row : List Colour
+  new_row = put_mid (first - p.left) (last - p.left - (first - p.left)) (row_of t y) painted
+
+  fits : first - p.left + (last - p.left - (first - p.left)) ≤ length (row_of t y)
+  fits = omega (arith, wide_row, read_left, span_at.bounds.0, span_at.bounds.1, span_at.bounds.2)
+
+  painted_len : length painted ≡ last - p.left - (first - p.left)
+  painted_len = length-changed_row (λ x c. paint x y c) first (part (row_of t y)) ∙ omega (arith, part_len (row_of t y) wide_row, read_left, span_at.bounds.0, span_at.bounds.1)
+
+  new_wide : length new_row ≡ t.place.width
+  new_wide = length-put_mid (first - p.left) (last - p.left - (first - p.left)) (row_of t y) painted fits painted_len ∙ wide_row
+
+  new_beside : (x : ℕ) → Holds t.place x y → (x < first) ⊎ (last ≤ x) → pair_at t new_row (depth_row_of t y) x ≡ pixel_of t x y
+  new_beside x held (inl low) =
+      let column : x - t.place.left < first - p.left = omega (arith, held.from_left, read_left) in
+      ap (λ c. (c, depth_of t x y)) (before_part (first - p.left) (last - p.left - (first - p.left)) (row_of t y) painted fits painted_len (x - t.place.left) fresh column)
+  new_beside x held (inr high) =
+      let column : first - p.left + (last - p.left - (first - p.left)) ≤ x - t.place.left = omega (arith, held.from_left, read_left, span_at.bounds.0, span_at.bounds.1) in
+      ap (λ c. (c, depth_of t x y)) (past_part (first - p.left) (last - p.left - (first - p.left)) (row_of t y) painted fits painted_len (x - t.place.left) fresh column)
+
+  new_within : (x : ℕ) → Holds t.place x y → first ≤ x → x < last → pair_at t new_row (depth_row_of t y) x ≡ (paint x y (colour_of t x y), depth_of t x y)
+  new_within x held low high =
+      let place : first - p.left + (x - first) ≡ x - t.place.left = omega (arith, read_left, span_at.bounds.0) in
+      let column : first + (x - first) ≡ x = omega arith in
+      let short : x - first < last - p.left - (first - p.left) = omega (arith, read_left, span_at.bounds.0) in
+      ap (λ c. (c, depth_of t x y))
+      (ap (λ k. get_or new_row k fresh) (sym place)
+      ∙ in_part (first - p.left) (last - p.left - (first - p.left)) (row_of t y) painted fits painted_len (x - first) fresh short
+      ∙ get_or-changed_row (λ x c. paint x y c) first (part (row_of t y)) (x - first) fresh (omega (arith, part_len (row_of t y) wide_row))
+      ∙ ap (λ k. paint k y (get_or (part (row_of t y)) (x - first) fresh)) column ∙ ap (λ c. paint x y c) (part_at (row_of t y) fresh x low high))
+
+  pub Paints-code : (row lent pixels : List Colour) (deep : List ℕ) (u'' : Undo) → u.frame_left ≡ false → row ≡ row_of t y → deep ≡ depth_row_of t y → lent ≡ row_of t y
+      → pixels ≡ changed_row (λ x c. paint x y c) first (part lent)
+      → u'' ≡ with_kept u (kept_row first y (zip (part row) (part deep)))
+      → Paints (after_where (in_row (between first last) y) (λ x z before. (paint x z before.0, before.1))) (kept_where (in_row (between first last) y) keep_each) t u
       (with_row_left t y (put_mid (first - p.left) (last - p.left - (first - p.left)) lent pixels)) u''
-  Paints-code row lent pixels u'' begun same same' is_painted is_kept =
+  Paints-code row lent pixels deep u'' begun same same_deep same' is_painted is_kept =
       let start : ℕ = first - p.left in
       let len : ℕ = last - p.left - (first - p.left) in
-      let from : first - p.left ≡ first - t.place.left = ap (λ (q : Place). first - q.left) read in
-      let left : put_mid (first - p.left) (last - p.left - (first - p.left)) lent pixels
-      ≡ row' written paint y first last (first - p.left) (last - p.left - (first - p.left)) t u filled crossed begun span_at from span_long =
+      let left : put_mid (first - p.left) (last - p.left - (first - p.left)) lent pixels ≡ new_row =
       ap (λ r. put_mid start len r pixels) same'
-      ∙ ap (λ r. put_mid start len (row_of t y) r) (is_painted ∙ ap (λ r. changed_row (λ x c. paint x y c) first (take len (drop start r))) same') in
-      let whole : with_row_left t y (put_mid (first - p.left) (last - p.left - (first - p.left)) lent pixels)
-      ≡ with_row t y (row' written paint y first last (first - p.left) (last - p.left - (first - p.left)) t u filled crossed begun span_at from span_long) =
+      ∙ ap (λ r. put_mid start len (row_of t y) r) (is_painted ∙ ap (λ r. changed_row (λ x c. paint x y c) first (part r)) same') in
+      let whole : with_row_left t y (put_mid (first - p.left) (last - p.left - (first - p.left)) lent pixels) ≡ with_rows t y new_row (depth_row_of t y) =
       ap (λ w. with_row_left t y w) left
-      ∙ with_row_left_is t y filled crossed (row' written paint y first last start len t u filled crossed begun span_at from span_long)
-      (wide' written paint y first last start len t u filled crossed begun span_at from span_long) in
-      let stack : u'' ≡ with_kept u (kept_row first y (take (last - p.left - (first - p.left)) (drop (first - p.left) (row_of t y)))) =
-      is_kept ∙ ap (λ r. with_kept u (kept_row first y (take len (drop start r)))) same in
-      subst (λ v. Paints (after_where (in_row written y) paint) (kept_where (in_row written y)) t u v u'') (sym whole)
-      (subst (λ v. Paints (after_where (in_row written y) paint) (kept_where (in_row written y)) t u
-      (with_row t y (row' written paint y first last (first - p.left) (last - p.left - (first - p.left)) t u filled crossed begun span_at from span_long)) v) (sym stack)
-      (Paints-span written paint y first last (first - p.left) (last - p.left - (first - p.left)) t u filled crossed begun span_at from span_long))
+      ∙ ap (λ rows. record { place = t.place; rows = rows; depths = t.depths }) (left_row_is t.place t.rows y filled.colours crossed new_row new_wide)
+      ∙ ap (λ depths. record { place = t.place; rows = with_row_in t.place t.rows y new_row; depths = depths }) (sym (with_row_in-as_it_is t.place t.depths y)) in
+      let stack : u'' ≡ with_kept u (kept_row first y old_pixels) =
+      is_kept ∙ ap (λ r. with_kept u (kept_row first y (zip (part r) (part deep)))) same ∙ ap (λ d. with_kept u (kept_row first y (zip (part (row_of t y)) (part d)))) same_deep in
+      let step : ℕ → ℕ → Pixel → Pixel = λ x z before. (paint x z before.0, before.1) in
+      subst (λ v. Paints (after_where (in_row (between first last) y) step) (kept_where (in_row (between first last) y) keep_each) t u v u'') (sym whole)
+      (subst (λ v. Paints (after_where (in_row (between first last) y) step) (kept_where (in_row (between first last) y) keep_each) t u (with_rows t y new_row (depth_row_of t y)) v) (sym stack)
+      (Paints-span (between first last) step y first last t u filled crossed begun span_at new_row (depth_row_of t y) old_pixels new_wide wide_depths old_long old_was new_beside new_within))
 
 -- a row of the box in which nothing is covered
 module _ (written covered : ℕ → ℕ → Bool) (y : ℕ) (t : TileImage) (box : Bounds) (inside : IsInside box t.place) (is : IsWrittenIn written covered t.place box) (from_top : box.top ≤ y) (to_bottom : y < box.bottom)
@@ -418,5 +444,5 @@ module _ (written covered : ℕ → ℕ → Bool) (y : ℕ) (t : TileImage) (box
   none_written : (x z : ℕ) → Holds t.place x z → in_row written y x z ≡ false
   none_written x z held = none_here x z held (cases_eq z y)
 
-  pub Writes-no_span : (paint : ℕ → ℕ → Colour → Colour) (u : Undo) → IsTileImage t → u.frame_left ≡ false → Writes (in_row written y) paint t u t u
-  Writes-no_span paint u filled begun = Writes-nothing paint (in_row written y) t u filled begun none_written
+  pub Writes-no_span : (n k : ℕ) (paint : ℕ → ℕ → Pixel → Pixel) (keep : ℕ → ℕ → Pixel → List Pixel) (u : Undo) → IsTileImage t → u.frame_left ≡ false → Writes n k (in_row written y) paint keep t u t u
+  Writes-no_span n k paint keep u filled begun = Writes-nothing paint keep n k (in_row written y) t u filled begun none_written

@@ -38,7 +38,7 @@ columns_from source x n sources size each =
 
 -- ---- a part of a list that is written
 
-module _ (a k : ℕ) (xs ys : List Colour) (inside : a + k ≤ length xs) (size : length ys ≡ k) where
+module _ {X : Type 0} (a k : ℕ) (xs ys : List X) (inside : a + k ≤ length xs) (size : length ys ≡ k) where
   head_size : length (take a xs) ≡ a
   head_size = length-take a xs ∙ omega arith
 
@@ -47,16 +47,16 @@ module _ (a k : ℕ) (xs ys : List Colour) (inside : a + k ≤ length xs) (size 
       length-append (take a xs) (ys ++ post_of a k xs)
       ∙ omega (arith, head_size, length-append ys (post_of a k xs), length-drop k (drop a xs), length-drop a xs)
 
-  pub before_part : (i : ℕ) (d : Colour) → i < a → get_or (put_mid a k xs ys) i d ≡ get_or xs i d
+  pub before_part : (i : ℕ) (d : X) → i < a → get_or (put_mid a k xs ys) i d ≡ get_or xs i d
   before_part i d low = get_or_append_left (take a xs) (ys ++ post_of a k xs) d i (omega (arith, head_size)) ∙ get_or-take a xs i d low
 
-  pub in_part : (i : ℕ) (d : Colour) → i < k → get_or (put_mid a k xs ys) (a + i) d ≡ get_or ys i d
+  pub in_part : (i : ℕ) (d : X) → i < k → get_or (put_mid a k xs ys) (a + i) d ≡ get_or ys i d
   in_part i d low =
       let past : a + i - a ≡ i = omega arith in
       get_or-append_right (take a xs) (ys ++ post_of a k xs) a (a + i) d head_size (omega arith)
       ∙ rw past (get_or_append_left ys (post_of a k xs) d i (omega arith))
 
-  pub past_part : (i : ℕ) (d : Colour) → a + k ≤ i → get_or (put_mid a k xs ys) i d ≡ get_or xs i d
+  pub past_part : (i : ℕ) (d : X) → a + k ≤ i → get_or (put_mid a k xs ys) i d ≡ get_or xs i d
   past_part i d high =
       let place : a + (k + (i - a - k)) ≡ i = omega arith in
       get_or-append_right (take a xs) (ys ++ post_of a k xs) a i d head_size (omega arith)

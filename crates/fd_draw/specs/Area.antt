@@ -1,7 +1,7 @@
 -- Boxes of pixels in a tile's place.
 use Rattle.std.specs.Prelude.{◌≡◌, ℕ, ◌+◌, ◌-◌, ◌≤◌, ◌<◌, Bool, not, ◌&&◌}
 use Rattle.fd_cover.specs.declared.bounds.Bounds.{Bounds}
-use Rattle.fd_cover.specs.declared.triangle.TheConstants.{TARGET_LIMIT}
+use Rattle.fd_snap.specs.Limits.{most_pixels}
 use Rattle.fd_cover.specs.declared.triangle.Tri.{Tri}
 use Rattle.fd_cover.specs.declared.verdict.Raster.{Raster}
 use Rattle.fd_cover.specs.declared.verdict.Rect.{Rect}
@@ -29,10 +29,10 @@ pub record IsInside (box : Bounds) (p : Place) : Type 0 where
 pub record IsSmall (box : Bounds) : Type 0 where
   pub columns : box.left ≤ box.right
   pub narrow : box.right ≤ box.left + TILE_SIDE
-  pub right : box.right ≤ TARGET_LIMIT
+  pub right : box.right ≤ most_pixels
   pub rows : box.top ≤ box.bottom
   pub low : box.bottom ≤ box.top + TILE_SIDE
-  pub bottom : box.bottom ≤ TARGET_LIMIT
+  pub bottom : box.bottom ≤ most_pixels
 
 -- the box lies in another one and has pixels
 pub record IsPart (part box : Bounds) : Type 0 where

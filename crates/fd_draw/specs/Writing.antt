@@ -1,31 +1,44 @@
--- Writing some pixels of a tile, whose colours are kept first.
-use Rattle.std.specs.Prelude.{◌≡◌, ◌≤◌, ℕ, ◌+◌, Bool, false, List, [], ◌∷◌, ◌==◌, ◌&&◌, if◌then◌else◌}
-use Rattle.fd_blend.specs.declared.channel.Colour.{Colour}
-use Rattle.fd_tile.specs.declared.place.Place.{Place}
-use Rattle.fd_tile.specs.Tile.{TileImage}
+-- Writing some pixels of a tile, which are kept first.
+use Rattle.std.specs.Prelude.{◌≡◌, ◌≤◌, ℕ, ◌+◌, ◌-◌, Bool, false, nat_le, nat_lt, List, [], ◌∷◌, ◌==◌, ◌&&◌, length, slice_index_or, if◌then◌else◌}
+use Rattle.fd_tile.specs.Place.{Holds}
+use Rattle.fd_tile.specs.Tile.{Pixel, TileImage, IsTileImage, pixel_of}
 use Rattle.fd_undo.specs.Undo.{Undo}
-use Rattle.fd_draw.specs.Demand.{pixels_in, spans_in}
 use Rattle.fd_draw.specs.Paints.{Paints}
 
--- what becomes of pixel (x, y), and what is kept of it
-abbrev pub after_where : (ℕ → ℕ → Bool) → (ℕ → ℕ → Colour → Colour) → ℕ → ℕ → Colour → Colour
-after_where written paint x y before = if written x y then paint x y before else before
+-- what becomes of pixel (x, y), and what is kept of it, where a region is written
+abbrev pub after_where : (ℕ → ℕ → Bool) → (ℕ → ℕ → Pixel → Pixel) → ℕ → ℕ → Pixel → Pixel
+after_where region paint x y before = if region x y then paint x y before else before
 
-abbrev pub kept_where : (ℕ → ℕ → Bool) → ℕ → ℕ → Colour → List Colour
-kept_where written x y before = if written x y then before ∷ [] else []
+abbrev pub kept_where : (ℕ → ℕ → Bool) → (ℕ → ℕ → Pixel → List Pixel) → ℕ → ℕ → Pixel → List Pixel
+kept_where region keep x y before = if region x y then keep x y before else []
+
+-- each pixel that is written is kept
+abbrev pub keep_each : ℕ → ℕ → Pixel → List Pixel
+keep_each x y before = before ∷ []
 
 -- the pixels of row y alone
 abbrev pub in_row : (ℕ → ℕ → Bool) → ℕ → ℕ → ℕ → Bool
-in_row written y x z = (z == y) && written x z
+in_row region y x z = (z == y) && region x z
 
--- a frame was begun, and has room for what is written on a place
-pub record HasRoom (written : ℕ → ℕ → Bool) (p : Place) (u : Undo) : Type 0 where
+-- the columns from one up to another, in any row
+abbrev pub between : ℕ → ℕ → ℕ → ℕ → Bool
+between first last x y = nat_le first x && nat_lt x last
+
+-- a frame was begun, and has room for so many spans and pixels
+pub record HasRoom (span_count pixel_count : ℕ) (u : Undo) : Type 0 where
   pub begun : u.frame_left ≡ false
-  pub spans : spans_in written p ≤ u.spans_left
-  pub pixels : pixels_in written p ≤ u.pixels_left
+  pub spans : span_count ≤ u.spans_left
+  pub pixels : pixel_count ≤ u.pixels_left
 
--- each pixel that is written gets what `paint` makes of its colour, which is kept, and uses up its room
-pub record Writes (written : ℕ → ℕ → Bool) (paint : ℕ → ℕ → Colour → Colour) (t : TileImage) (u : Undo) (t' : TileImage) (u' : Undo) : Type 0 where
-  pub painted : Paints (after_where written paint) (kept_where written) t u t' u'
-  pub spans : u'.spans_left + spans_in written t.place ≡ u.spans_left
-  pub pixels : u'.pixels_left + pixels_in written t.place ≡ u.pixels_left
+-- each pixel of a region becomes what `paint` makes of it, what `keep` says of it is kept, and no more than so many spans and pixels are used up
+pub record Writes (span_count pixel_count : ℕ) (region : ℕ → ℕ → Bool) (paint : ℕ → ℕ → Pixel → Pixel) (keep : ℕ → ℕ → Pixel → List Pixel) (t : TileImage) (u : Undo) (t' : TileImage) (u' : Undo) : Type 0 where
+  pub painted : Paints (after_where region paint) (kept_where region keep) t u t' u'
+  pub spans : u.spans_left ≤ u'.spans_left + span_count
+  pub pixels : u.pixels_left ≤ u'.pixels_left + pixel_count
+
+-- the pixels of row y from column x on get some depths, and no other pixel changes
+pub record StoresDepths (depths : List ℕ) (x y : ℕ) (t t' : TileImage) : Type 0 where
+  pub placed : t'.place ≡ t.place
+  pub filled : IsTileImage t'
+  pub pixels : (column row : ℕ) → Holds t.place column row
+      → pixel_of t' column row ≡ (if in_row (between x (x + length depths)) y column row then ((pixel_of t column row).0, slice_index_or depths (column - x) 65535) else pixel_of t column row)

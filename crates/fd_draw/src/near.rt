@@ -1,5 +1,5 @@
 ghost use Rattle.std.specs.Prelude.{◌≡◌, ℕ, ◌+◌, ◌<◌, ◌≤◌, IsTrue, Some, length, slice_get};
-ghost use Rattle.fd_events.specs.declared.draw.TheConstants.{GROUP_LEN};
+ghost use Rattle.fd_events.specs.Limits.{group_size};
 ghost use Rattle.fd_events.specs.Draw.{Triangle, triangles_of};
 ghost use Rattle.fd_draw.specs.Near.{MissesWindow, MissWindow};
 
@@ -9,12 +9,36 @@ use fd_events::{Draw, GROUP_LEN};
 
 /// Whether a group of triangles begins with this one, and its box misses the window.
 fn begins_far_group(draw: &Draw, triangle: u32, window: Bounds) -> bool
-    ensures { IsTrue result → MissWindow window (triangles_of draw.now) triangle (triangle + GROUP_LEN) }
+    ensures { IsTrue result → MissWindow window (triangles_of draw.now) triangle (triangle + group_size) }
 {
     triangle % GROUP_LEN == 0 && shared(window, draw.group_bounds(triangle / GROUP_LEN)).is_empty()
 }
 
-/// The first triangle from this one on that isn't in a group whose box misses the window, or the number of triangles.
+/// Whether a triangle's own box misses the window.
+fn is_far(draw: &Draw, triangle: u32, window: Bounds) -> bool
+    ensures { IsTrue result → MissWindow window (triangles_of draw.now) triangle (triangle + 1) }
+{
+    shared(window, draw.triangle_bounds(triangle)).is_empty()
+}
+
+/// The triangle after the group that begins with this one, or after this one, where its box misses the window; or this one.
+fn past_far(draw: &Draw, triangle: u32, window: Bounds) -> u32
+    requires { triangle < length (triangles_of draw.now) }
+    ensures from { triangle ≤ result }
+    ensures last { result ≤ length (triangles_of draw.now) }
+    ensures missed { MissWindow window (triangles_of draw.now) triangle result }
+{
+    let count = draw.triangles();
+    if begins_far_group(draw, triangle, window) {
+        count.min(triangle + GROUP_LEN)
+    } else if is_far(draw, triangle, window) {
+        triangle + 1
+    } else {
+        triangle
+    }
+}
+
+/// The first triangle from this one on whose box and whose group's box share a pixel with the window, or the number of triangles.
 pub(crate) fn next_near(draw: &Draw, triangle: u32, window: Bounds) -> u32
     requires { triangle ≤ length (triangles_of draw.now) }
     ensures from { triangle ≤ result }
@@ -23,8 +47,12 @@ pub(crate) fn next_near(draw: &Draw, triangle: u32, window: Bounds) -> u32
 {
     let count = draw.triangles();
     let mut near = triangle;
-    while near < count && begins_far_group(draw, near, window) {
-        near = count.min(near + GROUP_LEN);
+    while near < count {
+        let next = past_far(draw, near, window);
+        if next == near {
+            return near;
+        }
+        near = next;
     }
     near
 }

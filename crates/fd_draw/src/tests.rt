@@ -1,6 +1,6 @@
 use crate::{Demand, demand, draw};
 use fd_blend::Colour;
-use fd_cover::{Cull, Interp, Raster, Rect};
+use fd_cover::{Cull, Depth, Func, Interp, Raster, Rect};
 use fd_events::{Draw, Event, Pipeline, Vertex};
 use fd_snap::Pos;
 use fd_tile::{Place, Tile};
@@ -17,10 +17,13 @@ fn grey(level: u8) -> Colour {
     }
 }
 
-/// A draw of triangles, each by its vertices in whole pixels and its colour.
-fn triangles(alloc: Global, triangles: &[([(i32, i32); 3], Colour)]) -> Result<Event, Fail> {
+/// A triangle by its vertices in whole pixels, its colour and its depth.
+type Triangle = ([(i32, i32); 3], Colour, u16);
+
+/// A draw of triangles.
+fn triangles(alloc: Global, triangles: &[Triangle]) -> Result<Event, Fail> {
     let mut vertices = Vec::new(alloc);
-    for (corners, colour) in triangles {
+    for (corners, colour, z) in triangles {
         for (x, y) in *corners {
             let x = x.checked_mul(65536).ok_or("in range")?;
             let y = y.checked_mul(65536).ok_or("in range")?;
@@ -28,6 +31,7 @@ fn triangles(alloc: Global, triangles: &[([(i32, i32); 3], Colour)]) -> Result<E
             vertices.push(Vertex {
                 pos,
                 colour: *colour,
+                z: *z,
             })?;
         }
     }
@@ -48,9 +52,10 @@ fn draw_with_room(
     Ok(demand)
 }
 
-fn colour_at(tile: &Tile, x: u32, y: u32) -> Option<Colour> {
+/// The colour and the depth of a pixel.
+fn pixel_at(tile: &Tile, x: u32, y: u32) -> Option<(Colour, u16)> {
     if tile.place().holds(x, y) {
-        Some(tile.get(x, y))
+        Some((tile.get(x, y), tile.depth(x, y)))
     } else {
         None
     }
@@ -66,6 +71,18 @@ const CORNER: Place = Place {
     width: 2,
     height: 2,
 };
+
+/// The depth test on, and its depths stored or not.
+fn tested(func: Func, write: bool) -> Pipeline {
+    Pipeline {
+        depth: Depth {
+            enable: true,
+            write,
+            func,
+        },
+        ..Pipeline::default()
+    }
+}
 
 /// On a tile that the target's borders cut, and with a scissor that leaves no pixel.
 #[test]
@@ -88,17 +105,18 @@ fn a_clear_keeps_every_pixel(rt: HostRuntime) -> Result<(), Fail> {
     };
     let demand = draw_with_room(&Event::Clear(grey(7)), &state, &mut tile, &mut undo)?;
     assert_eq!(rt; (demand.spans, demand.pixels), (2, 6));
-    assert_eq!(rt; undo.recorded(), 6);
+    let demand = draw_with_room(&Event::DepthClear(9), &state, &mut tile, &mut undo)?;
+    assert_eq!(rt; (demand.spans, demand.pixels), (2, 6));
+    assert_eq!(rt; undo.recorded(), 12);
     for y in 64..66 {
         for x in 32..35 {
-            assert_eq!(rt; colour_at(&tile, x, y), Some(grey(7)));
-            assert_eq!(rt; undo.kept(0, x, y, 0), Some(grey(0)));
+            assert_eq!(rt; pixel_at(&tile, x, y), Some((grey(7), 9)));
+            assert_eq!(rt; undo.kept(0, x, y, 0), Some((grey(0), 65535)));
             assert_eq!(rt; undo.kept(0, x, y, 1), None);
+            assert_eq!(rt; undo.kept(1, x, y, 0), Some((grey(7), 65535)));
+            assert_eq!(rt; undo.kept(1, x, y, 1), None);
         }
     }
-    draw_with_room(&Event::Clear(grey(8)), &state, &mut tile, &mut undo)?;
-    assert_eq!(rt; colour_at(&tile, 34, 65), Some(grey(8)));
-    assert_eq!(rt; undo.kept(1, 34, 65, 0), Some(grey(7)));
     Ok(())
 }
 
@@ -107,17 +125,65 @@ fn triangles_are_drawn_in_their_order(rt: HostRuntime) -> Result<(), Fail> {
     let mut tile = Tile::fresh(rt.alloc(), CORNER)?;
     let mut undo = UndoStack::new(rt.alloc());
     let large = [(0, 0), (4, 0), (0, 4)];
-    let event = triangles(rt.alloc(), &[(large, grey(3)), (CLOCKWISE, grey(4))])?;
+    let event = triangles(rt.alloc(), &[(large, grey(3), 5), (CLOCKWISE, grey(4), 6)])?;
     let demand = draw_with_room(&event, &Pipeline::default(), &mut tile, &mut undo)?;
     assert_eq!(rt; (demand.spans, demand.pixels), (3, 5));
     assert_eq!(rt; undo.recorded(), 5);
-    assert_eq!(rt; colour_at(&tile, 0, 0), Some(grey(4)));
-    assert_eq!(rt; undo.kept(0, 0, 0, 0), Some(grey(0)));
-    assert_eq!(rt; undo.kept(0, 0, 0, 1), Some(grey(3)));
+    assert_eq!(rt; pixel_at(&tile, 0, 0), Some((grey(4), 65535)));
+    assert_eq!(rt; undo.kept(0, 0, 0, 0), Some((grey(0), 65535)));
+    assert_eq!(rt; undo.kept(0, 0, 0, 1), Some((grey(3), 65535)));
     assert_eq!(rt; undo.kept(0, 0, 0, 2), None);
-    assert_eq!(rt; colour_at(&tile, 1, 1), Some(grey(3)));
-    assert_eq!(rt; undo.kept(0, 1, 1, 0), Some(grey(0)));
+    assert_eq!(rt; pixel_at(&tile, 1, 1), Some((grey(3), 65535)));
+    assert_eq!(rt; undo.kept(0, 1, 1, 0), Some((grey(0), 65535)));
     assert_eq!(rt; undo.kept(0, 1, 1, 1), None);
+    Ok(())
+}
+
+/// Room is asked for each pixel that a triangle reaches; what fails the test is left alone and not kept.
+#[test]
+fn farther_triangles_leave_no_trace(rt: HostRuntime) -> Result<(), Fail> {
+    let mut tile = Tile::fresh(rt.alloc(), CORNER)?;
+    let mut undo = UndoStack::new(rt.alloc());
+    let large = [(0, 0), (4, 0), (0, 4)];
+    let near = (CLOCKWISE, grey(1), 1000);
+    let far = (large, grey(2), 2000);
+    let event = triangles(rt.alloc(), &[near, far, near])?;
+    let demand = draw_with_room(&event, &tested(Func::Less, true), &mut tile, &mut undo)?;
+    assert_eq!(rt; (demand.spans, demand.pixels), (6, 6));
+    assert_eq!(rt; undo.recorded(), 4);
+    assert_eq!(rt; pixel_at(&tile, 0, 0), Some((grey(1), 1000)));
+    assert_eq!(rt; undo.kept(0, 0, 0, 0), Some((grey(0), 65535)));
+    assert_eq!(rt; undo.kept(0, 0, 0, 1), None);
+    for (x, y) in [(1, 0), (0, 1), (1, 1)] {
+        assert_eq!(rt; pixel_at(&tile, x, y), Some((grey(2), 2000)));
+        assert_eq!(rt; undo.kept(0, x, y, 0), Some((grey(0), 65535)));
+        assert_eq!(rt; undo.kept(0, x, y, 1), None);
+    }
+    Ok(())
+}
+
+/// Of a row of five pixels the second and the fourth are as deep as the triangle, and the test is whether depths differ.
+#[test]
+fn pixels_of_a_row_pass_in_runs(rt: HostRuntime) -> Result<(), Fail> {
+    let place = Place {
+        left: 0,
+        top: 0,
+        width: 5,
+        height: 1,
+    };
+    let mut tile = Tile::fresh(rt.alloc(), place)?;
+    let mut undo = UndoStack::new(rt.alloc());
+    assert!(rt; tile.place().holds(1, 0) && tile.place().holds(3, 0));
+    tile.set_depth(1, 0, 7);
+    tile.set_depth(3, 0, 7);
+    let event = triangles(rt.alloc(), &[([(0, 0), (12, 0), (0, 12)], grey(8), 7)])?;
+    draw_with_room(&event, &tested(Func::NotEqual, false), &mut tile, &mut undo)?;
+    assert_eq!(rt; undo.recorded(), 3);
+    for (x, kept) in [(0, true), (1, false), (2, true), (3, false), (4, true)] {
+        let pixel = if kept { (grey(8), 65535) } else { (grey(0), 7) };
+        assert_eq!(rt; pixel_at(&tile, x, 0), Some(pixel));
+        assert_eq!(rt; undo.kept(0, x, 0, 0).is_some(), kept);
+    }
     Ok(())
 }
 
@@ -129,7 +195,7 @@ fn a_triangle_beside_the_tile_asks_for_nothing(rt: HostRuntime) -> Result<(), Fa
         width: 32,
         height: 32,
     };
-    let event = triangles(rt.alloc(), &[([(0, 0), (32, 0), (0, 32)], grey(3))])?;
+    let event = triangles(rt.alloc(), &[([(0, 0), (32, 0), (0, 32)], grey(3), 0)])?;
     let demand = demand(&event, &Pipeline::default(), place);
     assert_eq!(rt; (demand.spans, demand.pixels), (0, 0));
     Ok(())
@@ -139,10 +205,10 @@ fn a_triangle_beside_the_tile_asks_for_nothing(rt: HostRuntime) -> Result<(), Fa
 fn culled_and_scissored_pixels_are_left_alone(rt: HostRuntime) -> Result<(), Fail> {
     let mut tile = Tile::fresh(rt.alloc(), CORNER)?;
     let mut undo = UndoStack::new(rt.alloc());
-    let culled = triangles(rt.alloc(), &[(COUNTER_CLOCKWISE, grey(3))])?;
+    let culled = triangles(rt.alloc(), &[(COUNTER_CLOCKWISE, grey(3), 0)])?;
     let demand = draw_with_room(&culled, &Pipeline::default(), &mut tile, &mut undo)?;
     assert_eq!(rt; (demand.spans, demand.pixels), (0, 0));
-    assert_eq!(rt; colour_at(&tile, 0, 0), Some(grey(0)));
+    assert_eq!(rt; pixel_at(&tile, 0, 0), Some((grey(0), 65535)));
     let state = Pipeline {
         raster: Raster {
             cull: Cull::None,
@@ -157,10 +223,10 @@ fn culled_and_scissored_pixels_are_left_alone(rt: HostRuntime) -> Result<(), Fai
         },
         ..Pipeline::default()
     };
-    let large = triangles(rt.alloc(), &[([(0, 0), (0, 4), (4, 0)], grey(5))])?;
+    let large = triangles(rt.alloc(), &[([(0, 0), (0, 4), (4, 0)], grey(5), 0)])?;
     let demand = draw_with_room(&large, &state, &mut tile, &mut undo)?;
     assert_eq!(rt; (demand.spans, demand.pixels), (1, 2));
-    assert_eq!(rt; colour_at(&tile, 1, 0), Some(grey(5)));
-    assert_eq!(rt; colour_at(&tile, 0, 1), Some(grey(0)));
+    assert_eq!(rt; pixel_at(&tile, 1, 0), Some((grey(5), 65535)));
+    assert_eq!(rt; pixel_at(&tile, 0, 1), Some((grey(0), 65535)));
     Ok(())
 }

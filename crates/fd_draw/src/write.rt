@@ -1,23 +1,59 @@
-ghost use Rattle.std.specs.Prelude.{◌≡◌, ◌<◌, ◌≤◌, false, length};
+ghost use Rattle.std.specs.Prelude.{◌≡◌, ℕ, ◌+◌, ◌-◌, ◌<◌, ◌≤◌, false, true, length};
 ghost use Rattle.std.specs.List.{sum_by};
 ghost use Rattle.fd_events.specs.Draw.{triangles_of};
-ghost use Rattle.fd_events.specs.Image.{is_drawn, colour_after, colour_after_triangles, kept_by, kept_by_triangles};
+ghost use Rattle.fd_events.specs.Image.{pixel_after, pixel_after_triangle, pixel_after_triangles, kept_by, kept_by_triangles};
+ghost use Rattle.fd_tile.specs.Place.{HasRow};
 ghost use Rattle.fd_tile.specs.Tile.{IsTileImage};
 ghost use Rattle.fd_draw.specs.Area.{IsInside, IsOpen, IsWrittenIn};
-ghost use Rattle.fd_draw.specs.Demand.{pixels_in, spans_in, event_pixels, event_spans};
-ghost use Rattle.fd_draw.specs.Layer.{covers_at, writes_at, colour_blended, colour_written};
+ghost use Rattle.fd_draw.specs.Demand.{is_reached, pixels_in, spans_in, triangle_pixels, triangle_spans, event_pixels, event_spans};
+ghost use Rattle.fd_draw.specs.Layer.{covers_at, writes_at, layer_written, kept_by_triangle};
+ghost use Rattle.fd_cover.specs.Covers.{covers};
 ghost use Rattle.fd_draw.specs.Paints.{Paints};
+ghost use Rattle.fd_draw.specs.Primitive.{triangle_of};
 ghost use Rattle.fd_draw.specs.Triangles.{triangle_at};
-ghost use Rattle.fd_draw.specs.Writing.{HasRoom, Writes, in_row};
+ghost use Rattle.fd_draw.specs.Writing.{HasRoom, Writes, between, in_row, keep_each};
 
 use crate::area::{drawn_area, open_area, shared, whole};
 use crate::layer::Layer;
 use crate::near::next_near;
 use crate::primitive::Primitive;
+use crate::tested::draw_tested;
 use fd_cover::Bounds;
 use fd_events::{Draw, Event, Pipeline};
 use fd_tile::Tile;
 use fd_undo::UndoStack;
+
+/// Keeps and then writes the pixels of row y from column `left` up to `right`, all of which a layer covers.
+pub(crate) fn write_span(
+    layer: &Layer,
+    state: &Pipeline,
+    left: u32,
+    right: u32,
+    y: u32,
+    tile: &mut Tile,
+    undo: &mut UndoStack,
+)
+    requires filled { IsTileImage tile.old }
+    requires crossed { HasRow tile.old.place y }
+    requires from_left { tile.old.place.left ≤ left }
+    requires some { left < right }
+    requires to_right { right ≤ tile.old.place.left + tile.old.place.width }
+    requires covered { (column : ℕ) → left ≤ column → column < right → covers_at layer.now column y ≡ true }
+    requires room { HasRoom 1 (right - left) undo.old }
+    ensures { Writes 1 (right - left) (in_row (between left right) y) (layer_written layer.now state.now) keep_each tile.old undo.old tile.new undo.new }
+{
+    let place = tile.place();
+    let start = (left - place.left) as usize;
+    let end = (right - place.left) as usize;
+    undo.keep(
+        left,
+        y,
+        &tile.row(y)[start..end],
+        &tile.depth_row(y)[start..end],
+    );
+    let row = tile.row_mut(y);
+    layer.paint(&mut row[start..end], left, y, state);
+}
 
 /// Keeps and then writes the pixels of row y that a layer covers in a box.
 fn write_row(
@@ -32,16 +68,12 @@ fn write_row(
     requires written { IsWrittenIn (writes_at layer.now state.now) (covers_at layer.now) tile.old.place area }
     requires from_top { area.top ≤ y }
     requires to_bottom { y < area.bottom }
-    requires room { HasRoom (in_row (writes_at layer.now state.now) y) tile.old.place undo.old }
-    ensures { Writes (in_row (writes_at layer.now state.now) y) (colour_written layer.now state.now) tile.old undo.old tile.new undo.new }
+    requires room { HasRoom (spans_in (in_row (writes_at layer.now state.now) y) tile.old.place) (pixels_in (in_row (writes_at layer.now state.now) y) tile.old.place) undo.old }
+    ensures { Writes (spans_in (in_row (writes_at layer.now state.now) y) tile.old.place) (pixels_in (in_row (writes_at layer.now state.now) y) tile.old.place) (in_row (writes_at layer.now state.now) y) (layer_written layer.now state.now) keep_each tile.old undo.old tile.new undo.new }
 {
-    let place = tile.place();
+    let _place = tile.place();
     if let Some((left, right)) = layer.span(y, area.left, area.right) {
-        let start = (left - place.left) as usize;
-        let end = (right - place.left) as usize;
-        undo.keep(left, y, &tile.row(y)[start..end]);
-        let row = tile.row_mut(y);
-        layer.paint(&mut row[start..end], left, y, state);
+        write_span(layer, state, left, right, y, tile, undo);
     }
 }
 
@@ -50,15 +82,39 @@ fn write_layer(layer: &Layer, state: &Pipeline, area: Bounds, tile: &mut Tile, u
     requires filled { IsTileImage tile.old }
     requires inside { IsInside area tile.old.place }
     requires written { IsWrittenIn (writes_at layer.now state.now) (covers_at layer.now) tile.old.place area }
-    requires room { HasRoom (writes_at layer.now state.now) tile.old.place undo.old }
-    ensures { Writes (writes_at layer.now state.now) (colour_written layer.now state.now) tile.old undo.old tile.new undo.new }
+    requires room { HasRoom (spans_in (writes_at layer.now state.now) tile.old.place) (pixels_in (writes_at layer.now state.now) tile.old.place) undo.old }
+    ensures { Writes (spans_in (writes_at layer.now state.now) tile.old.place) (pixels_in (writes_at layer.now state.now) tile.old.place) (writes_at layer.now state.now) (layer_written layer.now state.now) keep_each tile.old undo.old tile.new undo.new }
 {
     for y in area.top..area.bottom {
         write_row(layer, state, area, y, tile, undo);
     }
 }
 
-/// Keeps and then writes the pixels at which a triangle of a draw is drawn, where `window` has the pixels that the scissor leaves.
+/// Keeps and then writes the pixels at which a triangle is drawn in a box, which has those that it reaches: by rows, or with the depth
+/// test on by runs.
+fn draw_primitive(
+    primitive: &Primitive,
+    state: &Pipeline,
+    area: Bounds,
+    tile: &mut Tile,
+    undo: &mut UndoStack,
+)
+    requires filled { IsTileImage tile.old }
+    requires inside { IsInside area tile.old.place }
+    requires some { area.top < area.bottom }
+    requires reached { IsWrittenIn (is_reached (triangle_of primitive.now) state.now) (covers primitive.now.corners) tile.old.place area }
+    requires room { HasRoom (triangle_spans state.now tile.old.place (triangle_of primitive.now)) (triangle_pixels state.now tile.old.place (triangle_of primitive.now)) undo.old }
+    ensures { Writes (triangle_spans state.now tile.old.place (triangle_of primitive.now)) (triangle_pixels state.now tile.old.place (triangle_of primitive.now)) (is_reached (triangle_of primitive.now) state.now)
+        (pixel_after_triangle (triangle_of primitive.now) primitive.now.interp state.now) (kept_by_triangle (triangle_of primitive.now) state.now) tile.old undo.old tile.new undo.new }
+{
+    if state.depth.enable {
+        draw_tested(primitive, state, area, tile, undo);
+    } else {
+        write_layer(&Layer::Triangle(*primitive), state, area, tile, undo);
+    }
+}
+
+/// Keeps and then writes the pixels at which a triangle of a draw is drawn: by rows, or with the depth test on by runs; `window` has the pixels that the scissor leaves.
 fn draw_triangle(
     draw: &Draw,
     triangle: u32,
@@ -71,26 +127,28 @@ fn draw_triangle(
     requires filled { IsTileImage tile.old }
     requires inside { IsInside window tile.old.place }
     requires left_open { IsOpen window state.now.raster state.now.scissor tile.old.place }
-    requires room { HasRoom (is_drawn (triangle_at draw.now triangle) state.now) tile.old.place undo.old }
-    ensures { Writes (is_drawn (triangle_at draw.now triangle) state.now) (colour_blended (triangle_at draw.now triangle) draw.now.interp state.now) tile.old undo.old tile.new undo.new }
+    requires room { HasRoom (triangle_spans state.now tile.old.place (triangle_at draw.now triangle)) (triangle_pixels state.now tile.old.place (triangle_at draw.now triangle)) undo.old }
+    ensures { Writes (triangle_spans state.now tile.old.place (triangle_at draw.now triangle)) (triangle_pixels state.now tile.old.place (triangle_at draw.now triangle)) (is_reached (triangle_at draw.now triangle) state.now)
+        (pixel_after_triangle (triangle_at draw.now triangle) draw.now.interp state.now) (kept_by_triangle (triangle_at draw.now triangle) state.now) tile.old undo.old tile.new undo.new }
 {
     let corners = draw.tri(triangle);
     if let Some(area) = drawn_area(&corners, &state.raster, window) {
-        let layer = Layer::Triangle(Primitive {
+        let primitive = Primitive {
             corners,
             colours: draw.colours(triangle),
+            depths: draw.depths(triangle),
             interp: draw.interp(),
-        });
-        write_layer(&layer, state, area, tile, undo);
+        };
+        draw_primitive(&primitive, state, area, tile, undo);
     }
 }
 
 /// Keeps and then writes the pixels at which the triangles of a draw are drawn, one triangle after the other.
 fn draw_triangles(draw: &Draw, state: &Pipeline, tile: &mut Tile, undo: &mut UndoStack)
     requires begun { undo.old.frame_left ≡ false }
-    requires spans { sum_by (λ t. spans_in (is_drawn t state.now) tile.old.place) (triangles_of draw.now) ≤ undo.old.spans_left }
-    requires pixels { sum_by (λ t. pixels_in (is_drawn t state.now) tile.old.place) (triangles_of draw.now) ≤ undo.old.pixels_left }
-    ensures { Paints (colour_after_triangles (triangles_of draw.now) draw.now.interp state.now)
+    requires spans { sum_by (triangle_spans state.now tile.old.place) (triangles_of draw.now) ≤ undo.old.spans_left }
+    requires pixels { sum_by (triangle_pixels state.now tile.old.place) (triangles_of draw.now) ≤ undo.old.pixels_left }
+    ensures { Paints (pixel_after_triangles (triangles_of draw.now) draw.now.interp state.now)
         (kept_by_triangles (triangles_of draw.now) draw.now.interp state.now) tile.old undo.old tile.new undo.new }
 {
     let window = open_area(&state.raster, &state.scissor, tile.place());
@@ -105,19 +163,43 @@ fn draw_triangles(draw: &Draw, state: &Pipeline, tile: &mut Tile, undo: &mut Und
     }
 }
 
-/// Draws an event in a state on a tile, and keeps the colours that it overwrites in the top frame, which has been begun with
+/// Keeps and then gives the pixels of row y a depth.
+fn clear_depth_row(depth: u16, y: u32, tile: &mut Tile, undo: &mut UndoStack)
+    requires filled { IsTileImage tile.old }
+    requires crossed { HasRow tile.old.place y }
+    requires room { HasRoom (spans_in (in_row (λ _ _. true) y) tile.old.place) (pixels_in (in_row (λ _ _. true) y) tile.old.place) undo.old }
+    ensures { Writes (spans_in (in_row (λ _ _. true) y) tile.old.place) (pixels_in (in_row (λ _ _. true) y) tile.old.place) (in_row (λ _ _. true) y) (λ _ _ before. (before.0, depth)) keep_each tile.old undo.old tile.new undo.new }
+{
+    let left = tile.place().left;
+    undo.keep(left, y, tile.row(y), tile.depth_row(y));
+    tile.depth_row_mut(y).fill(depth);
+}
+
+/// Keeps and then gives all pixels a depth.
+fn clear_depths(depth: u16, tile: &mut Tile, undo: &mut UndoStack)
+    requires room { HasRoom (spans_in (λ _ _. true) tile.old.place) (pixels_in (λ _ _. true) tile.old.place) undo.old }
+    ensures { Writes (spans_in (λ _ _. true) tile.old.place) (pixels_in (λ _ _. true) tile.old.place) (λ _ _. true) (λ _ _ before. (before.0, depth)) keep_each tile.old undo.old tile.new undo.new }
+{
+    let area = whole(tile.place());
+    for y in area.top..area.bottom {
+        clear_depth_row(depth, y, tile, undo);
+    }
+}
+
+/// Draws an event in a state on a tile, and keeps the pixels that it overwrites in the top frame, which has been begun with
 /// room for them.
 pub fn draw(event: &Event, state: &Pipeline, tile: &mut Tile, undo: &mut UndoStack)
     requires begun { undo.old.frame_left ≡ false }
     requires spans { event_spans event.now state.now tile.old.place ≤ undo.old.spans_left }
     requires pixels { event_pixels event.now state.now tile.old.place ≤ undo.old.pixels_left }
-    ensures { Paints (colour_after event.now state.now) (kept_by event.now state.now) tile.old undo.old tile.new undo.new }
+    ensures { Paints (pixel_after event.now state.now) (kept_by event.now state.now) tile.old undo.old tile.new undo.new }
 {
     let place = tile.place();
     match event {
         Event::Clear(colour) => {
             write_layer(&Layer::Clear(*colour), state, whole(place), tile, undo)
         }
+        Event::DepthClear(depth) => clear_depths(*depth, tile, undo),
         Event::Draw(draw) => draw_triangles(draw, state, tile, undo),
         // State events and markers draw nothing.
         _ => {}

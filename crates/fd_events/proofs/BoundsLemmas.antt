@@ -1,17 +1,17 @@
 -- Boxes round triangles.
-use Rattle.std.proofs.Common.{◌≡◌, ℕ, zero, suc, ◌+◌, ◌-◌, ◌*◌, ◌<◌, ◌≤◌, min, Bool, true, false, ◌||◌, IsTrue, ◌⊎◌, inl, inr, List, [], ◌∷◌, ◌++◌, length, take, drop, Some, slice_get, option_map, add-one, arith, refl, sym, ap, ◌∙◌}
+use Rattle.std.proofs.Common.{◌≡◌, ℕ, zero, suc, ◌+◌, ◌-◌, ◌*◌, ◌<◌, ◌≤◌, min, max, Bool, true, false, ◌||◌, IsTrue, ◌⊎◌, inl, inr, List, [], ◌∷◌, ◌++◌, length, take, drop, Some, slice_get, option_map, add-one, arith, refl, sym, ap, ◌∙◌}
 use Rattle.std.proofs.lemmas.Option.{slice_get_within}
-use Rattle.fd_blend.specs.declared.channel.Colour.{Colour}
+use Rattle.std.proofs.lemmas.Bool.Decides.{nat_tests}
 use Rattle.fd_cover.specs.declared.bounds.Bounds.{Bounds}
 use Rattle.fd_cover.specs.declared.shading.Interp.{Interp}
 use Rattle.fd_cover.specs.declared.triangle.Tri.{Tri}
-use Rattle.fd_cover.specs.Bounds.{is_within, HoldsCovered, HoldsBoth, bounds_of, joined}
-use Rattle.fd_cover.proofs.BoundsLemmas.{missed_outside}
+use Rattle.fd_cover.specs.Bounds.{is_within, is_empty, HoldsCovered, HoldsBoth, bounds_of, joined}
+use Rattle.fd_cover.proofs.BoundsLemmas.{missed_outside, bounds_of-holds}
 use Rattle.fd_events.specs.declared.pipeline.Pipeline.{Pipeline}
-use Rattle.fd_events.specs.declared.draw.TheConstants.{GROUP_LEN}
-use Rattle.fd_events.specs.Bounds.{HoldsTriangles, HoldsGroup, IsRoundGroup, AreRoundGroups, between, joined_with, IsRound}
+use Rattle.fd_events.specs.Limits.{group_size}
+use Rattle.fd_events.specs.Bounds.{HoldsTriangles, HoldsGroup, IsRoundGroup, AreRoundGroups, HoldsTriangle, HoldEach, between, joined_with, bounds_of_triangles, IsRound}
 use Rattle.fd_events.specs.Draw.{Triangle}
-use Rattle.fd_events.specs.Image.{is_drawn_by, is_drawn, colour_after_triangles, kept_by_triangles}
+use Rattle.fd_events.specs.Image.{Pixel, is_drawn_by, is_drawn, pixel_after_triangles, kept_by_triangles}
 
 either_left : (a b : Bool) → IsTrue a → IsTrue (a || b)
 either_left true b h = refl
@@ -20,6 +20,14 @@ either_left false b h = cc
 either_right : (a b : Bool) → IsTrue b → IsTrue (a || b)
 either_right true b h = refl
 either_right false b h = h
+
+the_other : (a b : Bool) → IsTrue (a || b) → a ≡ false → IsTrue b
+the_other true b h none = cc
+the_other false b h none = h
+
+the_first : (a b : Bool) → IsTrue (a || b) → b ≡ false → IsTrue a
+the_first true b h none = refl
+the_first false b h none = cc
 
 grown : (ts : List Triangle) (k i : ℕ) (t : Triangle) (corners : Tri) (before own box : Bounds)
     → option_map (λ (u : Triangle). u.corners) (slice_get ts k) ≡ Some corners → HoldsTriangles before (take k ts) → HoldsCovered own corners → HoldsBoth box before own
@@ -85,7 +93,7 @@ IsRound-further ts first k corners before own box from next round is_own covered
     rw (← more) (IsRound-next (drop first ts) (k - first) corners before own box (rw at next) round is_own covered is_joined both)
 
 -- the box round a group holds what its triangles cover
-pub HoldsGroup-between : (ts : List Triangle) (group first last : ℕ) (box : Bounds) → first ≡ GROUP_LEN * group → last ≡ min (first + GROUP_LEN) (length ts)
+pub HoldsGroup-between : (ts : List Triangle) (group first last : ℕ) (box : Bounds) → first ≡ group_size * group → last ≡ min (first + group_size) (length ts)
     → HoldsTriangles box (between first last ts) → HoldsGroup box group ts
 HoldsGroup-between ts group first last box is_first is_last holds = λ i t low high at.
     let within : i < length ts = slice_get_within ts i t at in
@@ -112,6 +120,19 @@ AreRoundGroups-next boxes ts group box is_next hold holds = λ i found at. elim 
   | inr last ↦ let same : i ≡ group = last.0 ∙ is_next in rw (same, last.1) holds
 ]
 
+-- one more box
+pub HoldEach-next : (boxes : List Bounds) (ts : List Triangle) (number : ℕ) (box : Bounds) → length boxes ≡ number → HoldEach boxes ts → HoldsTriangle box number ts
+    → HoldEach (boxes ++ box ∷ []) ts
+HoldEach-next boxes ts number box is_next hold holds = λ i found at. elim (slice_get-last boxes box found i at) [
+  | inl before ↦ hold i found before
+  | inr last ↦ let same : i ≡ number = last.0 ∙ is_next in rw (same, last.1) holds
+]
+
+-- a triangle's own box
+pub HoldsTriangle-own : (ts : List Triangle) (number : ℕ) (corners : Tri) (box : Bounds) → option_map (λ (u : Triangle). u.corners) (slice_get ts number) ≡ Some corners
+    → HoldsCovered box corners → HoldsTriangle box number ts
+HoldsTriangle-own ts number corners box is covered = λ t at. let same : t.corners ≡ corners = cc in rw same covered
+
 -- the box round all triangles holds what a group's cover
 pub HoldsGroup-all : (ts : List Triangle) (group : ℕ) (box : Bounds) → HoldsTriangles box ts → HoldsGroup box group ts
 HoldsGroup-all ts group box holds = λ i t low high at. holds i t at
@@ -119,19 +140,53 @@ HoldsGroup-all ts group box holds = λ i t low high at. holds i t at
 -- ---- a pixel outside the box
 
 -- nothing is drawn there
-pub is_drawn-outside : (t : Triangle) (s : Pipeline) (box : Bounds) (x y : ℕ) → HoldsCovered box t.corners → is_within box x y ≡ false → is_drawn t s x y ≡ false
-is_drawn-outside t s box x y holds outside = ap is_drawn_by (missed_outside t.corners s.raster s.scissor box x y holds outside)
+pub is_drawn-outside : (t : Triangle) (s : Pipeline) (box : Bounds) (x y stored : ℕ) → HoldsCovered box t.corners → is_within box x y ≡ false → is_drawn t s x y stored ≡ false
+is_drawn-outside t s box x y stored holds outside = ap is_drawn_by (missed_outside t.corners t.depths s.raster s.scissor s.depth stored box x y holds outside)
 
--- its colour stays
-pub colour_after_triangles-outside : (ts : List Triangle) (interp : Interp) (s : Pipeline) (box : Bounds) (x y : ℕ) (before : Colour) → HoldsTriangles box ts → is_within box x y ≡ false
-    → colour_after_triangles ts interp s x y before ≡ before
-colour_after_triangles-outside [] interp s box x y before holds outside = refl
-colour_after_triangles-outside (t ∷ ts) interp s box x y before holds outside =
-    rw (is_drawn-outside t s box x y (holds zero t refl) outside) (colour_after_triangles-outside ts interp s box x y before (λ i u at. holds (suc i) u at) outside)
+-- it stays as it is
+pub pixel_after_triangles-outside : (ts : List Triangle) (interp : Interp) (s : Pipeline) (box : Bounds) (x y : ℕ) (before : Pixel) → HoldsTriangles box ts → is_within box x y ≡ false
+    → pixel_after_triangles ts interp s x y before ≡ before
+pixel_after_triangles-outside [] interp s box x y before holds outside = refl
+pixel_after_triangles-outside (t ∷ ts) interp s box x y before holds outside =
+    rw (is_drawn-outside t s box x y before.1 (holds zero t refl) outside) (pixel_after_triangles-outside ts interp s box x y before (λ i u at. holds (suc i) u at) outside)
 
 -- nothing is kept of it
-pub kept_by_triangles-outside : (ts : List Triangle) (interp : Interp) (s : Pipeline) (box : Bounds) (x y : ℕ) (before : Colour) → HoldsTriangles box ts → is_within box x y ≡ false
+pub kept_by_triangles-outside : (ts : List Triangle) (interp : Interp) (s : Pipeline) (box : Bounds) (x y : ℕ) (before : Pixel) → HoldsTriangles box ts → is_within box x y ≡ false
     → kept_by_triangles ts interp s x y before ≡ []
 kept_by_triangles-outside [] interp s box x y before holds outside = refl
 kept_by_triangles-outside (t ∷ ts) interp s box x y before holds outside =
-    rw (is_drawn-outside t s box x y (holds zero t refl) outside) (kept_by_triangles-outside ts interp s box x y before (λ i u at. holds (suc i) u at) outside)
+    rw (is_drawn-outside t s box x y before.1 (holds zero t refl) outside) (kept_by_triangles-outside ts interp s box x y before (λ i u at. holds (suc i) u at) outside)
+
+-- ---- the box round triangles holds what they cover
+
+empty_holds_none : (a : Bounds) (x y : ℕ) → is_empty a ≡ true → is_within a x y ≡ false
+empty_holds_none a x y empty = grind (arith, nat_tests)
+
+hull_holds : (a b : Bounds) (x y : ℕ) → (is_within a x y || is_within b x y) ≡ true
+    → is_within (record { left = min a.left b.left; top = min a.top b.top; right = max a.right b.right; bottom = max a.bottom b.bottom }) x y ≡ true
+hull_holds a b x y h = grind (arith, nat_tests)
+
+joined_by : (a b : Bounds) (x y : ℕ) (no_a no_b : Bool) → is_empty a ≡ no_a → is_empty b ≡ no_b → IsTrue (is_within a x y || is_within b x y) → IsTrue (is_within (joined a b) x y)
+unfolding joined
+joined_by a b x y true no_b is_a is_b h = rw is_a (the_other (is_within a x y) (is_within b x y) h (empty_holds_none a x y is_a))
+joined_by a b x y false true is_a is_b h = rw (is_a, is_b) (the_first (is_within a x y) (is_within b x y) h (empty_holds_none b x y is_b))
+joined_by a b x y false false is_a is_b h = rw (is_a, is_b) (hull_holds a b x y h)
+
+joined-holds : (a b : Bounds) → HoldsBoth (joined a b) a b
+joined-holds a b x y h = joined_by a b x y (is_empty a) (is_empty b) refl refl h
+
+joined_with-keeps : (ts : List Triangle) (box : Bounds) (x y : ℕ) → is_within box x y ≡ true → is_within (joined_with box ts) x y ≡ true
+joined_with-keeps [] box x y h = h
+joined_with-keeps (t ∷ ts) box x y h =
+    joined_with-keeps ts (joined box (bounds_of t.corners)) x y (joined-holds box (bounds_of t.corners) x y (either_left (is_within box x y) (is_within (bounds_of t.corners) x y) h))
+
+joined_with-holds : (ts : List Triangle) (box : Bounds) → HoldsTriangles (joined_with box ts) ts
+joined_with-holds [] box i t at = cc
+joined_with-holds (first ∷ ts) box zero t at = λ x y covered.
+    let same : first ≡ t = cc in
+    let own : is_within (bounds_of first.corners) x y ≡ true = bounds_of-holds first.corners x y (rw same covered) in
+    joined_with-keeps ts (joined box (bounds_of first.corners)) x y (joined-holds box (bounds_of first.corners) x y (either_right (is_within box x y) (is_within (bounds_of first.corners) x y) own))
+joined_with-holds (first ∷ ts) box (suc i) t at = joined_with-holds ts (joined box (bounds_of first.corners)) i t at
+
+pub bounds_of_triangles-holds : (ts : List Triangle) → HoldsTriangles (bounds_of_triangles ts) ts
+bounds_of_triangles-holds ts = joined_with-holds ts (record { left = 0; top = 0; right = 0; bottom = 0 })

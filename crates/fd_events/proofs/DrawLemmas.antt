@@ -5,7 +5,7 @@ use Rattle.std.proofs.lemmas.Option.{slice_get_within}
 use Rattle.std.proofs.lemmas.Bool.Decides.{nat_tests}
 use Rattle.fd_cover.specs.declared.shading.Interp.{Interp}
 use Rattle.fd_events.specs.declared.draw.Vertex.{Vertex}
-use Rattle.fd_events.specs.declared.draw.TheConstants.{MAX_VERTICES}
+use Rattle.fd_events.specs.Limits.{most_vertices}
 use Rattle.fd_events.specs.Indices.{has_too_many, are_in_range}
 use Rattle.fd_events.specs.Draw.{DrawList, made, listed_by, triangle_of, triangles_of_list}
 
@@ -30,7 +30,7 @@ slice_get-triangles_of_list (p ∷ q ∷ r ∷ vs) (suc i) a b c first second th
 
 -- what the constructor tests
 pub record IsMade (vertices : List Vertex) (indices : Option (List ℕ)) : Type 0 where
-  pub few_vertices : length vertices ≤ MAX_VERTICES
+  pub few_vertices : length vertices ≤ most_vertices
   pub few_indices : has_too_many indices ≡ false
   pub in_range : are_in_range (length vertices) indices ≡ true
 

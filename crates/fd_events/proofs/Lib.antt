@@ -4,3 +4,5 @@ pub mod Flags
 pub mod Images
 pub mod Triangles
 pub mod BoundsLemmas
+pub mod ReachLemmas
+pub mod VersionOnes

@@ -2,7 +2,7 @@
 use Rattle.std.specs.Prelude.{◌≡◌, ℕ, ◌+◌, ◌-◌, ◌*◌, ◌<◌, ◌≤◌, ◌⊎◌, min, List, [], ◌∷◌, length, Some, slice_get, take, drop}
 use Rattle.fd_cover.specs.declared.bounds.Bounds.{Bounds}
 use Rattle.fd_cover.specs.Bounds.{HoldsCovered, bounds_of, joined}
-use Rattle.fd_events.specs.declared.draw.TheConstants.{GROUP_LEN}
+use Rattle.fd_events.specs.Limits.{group_size}
 use Rattle.fd_events.specs.Draw.{Triangle}
 
 -- the box holds every pixel that one of the triangles covers
@@ -15,7 +15,7 @@ between first last ts = take (last - first) (drop first ts)
 
 -- the box holds every pixel that a triangle of this group covers
 abbrev pub HoldsGroup : Bounds → ℕ → List Triangle → Type 0
-HoldsGroup box group ts = (i : ℕ) (t : Triangle) → GROUP_LEN * group ≤ i → i < GROUP_LEN * group + GROUP_LEN → slice_get ts i ≡ Some t → HoldsCovered box t.corners
+HoldsGroup box group ts = (i : ℕ) (t : Triangle) → group_size * group ≤ i → i < group_size * group + group_size → slice_get ts i ≡ Some t → HoldsCovered box t.corners
 
 -- a box, joined with those of triangles one after the other
 abbrev pub joined_with : Bounds → List Triangle → Bounds
@@ -33,7 +33,7 @@ pub record IsRound (box : Bounds) (ts : List Triangle) : Type 0 where
 
 -- the triangles of a group
 abbrev pub group_of : ℕ → List Triangle → List Triangle
-group_of group ts = between (GROUP_LEN * group) (min (GROUP_LEN * group + GROUP_LEN) (length ts)) ts
+group_of group ts = between (group_size * group) (min (group_size * group + group_size) (length ts)) ts
 
 -- the box is the one round a group of the triangles, and holds what they cover
 pub record IsRoundGroup (box : Bounds) (group : ℕ) (ts : List Triangle) : Type 0 where
@@ -47,3 +47,11 @@ AreRoundGroups boxes ts = (group : ℕ) (box : Bounds) → slice_get boxes group
 -- the box round a group, or the one round all triangles
 abbrev pub IsGroupBox : Bounds → ℕ → List Triangle → Type 0
 IsGroupBox box group ts = (box ≡ bounds_of_triangles (group_of group ts)) ⊎ (box ≡ bounds_of_triangles ts)
+
+-- the box holds every pixel that the triangle of a number covers
+abbrev pub HoldsTriangle : Bounds → ℕ → List Triangle → Type 0
+HoldsTriangle box number ts = (t : Triangle) → slice_get ts number ≡ Some t → HoldsCovered box t.corners
+
+-- so does the box of each number
+abbrev pub HoldEach : List Bounds → List Triangle → Type 0
+HoldEach boxes ts = (number : ℕ) (box : Bounds) → slice_get boxes number ≡ Some box → HoldsTriangle box number ts

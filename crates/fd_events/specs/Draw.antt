@@ -5,7 +5,7 @@ use Rattle.fd_blend.specs.declared.channel.Colour.{Colour}
 use Rattle.fd_cover.specs.declared.shading.Interp.{Interp}
 use Rattle.fd_cover.specs.declared.triangle.Tri.{Tri}
 use Rattle.fd_snap.specs.Snap.{snapped_point}
-use Rattle.fd_events.specs.declared.draw.TheConstants.{MAX_VERTICES}
+use Rattle.fd_events.specs.Limits.{most_vertices}
 use Rattle.fd_events.specs.declared.draw.Vertex.{Vertex}
 use Rattle.fd_events.specs.declared.draw.DrawFault.{DrawFault}
 use Rattle.fd_events.specs.declared.draw.DrawFault.TheVariants.{Vertices, Indices, IndexRange}
@@ -22,20 +22,22 @@ draw_of vertices indices interp = record { vertices = vertices; indices = indice
 -- the draw of these vertices and indices, or why there is none
 abbrev pub made : List Vertex → Option (List ℕ) → Interp → Result DrawList DrawFault
 made vertices indices interp =
-    if nat_lt MAX_VERTICES (length vertices) then Err Vertices
+    if nat_lt most_vertices (length vertices) then Err Vertices
     else (if has_too_many indices then Err Indices
     else (if are_in_range (length vertices) indices then Ok (draw_of vertices indices interp)
     else Err IndexRange))
 
--- a triangle as it is drawn: its snapped corners, and their colours
+-- a triangle as it is drawn: its snapped corners, their colours and their depths
 pub record Triangle : Type 0 where
   pub corners : Tri
   pub colours : List Colour
+  pub depths : List ℕ
 
 abbrev pub triangle_of : Vertex → Vertex → Vertex → Triangle
 triangle_of a b c = record {
   corners = record { a = snapped_point a.pos; b = snapped_point b.pos; c = snapped_point c.pos };
   colours = a.colour ∷ b.colour ∷ c.colour ∷ [];
+  depths = a.z ∷ b.z ∷ c.z ∷ [];
 }
 
 -- each three vertices are a triangle; one or two that are left over are dropped

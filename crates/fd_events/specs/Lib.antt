@@ -1,3 +1,4 @@
+pub mod Limits
 pub mod Indices
 pub mod Draw
 pub mod Bounds
@@ -7,3 +8,5 @@ pub mod Pipeline
 pub mod Table
 pub mod Image
 pub mod Laws
+pub mod VersionOne
+pub mod Reach

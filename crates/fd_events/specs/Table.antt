@@ -1,21 +1,24 @@
 -- What a table of events is, and its states.
-use Rattle.std.specs.Prelude.{◌≡◌, ℕ, zero, suc, ◌+◌, ◌≤◌, Bool, true, false, List, length, replicate, Option, Some, None, slice_get, slice_set, unwrap_or, Result, Ok, Err, IsOk, nat_le, ◌&&◌, if◌then◌else◌}
-use Rattle.fd_events.specs.declared.table.TheConstants.{MAX_SIDE, MAX_EVENTS}
+use Rattle.std.specs.Prelude.{◌≡◌, ℕ, zero, suc, ◌+◌, ◌≤◌, Bool, true, false, List, length, replicate, Option, Some, None, slice_get, slice_set, unwrap_or, Result, Ok, Err, IsOk, nat_le, ◌&&◌, ◌⊎◌, All, if◌then◌else◌}
+use Rattle.fd_snap.specs.Limits.{most_pixels}
+use Rattle.fd_events.specs.Limits.{most_events}
 use Rattle.fd_events.specs.declared.event.Event.{Event}
+use Rattle.fd_events.specs.declared.event.Event.TheVariants.{SetDepth, DepthClear}
 use Rattle.fd_events.specs.declared.pipeline.Pipeline.{Pipeline}
 use Rattle.fd_events.specs.declared.table.TableFault.{TableFault}
 use Rattle.fd_events.specs.declared.table.TableFault.TheVariants.{Memory, Size, TooMany}
 use Rattle.fd_events.specs.Pipeline.{defaults, state_after}
 
--- the target's size, and the events and their flags from number 1 on
+-- the version of the capture, the target's size, and the events and their flags from number 1 on
 pub record Table : Type 0 where
+  pub version : ℕ
   pub width : ℕ
   pub height : ℕ
   pub events : List Event
   pub flags : List Bool
 
-abbrev pub table_of : ℕ → ℕ → List Event → List Bool → Table
-table_of width height events flags = record { width = width; height = height; events = events; flags = flags }
+abbrev pub table_of : ℕ → ℕ → ℕ → List Event → List Bool → Table
+table_of version width height events flags = record { version = version; width = width; height = height; events = events; flags = flags }
 
 -- ---- numbers
 
@@ -72,24 +75,36 @@ pub record HasStates (t : Table) (states : List Pipeline) : Type 0 where
 
 -- a width or a height that a target may have
 abbrev pub is_side : ℕ → Bool
-is_side n = nat_le 1 n && nat_le n MAX_SIDE
+is_side n = nat_le 1 n && nat_le n most_pixels
 
 -- the table of these events, all switched on
-abbrev pub all_on : ℕ → ℕ → List Event → Table
-all_on width height events = table_of width height events (replicate (length events) true)
+abbrev pub all_on : ℕ → ℕ → ℕ → List Event → Table
+all_on version width height events = table_of version width height events (replicate (length events) true)
 
 -- the table that is started with these events, or why there is none
-abbrev pub started : ℕ → ℕ → List Event → Result Table TableFault
-started width height events =
-    if is_side width && is_side height then (if nat_le (length events) MAX_EVENTS then Ok (all_on width height events) else Err TooMany) else Err Size
+abbrev pub started : ℕ → ℕ → ℕ → List Event → Result Table TableFault
+started version width height events =
+    if is_side width && is_side height then (if nat_le (length events) most_events then Ok (all_on version width height events) else Err TooMany) else Err Size
+
+-- an event of version 2 alone
+abbrev pub is_of_depth : Event → Bool
+is_of_depth (SetDepth depth) = true
+is_of_depth (DepthClear depth) = true
+is_of_depth other = false
+
+-- the version is 1 or 2, and one of version 1 has no event of version 2
+pub record IsVersion (version : ℕ) (events : List Event) : Type 0 where
+  pub number : (version ≡ 1) ⊎ (version ≡ 2)
+  pub first : version ≡ 1 → All (λ event. is_of_depth event ≡ false) events
 
 -- what holds of each table
 pub record IsTable (t : Table) : Type 0 where
+  pub version : IsVersion t.version t.events
   pub min_width : 1 ≤ t.width
-  pub max_width : t.width ≤ MAX_SIDE
+  pub max_width : t.width ≤ most_pixels
   pub min_height : 1 ≤ t.height
-  pub max_height : t.height ≤ MAX_SIDE
-  pub max_events : length t.events ≤ MAX_EVENTS
+  pub max_height : t.height ≤ most_pixels
+  pub max_events : length t.events ≤ most_events
   pub flags : length t.flags ≡ length t.events
 
 -- The result is this one, unless memory ran out where there would have been a table.

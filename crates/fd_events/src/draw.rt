@@ -14,17 +14,15 @@ pub const MAX_VERTICES: usize = 196_608;
 /// The most indices that a draw has.
 pub const MAX_INDICES: usize = 196_608;
 
-/// The most triangles that a draw has: a third of its most corners.
-pub const MAX_TRIANGLES: u32 = 65_536;
-
 /// How many triangles that follow one another make a group, which has a box of its own.
 pub const GROUP_LEN: u32 = 32;
 
-/// A corner of a triangle: its position as the capture gives it, and its colour.
+/// A corner of a triangle: its position as the capture gives it, its colour, and its depth in 1/65535.
 #[derive(Clone, Copy, PartialEq, Eq, Debug)]
 pub struct Vertex {
     pub pos: Pos,
     pub colour: Colour,
+    pub z: u16,
 }
 
 /// Why there is no draw. The faults are checked in this order.
@@ -49,24 +47,26 @@ pub struct Draw {
     bounds: Bounds,
     // the box of each group, where they have been computed
     groups: Option<Vec<Bounds>>,
+    // the box of each triangle, where they have been computed
+    boxes: Option<Vec<Bounds>>,
 }
 
 impl Model for Draw {
     ghost use Rattle.std.specs.Prelude.{IfSome};
-    ghost use Rattle.fd_events.specs.Bounds.{IsRound, AreRoundGroups};
+    ghost use Rattle.fd_events.specs.Bounds.{IsRound, AreRoundGroups, HoldEach};
     ghost use Rattle.fd_events.specs.Draw.{DrawList, triangles_of};
 
     ghost Value = { DrawList };
 
     ghost view = { λ d. d.list };
 
-    ghost invariant = { λ d. IsRound d.bounds (triangles_of d.list) × IfSome d.groups (λ boxes. AreRoundGroups boxes.items (triangles_of d.list)) };
+    ghost invariant = { λ d. IsRound d.bounds (triangles_of d.list) × IfSome d.groups (λ boxes. AreRoundGroups boxes.items (triangles_of d.list)) × IfSome d.boxes (λ boxes. HoldEach boxes.items (triangles_of d.list)) };
 }
 
 impl Draw {
-    ghost use Rattle.fd_events.specs.Bounds.{HoldsTriangles, HoldsGroup, IsGroupBox, bounds_of_triangles};
+    ghost use Rattle.fd_events.specs.Bounds.{HoldsTriangles, HoldsTriangle, HoldsGroup, IsGroupBox, bounds_of_triangles};
+    ghost use Rattle.fd_events.specs.Limits.{group_size, most_triangles};
     ghost use Rattle.fd_events.specs.Draw.{made, triangles_of};
-    ghost use Rattle.fd_events.specs.declared.draw.TheConstants.{MAX_TRIANGLES, GROUP_LEN};
 
     /// A draw of these vertices and indices, which are dropped on a refusal.
     pub fn new(
@@ -82,13 +82,14 @@ impl Draw {
             list,
             bounds,
             groups: None,
+            boxes: None,
         })
     }
 
     /// The number of triangles.
     pub fn triangles(&self) -> u32
         ensures value { result ≡ length (triangles_of self.now) }
-        ensures most { result ≤ MAX_TRIANGLES }
+        ensures most { result ≤ most_triangles }
     {
         self.list.len()
     }
@@ -109,6 +110,14 @@ impl Draw {
         self.list.colours(triangle)
     }
 
+    /// The depths of a triangle's corners, in the order of `tri`.
+    pub fn depths(&self, triangle: u32) -> [u16; 3]
+        requires { triangle < length (triangles_of self.now) }
+        ensures { option_map (λ t. t.depths) (slice_get (triangles_of self.now) triangle) ≡ Some result }
+    {
+        self.list.depths(triangle)
+    }
+
     /// How a triangle's colour comes from those of its corners.
     pub fn interp(&self) -> Interp
         ensures { result ≡ self.now.interp }
@@ -126,7 +135,7 @@ impl Draw {
 
     /// The number of groups of triangles.
     fn group_count(&self) -> u32
-        ensures { result ≡ (length (triangles_of self.now) + (GROUP_LEN - 1)) / GROUP_LEN }
+        ensures { result ≡ (length (triangles_of self.now) + (group_size - 1)) / group_size }
     {
         self.list.len().div_ceil(GROUP_LEN)
     }
@@ -145,6 +154,19 @@ impl Draw {
         self.bounds
     }
 
+    /// The box round a triangle; or the one round all, as long as no table was started with the draw. Either holds every pixel that
+    /// the triangle covers.
+    pub fn triangle_bounds(&self, triangle: u32) -> Bounds
+        ensures { HoldsTriangle result triangle (triangles_of self.now) }
+    {
+        if let Some(boxes) = &self.boxes {
+            if let Some(bounds) = boxes.get(triangle as usize) {
+                return *bounds;
+            }
+        }
+        self.bounds
+    }
+
     /// Computes the boxes of the groups. On want of memory nothing changes.
     pub(crate) fn box_groups(&mut self, alloc: Global) -> Result<(), AllocError>
         ensures { self.new ≡ self.old }
@@ -154,7 +176,9 @@ impl Draw {
         for group in 0..count {
             groups.push(self.list.group_bounds(group))?;
         }
+        let boxes = self.list.boxes(alloc)?;
         self.groups = Some(groups);
+        self.boxes = Some(boxes);
         Ok(())
     }
 }

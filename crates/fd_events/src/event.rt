@@ -1,15 +1,17 @@
-ghost use Rattle.std.specs.Prelude.{◌≡◌};
+ghost use Rattle.std.specs.Prelude.{◌≡◌, ◌≤◌};
+ghost use Rattle.fd_snap.specs.Limits.{most_pixels};
 
 use crate::draw::Draw;
 use crate::label::Label;
+use crate::reach::Reach;
 use fd_blend::{BlendState, Colour};
-use fd_cover::{Raster, Rect};
+use fd_cover::{Depth, Raster, Rect};
 use std::alloc::{AllocError, Global};
 
 /// One step of a frame. A state event replaces its whole part of the pipeline state.
 #[derive(Debug, Drop)]
 pub enum Event {
-    /// Sets every pixel of the target to one colour.
+    /// Sets every pixel of the target to one colour, and no depth.
     Clear(Colour),
     /// Sets culling, winding, and whether the scissor is on.
     SetRaster(Raster),
@@ -19,6 +21,10 @@ pub enum Event {
     SetBlend(BlendState),
     /// Sets the blend factor.
     SetFactor(Colour),
+    /// Sets the depth state.
+    SetDepth(Depth),
+    /// Sets every pixel's depth, and no colour.
+    DepthClear(u16),
     /// Draws triangles, in their order.
     Draw(Draw),
     /// Names a place in the frame.
@@ -26,6 +32,27 @@ pub enum Event {
 }
 
 impl Event {
+    ghost use Rattle.fd_events.specs.Reach.{box_of, reach_of};
+
+    /// The box of the pixels that the event can write on a target of this size.
+    pub(crate) fn reach(&self, width: u32, height: u32) -> Reach
+        requires width { width ≤ most_pixels }
+        requires height { height ≤ most_pixels }
+        ensures { box_of result ≡ reach_of width height self.now }
+    {
+        match self {
+            Event::Clear(_) => Reach::whole(width, height),
+            Event::DepthClear(_) => Reach::whole(width, height),
+            Event::Draw(draw) => Reach::clipped(draw.bounds(), width, height),
+            Event::SetRaster(_)
+            | Event::SetScissor(_)
+            | Event::SetBlend(_)
+            | Event::SetFactor(_)
+            | Event::SetDepth(_)
+            | Event::Marker(_) => Reach::nowhere(),
+        }
+    }
+
     /// Computes the boxes of a draw's groups of triangles. On want of memory nothing changes.
     pub(crate) fn box_groups(&mut self, alloc: Global) -> Result<(), AllocError>
         ensures { self.new ≡ self.old }

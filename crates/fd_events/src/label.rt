@@ -45,7 +45,7 @@ impl Model for Label {
 
 impl Label {
     ghost use Rattle.fd_events.specs.Label.{labelled};
-    ghost use Rattle.fd_events.specs.declared.label.TheConstants.{MAX_LABEL_LEN};
+    ghost use Rattle.fd_events.specs.Limits.{most_label_bytes};
 
     /// A name of this text, which is dropped on a refusal.
     pub fn new(text: String) -> Result<Label, LabelFault>
@@ -63,7 +63,7 @@ impl Label {
     /// The name's text.
     pub fn as_str(&self) -> &str
         ensures value { result.now ≡ self.now }
-        ensures short { length result.now ≤ MAX_LABEL_LEN }
+        ensures short { length result.now ≤ most_label_bytes }
     {
         self.text.as_str()
     }

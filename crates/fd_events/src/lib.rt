@@ -1,11 +1,11 @@
 //! The events of a captured frame, the pipeline states that they make, and what they draw.
 #![tactic(auto)]
 
-pub use draw::{Draw, DrawFault, GROUP_LEN, MAX_INDICES, MAX_TRIANGLES, MAX_VERTICES, Vertex};
+pub use draw::{Draw, DrawFault, GROUP_LEN, MAX_INDICES, MAX_VERTICES, Vertex};
 pub use event::Event;
 pub use label::{Label, LabelFault, MAX_LABEL_LEN};
 pub use pipeline::Pipeline;
-pub use table::{EventTable, MAX_EVENTS, MAX_SIDE, TableFault};
+pub use table::{EventTable, MAX_EVENTS, TableFault};
 
 mod draw;
 mod event;
@@ -13,6 +13,7 @@ mod label;
 pub mod laws;
 mod list;
 mod pipeline;
+mod reach;
 mod table;
 #[cfg(test)]
 mod tests;

@@ -6,6 +6,7 @@ use crate::draw::{DrawFault, GROUP_LEN, MAX_INDICES, MAX_VERTICES, Vertex};
 use fd_blend::Colour;
 use fd_cover::{Bounds, Interp, Tri};
 use fd_snap::snap;
+use std::alloc::{AllocError, Global};
 use std::marker::Model;
 
 fn has_too_many(indices: &Option<Vec<u32>>) -> bool
@@ -54,9 +55,10 @@ impl Model for TriangleList {
 }
 
 impl TriangleList {
-    ghost use Rattle.fd_events.specs.Bounds.{IsRound, IsRoundGroup, between};
+    ghost use Rattle.std.specs.Prelude.{IfOk};
+    ghost use Rattle.fd_events.specs.Bounds.{IsRound, IsRoundGroup, HoldEach, between};
     ghost use Rattle.fd_events.specs.Draw.{made, listed, triangle_of, triangles_of};
-    ghost use Rattle.fd_events.specs.declared.draw.TheConstants.{GROUP_LEN, MAX_TRIANGLES, MAX_VERTICES};
+    ghost use Rattle.fd_events.specs.Limits.{group_size, most_triangles, most_vertices};
 
     /// The triangles of these vertices and indices, which are dropped on a refusal.
     pub(crate) fn new(
@@ -85,7 +87,7 @@ impl TriangleList {
     /// The number of corners, those included that are left over.
     fn corner_count(&self) -> usize
         ensures value { result ≡ length (listed self.now) }
-        ensures max { result ≤ MAX_VERTICES }
+        ensures max { result ≤ most_vertices }
     {
         match &self.indices {
             None => self.vertices.len(),
@@ -120,7 +122,7 @@ impl TriangleList {
     /// The number of triangles.
     pub(crate) fn len(&self) -> u32
         ensures value { result ≡ length (triangles_of self.now) }
-        ensures most { result ≤ MAX_TRIANGLES }
+        ensures most { result ≤ most_triangles }
     {
         (self.corner_count() / 3) as u32
     }
@@ -147,6 +149,15 @@ impl TriangleList {
         [a.colour, b.colour, c.colour]
     }
 
+    /// The depths of a triangle's corners, in the order of `tri`.
+    pub(crate) fn depths(&self, triangle: u32) -> [u16; 3]
+        requires { triangle < length (triangles_of self.now) }
+        ensures { option_map (λ t. t.depths) (slice_get (triangles_of self.now) triangle) ≡ Some result }
+    {
+        let (a, b, c) = self.corners(triangle);
+        [a.z, b.z, c.z]
+    }
+
     pub(crate) fn interp(&self) -> Interp
         ensures { result ≡ self.now.interp }
     {
@@ -168,11 +179,23 @@ impl TriangleList {
 
     /// The box round a group of triangles, which holds every pixel that one of them covers.
     pub(crate) fn group_bounds(&self, group: u32) -> Bounds
-        requires { GROUP_LEN * group < length (triangles_of self.now) }
+        requires { group_size * group < length (triangles_of self.now) }
         ensures { IsRoundGroup result group (triangles_of self.now) }
     {
         let len = self.len();
         let first = GROUP_LEN * group;
         self.bounds(first, (first + GROUP_LEN).min(len))
+    }
+
+    /// The boxes of all triangles, in their order.
+    pub(crate) fn boxes(&self, alloc: Global) -> Result<Vec<Bounds>, AllocError>
+        ensures { IfOk result (λ boxes. HoldEach boxes.items (triangles_of self.now)) }
+    {
+        let count = self.len();
+        let mut boxes = Vec::with_capacity(alloc, count as usize)?;
+        for triangle in 0..count {
+            boxes.push(Bounds::of(&self.tri(triangle)))?;
+        }
+        Ok(boxes)
     }
 }

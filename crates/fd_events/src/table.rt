@@ -1,19 +1,22 @@
 ghost use Rattle.std.specs.Prelude.{◌≡◌, ◌≤◌, ◌+◌, ◌-◌, length, ℕ, Some, slice_get, if◌then◌else◌};
 ghost use Rattle.fd_events.specs.Pipeline.{state_after};
+ghost use Rattle.std.specs.Prelude.{IfOk};
 ghost use Rattle.fd_events.specs.Table.{state_of};
+ghost use Rattle.fd_snap.specs.Limits.{most_pixels};
+ghost use Rattle.fd_events.specs.Reach.{AreReaches};
 ghost use Rattle.fd_events.specs.declared.table.TableFault.TheVariants.{Memory};
 
 use crate::event::Event;
 use crate::pipeline::Pipeline;
+use crate::reach::Reach;
+use fd_cover::Bounds;
+use fd_snap::MAX_SIDE;
 use std::alloc::{AllocError, Global};
 use std::marker::Model;
 use thiserror::Error;
 
-/// The most pixels that a target has each way.
-pub const MAX_SIDE: u32 = 2048;
-
 /// The most events that a frame has.
-pub const MAX_EVENTS: u32 = 65536;
+pub const MAX_EVENTS: u32 = 1_000_000;
 
 /// Why there is no table. Size is checked first, then the number of events, then memory.
 #[derive(Clone, Copy, PartialEq, Eq, Debug, Error)]
@@ -21,7 +24,7 @@ pub enum TableFault {
     /// Memory ran out.
     #[error("memory")]
     Memory,
-    /// The width or the height is not from 1 to `MAX_SIDE`.
+    /// The width or the height is not from 1 to 16,384 pixels.
     #[error("size")]
     Size,
     /// There are more than `MAX_EVENTS` events.
@@ -67,41 +70,67 @@ fn box_groups(events: &mut [Event], alloc: Global) -> Result<(), AllocError>
     Ok(())
 }
 
-/// A target's size and the events of a frame, numbered from 1, each switched on or off.
+/// The box of each event's pixels on a target of this size.
+fn reaches_of(
+    events: &[Event],
+    width: u32,
+    height: u32,
+    alloc: Global,
+) -> Result<Vec<Reach>, AllocError>
+    requires width { width ≤ most_pixels }
+    requires height { height ≤ most_pixels }
+    ensures { IfOk result (λ reaches. AreReaches width height events.now reaches.items) }
+{
+    let mut reaches = Vec::with_capacity(alloc, events.len())?;
+    for event in events {
+        reaches.push(event.reach(width, height))?;
+    }
+    Ok(reaches)
+}
+
+/// The version of a capture, the target's size and the events of the frame, numbered from 1, each switched on or off.
 #[derive(Debug, Drop)]
 pub struct EventTable {
+    version: u32,
     width: u32,
     height: u32,
     events: Vec<Event>,
     flags: Vec<bool>,
     // the state before each event, and the one after the last
     states: Vec<Pipeline>,
+    // the box of the pixels that each event can write: a tile asks this of every event, and the events themselves are large
+    reaches: Vec<Reach>,
 }
 
 impl Model for EventTable {
     ghost use Rattle.fd_events.specs.Table.{Table, table_of, IsTable, HasStates};
+    ghost use Rattle.fd_events.specs.Reach.{AreReaches};
 
     ghost Value = { Table };
 
-    ghost view = { λ t. table_of t.width t.height t.events.items t.flags.items };
+    ghost view = { λ t. table_of t.version t.width t.height t.events.items t.flags.items };
 
     ghost invariant = { λ t.
-        IsTable (table_of t.width t.height t.events.items t.flags.items)
-        × HasStates (table_of t.width t.height t.events.items t.flags.items) t.states.items };
+        IsTable (table_of t.version t.width t.height t.events.items t.flags.items)
+        × HasStates (table_of t.version t.width t.height t.events.items t.flags.items) t.states.items
+        × AreReaches t.width t.height t.events.items t.reaches.items };
 }
 
 impl EventTable {
-    ghost use Rattle.std.specs.Prelude.{◌≡◌, ◌≤◌, ◌+◌, ◌-◌, length, Some};
-    ghost use Rattle.fd_events.specs.Table.{IsTable, started, UnlessMemory, event_at, flag_at, state_at, with_flag};
+    ghost use Rattle.std.specs.Prelude.{◌≡◌, ◌≤◌, ◌+◌, ◌-◌, length, Some, IfSome, IfOk, option_map};
+    ghost use Rattle.fd_events.specs.Reach.{reach_of, HoldsWritten};
+    ghost use Rattle.fd_events.specs.Table.{IsTable, IsVersion, all_on, started, UnlessMemory, event_at, flag_at, state_at, with_flag};
 
     /// A table of these events, all switched on. They are dropped on a refusal.
     pub fn start(
         alloc: Global,
+        version: u32,
         width: u32,
         height: u32,
         mut events: Vec<Event>,
     ) -> Result<EventTable, TableFault>
-        ensures exact { UnlessMemory result (started width height events.items) }
+        requires { IsVersion version events.items }
+        ensures exact { UnlessMemory result (started version width height events.items) }
     {
         if !(1..=MAX_SIDE).contains(&width) || !(1..=MAX_SIDE).contains(&height) {
             return Err(TableFault::Size);
@@ -110,15 +139,32 @@ impl EventTable {
             return Err(TableFault::TooMany);
         }
         box_groups(&mut events, alloc)?;
+        Ok(EventTable::all_on(alloc, version, width, height, events)?)
+    }
+
+    /// The table of these events, all switched on.
+    fn all_on(
+        alloc: Global,
+        version: u32,
+        width: u32,
+        height: u32,
+        events: Vec<Event>,
+    ) -> Result<EventTable, AllocError>
+        requires { IsTable (all_on version width height events.items) }
+        ensures { IfOk result (λ table. table ≡ all_on version width height events.items) }
+    {
         let flags = vec![in alloc; true; events.len()]?;
         let mut states = vec![in alloc; Pipeline::default(); events.len() + 1]?;
         recompute(&events, &flags, &mut states, 0);
+        let reaches = reaches_of(&events, width, height, alloc)?;
         Ok(EventTable {
+            version,
             width,
             height,
             events,
             flags,
             states,
+            reaches,
         })
     }
 
@@ -128,6 +174,14 @@ impl EventTable {
         ensures table { IsTable self.now }
     {
         self.events.len() as u32
+    }
+
+    /// The version of the capture, 1 or 2.
+    pub fn version(&self) -> u32
+        ensures value { result ≡ self.now.version }
+        ensures table { IsTable self.now }
+    {
+        self.version
     }
 
     /// The width of the target.
@@ -162,6 +216,17 @@ impl EventTable {
         ensures { flag_at self.now number ≡ Some result }
     {
         self.flags[number as usize - 1]
+    }
+
+    /// The box of the pixels that the event of this number can write: for a clear the whole target, for a draw the box round its
+    /// triangles, for any other event none.
+    pub fn reach(&self, number: u32) -> Bounds
+        requires first { 1 ≤ number }
+        requires last { number ≤ length self.now.events }
+        ensures value { option_map (reach_of self.now.width self.now.height) (event_at self.now number) ≡ Some result }
+        ensures written { IfSome (event_at self.now number) (HoldsWritten result self.now.width self.now.height) }
+    {
+        self.reaches[number as usize - 1].bounds()
     }
 
     /// The state before the event of this number, or after the last event.

@@ -1,6 +1,6 @@
 use super::*;
 use fd_blend::{BlendOp, BlendState, Colour, Factor, Mask, Part};
-use fd_cover::{Bounds, Cull, Interp, Raster, Rect};
+use fd_cover::{Bounds, Cull, Depth, Func, Interp, Raster, Rect};
 use fd_snap::Pos;
 use std::alloc::Global;
 use std::test::Fail;
@@ -24,9 +24,12 @@ fn clears(alloc: Global, number: usize) -> Result<Vec<Event>, Fail> {
 
 #[test]
 fn events_start_switched_on(rt: HostRuntime) -> Result<(), Fail> {
-    for (width, height, number) in [(1, 2048, 65_536), (2048, 1, 2)] {
-        let table = EventTable::start(rt.alloc(), width, height, clears(rt.alloc(), number)?)?;
-        assert_eq!(rt; (table.width(), table.height()), (width, height));
+    for (width, height, number) in [(1, 16_384, 1_000_000), (16_384, 1, 2)] {
+        let table = EventTable::start(rt.alloc(), 2, width, height, clears(rt.alloc(), number)?)?;
+        assert_eq!(rt;
+            (table.width(), table.height(), table.version()),
+            (width, height, 2)
+        );
         assert_eq!(rt; table.len() as usize, number);
         assert!(rt; table.len() >= 2);
         assert!(rt; matches!(table.event(2), Event::Clear(colour) if *colour == grey(9)));
@@ -41,11 +44,11 @@ fn refused_tables_and_their_faults(rt: HostRuntime) -> Result<(), Fail> {
     for (width, height, number, fault) in [
         (0, 1, 0, TableFault::Size),
         (1, 0, 0, TableFault::Size),
-        (2049, 1, 0, TableFault::Size),
-        (1, 2049, 65_537, TableFault::Size),
-        (1, 1, 65_537, TableFault::TooMany),
+        (16_385, 1, 0, TableFault::Size),
+        (1, 16_385, 1_000_001, TableFault::Size),
+        (1, 1, 1_000_001, TableFault::TooMany),
     ] {
-        let refused = EventTable::start(rt.alloc(), width, height, clears(rt.alloc(), number)?);
+        let refused = EventTable::start(rt.alloc(), 2, width, height, clears(rt.alloc(), number)?);
         assert_eq!(rt;
             refused.err(),
             Some(fault),
@@ -55,7 +58,22 @@ fn refused_tables_and_their_faults(rt: HostRuntime) -> Result<(), Fail> {
     Ok(())
 }
 
-/// A blend, a raster, a scissor and a factor event, with a clear between them.
+#[test]
+fn a_table_of_version_one(rt: HostRuntime) -> Result<(), Fail> {
+    let table = EventTable::start(rt.alloc(), 1, 3, 2, Vec::new(rt.alloc()))?;
+    assert_eq!(rt; (table.version(), table.len()), (1, 0));
+    assert_eq!(rt; *table.state_before(1), Pipeline::default());
+    Ok(())
+}
+
+/// The nearer fragment passes, and stores its depth.
+const NEARER: Depth = Depth {
+    enable: true,
+    write: true,
+    func: Func::Less,
+};
+
+/// A blend, a raster, a scissor, a factor and a depth event, with a clear between them.
 fn states(
     alloc: Global,
     blend: BlendState,
@@ -68,7 +86,8 @@ fn states(
     events.push(Event::Clear(grey(9)))?;
     events.push(Event::SetScissor(rect))?;
     events.push(Event::SetFactor(grey(5)))?;
-    Ok(EventTable::start(alloc, 1, 1, events)?)
+    events.push(Event::SetDepth(NEARER))?;
+    Ok(EventTable::start(alloc, 2, 1, 1, events)?)
 }
 
 #[test]
@@ -92,7 +111,7 @@ fn a_blend_event_switched_off_and_on(rt: HostRuntime) -> Result<(), Fail> {
         bottom: 4,
     };
     let mut table = states(rt.alloc(), blend, raster, rect)?;
-    assert_eq!(rt; table.len(), 5);
+    assert_eq!(rt; table.len(), 6);
     let defaults = Pipeline::default();
     assert_eq!(rt; *table.state_before(1), defaults);
     assert_eq!(rt; table.state_before(6).blend, blend);
@@ -107,16 +126,19 @@ fn a_blend_event_switched_off_and_on(rt: HostRuntime) -> Result<(), Fail> {
     table.set_on(1, true);
     assert_eq!(rt; table.state_before(6).blend, blend);
     assert_eq!(rt; table.state_before(6).factor, grey(5));
+    assert_eq!(rt; table.state_before(6).depth, defaults.depth);
+    assert_eq!(rt; table.state_before(7).depth, NEARER);
     Ok(())
 }
 
-/// Vertices at (1/256, -1/512) pixels, rounded to (1/256, 0); the first three are darker.
+/// Vertices at (1/256, -1/512) pixels, rounded to (1/256, 0); the first three are darker and nearer.
 fn vertices(alloc: Global, number: i32) -> Result<Vec<Vertex>, Fail> {
     let mut vertices = Vec::new(alloc);
     for place in 0..number {
         let pos = Pos::new(256, -128).ok_or("a position")?;
-        let colour = grey(if place < 3 { 1 } else { 2 });
-        vertices.push(Vertex { pos, colour })?;
+        let (level, z) = if place < 3 { (1, 0) } else { (2, 65_535) };
+        let colour = grey(level);
+        vertices.push(Vertex { pos, colour, z })?;
     }
     Ok(vertices)
 }
@@ -126,12 +148,14 @@ fn left_over_vertices_are_dropped(rt: HostRuntime) -> Result<(), Fail> {
     let draw = Draw::new(vertices(rt.alloc(), 8)?, None, Interp::Flat)?;
     assert_eq!(rt; draw.triangles(), 2);
     assert_eq!(rt; draw.colours(1), [grey(2), grey(2), grey(2)]);
+    assert_eq!(rt; draw.depths(1), [65_535, 65_535, 65_535]);
     let triangle = draw.tri(1);
     assert_eq!(rt; (triangle.b.x(), triangle.b.y()), (1, 0));
     let indices = vec![in rt.alloc(); 7, 0, 7, 1]?;
     let draw = Draw::new(vertices(rt.alloc(), 8)?, Some(indices), Interp::Linear)?;
     assert_eq!(rt; (draw.triangles(), draw.interp()), (1, Interp::Linear));
     assert_eq!(rt; draw.colours(0), [grey(2), grey(1), grey(2)]);
+    assert_eq!(rt; draw.depths(0), [65_535, 0, 65_535]);
     Ok(())
 }
 
@@ -150,29 +174,81 @@ fn refused_draws_and_their_faults(rt: HostRuntime) -> Result<(), Fail> {
     Ok(())
 }
 
-fn corner(x: i32, y: i32) -> Result<Vertex, Fail> {
-    let pos = Pos::new(x, y).ok_or("a position")?;
-    let colour = grey(1);
-    Ok(Vertex { pos, colour })
+/// A triangle with these corners, in 1/65536 pixel.
+fn push_triangle(vertices: &mut Vec<Vertex>, corners: [(i32, i32); 3]) -> Result<(), Fail> {
+    for (x, y) in corners {
+        let pos = Pos::new(x, y).ok_or("a position")?;
+        vertices.push(Vertex {
+            pos,
+            colour: grey(1),
+            z: 0,
+        })?;
+    }
+    Ok(())
 }
+
+/// From pixel (1, 0) to before (3, 2).
+const NEAR_CORNERS: [(i32, i32); 3] = [(65_536, 0), (196_608, 0), (65_536, 131_072)];
+
+const NEAR: Bounds = Bounds {
+    left: 1,
+    top: 0,
+    right: 3,
+    bottom: 2,
+};
+
+/// From pixel (6, 4) to before (7, 8).
+const FAR_CORNERS: [(i32, i32); 3] = [(393_216, 262_144), (458_752, 262_144), (393_216, 524_288)];
+
+const FAR: Bounds = Bounds {
+    left: 6,
+    top: 4,
+    right: 7,
+    bottom: 8,
+};
+
+/// The box round both.
+const BOTH: Bounds = Bounds {
+    left: 1,
+    top: 0,
+    right: 7,
+    bottom: 8,
+};
 
 #[test]
 fn the_bounds_go_round_all_triangles(rt: HostRuntime) -> Result<(), Fail> {
     let empty = Draw::new(Vec::new(rt.alloc()), None, Interp::Flat)?;
     assert!(rt; empty.bounds().is_empty());
-    // from pixel (1, 0) to before (3, 2), and from (6, 4) to before (7, 8)
     let mut vertices = Vec::new(rt.alloc());
-    for (x, y) in [(1, 0), (3, 0), (1, 2), (6, 4), (7, 4), (6, 8)] {
-        vertices.push(corner(x * 65_536, y * 65_536)?)?;
-    }
+    push_triangle(&mut vertices, NEAR_CORNERS)?;
+    push_triangle(&mut vertices, FAR_CORNERS)?;
     let draw = Draw::new(vertices, None, Interp::Flat)?;
-    let bounds = Bounds {
-        left: 1,
-        top: 0,
-        right: 7,
-        bottom: 8,
+    assert_eq!(rt; draw.bounds(), BOTH);
+    Ok(())
+}
+
+#[test]
+fn each_group_has_a_box_once_a_table_starts(rt: HostRuntime) -> Result<(), Fail> {
+    let mut vertices = Vec::new(rt.alloc());
+    for _ in 0..32 {
+        push_triangle(&mut vertices, NEAR_CORNERS)?;
+    }
+    push_triangle(&mut vertices, FAR_CORNERS)?;
+    let draw = Draw::new(vertices, None, Interp::Flat)?;
+    assert_eq!(rt; (draw.group_bounds(0), draw.group_bounds(1)), (BOTH, BOTH));
+    assert_eq!(rt; draw.triangle_bounds(32), BOTH);
+    let mut events = Vec::new(rt.alloc());
+    events.push(Event::Draw(draw))?;
+    let table = EventTable::start(rt.alloc(), 2, 8, 8, events)?;
+    assert!(rt; table.len() == 1);
+    let Event::Draw(draw) = table.event(1) else {
+        return Err("a draw".into());
     };
-    assert_eq!(rt; draw.bounds(), bounds);
+    assert_eq!(rt; (draw.group_bounds(0), draw.group_bounds(1)), (NEAR, FAR));
+    assert_eq!(rt;
+        (draw.triangle_bounds(31), draw.triangle_bounds(32)),
+        (NEAR, FAR)
+    );
     Ok(())
 }
 
@@ -197,5 +273,32 @@ fn labels_and_their_faults(rt: HostRuntime) -> Result<(), Fail> {
     }
     let label = Label::new(String::from_str(rt.alloc(), "a name")?)?;
     assert_eq!(rt; label.as_str(), "a name");
+    Ok(())
+}
+
+#[test]
+fn the_reach_of_each_event_lies_on_the_target(rt: HostRuntime) -> Result<(), Fail> {
+    let mut vertices = Vec::new(rt.alloc());
+    push_triangle(&mut vertices, NEAR_CORNERS)?;
+    push_triangle(&mut vertices, FAR_CORNERS)?;
+    let mut events = Vec::new(rt.alloc());
+    events.push(Event::Draw(Draw::new(vertices, None, Interp::Flat)?))?;
+    events.push(Event::SetFactor(grey(5)))?;
+    events.push(Event::DepthClear(7))?;
+    let table = EventTable::start(rt.alloc(), 2, 4, 3, events)?;
+    assert!(rt; table.len() == 3);
+    let cut = Bounds {
+        right: 4,
+        bottom: 3,
+        ..BOTH
+    };
+    assert_eq!(rt; table.reach(1), cut);
+    assert!(rt; table.reach(2).is_empty());
+    let whole = Bounds {
+        left: 0,
+        top: 0,
+        ..cut
+    };
+    assert_eq!(rt; table.reach(3), whole);
     Ok(())
 }

@@ -1,3 +1,5 @@
-pub mod Replays
+pub mod Gathers
+pub mod Settles
 pub mod Chains
 pub mod Keeping
+pub mod VersionOnes

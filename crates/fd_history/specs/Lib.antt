@@ -1,3 +1,5 @@
 pub mod History
-pub mod Trail
+pub mod Gathered
+pub mod Settled
 pub mod Chain
+pub mod VersionOne

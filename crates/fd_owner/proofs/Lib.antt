@@ -1,4 +1,6 @@
 pub mod Histories
 pub mod Pictures
 pub mod Forward
+pub mod PassedOver
 pub mod Records
+pub mod Drawn

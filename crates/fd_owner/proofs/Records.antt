@@ -8,17 +8,17 @@ use Rattle.std.proofs.lemmas.List.{get_or-map, get_or_past}
 use Rattle.std.proofs.lemmas.List.Sums.{sum_by-cons}
 use Rattle.std.proofs.lemmas.List.FromFn.{get_or-map-range_with_len, length-map-range_with_len}
 use Rattle.std.proofs.lemmas.List.Elements.{All-head, All-tail, All-get_or}
-use Rattle.fd_blend.specs.declared.channel.Colour.{Colour}
 use Rattle.fd_tile.specs.declared.place.Place.{Place}
 use Rattle.fd_tile.specs.Place.{Holds, over_place}
-use Rattle.fd_tile.specs.Tile.{TileImage}
+use Rattle.fd_tile.specs.Tile.{Pixel, TileImage}
+use Rattle.fd_tile.proofs.Pixels.{value_in-over_place}
 use Rattle.fd_undo.specs.Frame.{KeptPixel, kept_at}
 use Rattle.fd_undo.specs.Undo.{Undo, recorded_in}
 use Rattle.fd_undo.proofs.FrameLemmas.{recorded_in-cons}
 use Rattle.fd_undo.proofs.Restored.{Inside}
 use Rattle.fd_draw.specs.Demand.{total}
 use Rattle.fd_draw.proofs.Counts.{total_same, total_nothing}
-use Rattle.fd_owner.specs.History.{Frame, colours_kept, colours_recorded}
+use Rattle.fd_owner.specs.History.{Frame, pixels_kept, pixels_recorded}
 use Rattle.fd_owner.specs.Owner.{record_of, frames_seen, history_of, IsOwner}
 
 -- ---- one pixel
@@ -27,24 +27,13 @@ kept_at-outside : (p : Place) (ks : List KeptPixel) (x y : ℕ) → Inside p ks 
 kept_at-outside p [] x y inside out = refl
 kept_at-outside p (k ∷ ks) x y inside out =
     let held : Holds p k.x k.y = All-head (λ (q : KeptPixel). Holds p q.x q.y) k ks inside in
-    ap (λ b. cond b (k.colour ∷ kept_at ks x y) (kept_at ks x y)) (apart k.x k.y held (cases_eq k.x x) (cases_eq k.y y))
+    ap (λ b. cond b (k.pixel ∷ kept_at ks x y) (kept_at ks x y)) (apart k.x k.y held (cases_eq k.x x) (cases_eq k.y y))
     ∙ kept_at-outside p ks x y (All-tail (λ (q : KeptPixel). Holds p q.x q.y) k ks inside) out
   where
     apart : (a b : ℕ) → Holds p a b → (a ≡ x) ⊎ (a ≢ x) → (b ≡ y) ⊎ (b ≢ y) → (eqb a x && eqb b y) ≡ false
     apart a b held (inr across) down = and_left (eqb a x) (eqb b y) (ne_eqb a x across)
     apart a b held (inl across) (inr down) = and_right (eqb a x) (eqb b y) (ne_eqb b y down)
     apart a b held (inl across) (inl down) = absurd (out (subst (λ c. Holds p x c) down (subst (λ c. Holds p c b) across held)))
-
--- what is listed over a place is there
-over_place-at : {X : Type 0} (p : Place) (f : ℕ → ℕ → List X) (x y : ℕ) → Holds p x y → get_or (get_or (over_place p f) (y - p.top) []) (x - p.left) [] ≡ f x y
-over_place-at p f x y held =
-    let row : y - p.top < p.height = omega (arith, held.from_top, held.to_bottom) in
-    let column : x - p.left < p.width = omega (arith, held.from_left, held.to_right) in
-    let down : p.top + (y - p.top) ≡ y = omega (arith, held.from_top) in
-    let across : p.left + (x - p.left) ≡ x = omega (arith, held.from_left) in
-    ap (λ r. get_or r (x - p.left) [])
-    (get_or-map-range_with_len (λ z. map (λ w. f w z) (range_with_len p.left p.width)) p.top p.height (y - p.top) y [] row down)
-    ∙ get_or-map-range_with_len (λ w. f w y) p.left p.width (x - p.left) x [] column across
 
 -- nothing is listed past its last row, or past the end of a row
 over_place-below : {X : Type 0} (p : Place) (f : ℕ → ℕ → List X) (x y : ℕ) → p.top + p.height ≤ y → get_or (get_or (over_place p f) (y - p.top) []) (x - p.left) [] ≡ []
@@ -92,18 +81,18 @@ record_of-at p ks x y inside = by_place (cases_lt x p.left) (cases_lt y p.top) (
         ∙ sym (kept_at-outside p ks x y inside (λ held. absurd (omega (arith, held.to_right))))
     by_place (inr left) (inr top) (inl right) (inl bottom) =
         ap (λ b. cond b (get_or (get_or (record_of p ks) (y - p.top) []) (x - p.left) []) []) (there left top)
-        ∙ over_place-at p (λ a b. kept_at ks a b) x y (record { from_left = left; to_right = right; from_top = top; to_bottom = bottom })
+        ∙ value_in-over_place p (λ a b. kept_at ks a b) x y [] (record { from_left = left; to_right = right; from_top = top; to_bottom = bottom })
 
 -- the records that are seen are the frames', one by one
 records-frames_seen : (t : TileImage) (frames : List (List KeptPixel)) → map (λ (f : Frame). f.kept) (frames_seen t frames) ≡ map (record_of t.place) frames
 records-frames_seen t [] = refl
 records-frames_seen t (f ∷ frames) = ap (λ rs. record_of t.place f ∷ rs) (records-frames_seen t frames)
 
-pub colours_kept-history_of : (t : TileImage) (u : Undo) (i x y : ℕ) → IsOwner t u → 1 ≤ i → i ≤ length u.frames
-    → colours_kept t.place (history_of t u) i x y ≡ kept_at (get_or u.frames (i - 1) []) x y
-colours_kept-history_of t u i x y owner first last =
+pub pixels_kept-history_of : (t : TileImage) (u : Undo) (i x y : ℕ) → IsOwner t u → 1 ≤ i → i ≤ length u.frames
+    → pixels_kept t.place (history_of t u) i x y ≡ kept_at (get_or u.frames (i - 1) []) x y
+pixels_kept-history_of t u i x y owner first last =
     let within : i - 1 < length u.frames = omega arith in
-    let at : List (List (List Colour)) → List Colour = λ r. cond (nat_le t.place.left x && nat_le t.place.top y) (get_or (get_or r (y - t.place.top) []) (x - t.place.left) []) [] in
+    let at : List (List (List Pixel)) → List Pixel = λ r. cond (nat_le t.place.left x && nat_le t.place.top y) (get_or (get_or r (y - t.place.top) []) (x - t.place.left) []) [] in
     ap (λ rs. at (get_or rs (i - 1) [])) (records-frames_seen t u.frames)
     ∙ ap at (get_or-map (record_of t.place) u.frames (i - 1) [] [] within)
     ∙ record_of-at t.place (get_or u.frames (i - 1) []) x y (All-get_or (λ frame. Inside t.place frame) u.frames (i - 1) [] within owner.inside)
@@ -177,7 +166,7 @@ sum-over_place p f =
     sum-range (λ row. sum_by length row) (λ y. map (λ x. f x y) (range_with_len p.left p.width)) p.top p.height
     ∙ total_same _ (λ y. total (λ x. length (f x y)) p.left p.width) p.top p.height (λ y _ _. sum-range length (λ x. f x y) p.left p.width)
 
-length-cond : (b : Bool) (c : Colour) (cs : List Colour) → length (cond b (c ∷ cs) cs) ≡ cond b 1 0 + length cs
+length-cond : (b : Bool) (c : Pixel) (cs : List Pixel) → length (cond b (c ∷ cs) cs) ≡ cond b 1 0 + length cs
 length-cond true c cs = omega arith
 length-cond false c cs = omega arith
 
@@ -190,7 +179,7 @@ total_kept p (k ∷ ks) inside =
     let one : total_over p (λ x y. cond (eqb k.x x && eqb k.y y) 1 0) ≡ 1 = total_over-one p k.x k.y held in
     let rest : total_over p (λ x y. length (kept_at ks x y)) ≡ length ks = total_kept p ks (All-tail (λ (q : KeptPixel). Holds p q.x q.y) k ks inside) in
     total_over-same p (λ x y. length (kept_at (k ∷ ks) x y)) (λ x y. cond (eqb k.x x && eqb k.y y) 1 0 + length (kept_at ks x y))
-    (λ x y. length-cond (eqb k.x x && eqb k.y y) k.colour (kept_at ks x y))
+    (λ x y. length-cond (eqb k.x x && eqb k.y y) k.pixel (kept_at ks x y))
     ∙ total_over-plus p (λ x y. cond (eqb k.x x && eqb k.y y) 1 0) (λ x y. length (kept_at ks x y))
     ∙ omega (arith, one, rest)
 
@@ -205,6 +194,6 @@ records_sum p (f ∷ frames) inside =
     ∙ ap (λ n. length f + n) (records_sum p frames (All-tail (λ frame. Inside p frame) f frames inside))
     ∙ sym (recorded_in-cons f frames)
 
-pub colours_recorded-history_of : (t : TileImage) (u : Undo) → IsOwner t u → colours_recorded (history_of t u) ≡ recorded_in u.frames
-colours_recorded-history_of t u owner =
+pub pixels_recorded-history_of : (t : TileImage) (u : Undo) → IsOwner t u → pixels_recorded (history_of t u) ≡ recorded_in u.frames
+pixels_recorded-history_of t u owner =
     ap (λ rs. sum_by (λ r. sum_by (λ row. sum_by length row) r) rs) (records-frames_seen t u.frames) ∙ records_sum t.place u.frames owner.inside

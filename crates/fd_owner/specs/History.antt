@@ -1,53 +1,49 @@
--- Histories of a place: an opening image, and for each event gone through the image after it and the colours that it overwrote.
+-- Histories of a place: an opening image, and for each event gone through the image after it and the pixels that it overwrote.
+-- An image is the rows of its pixels from the top, each from the left.
 use Rattle.std.specs.Prelude.{ℕ, zero, suc, ◌-◌, ◌&&◌, nat_le, List, [], ◌∷◌, ◌++◌, length, map, take, slice_index_or, if◌then◌else◌}
 use Rattle.std.specs.List.{sum_by}
-use Rattle.fd_blend.specs.declared.channel.Colour.{Colour}
 use Rattle.fd_tile.specs.declared.place.Place.{Place}
 use Rattle.fd_tile.specs.Place.{over_place}
-use Rattle.fd_tile.specs.Tile.{TileImage, colour_of}
+use Rattle.fd_tile.specs.Tile.{Pixel, pixel_in}
 use Rattle.fd_events.specs.Table.{Table, active_event, state_at}
-use Rattle.fd_events.specs.Image.{colour_after_event, kept_by_event}
+use Rattle.fd_events.specs.Image.{fresh_pixel, pixel_after_event, kept_by_event}
 
--- one event: the image after it, and for each pixel of the place the colours that it overwrote, in their order
+-- one event: the image after it, and for each pixel of the place what it overwrote, in its order
 pub record Frame : Type 0 where
-  pub image : List (List Colour)
-  pub kept : List (List (List Colour))
+  pub image : List (List Pixel)
+  pub kept : List (List (List Pixel))
 
 pub record History : Type 0 where
-  pub opening : List (List Colour)
+  pub opening : List (List Pixel)
   pub frames : List Frame
 
 -- how many events have been gone through
 abbrev pub position : History → ℕ
 position history = length history.frames
 
-abbrev pub last_or : List (List Colour) → List Frame → List (List Colour)
+abbrev pub last_or : List (List Pixel) → List Frame → List (List Pixel)
 last_or image [] = image
 last_or image (f ∷ fs) = last_or f.image fs
 
 -- the image that is shown
-abbrev pub last_image : History → List (List Colour)
+abbrev pub last_image : History → List (List Pixel)
 last_image history = last_or history.opening history.frames
-
--- rows as the image of a place
-abbrev pub tile_image : Place → List (List Colour) → TileImage
-tile_image place image = record { place = place; rows = image }
 
 -- ---- forward
 
--- the colour of pixel (x, y) past the event after position k, from the colour before it
-abbrev pub colour_past : Table → ℕ → ℕ → ℕ → Colour → Colour
-colour_past table k x y before = colour_after_event (active_event table (suc k)) (state_at table k) x y before
+-- pixel (x, y) past the event after position k, from what it was before it
+abbrev pub pixel_past : Table → ℕ → ℕ → ℕ → Pixel → Pixel
+pixel_past table k x y before = pixel_after_event (active_event table (suc k)) (state_at table k) x y before
 
--- the colours of pixel (x, y) that this event overwrites
-abbrev pub kept_past : Table → ℕ → ℕ → ℕ → Colour → List Colour
+-- what of pixel (x, y) this event overwrites
+abbrev pub kept_past : Table → ℕ → ℕ → ℕ → Pixel → List Pixel
 kept_past table k x y before = kept_by_event (active_event table (suc k)) (state_at table k) x y before
 
 -- the frame of the event after position k, on an image of the place
-unfoldable pub frame_after : Table → Place → ℕ → List (List Colour) → Frame
+unfoldable pub frame_after : Table → Place → ℕ → List (List Pixel) → Frame
 frame_after table place k image = record {
-  image = over_place place (λ x y. colour_past table k x y (colour_of (tile_image place image) x y));
-  kept = over_place place (λ x y. kept_past table k x y (colour_of (tile_image place image) x y));
+  image = over_place place (λ x y. pixel_past table k x y (pixel_in place image x y));
+  kept = over_place place (λ x y. kept_past table k x y (pixel_in place image x y));
 }
 
 -- the history goes through its next event
@@ -66,6 +62,16 @@ extend_by table place (suc count) history = extend table place (extend_by table 
 abbrev pub extend_to : Table → Place → ℕ → History → History
 extend_to table place to history = extend_by table place (to - position history) history
 
+-- ---- from a fresh place
+
+-- the history of a place on which nothing was drawn
+abbrev pub fresh_history : Place → History
+fresh_history place = record { opening = over_place place (λ _ _. fresh_pixel); frames = [] }
+
+-- the history that the table's events give a place up to position k
+abbrev pub drawn_history : Table → Place → ℕ → History
+drawn_history table place k = extend_to table place k (fresh_history place)
+
 -- ---- back
 
 -- the last frame is taken away
@@ -79,16 +85,16 @@ first_frames count history = record { opening = history.opening; frames = take c
 -- ---- what is kept
 
 -- what each event overwrote, oldest event first
-abbrev pub records : History → List (List (List (List Colour)))
+abbrev pub records : History → List (List (List (List Pixel)))
 records history = map (λ frame. frame.kept) history.frames
 
--- the colours of pixel (x, y) that event number i overwrote, in their order; none outside the place
-abbrev pub colours_kept : Place → History → ℕ → ℕ → ℕ → List Colour
-colours_kept place history i x y =
+-- what of pixel (x, y) event number i overwrote, in its order; nothing outside the place
+abbrev pub pixels_kept : Place → History → ℕ → ℕ → ℕ → List Pixel
+pixels_kept place history i x y =
     if nat_le place.left x && nat_le place.top y
     then slice_index_or (slice_index_or (slice_index_or (records history) (i - 1) []) (y - place.top) []) (x - place.left) []
     else []
 
--- how many colours all events overwrote
-abbrev pub colours_recorded : History → ℕ
-colours_recorded history = sum_by (λ rows. sum_by (λ row. sum_by length row) rows) (records history)
+-- how many pixels all events overwrote
+abbrev pub pixels_recorded : History → ℕ
+pixels_recorded history = sum_by (λ rows. sum_by (λ row. sum_by length row) rows) (records history)

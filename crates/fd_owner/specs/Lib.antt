@@ -2,3 +2,4 @@ pub mod History
 pub mod Shown
 pub mod Owner
 pub mod Step
+pub mod Untouched

@@ -1,17 +1,20 @@
-ghost use Rattle.std.specs.Prelude.{◌≡◌, ◌+◌, ◌-◌, ◌<◌, ◌≤◌, [], length, false, None, slice_get, OnOk, OnErr};
+ghost use Rattle.std.specs.Prelude.{◌≡◌, ◌+◌, ◌-◌, ◌<◌, ◌≤◌, ◌++◌, [], length, take, map, not, true, false, IsTrue, Some, None, slice_get, OnOk, OnErr};
 ghost use Rattle.fd_tile.specs.Place.{Holds, HasRow, IsTilePlace};
-ghost use Rattle.fd_tile.specs.Tile.{IsTileImage, row_of, colour_of};
+ghost use Rattle.fd_tile.specs.Tile.{FillsPlace, pixels_of, row_in, pixel_in};
 ghost use Rattle.fd_draw.specs.Paints.{Paints};
-ghost use Rattle.fd_owner.specs.History.{position, last_image, tile_image, colours_kept, colours_recorded, colour_past, kept_past};
+ghost use Rattle.fd_owner.specs.History.{position, last_image, pixels_kept, pixels_recorded, pixel_past, kept_past};
 ghost use Rattle.fd_owner.specs.Shown.{gone_forward, gone_back, refused, IsInside};
 ghost use Rattle.fd_owner.specs.Step.{spans_past, pixels_past};
+ghost use Rattle.fd_owner.specs.Untouched.{Misses, IsUntouched};
+ghost use Rattle.fd_events.specs.Table.{flag_at};
 
 use fd_blend::Colour;
+use fd_cover::Bounds;
 use fd_draw::Demand;
 use fd_events::EventTable;
 use fd_tile::{Place, Tile};
 use fd_undo::UndoStack;
-use std::alloc::Global;
+use std::alloc::{AllocError, Global};
 use std::marker::Model;
 use thiserror::Error;
 
@@ -43,7 +46,7 @@ impl Model for Owner {
 impl Owner {
     /// An owner at position 0. Its history opens with the tile as it is.
     pub fn of(alloc: Global, tile: Tile) -> Owner
-        ensures { result ≡ record { place = tile.place; history = record { opening = tile.rows; frames = [] }; refusals = 0; refused_at = None } }
+        ensures { result ≡ record { place = tile.place; history = record { opening = pixels_of tile; frames = [] }; refusals = 0; refused_at = None } }
     {
         Owner {
             tile,
@@ -74,10 +77,10 @@ impl Owner {
         self.refused_at
     }
 
-    /// Where the tile lies. The image that is shown has a colour for each of its pixels.
+    /// Where the tile lies. The image that is shown has each of its pixels.
     pub fn place(&self) -> Place
         ensures value { result ≡ self.now.place }
-        ensures filled { IsTileImage (tile_image self.now.place (last_image self.now.history)) }
+        ensures filled { FillsPlace self.now.place (last_image self.now.history) }
     {
         self.tile.place()
     }
@@ -85,33 +88,58 @@ impl Owner {
     /// The colour of pixel (x, y) of the image that is shown.
     pub fn pixel(&self, x: u32, y: u32) -> Colour
         requires { Holds self.now.place x y }
-        ensures { result ≡ colour_of (tile_image self.now.place (last_image self.now.history)) x y }
+        ensures { result ≡ (pixel_in self.now.place (last_image self.now.history) x y).0 }
     {
         self.tile.get(x, y)
+    }
+
+    /// The depth of pixel (x, y) of the image that is shown.
+    pub fn depth(&self, x: u32, y: u32) -> u16
+        requires { Holds self.now.place x y }
+        ensures { result ≡ (pixel_in self.now.place (last_image self.now.history) x y).1 }
+    {
+        self.tile.depth(x, y)
     }
 
     /// The colours of row y of the image that is shown, from the left.
     pub fn row(&self, y: u32) -> &[Colour]
         requires { HasRow self.now.place y }
-        ensures { result.now ≡ row_of (tile_image self.now.place (last_image self.now.history)) y }
+        ensures { result.now ≡ map (λ pixel. pixel.0) (row_in self.now.place (last_image self.now.history) y) }
     {
+        let _place = self.tile.place();
         self.tile.row(y)
     }
 
-    /// How many colours all events overwrote.
+    /// How many pixels all events overwrote.
     pub fn recorded(&self) -> u64
-        ensures { result ≡ colours_recorded self.now.history }
+        ensures { result ≡ pixels_recorded self.now.history }
     {
         self.undo.recorded()
     }
 
-    /// The colour that pixel (x, y) had just before the event of this number (from 1) wrote it for the n-th time (from 0).
-    pub fn kept(&self, event: u32, x: u32, y: u32, n: usize) -> Option<Colour>
+    /// The colour and depth that pixel (x, y) had just before the event of this number (from 1) wrote it for the n-th time (from 0).
+    pub fn kept(&self, event: u32, x: u32, y: u32, n: usize) -> Option<(Colour, u16)>
         requires first { 1 ≤ event }
         requires last { event ≤ position self.now.history }
-        ensures { result ≡ slice_get (colours_kept self.now.place self.now.history event x y) n }
+        ensures { result ≡ slice_get (pixels_kept self.now.place self.now.history event x y) n }
     {
         self.undo.kept(event as usize - 1, x, y, n)
+    }
+
+    /// Adds to a list the first colours and depths, at most so many, that pixel (x, y) had just before the event of this number (from 1) wrote it.
+    pub fn add_kept(
+        &self,
+        event: u32,
+        x: u32,
+        y: u32,
+        count: usize,
+        kept: &mut Vec<(Colour, u16)>,
+    ) -> Result<(), AllocError>
+        requires first { 1 ≤ event }
+        requires last { event ≤ position self.now.history }
+        ensures { OnOk result (kept.new.items ≡ kept.old.items ++ take count (pixels_kept self.now.place self.now.history event x y)) }
+    {
+        self.undo.add_kept(event as usize - 1, x, y, count, kept)
     }
 
     /// Goes through the next event. A refusal changes nothing but what is told of refusals.
@@ -144,16 +172,41 @@ impl Owner {
     }
 }
 
+/// Whether a box holds a pixel of a place.
+fn meets(reach: Bounds, place: Place) -> bool
+    requires { IsTilePlace place }
+    ensures { IsTrue (not result) → Misses reach place }
+{
+    reach.left < place.left + place.width
+        && place.left < reach.right
+        && reach.top < place.top + place.height
+        && place.top < reach.bottom
+}
+
+/// Whether the event after a position is switched on and can write pixels of a place. The event itself is not looked at.
+fn is_near(table: &EventTable, position: u32, place: Place) -> bool
+    requires below { position < length table.now.events }
+    requires placed { IsTilePlace place }
+    requires inside { IsInside place table.now }
+    ensures near { IsTrue result → flag_at table.now (position + 1) ≡ Some true }
+    ensures far { IsTrue (not result) → IsUntouched table.now position place }
+{
+    let _len = table.len();
+    let number = position + 1;
+    table.is_on(number) && meets(table.reach(number), place)
+}
+
 /// What the event after a position writes on a place, which is nothing where it is switched off.
 fn demand_past(table: &EventTable, position: u32, place: Place) -> Demand
     requires below { position < length table.now.events }
     requires placed { IsTilePlace place }
+    requires inside { IsInside place table.now }
     ensures spans { result.spans ≡ spans_past table.now position place }
     ensures pixels { result.pixels ≡ pixels_past table.now position place }
 {
     let _len = table.len();
     let number = position + 1;
-    if table.is_on(number) {
+    if is_near(table, position, place) {
         fd_draw::demand(table.event(number), table.state_before(number), place)
     } else {
         Demand {
@@ -169,12 +222,13 @@ fn draw_past(table: &EventTable, position: u32, tile: &mut Tile, undo: &mut Undo
     requires begun { undo.old.frame_left ≡ false }
     requires spans { spans_past table.now position tile.old.place ≤ undo.old.spans_left }
     requires pixels { pixels_past table.now position tile.old.place ≤ undo.old.pixels_left }
-    ensures { Paints (colour_past table.now position) (kept_past table.now position) tile.old undo.old tile.new undo.new }
+    requires placed { IsTilePlace tile.old.place }
+    requires inside { IsInside tile.old.place table.now }
+    ensures { Paints (pixel_past table.now position) (kept_past table.now position) tile.old undo.old tile.new undo.new }
 {
     let _len = table.len();
-    let _place = tile.place();
     let number = position + 1;
-    if table.is_on(number) {
+    if is_near(table, position, tile.place()) {
         fd_draw::draw(table.event(number), table.state_before(number), tile, undo);
     }
 }

@@ -11,6 +11,8 @@ use Rattle.fd_blend.specs.declared.channel.Colour.{Colour}
 use Rattle.fd_events.specs.Image.{image_at, colour_at}
 use Rattle.fd_events.proofs.Images.{length-image_at}
 use Rattle.fd_session.specs.Machine.{State}
+use Rattle.fd_snap.specs.Limits.{most_pixels}
+use Rattle.fd_pam.specs.Limits.{most_tuple_bytes}
 use Rattle.fd_pam.specs.Pam.{header, tuple, tuples}
 use Rattle.fd_pam.specs.Transfer.{Puts}
 use Rattle.fd_pam.specs.declared.writer.TheConstants.{CHUNK_LEN}
@@ -24,12 +26,12 @@ length-tuples (c ∷ colours) = omega (arith, length-append (tuple c) (flat_map 
 pub length-body : (state : State) → length (tuples state) ≡ 4 * (state.table.height * state.table.width)
 length-body state = length-tuples (image_at state.table state.position) ∙ ap (λ n. 4 * n) (length-image_at state.table state.position)
 
-pub body_short : (state : State) → state.table.width ≤ 2048 → state.table.height ≤ 2048 → length (tuples state) ≤ 16777216
-body_short state width height = omega (arith, length-body state, mul-le-mul {n₁ = state.table.height} {m₁ = state.table.width} {n₂ = 2048} {m₂ = 2048} height width)
+pub body_short : (state : State) → state.table.width ≤ most_pixels → state.table.height ≤ most_pixels → length (tuples state) ≤ most_tuple_bytes
+body_short state width height = omega (arith, length-body state, mul-le-mul {n₁ = state.table.height} {m₁ = state.table.width} {n₂ = most_pixels} {m₂ = most_pixels} height width)
 
 -- what was sent and what waits is at most the body
-pub so_far_short : (state : State) (k : ℕ) (text chunk : List ℕ) → state.table.width ≤ 2048 → state.table.height ≤ 2048
-    → text ++ chunk ≡ flat_map tuple (take k (image_at state.table state.position)) → length text + length chunk ≤ 16777216
+pub so_far_short : (state : State) (k : ℕ) (text chunk : List ℕ) → state.table.width ≤ most_pixels → state.table.height ≤ most_pixels
+    → text ++ chunk ≡ flat_map tuple (take k (image_at state.table state.position)) → length text + length chunk ≤ most_tuple_bytes
 so_far_short state k text chunk width height is =
     let image = image_at state.table state.position in
     omega (arith, length-append text chunk, ap length is, length-tuples (take k image), length-take k image, length-tuples image, body_short state width height)

@@ -1,3 +1,4 @@
+pub mod Limits
 pub mod Device
 pub mod Pam
 pub mod Transfer

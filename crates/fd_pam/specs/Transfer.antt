@@ -1,6 +1,6 @@
 -- What moves between the program and its reader and writer.
-use Rattle.std.specs.Prelude.{◌≡◌, ℕ, ◌+◌, ◌-◌, ◌^◌, ◌<◌, ◌≤◌, List, [], ◌++◌, Option, Result, Ok, Err, Bool, true, false, length, take, ◌⊎◌, ◌||◌, ◌&&◌, ◌==◌, nat_lt}
-use Rattle.std.specs.Io.KnownBytes.{Consumes, Appends, Keeps}
+use Rattle.std.specs.Prelude.{◌≡◌, min, ℕ, ◌+◌, ◌-◌, ◌^◌, ◌<◌, ◌≤◌, List, [], ◌++◌, Option, Result, Ok, Err, Bool, true, false, length, take, ◌⊎◌, ◌||◌, ◌&&◌, ◌==◌, nat_lt}
+use Rattle.std.specs.Io.KnownBytes.{Consumes, Appends, Keeps, IsAtEnd}
 use Rattle.fd_pam.specs.declared.writer.PamFault.{PamFault}
 use Rattle.fd_pam.specs.declared.writer.PamFault.TheVariants.{Memory, Write}
 
@@ -11,12 +11,13 @@ Rises old new = (old < new) ⊎ (new ≡ 2 ^ 64 - 1)
 -- Only a failure changes the count, and it raises it.
 abbrev pub CountsFailure : ℕ → ℕ → Bool → Type 0
 CountsFailure old new true = new ≡ old
-CountsFailure old new false = Rises old new
+CountsFailure old new false = new ≡ min (old + 1) (2 ^ 64 - 1)
 
 -- A fill gives a front of the bytes still to come, and none where it fails. The end is a fill that had room and gave none.
 abbrev pub Fills : {E : Type 0} → Option (List ℕ) → Option (List ℕ) → Bool → Bool → List ℕ → Result ℕ E → Type 0
 Fills old new ended_old ended_new buffer (Ok n) =
     (n ≤ length buffer) × Consumes old new (take n buffer) × (ended_new ≡ (ended_old || (n == 0 && nat_lt 0 (length buffer))))
+    × (n ≡ 0 → 0 < length buffer → IsAtEnd new)
 Fills old new ended_old ended_new buffer (Err e) = Keeps old new × (ended_new ≡ ended_old)
 
 -- A put appends a front of the bytes that is not empty where they are not, and nothing where it fails.
@@ -42,5 +43,5 @@ Writes old new text (Err Memory) = Keeps old new
 -- Only a write fault changes the sink's failure count, and it raises it.
 abbrev pub CountsWrite : ℕ → ℕ → Result (Unit {0}) PamFault → Type 0
 CountsWrite old new (Ok done) = new ≡ old
-CountsWrite old new (Err (Write sent)) = Rises old new
+CountsWrite old new (Err (Write sent)) = CountsFailure old new false
 CountsWrite old new (Err Memory) = new ≡ old

@@ -49,7 +49,7 @@ fn cleared<T: Threads + Sync>(
         b: 30,
         a: 40,
     }))?;
-    let table = EventTable::start(alloc, width, height, events)?;
+    let table = EventTable::start(alloc, 1, width, height, events)?;
     let Ok(mut session) = Session::start(alloc, table, 1) else {
         return Err(Fail::from("no memory"));
     };
@@ -66,7 +66,9 @@ fn limited_device(alloc: Global, room: usize, step: usize) -> Device<Limited> {
 }
 
 #[test]
-fn header_and_length_of_the_largest_target(rt: HostRuntime) -> Result<(), Fail> {
+fn header_of_the_larger_target(rt: HostRuntime) -> Result<(), Fail> {
+    assert_eq!(rt; header(rt.alloc(), 16_384, 16_384)?.len(), 73);
+    assert_eq!(rt; pam_len(16_384, 16_384), 1_073_741_897);
     assert_eq!(rt; header(rt.alloc(), 2048, 2048)?.len(), 71);
     assert_eq!(rt; header(rt.alloc(), 1, 1)?.len(), 65);
     assert_eq!(rt; pam_len(2048, 2048), 16_777_287);

@@ -1,6 +1,7 @@
 ghost use Rattle.std.specs.Prelude.{◌≡◌, ◌≢◌, ◌<◌, ◌≤◌, ◌+◌, ◌*◌, ◌^◌, ◌++◌, ℕ, List, length, IfOk, OnOk, OnErr, Err, string_bytes, is_ok, false};
 ghost use Rattle.std.specs.List.{flat_map};
 ghost use Rattle.std.specs.Io.KnownBytes.{Appends};
+ghost use Rattle.fd_pam.specs.Limits.{most_tuple_bytes};
 ghost use Rattle.fd_pam.specs.Pam.{header, pam_len, tuple, tuples, pam};
 ghost use Rattle.fd_pam.specs.declared.writer.TheConstants.{CHUNK_LEN, FULL_CHUNK_LEN};
 ghost use Rattle.fd_pam.specs.Transfer.{Puts, Writes, CountsFailure, CountsWrite};
@@ -97,7 +98,7 @@ fn add_tuples(chunk: &mut ArrayVec<u8, CHUNK_LEN>, colours: &[Colour])
 
 /// Sends the tuples of the image that the session shows, a piece of a row at a time.
 fn send_tuples<W: Sink>(session: &Session, sink: &mut W, sent: &mut u64) -> Result<(), Failed>
-    requires { sent.old + 16777216 < 2 ^ 64 }
+    requires { sent.old + most_tuple_bytes < 2 ^ 64 }
     ensures puts { Puts (W.contents sink.old) (W.contents sink.new) sent.old sent.new (tuples session.now) (is_ok result) }
     ensures cut { OnErr result (sent.new < sent.old + length (tuples session.now)) }
     ensures failures { CountsFailure (W.failure_count sink.old) (W.failure_count sink.new) (is_ok result) }
@@ -124,7 +125,7 @@ fn send_pam<W: Sink>(
     sink: &mut W,
     sent: &mut u64,
 ) -> Result<(), Failed>
-    requires { sent.old + length header.now + 16777216 < 2 ^ 64 }
+    requires { sent.old + length header.now + most_tuple_bytes < 2 ^ 64 }
     ensures puts { Puts (W.contents sink.old) (W.contents sink.new) sent.old sent.new (header.now ++ tuples session.now) (is_ok result) }
     ensures cut { OnErr result (sent.new < sent.old + length (header.now ++ tuples session.now)) }
     ensures failures { CountsFailure (W.failure_count sink.old) (W.failure_count sink.new) (is_ok result) }

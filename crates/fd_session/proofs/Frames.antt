@@ -8,13 +8,15 @@ use Rattle.fd_blend.specs.declared.channel.Colour.{Colour}
 use Rattle.fd_blend.specs.Channel.{fresh}
 use Rattle.fd_tile.specs.declared.place.Place.{Place}
 use Rattle.fd_tile.specs.Place.{Holds, HasRow, over_place}
-use Rattle.fd_tile.specs.Tile.{TileImage, colour_of, row_of, painted}
+use Rattle.fd_tile.specs.Tile.{Pixel, TileImage, fresh_pixel, painted, pixel_of, pixel_in, pixels_of, row_in}
 use Rattle.fd_tile.specs.Grid.{TargetSize, tile_count, place_of}
-use Rattle.fd_tile.proofs.Pixels.{colour_of-painted, over_place_same, HasRow-from_Holds}
+use Rattle.fd_tile.proofs.Pixels.{value_in-over_place, over_place_same, HasRow-from_Holds}
 use Rattle.fd_events.specs.Table.{Table, IsTable}
-use Rattle.fd_events.specs.Image.{colour_at}
-use Rattle.fd_owner.specs.History.{History, position, last_image, tile_image, colour_past, extend, extend_by, extend_to, first_frames}
+use Rattle.fd_events.specs.Image.{colour_at, pixel_at}
+use Rattle.fd_owner.specs.History.{History, position, last_image, extend, extend_by, extend_to, first_frames, fresh_history, drawn_history}
 use Rattle.fd_owner.specs.Shown.{Shown, IsInside}
+use Rattle.fd_owner.proofs.Drawn.{position_drawn, last_drawn, pixel_drawn}
+use Rattle.fd_owner.proofs.Pictures.{map_mapped, row_in-over_place}
 use Rattle.fd_owner.proofs.Histories.{position_extend_to, extend_more, extend_none, first_extend_to, last_extend}
 use Rattle.std.proofs.Common.{take, drop}
 use Rattle.fd_session.specs.Machine.{State, at_position, Jumps}
@@ -23,31 +25,10 @@ use Rattle.std.specs.Prelude.{Result, Ok, Err, MatchResult, None}
 use Rattle.fd_crew.specs.declared.crew.Outcome.{Outcome}
 use Rattle.fd_crew.specs.declared.crew.Outcome.TheVariants.{Reached, Stopped}
 use Rattle.fd_crew.specs.Lanes.{opening_position, GoneTo, IsQuiet, RefusedNoLower, EndsAs, gone_back_to}
-use Rattle.fd_session.specs.Held.{fresh_history, history_at, StandsAt, places_of, first_places, HoldsFrame, size_of}
+use Rattle.fd_session.specs.Held.{StandsAt, places_of, first_places, HoldsFrame, size_of}
 use Rattle.fd_session.specs.Moves.{IsLeftAt, IsFresh, IsFreshOwner, GoesOn, jump_answer}
 
 -- ---- one place
-pub position_at : (table : Table) (place : Place) (k : ℕ) → position (history_at table place k) ≡ k
-position_at table place k = position_extend_to table place k (fresh_history place) (omega arith)
-
--- what a position shows is what its events give, pixel by pixel
-pub last_at : (table : Table) (place : Place) (k : ℕ) → last_image (history_at table place k) ≡ over_place place (λ x y. colour_at table k x y)
-last_at table place zero = ap last_image (extend_none table place (fresh_history place))
-last_at table place (suc k) =
-    let next : k + 1 ≡ suc k = omega arith in
-    ap (λ (n : ℕ). last_image (history_at table place n)) (sym next)
-    ∙ ap last_image (sym (extend_more table place k (fresh_history place) (omega arith)))
-    ∙ last_extend table place (history_at table place k)
-    ∙ ap (λ (n : ℕ). over_place place (λ x y. colour_past table n x y (colour_of (tile_image place (last_image (history_at table place k))) x y))) (position_at table place k)
-    ∙ ap (λ (rows : List (List Colour)). over_place place (λ x y. colour_past table k x y (colour_of (tile_image place rows) x y))) (last_at table place k)
-    ∙ over_place_same place (λ x y. colour_past table k x y (colour_of (painted place (λ a b. colour_at table k a b)) x y)) (λ x y. colour_past table k x y (colour_at table k x y))
-    (λ x y held. ap (colour_past table k x y) (colour_of-painted place (λ a b. colour_at table k a b) x y held))
-
--- the same row by row
-row_painted : (p : Place) (f : ℕ → ℕ → Colour) (y : ℕ) → HasRow p y → row_of (painted p f) y ≡ map (λ x. f x y) (range_with_len p.left p.width)
-row_painted p f y crossed =
-    get_or-map-range_with_len (λ z. map (λ w. f w z) (range_with_len p.left p.width)) p.top p.height (y - p.top) y []
-    (omega (arith, crossed.from_top, crossed.to_bottom)) (omega (arith, crossed.from_top))
 
 drop_range : (f : ℕ → Colour) (a n i x m : ℕ) → a + i ≡ x → i + m ≡ n → drop i (map f (range_with_len a n)) ≡ map f (range_with_len x m)
 drop_range f a n zero x m at rest =
@@ -72,18 +53,18 @@ extend_by_more table place (suc more) count h =
     ap (extend table place) (extend_by_more table place more count h) ∙ ap (λ n. extend_by table place n h) (sym e)
 
 -- a history that goes on from position k goes on
-pub at_further : (table : Table) (place : Place) (k to : ℕ) → k ≤ to → extend_to table place to (history_at table place k) ≡ history_at table place to
+pub at_further : (table : Table) (place : Place) (k to : ℕ) → k ≤ to → extend_to table place to (drawn_history table place k) ≡ drawn_history table place to
 at_further table place k to le =
-    let e : to - position (history_at table place k) + (k - 0) ≡ to - 0 = omega (arith, position_at table place k) in
-    extend_by_more table place (to - position (history_at table place k)) (k - 0) (fresh_history place)
+    let e : to - position (drawn_history table place k) + (k - 0) ≡ to - 0 = omega (arith, position_drawn table place k) in
+    extend_by_more table place (to - position (drawn_history table place k)) (k - 0) (fresh_history place)
     ∙ ap (λ n. extend_by table place n (fresh_history place)) e
 
-pub at_less : (table : Table) (place : Place) (k to : ℕ) → to ≤ k → first_frames to (history_at table place k) ≡ history_at table place to
+pub at_less : (table : Table) (place : Place) (k to : ℕ) → to ≤ k → first_frames to (drawn_history table place k) ≡ drawn_history table place to
 at_less table place k to le = first_extend_to table place to k (fresh_history place) (omega arith) le
 
 -- ---- one owner
 pub position_stands : (table : Table) (k : ℕ) (o : Shown) → StandsAt table k o → position o.history ≡ k
-position_stands table k o at = ap position at.history ∙ position_at table o.place k
+position_stands table k o at = ap position at.history ∙ position_drawn table o.place k
 
 pub all_together : (table : Table) (owners : List Shown) → All (StandsAt table (opening_position owners)) owners → All (λ o. position o.history ≡ opening_position owners) owners
 all_together table owners at k d below = position_stands table (opening_position owners) (get_or owners k d) (at k d below)
@@ -93,7 +74,7 @@ stands_further table k to o p at gone =
     let le : k ≤ to = omega (arith, gone.after, position_stands table k o at) in
     record {
       history = gone.history ∙ ap (λ (h : History). extend_to table o.place to h) at.history ∙ at_further table o.place k to le
-          ∙ ap (λ (q : Place). history_at table q to) (sym gone.place);
+          ∙ ap (λ (q : Place). drawn_history table q to) (sym gone.place);
       inside = subst (λ (q : Place). IsInside q table) (sym gone.place) at.inside;
     }
 
@@ -102,7 +83,7 @@ stands_less table k to o p le at gone =
     let placed : p.place ≡ o.place = ap (λ (s : Shown). s.place) gone in
     record {
       history = ap (λ (s : Shown). s.history) gone ∙ ap (first_frames to) at.history ∙ at_less table o.place k to le
-          ∙ ap (λ (q : Place). history_at table q to) (sym placed);
+          ∙ ap (λ (q : Place). drawn_history table q to) (sym placed);
       inside = subst (λ (q : Place). IsInside q table) (sym placed) at.inside;
     }
 
@@ -153,15 +134,22 @@ run_ends table to old new (Ok (Stopped stop)) at ended =
 run_ends table to old new (Err e) at ended = ended
 
 -- ---- fresh owners
+pixels_painted : (p : Place) (f : ℕ → ℕ → Pixel) → pixels_of (painted p f) ≡ over_place p f
+pixels_painted p f =
+    over_place_same p (λ x y. pixel_of (painted p f) x y) f
+    (λ x y held. ap (λ (c : Colour). (c, (pixel_of (painted p f) x y).1)) (value_in-over_place p (λ a b. (f a b).0) x y fresh held)
+    ∙ ap (λ (d : ℕ). ((f x y).0, d)) (value_in-over_place p (λ a b. (f a b).1) x y 65535 held))
+
 pub fresh_more : (size : TargetSize) (count : ℕ) (owners : List Shown) (place : Place) (tile : TileImage) (o : Shown) → IsFresh size count owners
     → place ≡ place_of size count → (place.left + place.width ≤ size.width) × (place.top + place.height ≤ size.height)
-    → tile ≡ painted place (λ _ _. fresh)
-    → o ≡ record { place = tile.place; history = record { opening = tile.rows; frames = [] }; refusals = 0; refused_at = None }
+    → tile ≡ painted place (λ _ _. fresh_pixel)
+    → o ≡ record { place = tile.place; history = record { opening = pixels_of tile; frames = [] }; refusals = 0; refused_at = None }
     → IsFresh size (count + 1) (owners ++ o ∷ [])
 fresh_more size count owners place tile o before is within painted made =
     let placed : o.place ≡ place = ap (λ (s : Shown). s.place) made ∙ ap (λ (t : TileImage). t.place) painted in
     let history : o.history ≡ fresh_history o.place =
-    ap (λ (s : Shown). s.history) made ∙ ap (λ (t : TileImage). let h : History = record { opening = t.rows; frames = [] } in h) painted
+    ap (λ (s : Shown). s.history) made ∙ ap (λ (t : TileImage). let h : History = record { opening = pixels_of t; frames = [] } in h) painted
+    ∙ ap (λ (rows : List (List Pixel)). let h : History = record { opening = rows; frames = [] } in h) (pixels_painted place (λ _ _. fresh_pixel))
     ∙ ap fresh_history (sym placed) in
     record {
       places = map_push (λ (s : Shown). s.place) owners o ∙ ap (λ (l : List Place). l ++ o.place ∷ []) before.places
@@ -260,20 +248,20 @@ module _ (table : Table) (size : TargetSize) (owners : List Shown) (workers : �
 
 -- ---- what an owner shows
 module _ (table : Table) (k : ℕ) (o : Shown) (x y : ℕ) (stands : StandsAt table k o) (holds : Holds o.place x y) where
-  pub owner_shows : colour_of (tile_image o.place (last_image o.history)) x y ≡ colour_at table k x y
+  pub owner_shows : pixel_in o.place (last_image o.history) x y ≡ pixel_at table k x y
   owner_shows =
-      ap (λ (h : History). colour_of (tile_image o.place (last_image h)) x y) stands.history
-      ∙ ap (λ (rows : List (List Colour)). colour_of (tile_image o.place rows) x y) (last_at table o.place k)
-      ∙ colour_of-painted o.place (λ a b. colour_at table k a b) x y holds
+      ap (λ (h : History). pixel_in o.place (last_image h) x y) stands.history
+      ∙ pixel_drawn table o.place k x y holds
 
   -- a row of its tile, and the part of it from column x on
-  module _ (left : ℕ) (row : List Colour) (from : left ≡ o.place.left) (read : row ≡ row_of (tile_image o.place (last_image o.history)) y) where
+  module _ (left : ℕ) (row : List Colour) (from : left ≡ o.place.left) (read : row ≡ map (λ (q : Pixel). q.0) (row_in o.place (last_image o.history) y)) where
     row_shows : row ≡ map (λ column. colour_at table k column y) (range_with_len o.place.left o.place.width)
     row_shows =
         read
-        ∙ ap (λ (h : History). row_of (tile_image o.place (last_image h)) y) stands.history
-        ∙ ap (λ (rows : List (List Colour)). row_of (tile_image o.place rows) y) (last_at table o.place k)
-        ∙ row_painted o.place (λ a b. colour_at table k a b) y (HasRow-from_Holds o.place x y holds)
+        ∙ ap (λ (h : History). map (λ (q : Pixel). q.0) (row_in o.place (last_image h) y)) stands.history
+        ∙ ap (λ (rows : List (List Pixel)). map (λ (q : Pixel). q.0) (row_in o.place rows y)) (last_drawn table o.place k)
+        ∙ ap (map (λ (q : Pixel). q.0)) (row_in-over_place o.place (λ a b. pixel_at table k a b) y (HasRow-from_Holds o.place x y holds))
+        ∙ map_mapped (λ column. pixel_at table k column y) (λ (q : Pixel). q.0) (range_with_len o.place.left o.place.width)
 
     pub part_within : x - left ≤ length row
     part_within =

@@ -2,26 +2,27 @@
 use Rattle.std.proofs.Common.{◌≡◌, ◌≢◌, ℕ, zero, suc, ◌+◌, ◌-◌, ◌<◌, ◌≤◌, Bool, not, List, [], ◌∷◌, ◌++◌, length, get_or, take, drop, refl, sym, ap, ◌∙◌, subst, arith, All, Option, Some}
 use Rattle.std.specs.Prelude.{Result, Ok, Err, MatchResult}
 use Rattle.std.proofs.lemmas.List.{length-map, length-set, append-nil, drop_all, take_all}
-use Rattle.fd_blend.specs.declared.channel.Colour.{Colour}
 use Rattle.fd_tile.specs.declared.place.Place.{Place}
 use Rattle.fd_tile.specs.Place.{over_place}
-use Rattle.fd_tile.specs.Tile.{colour_of}
+use Rattle.fd_tile.specs.Tile.{Pixel, pixel_in}
 use Rattle.fd_tile.specs.Grid.{TargetSize}
 use Rattle.fd_events.specs.declared.event.Event.{Event}
 use Rattle.fd_events.specs.declared.pipeline.Pipeline.{Pipeline}
 use Rattle.fd_events.specs.Table.{Table, IsTable, with_flag, flag_at, active_event, state_at}
-use Rattle.fd_events.specs.Image.{colour_after_event, kept_by_event}
+use Rattle.fd_events.specs.Image.{pixel_after_event, kept_by_event}
 use Rattle.fd_events.proofs.States.{slice_get-set_other, state_of-set}
-use Rattle.fd_owner.specs.History.{Frame, History, position, last_image, tile_image, frame_after, extend}
+use Rattle.fd_owner.specs.History.{Frame, History, position, last_image, frame_after, extend}
 use Rattle.fd_owner.specs.Shown.{Shown}
 use Rattle.fd_owner.proofs.Histories.{extend_more, extend_none}
 use Rattle.fd_crew.specs.declared.crew.Outcome.{Outcome}
 use Rattle.fd_crew.specs.declared.crew.Outcome.TheVariants.{Reached, Stopped}
 use Rattle.fd_crew.specs.Lanes.{opening_position}
-use Rattle.fd_session.specs.Held.{fresh_history, history_at, StandsAt, places_of, HoldsFrame}
+use Rattle.fd_session.specs.Held.{StandsAt, places_of, HoldsFrame}
 use Rattle.fd_session.specs.Machine.{State, with_flag_at, Switches}
 use Rattle.fd_session.specs.Moves.{IsLeftAt, GoesOn, GoesAgain, switch_answer}
-use Rattle.fd_session.proofs.Frames.{position_at, opening_stands, some_held}
+use Rattle.fd_owner.specs.History.{fresh_history, drawn_history}
+use Rattle.fd_owner.proofs.Drawn.{position_drawn}
+use Rattle.fd_session.proofs.Frames.{opening_stands, some_held}
 
 -- the flag of event number i + 1 says nothing of the events before it
 module _ (table : Table) (i : ℕ) (on : Bool) where
@@ -31,12 +32,12 @@ module _ (table : Table) (i : ℕ) (on : Bool) where
   active_other : (k : ℕ) → k ≢ i → active_event switched (suc k) ≡ active_event table (suc k)
   active_other k other = rw (slice_get-set_other table.flags i k on other) refl
 
-  frame_other : (place : Place) (k : ℕ) (image : List (List Colour)) → k < i → frame_after switched place k image ≡ frame_after table place k image
+  frame_other : (place : Place) (k : ℕ) (image : List (List Pixel)) → k < i → frame_after switched place k image ≡ frame_after table place k image
   unfolding frame_after
   frame_other place k image below =
       let frame : Option Event → Pipeline → Frame = λ event state. record {
-        image = over_place place (λ x y. colour_after_event event state x y (colour_of (tile_image place image) x y));
-        kept = over_place place (λ x y. kept_by_event event state x y (colour_of (tile_image place image) x y));
+        image = over_place place (λ x y. pixel_after_event event state x y (pixel_in place image x y));
+        kept = over_place place (λ x y. kept_by_event event state x y (pixel_in place image x y));
       } in
       ap (λ (event : Option Event). frame event (state_at switched k)) (active_other k (λ e. absurd (omega (arith, e, below))))
       ∙ ap (frame (active_event table (suc k))) (state_of-set table.events table.flags i on k (omega (arith, below)))
@@ -46,16 +47,16 @@ module _ (table : Table) (i : ℕ) (on : Bool) where
   extend_other place h below =
       ap (λ (f : Frame). let g : History = record { opening = h.opening; frames = h.frames ++ f ∷ [] } in g) (frame_other place (position h) (last_image h) below)
 
-  history_other : (place : Place) (k : ℕ) → k ≤ i → history_at switched place k ≡ history_at table place k
+  history_other : (place : Place) (k : ℕ) → k ≤ i → drawn_history switched place k ≡ drawn_history table place k
   history_other place zero within = extend_none switched place (fresh_history place) ∙ sym (extend_none table place (fresh_history place))
   history_other place (suc k) within =
       let next : k + 1 ≡ suc k = omega arith in
-      ap (λ (n : ℕ). history_at switched place n) (sym next)
+      ap (λ (n : ℕ). drawn_history switched place n) (sym next)
       ∙ sym (extend_more switched place k (fresh_history place) (omega arith))
       ∙ ap (extend switched place) (history_other place k (omega (arith, within)))
-      ∙ extend_other place (history_at table place k) (omega (arith, within, position_at table place k))
+      ∙ extend_other place (drawn_history table place k) (omega (arith, within, position_drawn table place k))
       ∙ extend_more table place k (fresh_history place) (omega arith)
-      ∙ ap (λ (n : ℕ). history_at table place n) next
+      ∙ ap (λ (n : ℕ). drawn_history table place n) next
 
   stands_other : (k : ℕ) (o : Shown) → k ≤ i → StandsAt table k o → StandsAt switched k o
   stands_other k o within at = record { history = at.history ∙ sym (history_other o.place k within); inside = record { right = at.inside.right; bottom = at.inside.bottom } }
@@ -67,6 +68,7 @@ module _ (table : Table) (i : ℕ) (on : Bool) where
     min_height = valid.min_height;
     max_height = valid.max_height;
     max_events = valid.max_events;
+    version = valid.version;
     flags = length-set table.flags i on ∙ valid.flags;
   }
 

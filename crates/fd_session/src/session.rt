@@ -42,7 +42,7 @@ impl Model for Session {
 impl Session {
     ghost use Rattle.fd_events.specs.Image.{colour_at};
     ghost use Rattle.fd_events.specs.Table.{state_at, flag_at};
-    ghost use Rattle.fd_session.specs.Machine.{State, opening, Steps, GoesBack, Jumps, RefusesSwitch, Switches, ShowsPixel, ShowsFlag, ShowsHistory, IsState};
+    ghost use Rattle.fd_session.specs.Machine.{State, opening, Steps, GoesBack, Jumps, RefusesSwitch, Switches, ShowsPixel, ShowsDepth, ShowsFlag, ShowsHistory, IsState};
 
     /// A session at position 0, whose moves have at most so many workers. On want of memory the table is handed back.
     pub fn start(
@@ -210,6 +210,19 @@ impl Session {
         self.table.state_before(self.position() + 1)
     }
 
+    ghost use Rattle.fd_tile.specs.Place.{Holds};
+    ghost use Rattle.fd_session.specs.Held.{StandsAt};
+
+    /// The owner of the tile that holds a pixel.
+    fn owner_of(&self, x: u32, y: u32) -> &Owner
+        requires column { x < self.now.table.width }
+        requires row { y < self.now.table.height }
+        ensures holds { Holds result.now.place x y }
+        ensures stands { StandsAt self.now.table self.now.position result.now }
+    {
+        &self.owners[self.grid.tile_of(x, y)]
+    }
+
     /// The colour of a pixel at the session's position.
     pub fn pixel(&self, x: u32, y: u32) -> Result<Colour, SessionFault>
         ensures { ShowsPixel self.now x y result }
@@ -217,8 +230,17 @@ impl Session {
         if x >= self.table.width() || y >= self.table.height() {
             return Err(SessionFault::NoSuchPixel);
         }
-        let owner = &self.owners[self.grid.tile_of(x, y)];
-        Ok(owner.pixel(x, y))
+        Ok(self.owner_of(x, y).pixel(x, y))
+    }
+
+    /// The depth of a pixel at the session's position.
+    pub fn depth(&self, x: u32, y: u32) -> Result<u16, SessionFault>
+        ensures { ShowsDepth self.now x y result }
+    {
+        if x >= self.table.width() || y >= self.table.height() {
+            return Err(SessionFault::NoSuchPixel);
+        }
+        Ok(self.owner_of(x, y).depth(x, y))
     }
 
     /// The colours of row y at the session's position, from column x to the right border of the tile there.
@@ -238,18 +260,17 @@ impl Session {
 
     ghost use Rattle.std.specs.Prelude.{◌*◌};
     ghost use Rattle.std.specs.Result.{result_map_both};
-    ghost use Rattle.fd_events.specs.declared.draw.TheConstants.{MAX_TRIANGLES};
-    ghost use Rattle.fd_events.specs.declared.table.TheConstants.{MAX_EVENTS};
+    ghost use Rattle.fd_events.specs.Limits.{most_triangles, most_events};
 
     /// What the switched-on events up to the session's position did to a pixel, in order.
     pub fn history(&self, alloc: Global, x: u32, y: u32) -> Result<Vec<Entry>, SessionFault>
         ensures shows { ShowsHistory self.now x y (result_map_both (λ entries. entries.items) (λ fault. fault) result) }
-        ensures few { IfOk result (λ entries. length entries.items ≤ MAX_TRIANGLES * MAX_EVENTS) }
+        ensures few { IfOk result (λ entries. length entries.items ≤ most_triangles * most_events) }
     {
         if x >= self.table.width() || y >= self.table.height() {
             return Err(SessionFault::NoSuchPixel);
         }
-        match history(alloc, &self.table, self.position(), x, y) {
+        match history(alloc, &self.table, self.owner_of(x, y), x, y) {
             Ok(entries) => Ok(entries),
             Err(_) => Err(SessionFault::Memory),
         }

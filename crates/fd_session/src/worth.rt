@@ -1,7 +1,8 @@
 //! How many workers a move of the owners is worth, by an estimate of its work. What is drawn does not depend on it.
 ghost use Rattle.std.specs.Prelude.{◌≤◌, length};
 
-use fd_events::{Draw, Event, EventTable};
+use fd_cover::Bounds;
+use fd_events::{Draw, Event, EventTable, GROUP_LEN};
 use fd_tile::TILE_SIDE;
 
 /// The work that a worker must have to be worth its thread, in pixels: some 200 microseconds, as `make bench` had owners clear a
@@ -14,15 +15,23 @@ const STEP_WORK: usize = 4;
 /// The work of looking at one triangle on one tile, in pixels.
 const TRIANGLE_WORK: usize = 8;
 
-/// The work of a draw on a target of this size: its bounding box, and its triangles once for each tile's worth of that.
-fn draw_work(draw: &Draw, width: u32, height: u32) -> usize {
-    let bounds = draw.bounds();
+/// The work of a group of triangles on a target of this size: the pixels of its box, and a look at each triangle for each tile's worth of them.
+fn group_work(bounds: &Bounds, width: u32, height: u32) -> usize {
     let columns = bounds.right.min(width).saturating_sub(bounds.left);
     let rows = bounds.bottom.min(height).saturating_sub(bounds.top);
     let pixels = columns as usize * rows as usize;
     let tiles = pixels / (TILE_SIDE * TILE_SIDE) as usize + 1;
-    let looks = tiles.saturating_mul(draw.triangles() as usize);
+    let looks = tiles.saturating_mul(GROUP_LEN as usize);
     looks.saturating_mul(TRIANGLE_WORK).saturating_add(pixels)
+}
+
+/// The work of a draw on a target of this size: that of its groups, which may lie over one another.
+fn draw_work(draw: &Draw, width: u32, height: u32) -> usize {
+    let mut work: usize = 0;
+    for group in 0..draw.triangles().div_ceil(GROUP_LEN) {
+        work = work.saturating_add(group_work(&draw.group_bounds(group), width, height));
+    }
+    work
 }
 
 /// The work of the event of this number on all tiles of the target.

@@ -3,8 +3,10 @@
 
 pub use position::{POSITION_LIMIT, Pos};
 pub use snapped::{SNAPPED_LIMIT, Snapped, snap};
+pub use target::MAX_SIDE;
 
 mod position;
 mod snapped;
+mod target;
 #[cfg(test)]
 mod tests;

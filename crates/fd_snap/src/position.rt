@@ -1,10 +1,10 @@
 ghost use Rattle.std.specs.Prelude.{◌≡◌, ◌≤◌, ◌↔◌, IsSome, IfSome, unsigned_abs};
-ghost use Rattle.fd_snap.specs.declared.position.TheConstants.{POSITION_LIMIT};
+ghost use Rattle.fd_snap.specs.Limits.{position_limit};
 
 use std::marker::Model;
 
 /// The largest absolute value of a position's coordinate, in 1/65536 pixel. Every other range follows from it.
-pub const POSITION_LIMIT: u32 = 1 << 29;
+pub const POSITION_LIMIT: u32 = 1 << 30;
 
 /// A vertex position as a capture gives it, in whole 1/65536 pixels.
 #[derive(Clone, Copy, Debug, PartialEq, Eq)]
@@ -16,13 +16,13 @@ pub struct Pos {
 impl Model for Pos {
     ghost use Rattle.std.specs.Prelude.{◌≤◌, unsigned_abs};
     ghost use Rattle.fd_snap.specs.Point.{Point};
-    ghost use Rattle.fd_snap.specs.declared.position.TheConstants.{POSITION_LIMIT};
+    ghost use Rattle.fd_snap.specs.Limits.{position_limit};
 
     ghost Value = { Point };
 
     ghost view = { λ p. record { x = p.x; y = p.y } };
 
-    ghost invariant = { λ p. (unsigned_abs p.x ≤ POSITION_LIMIT) × (unsigned_abs p.y ≤ POSITION_LIMIT) };
+    ghost invariant = { λ p. (unsigned_abs p.x ≤ position_limit) × (unsigned_abs p.y ≤ position_limit) };
 
     ghost inverse = { λ q. record { x = q.x; y = q.y } };
 }
@@ -30,7 +30,7 @@ impl Model for Pos {
 impl Pos {
     /// The position at these coordinates in 1/65536 pixel; None exactly where one of them is past the limit.
     pub fn new(x: i32, y: i32) -> Option<Pos>
-        ensures valid { IsSome result ↔ (unsigned_abs x ≤ POSITION_LIMIT) × (unsigned_abs y ≤ POSITION_LIMIT) }
+        ensures valid { IsSome result ↔ (unsigned_abs x ≤ position_limit) × (unsigned_abs y ≤ position_limit) }
         ensures value { IfSome result (λ p. p ≡ record { x = x; y = y }) }
     {
         if x.unsigned_abs() <= POSITION_LIMIT && y.unsigned_abs() <= POSITION_LIMIT {
@@ -43,7 +43,7 @@ impl Pos {
     /// How far right of the target's left side, in 1/65536 pixel.
     pub fn x(self) -> i32
         ensures value { result ≡ self.x }
-        ensures in_range { unsigned_abs result ≤ POSITION_LIMIT }
+        ensures in_range { unsigned_abs result ≤ position_limit }
     {
         self.x
     }
@@ -51,7 +51,7 @@ impl Pos {
     /// How far below the target's top, in 1/65536 pixel.
     pub fn y(self) -> i32
         ensures value { result ≡ self.y }
-        ensures in_range { unsigned_abs result ≤ POSITION_LIMIT }
+        ensures in_range { unsigned_abs result ≤ position_limit }
     {
         self.y
     }

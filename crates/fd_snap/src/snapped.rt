@@ -1,6 +1,6 @@
 ghost use Rattle.std.specs.Prelude.{◌≡◌, ◌≤◌, ◌↔◌, IsSome, IfSome, unsigned_abs};
 ghost use Rattle.fd_snap.specs.Snap.{IsNearestEven, snapped, snapped_point};
-ghost use Rattle.fd_snap.specs.declared.snapped.TheConstants.{SNAPPED_LIMIT};
+ghost use Rattle.fd_snap.specs.Limits.{position_limit, snapped_limit};
 
 use crate::position::{POSITION_LIMIT, Pos};
 use std::cmp::Ordering;
@@ -19,13 +19,13 @@ pub struct Snapped {
 impl Model for Snapped {
     ghost use Rattle.std.specs.Prelude.{◌≤◌, unsigned_abs};
     ghost use Rattle.fd_snap.specs.Point.{Point};
-    ghost use Rattle.fd_snap.specs.declared.snapped.TheConstants.{SNAPPED_LIMIT};
+    ghost use Rattle.fd_snap.specs.Limits.{position_limit, snapped_limit};
 
     ghost Value = { Point };
 
     ghost view = { λ p. record { x = p.x; y = p.y } };
 
-    ghost invariant = { λ p. (unsigned_abs p.x ≤ SNAPPED_LIMIT) × (unsigned_abs p.y ≤ SNAPPED_LIMIT) };
+    ghost invariant = { λ p. (unsigned_abs p.x ≤ snapped_limit) × (unsigned_abs p.y ≤ snapped_limit) };
 
     ghost inverse = { λ q. record { x = q.x; y = q.y } };
 }
@@ -33,7 +33,7 @@ impl Model for Snapped {
 impl Snapped {
     /// The snapped position at these coordinates in 1/256 pixel; None exactly where one of them is past the limit.
     pub fn new(x: i32, y: i32) -> Option<Snapped>
-        ensures valid { IsSome result ↔ (unsigned_abs x ≤ SNAPPED_LIMIT) × (unsigned_abs y ≤ SNAPPED_LIMIT) }
+        ensures valid { IsSome result ↔ (unsigned_abs x ≤ snapped_limit) × (unsigned_abs y ≤ snapped_limit) }
         ensures value { IfSome result (λ p. p ≡ record { x = x; y = y }) }
     {
         if x.unsigned_abs() <= SNAPPED_LIMIT && y.unsigned_abs() <= SNAPPED_LIMIT {
@@ -46,7 +46,7 @@ impl Snapped {
     /// How far right of the target's left side, in 1/256 pixel.
     pub fn x(self) -> i32
         ensures value { result ≡ self.x }
-        ensures in_range { unsigned_abs result ≤ SNAPPED_LIMIT }
+        ensures in_range { unsigned_abs result ≤ snapped_limit }
     {
         self.x
     }
@@ -54,7 +54,7 @@ impl Snapped {
     /// How far below the target's top, in 1/256 pixel.
     pub fn y(self) -> i32
         ensures value { result ≡ self.y }
-        ensures in_range { unsigned_abs result ≤ SNAPPED_LIMIT }
+        ensures in_range { unsigned_abs result ≤ snapped_limit }
     {
         self.y
     }
@@ -62,9 +62,9 @@ impl Snapped {
 
 /// One coordinate in units of 256, rounded to the nearest whole number, ties to the even one.
 fn snap_coordinate(x: i32) -> i32
-    requires { unsigned_abs x ≤ POSITION_LIMIT }
+    requires { unsigned_abs x ≤ position_limit }
     ensures value { result ≡ snapped x }
-    ensures in_range { unsigned_abs result ≤ SNAPPED_LIMIT }
+    ensures in_range { unsigned_abs result ≤ snapped_limit }
 {
     let whole = x.div_euclid(256);
     match x.rem_euclid(256).cmp(&128) {

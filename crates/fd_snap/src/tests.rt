@@ -21,13 +21,37 @@ fn snapping_ties_go_to_even(rt: HostRuntime) -> Result<(), Fail> {
 }
 
 #[test]
-fn coordinates_past_the_limit_are_refused(rt: HostRuntime) -> Result<(), Fail> {
-    assert_eq!(rt; Pos::new(536870913, 0), None);
-    assert_eq!(rt; Pos::new(0, -536870913), None);
-    assert_eq!(rt; Snapped::new(2097153, 0), None);
-    assert_eq!(rt; Snapped::new(0, -2097153), None);
-    let corner = Snapped::new(-2097152, 2097152).ok_or("in range")?;
-    assert_eq!(rt; corner.x(), -2097152);
-    assert_eq!(rt; corner.y(), 2097152);
+fn snapping_at_the_larger_limits(rt: HostRuntime) -> Result<(), Fail> {
+    for (coordinate, expected) in [
+        (1073741824, 4194304),
+        (1073741696, 4194304),
+        (1073741695, 4194303),
+        (-1073741824, -4194304),
+        (-1073741696, -4194304),
+        (-1073741695, -4194303),
+    ] {
+        let position = Pos::new(coordinate, -coordinate).ok_or("in range")?;
+        assert_eq!(rt; snap(position).x(), expected);
+        assert_eq!(rt; snap(position).y(), -expected);
+    }
+    Ok(())
+}
+
+#[test]
+fn coordinates_past_the_limits_are_refused(rt: HostRuntime) -> Result<(), Fail> {
+    for (limit, past) in [(1073741824, 1073741825), (-1073741824, -1073741825)] {
+        let corner = Pos::new(limit, limit).ok_or("in range")?;
+        assert_eq!(rt; corner.x(), limit);
+        assert_eq!(rt; corner.y(), limit);
+        assert_eq!(rt; Pos::new(past, 0), None);
+        assert_eq!(rt; Pos::new(0, past), None);
+    }
+    for (limit, past) in [(4194304, 4194305), (-4194304, -4194305)] {
+        let corner = Snapped::new(limit, limit).ok_or("in range")?;
+        assert_eq!(rt; corner.x(), limit);
+        assert_eq!(rt; corner.y(), limit);
+        assert_eq!(rt; Snapped::new(past, 0), None);
+        assert_eq!(rt; Snapped::new(0, past), None);
+    }
     Ok(())
 }

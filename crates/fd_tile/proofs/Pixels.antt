@@ -9,7 +9,7 @@ use Rattle.fd_blend.specs.declared.channel.Colour.{Colour}
 use Rattle.fd_blend.specs.Channel.{fresh}
 use Rattle.fd_tile.specs.declared.place.Place.{Place}
 use Rattle.fd_tile.specs.Place.{Holds, HasRow, IsTilePlace, over_place}
-use Rattle.fd_tile.specs.Tile.{TileImage, FillsPlace, IsTileImage, row_of, with_row, colour_of, painted, with_row_left}
+use Rattle.fd_tile.specs.Tile.{TileImage, FillsPlace, IsTileImage, row_in, with_row_in, value_in, row_of, with_row, with_row_left, depth_row_of, with_depth_row, with_depth_row_left, pixels_of, pixel_of, pixel_in}
 
 -- a list of the right length is left as it is
 pub refill_same : {X : Type 0} (row w : List X) → length w ≡ length row → refill (length row) row w ≡ w
@@ -25,60 +25,97 @@ pub Holds-in_row : (p : Place) (x y : ℕ) → HasRow p y → p.left ≤ x → x
 Holds-in_row p x y row low high = record { from_left = low; to_right = high; from_top = row.from_top; to_bottom = row.to_bottom }
 
 -- ---- one row
-module _ (t : TileImage) (y : ℕ) (filled : IsTileImage t) (crossed : HasRow t.place y) where
-  row_within : y - t.place.top < length t.rows
+module _ {X : Type 0} (p : Place) (rows : List (List X)) (y : ℕ) (filled : FillsPlace p rows) (crossed : HasRow p y) where
+  row_within : y - p.top < length rows
   row_within = omega (arith, filled.high, crossed.from_top, crossed.to_bottom)
 
-  pub length-row_of : length (row_of t y) ≡ t.place.width
-  length-row_of = All-get_or (λ r. length r ≡ t.place.width) t.rows (y - t.place.top) [] row_within filled.wide
+  pub length-row_in : length (row_in p rows y) ≡ p.width
+  length-row_in = All-get_or (λ r. length r ≡ p.width) rows (y - p.top) [] row_within filled.wide
 
-  pub with_row_left_is : (w : List Colour) → length w ≡ t.place.width → with_row_left t y w ≡ with_row t y w
-  with_row_left_is w e = ap (λ r. with_row t y r) (refill_same (row_of t y) w (e ∙ sym length-row_of))
+  pub left_row_is : (w : List X) → length w ≡ p.width → with_row_in p rows y (refill (length (row_in p rows y)) (row_in p rows y) w) ≡ with_row_in p rows y w
+  left_row_is w e = ap (λ r. with_row_in p rows y r) (refill_same (row_in p rows y) w (e ∙ sym length-row_in))
 
-  pub row_of-with_row_same : (w : List Colour) → row_of (with_row t y w) y ≡ w
-  row_of-with_row_same w = get_or-set_same t.rows (y - t.place.top) w [] row_within
+  pub row_in-same : (w : List X) → row_in p (with_row_in p rows y w) y ≡ w
+  row_in-same w = get_or-set_same rows (y - p.top) w [] row_within
 
-  pub row_of-with_row_other : (w : List Colour) (z : ℕ) → t.place.top ≤ z → z ≢ y → row_of (with_row t y w) z ≡ row_of t z
-  row_of-with_row_other w z low other =
-      let apart : z - t.place.top ≢ y - t.place.top = λ e. other (omega (arith, crossed.from_top)) in
-      get_or-set_other t.rows (y - t.place.top) (z - t.place.top) w [] apart
+  pub row_in-other : (w : List X) (z : ℕ) → p.top ≤ z → z ≢ y → row_in p (with_row_in p rows y w) z ≡ row_in p rows z
+  row_in-other w z low other =
+      let apart : z - p.top ≢ y - p.top = λ e. other (omega (arith, crossed.from_top)) in
+      get_or-set_other rows (y - p.top) (z - p.top) w [] apart
 
-  pub with_row-with_row : (w v : List Colour) → with_row (with_row t y w) y v ≡ with_row t y v
-  with_row-with_row w v = ap (λ rows. record t { rows = rows }) (set-set t.rows (y - t.place.top) w v)
+  pub with_row_in-twice : (w v : List X) → with_row_in p (with_row_in p rows y w) y v ≡ with_row_in p rows y v
+  with_row_in-twice w v = set-set rows (y - p.top) w v
 
-  pub IsTileImage-with_row : (w : List Colour) → length w ≡ t.place.width → IsTileImage (with_row t y w)
-  IsTileImage-with_row w e = record {
+  pub FillsPlace-with_row_in : (w : List X) → length w ≡ p.width → FillsPlace p (with_row_in p rows y w)
+  FillsPlace-with_row_in w e = record {
     placed = filled.placed;
-    high = length-set t.rows (y - t.place.top) w ∙ filled.high;
-    wide = All-set (λ r. length r ≡ t.place.width) t.rows (y - t.place.top) w e filled.wide;
+    high = length-set rows (y - p.top) w ∙ filled.high;
+    wide = All-set (λ r. length r ≡ p.width) rows (y - p.top) w e filled.wide;
   }
 
 -- a row that is written as it is changes nothing
+pub with_row_in-as_it_is : {X : Type 0} (p : Place) (rows : List (List X)) (y : ℕ) → with_row_in p rows y (row_in p rows y) ≡ rows
+with_row_in-as_it_is p rows y = set-get_or rows (y - p.top) []
+
+-- ---- a row of a tile's colours, and one of its depths
+module _ (t : TileImage) (y : ℕ) (filled : IsTileImage t) (crossed : HasRow t.place y) where
+  pub length-row_of : length (row_of t y) ≡ t.place.width
+  length-row_of = length-row_in t.place t.rows y filled.colours crossed
+
+  pub with_row_left_is : (w : List Colour) → length w ≡ t.place.width → with_row_left t y w ≡ with_row t y w
+  with_row_left_is w e = ap (λ rows. record t { rows = rows }) (left_row_is t.place t.rows y filled.colours crossed w e)
+
+  pub row_of-with_row_same : (w : List Colour) → row_of (with_row t y w) y ≡ w
+  row_of-with_row_same w = row_in-same t.place t.rows y filled.colours crossed w
+
+  pub row_of-with_row_other : (w : List Colour) (z : ℕ) → t.place.top ≤ z → z ≢ y → row_of (with_row t y w) z ≡ row_of t z
+  row_of-with_row_other w z low other = row_in-other t.place t.rows y filled.colours crossed w z low other
+
+  pub with_row-with_row : (w v : List Colour) → with_row (with_row t y w) y v ≡ with_row t y v
+  with_row-with_row w v = ap (λ rows. record t { rows = rows }) (with_row_in-twice t.place t.rows y filled.colours crossed w v)
+
+  pub length-depth_row_of : length (depth_row_of t y) ≡ t.place.width
+  length-depth_row_of = length-row_in t.place t.depths y filled.depths crossed
+
+  pub with_depth_row_left_is : (w : List ℕ) → length w ≡ t.place.width → with_depth_row_left t y w ≡ with_depth_row t y w
+  with_depth_row_left_is w e = ap (λ depths. record t { depths = depths }) (left_row_is t.place t.depths y filled.depths crossed w e)
+
+  pub IsTileImage-with_row : (w : List Colour) → length w ≡ t.place.width → IsTileImage (with_row t y w)
+  IsTileImage-with_row w e = record { colours = FillsPlace-with_row_in t.place t.rows y filled.colours crossed w e; depths = filled.depths }
+
+  pub IsTileImage-with_depth_row : (w : List ℕ) → length w ≡ t.place.width → IsTileImage (with_depth_row t y w)
+  IsTileImage-with_depth_row w e = record { colours = filled.colours; depths = FillsPlace-with_row_in t.place t.depths y filled.depths crossed w e }
+
+-- a row that is written as it is changes nothing
 pub with_row_same : (t : TileImage) (y : ℕ) → with_row t y (row_of t y) ≡ t
-with_row_same t y = ap (λ rows. record t { rows = rows }) (set-get_or t.rows (y - t.place.top) [])
+with_row_same t y = ap (λ rows. record t { rows = rows }) (with_row_in-as_it_is t.place t.rows y)
+
+pub with_depth_row_same : (t : TileImage) (y : ℕ) → with_depth_row t y (depth_row_of t y) ≡ t
+with_depth_row_same t y = ap (λ depths. record t { depths = depths }) (with_row_in-as_it_is t.place t.depths y)
 
 -- ---- all pixels
+
 -- rows that agree at each pixel of the place are equal
-pub rows_ext : (p : Place) (ts us : List (List Colour)) → FillsPlace p ts → FillsPlace p us
-    → ((x y : ℕ) → Holds p x y → colour_of (record { place = p; rows = ts }) x y ≡ colour_of (record { place = p; rows = us }) x y)
+pub rows_ext : {X : Type 0} (p : Place) (ts us : List (List X)) (other : X) → FillsPlace p ts → FillsPlace p us
+    → ((x y : ℕ) → Holds p x y → value_in p ts x y other ≡ value_in p us x y other)
     → ts ≡ us
-rows_ext p ts us filled filled' same =
+rows_ext p ts us other filled filled' same =
     ext_get_or [] ts us (filled.high ∙ sym filled'.high)
     (λ i below.
     let here : i < length us = omega (arith, filled.high, filled'.high) in
     let left : length (get_or ts i []) ≡ p.width = All-get_or (λ r. length r ≡ p.width) ts i [] below filled.wide in
     let right : length (get_or us i []) ≡ p.width = All-get_or (λ r. length r ≡ p.width) us i [] here filled'.wide in
-    ext_get_or fresh (get_or ts i []) (get_or us i []) (left ∙ sym right)
+    ext_get_or other (get_or ts i []) (get_or us i []) (left ∙ sym right)
     (λ j within.
     let row : p.top + i - p.top ≡ i = omega arith in
     let column : p.left + j - p.left ≡ j = omega arith in
     let held : Holds p (p.left + j) (p.top + i) =
     record { from_left = omega arith; to_right = omega arith; from_top = omega arith; to_bottom = omega (arith, filled.high) } in
-    sym (ap (λ k. get_or (get_or ts k []) (p.left + j - p.left) fresh) row ∙ ap (λ k. get_or (get_or ts i []) k fresh) column)
+    sym (ap (λ k. get_or (get_or ts k []) (p.left + j - p.left) other) row ∙ ap (λ k. get_or (get_or ts i []) k other) column)
     ∙ same (p.left + j) (p.top + i) held
-    ∙ (ap (λ k. get_or (get_or us k []) (p.left + j - p.left) fresh) row ∙ ap (λ k. get_or (get_or us i []) k fresh) column)))
+    ∙ (ap (λ k. get_or (get_or us k []) (p.left + j - p.left) other) row ∙ ap (λ k. get_or (get_or us i []) k other) column)))
 
-pub FillsPlace-over_place : (p : Place) (f : ℕ → ℕ → Colour) → IsTilePlace p → FillsPlace p (over_place p f)
+pub FillsPlace-over_place : {X : Type 0} (p : Place) (f : ℕ → ℕ → X) → IsTilePlace p → FillsPlace p (over_place p f)
 FillsPlace-over_place p f placed = record {
   placed = placed;
   high = length-map-range_with_len (λ y. map (λ x. f x y) (range_with_len p.left p.width)) p.top p.height;
@@ -89,23 +126,23 @@ FillsPlace-over_place p f placed = record {
       ∙ length-map-range_with_len (λ x. f x (p.top + i)) p.left p.width);
 }
 
--- what is painted is there
-pub colour_of-painted : (p : Place) (f : ℕ → ℕ → Colour) (x y : ℕ) → Holds p x y → colour_of (painted p f) x y ≡ f x y
-colour_of-painted p f x y held =
+-- what f gives over a place is there
+pub value_in-over_place : {X : Type 0} (p : Place) (f : ℕ → ℕ → X) (x y : ℕ) (other : X) → Holds p x y → value_in p (over_place p f) x y other ≡ f x y
+value_in-over_place p f x y other held =
     let row : y - p.top < p.height = omega (arith, held.from_top, held.to_bottom) in
     let column : x - p.left < p.width = omega (arith, held.from_left, held.to_right) in
     let down : p.top + (y - p.top) ≡ y = omega (arith, held.from_top) in
     let across : p.left + (x - p.left) ≡ x = omega (arith, held.from_left) in
-    ap (λ r. get_or r (x - p.left) fresh)
+    ap (λ r. get_or r (x - p.left) other)
     (get_or-map-range_with_len (λ z. map (λ w. f w z) (range_with_len p.left p.width)) p.top p.height (y - p.top) y [] row down)
-    ∙ get_or-map-range_with_len (λ w. f w y) p.left p.width (x - p.left) x fresh column across
+    ∙ get_or-map-range_with_len (λ w. f w y) p.left p.width (x - p.left) x other column across
 
--- rows with the colour that f gives at each pixel are what f gives over the place
-pub rows_from_pixels : (p : Place) (rows : List (List Colour)) (f : ℕ → ℕ → Colour) → FillsPlace p rows
-    → ((x y : ℕ) → Holds p x y → colour_of (record { place = p; rows = rows }) x y ≡ f x y) → rows ≡ over_place p f
-rows_from_pixels p rows f filled same =
-    rows_ext p rows (over_place p f) filled (FillsPlace-over_place p f filled.placed)
-    (λ x y held. same x y held ∙ sym (colour_of-painted p f x y held))
+-- rows with what f gives at each pixel are what f gives over the place
+pub rows_from_pixels : {X : Type 0} (p : Place) (rows : List (List X)) (f : ℕ → ℕ → X) (other : X) → FillsPlace p rows
+    → ((x y : ℕ) → Holds p x y → value_in p rows x y other ≡ f x y) → rows ≡ over_place p f
+rows_from_pixels p rows f other filled same =
+    rows_ext p rows (over_place p f) other filled (FillsPlace-over_place p f filled.placed)
+    (λ x y held. same x y held ∙ sym (value_in-over_place p f x y other held))
 
 pub map-range_same : {X : Type 0} (f g : ℕ → X) (a n : ℕ) → ((k : ℕ) → a ≤ k → k < a + n → f k ≡ g k) → map f (range_with_len a n) ≡ map g (range_with_len a n)
 map-range_same f g a zero same = refl
@@ -119,3 +156,7 @@ over_place_same p f g same =
     map-range_same (λ y. map (λ x. f x y) (range_with_len p.left p.width)) (λ y. map (λ x. g x y) (range_with_len p.left p.width)) p.top p.height
     (λ y low high. map-range_same (λ x. f x y) (λ x. g x y) p.left p.width
     (λ x from to. same x y (record { from_left = from; to_right = to; from_top = low; to_bottom = high })))
+
+-- a tile's pixels, as an image of its place
+pub pixel_in-pixels_of : (t : TileImage) (x y : ℕ) → Holds t.place x y → pixel_in t.place (pixels_of t) x y ≡ pixel_of t x y
+pixel_in-pixels_of t x y held = value_in-over_place t.place (λ x y. pixel_of t x y) x y (fresh, 65535) held

@@ -2,7 +2,7 @@
 use Rattle.std.specs.Prelude.{ℕ, ◌+◌, ◌-◌, ◌*◌, ◌/◌, ◌%◌, ◌≤◌, min}
 use Rattle.fd_tile.specs.declared.place.Place.{Place}
 use Rattle.fd_tile.specs.declared.place.TheConstants.{TILE_SIDE}
-use Rattle.fd_tile.specs.declared.grid.TheConstants.{MAX_SIDE}
+use Rattle.fd_snap.specs.Limits.{most_pixels}
 
 -- a target's size in pixels
 pub record TargetSize : Type 0 where
@@ -12,9 +12,9 @@ pub record TargetSize : Type 0 where
 -- a size that a target can have
 pub record IsTargetSize (s : TargetSize) : Type 0 where
   pub wide : 1 ≤ s.width
-  pub at_most_wide : s.width ≤ MAX_SIDE
+  pub at_most_wide : s.width ≤ most_pixels
   pub high : 1 ≤ s.height
-  pub at_most_high : s.height ≤ MAX_SIDE
+  pub at_most_high : s.height ≤ most_pixels
 
 -- how many tiles stand side by side, and how many rows of them there are: the last may be cut
 abbrev pub columns_of : TargetSize → ℕ

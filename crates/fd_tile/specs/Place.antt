@@ -2,7 +2,8 @@
 use Rattle.std.specs.Prelude.{ℕ, ◌+◌, ◌<◌, ◌≤◌, List, map}
 use Rattle.std.specs.List.{range_with_len}
 use Rattle.fd_tile.specs.declared.place.Place.{Place}
-use Rattle.fd_tile.specs.declared.place.TheConstants.{TILE_SIDE, BORDER_LIMIT}
+use Rattle.fd_snap.specs.Limits.{most_pixels}
+use Rattle.fd_tile.specs.declared.place.TheConstants.{TILE_SIDE}
 
 -- pixel (x, y) lies in the place: its right and bottom borders are exclusive
 pub record Holds (p : Place) (x y : ℕ) : Type 0 where
@@ -22,8 +23,8 @@ pub record IsTilePlace (p : Place) : Type 0 where
   pub at_most_wide : p.width ≤ TILE_SIDE
   pub high : 1 ≤ p.height
   pub at_most_high : p.height ≤ TILE_SIDE
-  pub right : p.left + p.width ≤ BORDER_LIMIT
-  pub bottom : p.top + p.height ≤ BORDER_LIMIT
+  pub right : p.left + p.width ≤ most_pixels
+  pub bottom : p.top + p.height ≤ most_pixels
 
 -- what f gives at each pixel of the place: rows from the top, each from the left
 abbrev pub over_place : {X : Type 0} → Place → (ℕ → ℕ → X) → List (List X)

@@ -3,10 +3,8 @@ ghost use Rattle.fd_tile.specs.Place.{Holds, IsTilePlace};
 ghost use Rattle.fd_tile.specs.Grid.{TargetSize, IsTargetSize, tile_count, place_of};
 
 use crate::place::{Place, TILE_SIDE};
+use fd_snap::MAX_SIDE;
 use std::marker::Model;
-
-/// The greatest width and the greatest height of a target that a grid divides, in pixels.
-pub const MAX_SIDE: u32 = 2048;
 
 /// The tiles of a target, numbered from 0, row by row.
 #[derive(Drop, Debug)]

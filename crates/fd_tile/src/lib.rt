@@ -1,8 +1,8 @@
 //! The tiles of a target: the grid that they form, and the colours of each.
 #![tactic(auto)]
 
-pub use grid::{Grid, MAX_SIDE};
-pub use place::{BORDER_LIMIT, Place, TILE_SIDE};
+pub use grid::Grid;
+pub use place::{Place, TILE_SIDE};
 pub use tile::Tile;
 
 mod grid;

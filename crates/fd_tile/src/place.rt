@@ -3,9 +3,6 @@ ghost use Rattle.std.specs.Prelude.{◌↔◌, IsTrue};
 /// The length of a tile's side in pixels, where no border of the target cuts it.
 pub const TILE_SIDE: u32 = 32;
 
-/// How far right and down the borders of a tile may lie, in pixels.
-pub const BORDER_LIMIT: u32 = 16384;
-
 /// Where a tile lies on its target, in pixels.
 #[derive(Clone, Copy, PartialEq, Eq, Debug)]
 pub struct Place {

@@ -17,7 +17,7 @@ const RED: Colour = Colour {
 };
 
 #[test]
-fn a_fresh_tile_has_no_colour(rt: HostRuntime) -> Result<(), Fail> {
+fn a_fresh_tile_has_no_colour_and_is_deep(rt: HostRuntime) -> Result<(), Fail> {
     let place = Place {
         left: 64,
         top: 32,
@@ -29,6 +29,7 @@ fn a_fresh_tile_has_no_colour(rt: HostRuntime) -> Result<(), Fail> {
     for y in 32..39 {
         for x in 64..96 {
             assert_eq!(rt; tile.get(x, y), NOTHING);
+            assert_eq!(rt; tile.depth(x, y), 65535);
         }
     }
     tile.set(65, 38, RED);
@@ -36,6 +37,14 @@ fn a_fresh_tile_has_no_colour(rt: HostRuntime) -> Result<(), Fail> {
     assert_eq!(rt; tile.get(65, 37), NOTHING);
     tile.row_mut(37)[31] = RED;
     assert_eq!(rt; tile.get(95, 37), RED);
+    assert_eq!(rt; tile.depth(95, 37), 65535);
+    tile.set_depth(65, 38, 1000);
+    assert_eq!(rt; tile.depth(66, 38), 65535);
+    assert_eq!(rt; tile.depth(65, 37), 65535);
+    tile.depth_row_mut(37)[31] = 0;
+    assert_eq!(rt; tile.depth(95, 37), 0);
+    assert_eq!(rt; tile.get(65, 38), RED);
+    assert_eq!(rt; tile.get(94, 37), NOTHING);
     Ok(())
 }
 
@@ -65,8 +74,8 @@ fn borders_cut_the_last_tiles(rt: HostRuntime) -> Result<(), Fail> {
     );
     assert_eq!(rt; grid.tile_of(63, 31), 1);
     assert_eq!(rt; grid.tile_of(64, 32), 5);
-    assert!(rt; Grid::new(2048, 1).is_some());
-    assert!(rt; Grid::new(1, 2049).is_none());
+    assert!(rt; Grid::new(16384, 1).is_some());
+    assert!(rt; Grid::new(1, 16385).is_none());
     assert!(rt; Grid::new(0, 1).is_none());
     Ok(())
 }

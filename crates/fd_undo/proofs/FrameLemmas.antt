@@ -1,9 +1,9 @@
 -- A frame's pixels, from its spans and colours.
 use Rattle.std.proofs.Common.{◌≡◌, ℕ, suc, ◌+◌, ◌-◌, ◌<◌, ◌≤◌, List, [], ◌∷◌, ◌++◌, length, take, drop, refl, sym, ap, ◌∙◌, arith, append_assoc, length-append, length-drop}
 use Rattle.std.specs.Prelude.{slice_set}
-use Rattle.std.proofs.lemmas.List.{take_at, get_or_at, set_at, take_all, take-append-le, drop-append-le, length-take, append-nil, length_push, take-append-drop, take_more}
-use Rattle.std.proofs.lemmas.List.Sums.{sum_by-cons, sum_by_push}
-use Rattle.fd_blend.specs.declared.channel.Colour.{Colour}
+use Rattle.std.proofs.lemmas.List.{take_at, get_or_at, set_at, take_all, take-append-le, drop-append-le, length-take, append-nil, length_push, take_more}
+use Rattle.std.proofs.lemmas.List.Sums.{sum_by-cons}
+use Rattle.fd_tile.specs.Tile.{Pixel}
 use Rattle.fd_undo.specs.declared.span.Span.{Span}
 use Rattle.fd_undo.specs.Frame.{KeptPixel, kept_row, top, older}
 use Rattle.fd_undo.specs.Undo.{recorded_in}
@@ -35,11 +35,11 @@ pub recorded_in-cons : (f : List KeptPixel) (frames : List (List KeptPixel)) →
 recorded_in-cons f frames = sum_by-cons (λ (ks : List KeptPixel). length ks) f frames
 
 -- ---- the pixels of a frame
-pub length-kept_row : (x y : ℕ) (cs : List Colour) → length (kept_row x y cs) ≡ length cs
+pub length-kept_row : (x y : ℕ) (cs : List Pixel) → length (kept_row x y cs) ≡ length cs
 length-kept_row x y [] = refl
 length-kept_row x y (c ∷ cs) = ap (λ n. suc n) (length-kept_row (x + 1) y cs)
 
-pub length-kept_of : (spans : List Span) (cs : List Colour) → pixel_count spans ≤ length cs → length (kept_of spans cs) ≡ pixel_count spans
+pub length-kept_of : (spans : List Span) (cs : List Pixel) → pixel_count spans ≤ length cs → length (kept_of spans cs) ≡ pixel_count spans
 length-kept_of [] cs e = refl
 length-kept_of (s ∷ spans) cs e =
     let count : pixel_count (s ∷ spans) ≡ s.len + pixel_count spans = pixel_count-cons s spans in
@@ -49,7 +49,7 @@ length-kept_of (s ∷ spans) cs e =
     omega (arith, length-append (kept_row s.x s.y (take s.len cs)) (kept_of spans (drop s.len cs)), length-kept_row s.x s.y (take s.len cs))
 
 -- one more span, and its colours
-pub kept_of-push : (spans : List Span) (s : Span) (cs ds : List Colour) → pixel_count spans ≡ length cs → s.len ≡ length ds
+pub kept_of-push : (spans : List Span) (s : Span) (cs ds : List Pixel) → pixel_count spans ≡ length cs → s.len ≡ length ds
     → kept_of (spans ++ s ∷ []) (cs ++ ds) ≡ kept_of spans cs ++ kept_row s.x s.y ds
 kept_of-push [] s [] ds e f = append-nil _ ∙ ap (λ l. kept_row s.x s.y l) (take_all s.len ds (omega arith))
 kept_of-push [] s (c ∷ cs) ds e f = absurd (omega arith)
@@ -61,7 +61,7 @@ kept_of-push (r ∷ spans) s cs ds e f =
     (sym (append_assoc (kept_row r.x r.y (take r.len cs)) (kept_of spans (drop r.len cs)) (kept_row s.x s.y ds)))
 
 -- more colours at the end change nothing
-pub kept_of-more : (spans : List Span) (cs ds : List Colour) → pixel_count spans ≤ length cs → kept_of spans (cs ++ ds) ≡ kept_of spans cs
+pub kept_of-more : (spans : List Span) (cs ds : List Pixel) → pixel_count spans ≤ length cs → kept_of spans (cs ++ ds) ≡ kept_of spans cs
 kept_of-more [] cs ds e = refl
 kept_of-more (s ∷ spans) cs ds e =
     let count : pixel_count (s ∷ spans) ≡ s.len + pixel_count spans = pixel_count-cons s spans in
@@ -69,20 +69,3 @@ kept_of-more (s ∷ spans) cs ds e =
     let rest : pixel_count spans ≤ length (drop s.len cs) = omega (arith, length-drop s.len cs) in
     rw (take-append-le s.len cs ds fits, drop-append-le s.len cs ds fits)
     (ap (λ l. kept_row s.x s.y (take s.len cs) ++ l) (kept_of-more spans (drop s.len cs) ds rest))
-
--- ---- a span that is taken off
-module _ (spans : List Span) (s : Span) (cs : List Colour) (n start : ℕ) (counted : pixel_count (spans ++ s ∷ []) + n ≡ length cs) (at : start ≡ length cs - s.len) where
-  count' : pixel_count (spans ++ s ∷ []) ≡ pixel_count spans + s.len
-  count' = sum_by_push (λ (r : Span). r.len) spans s
-
-  pub left_count : pixel_count spans + n ≡ length (take start cs)
-  left_count = omega (arith, length-take start cs, count')
-
-  pub kept_of-pop : kept_of (spans ++ s ∷ []) (drop n cs) ≡ kept_of spans (drop n (take start cs)) ++ kept_row s.x s.y (drop start cs)
-  kept_of-pop =
-      let below : n ≤ length (take start cs) = omega (arith, left_count) in
-      let parts : drop n cs ≡ drop n (take start cs) ++ drop start cs =
-      ap (λ l. drop n l) (sym (take-append-drop start cs)) ∙ drop-append-le n (take start cs) (drop start cs) below in
-      let front : pixel_count spans ≡ length (drop n (take start cs)) = omega (arith, length-drop n (take start cs), left_count) in
-      let back : s.len ≡ length (drop start cs) = omega (arith, length-drop start cs, count') in
-      ap (λ l. kept_of (spans ++ s ∷ []) l) parts ∙ kept_of-push spans s (drop n (take start cs)) (drop start cs) front back

@@ -1,5 +1,5 @@
 -- The frames of an undo stack, from those that it stores.
-use Rattle.std.proofs.Common.{◌≡◌, ◌≢◌, ℕ, zero, suc, ◌+◌, ◌-◌, ◌<◌, ◌≤◌, cond, eqb, List, [], ◌∷◌, ◌++◌, length, get_or, take, drop, refl, sym, ap, ◌∙◌, subst, arith, length-drop, inl, inr, ◌⊎◌}
+use Rattle.std.proofs.Common.{◌≡◌, ◌≢◌, ℕ, zero, suc, ◌+◌, ◌-◌, ◌<◌, ◌≤◌, cond, eqb, List, [], ◌∷◌, ◌++◌, length, get_or, take, drop, refl, sym, ap, ◌∙◌, subst, arith, append_assoc, length-drop, inl, inr, ◌⊎◌}
 use Rattle.std.specs.Prelude.{map, slice_set}
 use Rattle.std.specs.List.{range_with_len}
 use Rattle.std.proofs.lemmas.Bool.{ne_eqb, eq-eqb, cases_eq}
@@ -7,12 +7,13 @@ use Rattle.std.proofs.lemmas.Bool.Decides.{nat_tests}
 use Rattle.std.proofs.lemmas.List.{drop-append-le, length-take, take-append-drop, take_more, take_all, set_at, get_or_default, get_or_at, length_push}
 use Rattle.std.proofs.lemmas.List.FromFn.{map-range_with_len_more, length-map-range_with_len, get_or-map-range_with_len}
 use Rattle.std.proofs.lemmas.List.Sums.{sum_by_push}
-use Rattle.fd_blend.specs.declared.channel.Colour.{Colour}
+use Rattle.fd_tile.specs.Tile.{Pixel}
 use Rattle.fd_undo.specs.declared.span.Span.{Span}
 use Rattle.fd_undo.specs.declared.stored.StoredFrame.{StoredFrame}
 use Rattle.fd_undo.specs.Frame.{kept_row, top, older}
 use Rattle.fd_undo.specs.Undo.{recorded_in}
-use Rattle.fd_undo.specs.Stored.{pixel_count, kept_of, frame_of, frames_of, Follow, no_frame, top_stored}
+use Rattle.fd_undo.specs.Stored.{pixel_count, kept_of, frame_of, frames_of, Follow, DepthsFollow, spans_of, depth_count, listed, no_frame, top_stored}
+use Rattle.fd_undo.proofs.Depths.{spans_of-push, DepthsFollow-pop, DepthsFollow-push, depth_count_push}
 use Rattle.fd_undo.proofs.FrameLemmas.{older-push, top-push, kept_of-push, kept_of-more, length-kept_of, recorded_in-cons}
 
 -- ---- stored frames in their order
@@ -41,20 +42,20 @@ Follow-pop (g ∷ fs) f i k j l (low, e, rest) =
     ((low, e, below.0), below.1, below.2)
 
 -- ---- one frame
-pub other_number : (f : StoredFrame) (fs : List StoredFrame) (cs : List Colour) (n : ℕ) → f.number ≢ n → frame_of (f ∷ fs) cs n ≡ frame_of fs cs n
+pub other_number : (f : StoredFrame) (fs : List StoredFrame) (cs : List Pixel) (n : ℕ) → f.number ≢ n → frame_of (f ∷ fs) cs n ≡ frame_of fs cs n
 other_number f fs cs n other = ap (λ b. cond b (kept_of f.spans.items (drop f.first cs)) (frame_of fs cs n)) (ne_eqb f.number n other)
 
-pub this_number : (f : StoredFrame) (fs : List StoredFrame) (cs : List Colour) (n : ℕ) → f.number ≡ n → frame_of (f ∷ fs) cs n ≡ kept_of f.spans.items (drop f.first cs)
+pub this_number : (f : StoredFrame) (fs : List StoredFrame) (cs : List Pixel) (n : ℕ) → f.number ≡ n → frame_of (f ∷ fs) cs n ≡ kept_of f.spans.items (drop f.first cs)
 this_number f fs cs n same = ap (λ b. cond b (kept_of f.spans.items (drop f.first cs)) (frame_of fs cs n)) (eq-eqb f.number n same)
 
 -- a number below the first, or from the last on, is not stored
-pub frame_of-below : (fs : List StoredFrame) (cs : List Colour) (i k j l n : ℕ) → Follow i k fs j l → n < i → frame_of fs cs n ≡ []
+pub frame_of-below : (fs : List StoredFrame) (cs : List Pixel) (i k j l n : ℕ) → Follow i k fs j l → n < i → frame_of fs cs n ≡ []
 frame_of-below [] cs i k j l n follow low = refl
 frame_of-below (f ∷ fs) cs i k j l n (from, first, rest) low =
     other_number f fs cs n (λ e. absurd (omega arith))
     ∙ frame_of-below fs cs (f.number + 1) (k + pixel_count f.spans.items) j l n rest (omega arith)
 
-pub frame_of-above : (fs : List StoredFrame) (cs : List Colour) (i k j l n : ℕ) → Follow i k fs j l → j ≤ n → frame_of fs cs n ≡ []
+pub frame_of-above : (fs : List StoredFrame) (cs : List Pixel) (i k j l n : ℕ) → Follow i k fs j l → j ≤ n → frame_of fs cs n ≡ []
 frame_of-above [] cs i k j l n follow high = refl
 frame_of-above (f ∷ fs) cs i k j l n (from, first, rest) high =
     let on : (f.number + 1 ≤ j) × (k + pixel_count f.spans.items ≤ l) = Follow-order fs (f.number + 1) (k + pixel_count f.spans.items) j l rest in
@@ -62,7 +63,7 @@ frame_of-above (f ∷ fs) cs i k j l n (from, first, rest) high =
     ∙ frame_of-above fs cs (f.number + 1) (k + pixel_count f.spans.items) j l n rest high
 
 -- more colours at the end change nothing
-pub frame_of-more : (fs : List StoredFrame) (cs ds : List Colour) (i k j l n : ℕ) → Follow i k fs j l → l ≤ length cs → frame_of fs (cs ++ ds) n ≡ frame_of fs cs n
+pub frame_of-more : (fs : List StoredFrame) (cs ds : List Pixel) (i k j l n : ℕ) → Follow i k fs j l → l ≤ length cs → frame_of fs (cs ++ ds) n ≡ frame_of fs cs n
 frame_of-more [] cs ds i k j l n follow fits = refl
 frame_of-more (f ∷ fs) cs ds i k j l n (from, first, rest) fits =
     let on : (f.number + 1 ≤ j) × (k + pixel_count f.spans.items ≤ l) = Follow-order fs (f.number + 1) (k + pixel_count f.spans.items) j l rest in
@@ -75,12 +76,12 @@ frame_of-more (f ∷ fs) cs ds i k j l n (from, first, rest) fits =
     (frame_of-more fs cs ds (f.number + 1) (k + pixel_count f.spans.items) j l n rest fits)
 
 -- one frame more
-pub frame_of-push_other : (fs : List StoredFrame) (f : StoredFrame) (cs : List Colour) (n : ℕ) → f.number ≢ n → frame_of (fs ++ f ∷ []) cs n ≡ frame_of fs cs n
+pub frame_of-push_other : (fs : List StoredFrame) (f : StoredFrame) (cs : List Pixel) (n : ℕ) → f.number ≢ n → frame_of (fs ++ f ∷ []) cs n ≡ frame_of fs cs n
 frame_of-push_other [] f cs n other = other_number f [] cs n other
 frame_of-push_other (g ∷ fs) f cs n other =
     ap (λ p. cond (eqb g.number n) (kept_of g.spans.items (drop g.first cs)) p) (frame_of-push_other fs f cs n other)
 
-pub frame_of-push_same : (fs : List StoredFrame) (f : StoredFrame) (cs : List Colour) (i k j l n : ℕ) → Follow i k fs j l → j ≤ n → f.number ≡ n
+pub frame_of-push_same : (fs : List StoredFrame) (f : StoredFrame) (cs : List Pixel) (i k j l n : ℕ) → Follow i k fs j l → j ≤ n → f.number ≡ n
     → frame_of (fs ++ f ∷ []) cs n ≡ kept_of f.spans.items (drop f.first cs)
 frame_of-push_same [] f cs i k j l n follow high same = this_number f [] cs n same
 frame_of-push_same (g ∷ fs) f cs i k j l n (from, first, rest) high same =
@@ -95,22 +96,22 @@ map_range f g a (suc n) same =
     ap (λ x. x ∷ map f (range_with_len (a + 1) n)) (same a (omega arith) (omega arith))
     ∙ ap (λ l. g a ∷ l) (map_range f g (a + 1) n (λ i low high. same i (omega arith) (omega arith)))
 
-pub frames_of-same : (count : ℕ) (fs gs : List StoredFrame) (cs ds : List Colour) → ((i : ℕ) → i < count → frame_of fs cs i ≡ frame_of gs ds i)
+pub frames_of-same : (count : ℕ) (fs gs : List StoredFrame) (cs ds : List Pixel) → ((i : ℕ) → i < count → frame_of fs cs i ≡ frame_of gs ds i)
     → frames_of count fs cs ≡ frames_of count gs ds
 frames_of-same count fs gs cs ds same = map_range (frame_of fs cs) (frame_of gs ds) 0 count (λ i low high. same i (omega arith))
 
-pub frames_of-more : (count : ℕ) (fs : List StoredFrame) (cs : List Colour) → frames_of (count + 1) fs cs ≡ frames_of count fs cs ++ frame_of fs cs count ∷ []
+pub frames_of-more : (count : ℕ) (fs : List StoredFrame) (cs : List Pixel) → frames_of (count + 1) fs cs ≡ frames_of count fs cs ++ frame_of fs cs count ∷ []
 frames_of-more count fs cs = map-range_with_len_more (frame_of fs cs) 0 count count (omega arith)
 
-pub length-frames_of : (count : ℕ) (fs : List StoredFrame) (cs : List Colour) → length (frames_of count fs cs) ≡ count
+pub length-frames_of : (count : ℕ) (fs : List StoredFrame) (cs : List Pixel) → length (frames_of count fs cs) ≡ count
 length-frames_of count fs cs = length-map-range_with_len (frame_of fs cs) 0 count
 
 -- the frame under a number
-pub get_or-frames_of : (count : ℕ) (fs : List StoredFrame) (cs : List Colour) (i : ℕ) → i < count → get_or (frames_of count fs cs) i [] ≡ frame_of fs cs i
+pub get_or-frames_of : (count : ℕ) (fs : List StoredFrame) (cs : List Pixel) (i : ℕ) → i < count → get_or (frames_of count fs cs) i [] ≡ frame_of fs cs i
 get_or-frames_of count fs cs i below = get_or-map-range_with_len (frame_of fs cs) 0 count i i [] below (omega arith)
 
 -- the youngest frame and those below it
-module _ (count : ℕ) (fs : List StoredFrame) (cs : List Colour) (some : 0 < count) where
+module _ (count : ℕ) (fs : List StoredFrame) (cs : List Pixel) (some : 0 < count) where
   frames_of-split : frames_of count fs cs ≡ frames_of (count - 1) fs cs ++ frame_of fs cs (count - 1) ∷ []
   frames_of-split = ap (λ n. frames_of n fs cs) {x = count} {y = count - 1 + 1} (omega arith) ∙ frames_of-more (count - 1) fs cs
 
@@ -121,7 +122,7 @@ module _ (count : ℕ) (fs : List StoredFrame) (cs : List Colour) (some : 0 < co
   older-frames_of = ap older frames_of-split ∙ older-push (frames_of (count - 1) fs cs) (frame_of fs cs (count - 1))
 
 -- ---- a new frame
-module _ (count : ℕ) (fs : List StoredFrame) (cs : List Colour) (follow : Follow 0 0 fs count (length cs)) where
+module _ (count : ℕ) (fs : List StoredFrame) (cs : List Pixel) (follow : Follow 0 0 fs count (length cs)) where
   pub frames_of-empty : frames_of (count + 1) fs cs ≡ frames_of count fs cs ++ [] ∷ []
   frames_of-empty = frames_of-more count fs cs ∙ ap (λ f. frames_of count fs cs ++ f ∷ []) (frame_of-above fs cs 0 0 count (length cs) count follow (omega arith))
 
@@ -141,7 +142,7 @@ module _ (count : ℕ) (fs : List StoredFrame) (cs : List Colour) (follow : Foll
         (Follow-push fs f 0 0 count (length cs) (count + 1) follow (omega arith) from (omega arith))
 
 -- ---- one span more in the youngest frame
-module _ (count : ℕ) (fs : List StoredFrame) (f g : StoredFrame) (s : Span) (cs old : List Colour) (follow : Follow 0 0 (fs ++ f ∷ []) count (length cs))
+module _ (count : ℕ) (fs : List StoredFrame) (f g : StoredFrame) (s : Span) (cs old : List Pixel) (follow : Follow 0 0 (fs ++ f ∷ []) count (length cs))
     (youngest : f.number + 1 ≡ count) (number : g.number ≡ f.number) (first : g.first ≡ f.first) (spans : g.spans.items ≡ f.spans.items ++ s ∷ []) (new : s.len ≡ length old) where
   below : Follow 0 0 fs f.number f.first × (f.number + 1 ≤ count) × (f.first + pixel_count f.spans.items ≡ length cs)
   below = Follow-pop fs f 0 0 count (length cs) follow
@@ -192,7 +193,7 @@ top_stored-split fs some =
     sym (take_all (length fs - 1 + 1) fs whole) ∙ take_more fs (length fs - 1) no_frame last
 
 -- one span more, as the code goes: n frames are stored
-module _ (count n : ℕ) (fs : List StoredFrame) (f g : StoredFrame) (s : Span) (cs : List Colour) (at : n ≡ length fs) (some : 0 < length fs) (read : f ≡ get_or fs (n - 1) f)
+module _ (count n : ℕ) (fs : List StoredFrame) (f g : StoredFrame) (s : Span) (cs : List Pixel) (at : n ≡ length fs) (some : 0 < length fs) (read : f ≡ get_or fs (n - 1) f)
     (youngest : (top_stored fs).number + 1 ≡ count) (follow : Follow 0 0 fs count (length cs))
     (number : g.number ≡ f.number) (first : g.first ≡ f.first) (spans : g.spans.items ≡ f.spans.items ++ s ∷ []) where
   pub was_top : top_stored fs ≡ f
@@ -214,17 +215,36 @@ module _ (count n : ℕ) (fs : List StoredFrame) (f g : StoredFrame) (s : Span) 
   youngest' : f.number + 1 ≡ count
   youngest' = ap (λ t. t.number + 1) (sym was_top) ∙ youngest
 
+  pub kept_spans : spans_of (slice_set fs (n - 1) g) ≡ spans_of fs ++ s ∷ []
+  kept_spans =
+      let front : List StoredFrame = take (length fs - 1) fs in
+      ap spans_of set_is
+      ∙ spans_of-push front g
+      ∙ ap (λ l. spans_of front ++ l) spans
+      ∙ sym (append_assoc (spans_of front) f.spans.items (s ∷ []))
+      ∙ ap (λ l. l ++ s ∷ []) (sym (spans_of-push front f))
+      ∙ ap (λ l. spans_of l ++ s ∷ []) (sym parts)
+
+  pub kept_depths : (l : ℕ) → DepthsFollow 0 fs l → g.first_depth ≡ f.first_depth → DepthsFollow 0 (slice_set fs (n - 1) g) (l + listed s)
+  kept_depths l deep start =
+      let front : List StoredFrame = take (length fs - 1) fs in
+      let below : DepthsFollow 0 front f.first_depth × (f.first_depth + depth_count f.spans.items ≡ l) = DepthsFollow-pop front f 0 l (subst (λ gs. DepthsFollow 0 gs l) parts deep) in
+      let grown : depth_count g.spans.items ≡ depth_count f.spans.items + listed s = ap depth_count spans ∙ depth_count_push f.spans.items s in
+      subst (λ gs. DepthsFollow 0 gs (l + listed s)) (sym set_is)
+      (subst (λ k. DepthsFollow 0 (front ++ g ∷ []) k) {x = f.first_depth + depth_count g.spans.items} {y = l + listed s} (omega (arith, below.1, grown))
+      (DepthsFollow-push front g 0 f.first_depth below.0 start))
+
   pub kept_top : top_stored (slice_set fs (n - 1) g) ≡ g
   kept_top = ap top_stored set_is ∙ top_stored-push (take (length fs - 1) fs) g
 
-  module _ (old : List Colour) (new : s.len ≡ length old) where
+  module _ (old : List Pixel) (new : s.len ≡ length old) where
     pub kept_follow : Follow 0 0 (slice_set fs (n - 1) g) count (length cs + length old)
     kept_follow =
         subst (λ l. Follow 0 0 l count (length cs + length old)) (sym set_is)
         (subst (λ k. Follow 0 0 (take (length fs - 1) fs ++ g ∷ []) count (length cs + k)) new
         (Follow-kept count (take (length fs - 1) fs) f g s cs old follow' youngest' number first spans new))
 
-    pub kept_frames : (longer : List Colour) → longer ≡ cs ++ old
+    pub kept_frames : (longer : List Pixel) → longer ≡ cs ++ old
         → frames_of count (slice_set fs (n - 1) g) longer ≡ older (frames_of count fs cs) ++ (top (frames_of count fs cs) ++ kept_row s.x s.y old) ∷ []
     kept_frames longer extended =
         ap (λ l. frames_of count (slice_set fs (n - 1) g) l) extended
@@ -234,7 +254,7 @@ module _ (count n : ℕ) (fs : List StoredFrame) (f g : StoredFrame) (s : Span) 
 
 -- ---- the youngest frame is dropped
 -- it is stored
-module _ (count : ℕ) (fs : List StoredFrame) (f : StoredFrame) (cs : List Colour) (some : 0 < count) (follow : Follow 0 0 (fs ++ f ∷ []) count (length cs))
+module _ (count : ℕ) (fs : List StoredFrame) (f : StoredFrame) (cs : List Pixel) (some : 0 < count) (follow : Follow 0 0 (fs ++ f ∷ []) count (length cs))
     (youngest : f.number ≡ count - 1) where
   under : Follow 0 0 fs f.number f.first × (f.number + 1 ≤ count) × (f.first + pixel_count f.spans.items ≡ length cs)
   under = Follow-pop fs f 0 0 count (length cs) follow
@@ -265,7 +285,7 @@ module _ (count : ℕ) (fs : List StoredFrame) (f : StoredFrame) (cs : List Colo
       ∙ frame_of-more fs (take n cs) (drop n cs) 0 0 f.number f.first i under.0 long)
 
 -- it is not stored
-pub Follow-less : (count : ℕ) (fs : List StoredFrame) (cs : List Colour) → 0 < count → Follow 0 0 fs count (length cs)
+pub Follow-less : (count : ℕ) (fs : List StoredFrame) (cs : List Pixel) → 0 < count → Follow 0 0 fs count (length cs)
     → (0 < length fs → (top_stored fs).number ≢ count - 1) → Follow 0 0 fs (count - 1) (length cs)
 Follow-less count [] cs some (low, e) apart = (omega arith, e)
 Follow-less count (g ∷ gs) cs some follow apart =
@@ -287,12 +307,12 @@ Follow-less count (g ∷ gs) cs some follow apart =
         by_cases (inl same) = absurd (other same)
         by_cases (inr apart) = grind (arith, nat_tests)
 
-module _ (count : ℕ) (fs : List StoredFrame) (cs : List Colour) (some : 0 < count) (follow : Follow 0 0 fs (count - 1) (length cs)) where
+module _ (count : ℕ) (fs : List StoredFrame) (cs : List Pixel) (some : 0 < count) (follow : Follow 0 0 fs (count - 1) (length cs)) where
   pub empty_top : top (frames_of count fs cs) ≡ []
   empty_top = top-frames_of count fs cs some ∙ frame_of-above fs cs 0 0 (count - 1) (length cs) (count - 1) follow (omega arith)
 
 -- ---- how many pixels are kept
-recorded_from : (fs : List StoredFrame) (cs : List Colour) (i k n l : ℕ) → Follow i k fs (i + n) l → l ≤ length cs
+recorded_from : (fs : List StoredFrame) (cs : List Pixel) (i k n l : ℕ) → Follow i k fs (i + n) l → l ≤ length cs
     → recorded_in (map (frame_of fs cs) (range_with_len i n)) + k ≡ l
 recorded_from [] cs i k zero l (low, e) fits = omega arith
 recorded_from (f ∷ fs) cs i k zero l (low, first, rest) fits =
@@ -304,7 +324,7 @@ recorded_from [] cs i k (suc n) l (low, e) fits =
 recorded_from (f ∷ fs) cs i k (suc n) l follow fits =
     by_number f fs cs i k n l follow fits (cases_eq f.number i) (λ from. recorded_from (f ∷ fs) cs (i + 1) k n l from fits) (λ from. recorded_from fs cs (i + 1) (k + pixel_count f.spans.items) n l from fits)
   where
-    by_number : (f : StoredFrame) (fs : List StoredFrame) (cs : List Colour) (i k n l : ℕ) → Follow i k (f ∷ fs) (i + suc n) l → l ≤ length cs → (f.number ≡ i) ⊎ (f.number ≢ i)
+    by_number : (f : StoredFrame) (fs : List StoredFrame) (cs : List Pixel) (i k n l : ℕ) → Follow i k (f ∷ fs) (i + suc n) l → l ≤ length cs → (f.number ≡ i) ⊎ (f.number ≢ i)
         → (Follow (i + 1) k (f ∷ fs) (i + 1 + n) l → recorded_in (map (frame_of (f ∷ fs) cs) (range_with_len (i + 1) n)) + k ≡ l)
         → (Follow (i + 1) (k + pixel_count f.spans.items) fs (i + 1 + n) l → recorded_in (map (frame_of fs cs) (range_with_len (i + 1) n)) + (k + pixel_count f.spans.items) ≡ l)
         → recorded_in (map (frame_of (f ∷ fs) cs) (range_with_len i (suc n))) + k ≡ l
@@ -326,7 +346,7 @@ recorded_from (f ∷ fs) cs i k (suc n) l follow fits =
         let none : length (frame_of (f ∷ fs) cs i) ≡ 0 = ap length (frame_of-below (f ∷ fs) cs (i + 1) k (i + 1 + n) l i next (omega arith)) in
         omega (arith, recorded_in-cons (frame_of (f ∷ fs) cs i) (map (frame_of (f ∷ fs) cs) (range_with_len (i + 1) n)), none, later next)
 
-pub recorded_in-frames_of : (count : ℕ) (fs : List StoredFrame) (cs : List Colour) → Follow 0 0 fs count (length cs) → recorded_in (frames_of count fs cs) ≡ length cs
+pub recorded_in-frames_of : (count : ℕ) (fs : List StoredFrame) (cs : List Pixel) → Follow 0 0 fs count (length cs) → recorded_in (frames_of count fs cs) ≡ length cs
 recorded_in-frames_of count fs cs follow =
     let sum : recorded_in (map (frame_of fs cs) (range_with_len 0 count)) + 0 ≡ length cs =
     recorded_from fs cs 0 0 count (length cs) (subst (λ n. Follow 0 0 fs n (length cs)) {x = count} {y = 0 + count} (omega arith) follow) (omega arith) in

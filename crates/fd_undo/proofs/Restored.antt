@@ -5,12 +5,14 @@ use Rattle.std.proofs.lemmas.List.{take_more, take_at, drop_at, set_at, length-t
 use Rattle.std.proofs.lemmas.List.Elements.{All-head, All-tail, All-take, All-drop}
 use borrow.Rule.Slice.PartMut.{put_mid}
 use Rattle.fd_blend.specs.declared.channel.Colour.{Colour}
-use Rattle.fd_blend.specs.Channel.{fresh}
 use Rattle.fd_tile.specs.declared.place.Place.{Place}
 use Rattle.fd_tile.specs.Place.{Holds, HasRow}
-use Rattle.fd_tile.specs.Tile.{TileImage, IsTileImage, row_of, with_row, with_colour, with_row_left}
-use Rattle.fd_tile.proofs.Pixels.{length-row_of, with_row_left_is, row_of-with_row_same, with_row-with_row, with_row_same}
+use Rattle.fd_blend.specs.Channel.{fresh}
+use Rattle.std.specs.List.{zip, refill}
+use Rattle.fd_tile.specs.Tile.{Pixel, TileImage, FillsPlace, IsTileImage, row_in, with_row_in, row_of, depth_row_of, with_pixel, with_row_left, with_depth_row_left}
+use Rattle.fd_tile.proofs.Pixels.{length-row_in, left_row_is, row_in-same, with_row_in-twice, with_row_in-as_it_is}
 use Rattle.fd_undo.specs.Frame.{KeptPixel, kept_row, restored}
+use Rattle.fd_undo.proofs.Zips.{length-zip_equal}
 
 -- the pixels of a frame lie in the place
 abbrev pub Inside : Place → List KeptPixel → Type 0
@@ -27,26 +29,26 @@ Inside-back p ks ls h =
 
 pub restored-append : (ks ls : List KeptPixel) (t : TileImage) → restored (ks ++ ls) t ≡ restored ks (restored ls t)
 restored-append [] ls t = refl
-restored-append (k ∷ ks) ls t = ap (λ u. with_colour u k.x k.y k.colour) (restored-append ks ls t)
+restored-append (k ∷ ks) ls t = ap (λ u. with_pixel u k.x k.y k.pixel) (restored-append ks ls t)
 
 pub restored-place : (ks : List KeptPixel) (t : TileImage) → (restored ks t).place ≡ t.place
 restored-place [] t = refl
 restored-place (k ∷ ks) t = restored-place ks t
 
 -- ---- a part of one row
-pub kept_row-within : (p : Place) (x y : ℕ) (old : List Colour) → Inside p (kept_row x y old) → 0 < length old → x + length old ≤ p.left + p.width
+pub kept_row-within : (p : Place) (x y : ℕ) (old : List Pixel) → Inside p (kept_row x y old) → 0 < length old → x + length old ≤ p.left + p.width
 kept_row-within p x y [] h some = absurd (omega arith)
 kept_row-within p x y (c ∷ []) h some =
-    let held : Holds p x y = All-head (λ (k : KeptPixel). Holds p k.x k.y) (record { x = x; y = y; colour = c }) [] h in
+    let held : Holds p x y = All-head (λ (k : KeptPixel). Holds p k.x k.y) (record { x = x; y = y; pixel = c }) [] h in
     omega (arith, held.to_right)
 kept_row-within p x y (c ∷ d ∷ cs) h some =
     let rest : x + 1 + length (d ∷ cs) ≤ p.left + p.width =
-    kept_row-within p (x + 1) y (d ∷ cs) (All-tail (λ (k : KeptPixel). Holds p k.x k.y) (record { x = x; y = y; colour = c }) (kept_row (x + 1) y (d ∷ cs)) h) (omega arith) in
+    kept_row-within p (x + 1) y (d ∷ cs) (All-tail (λ (k : KeptPixel). Holds p k.x k.y) (record { x = x; y = y; pixel = c }) (kept_row (x + 1) y (d ∷ cs)) h) (omega arith) in
     omega arith
 
-pub kept_row-first : (p : Place) (x y : ℕ) (old : List Colour) → Inside p (kept_row x y old) → 0 < length old → Holds p x y
+pub kept_row-first : (p : Place) (x y : ℕ) (old : List Pixel) → Inside p (kept_row x y old) → 0 < length old → Holds p x y
 kept_row-first p x y [] h some = absurd (omega arith)
-kept_row-first p x y (c ∷ cs) h some = All-head (λ (k : KeptPixel). Holds p k.x k.y) (record { x = x; y = y; colour = c }) (kept_row (x + 1) y cs) h
+kept_row-first p x y (c ∷ cs) h some = All-head (λ (k : KeptPixel). Holds p k.x k.y) (record { x = x; y = y; pixel = c }) (kept_row (x + 1) y cs) h
 
 -- a list with another list pasted over it from index j on, the last element first
 pasted : {X : Type 0} → ℕ → List X → List X → List X
@@ -70,35 +72,67 @@ pasted_is d j (c ∷ cs) row fits =
     ∙ set_at (take j row) (get_or row j d) (cs ++ drop (j + 1 + length cs) row) c j long
     ∙ ap (λ k. take j row ++ (c ∷ (cs ++ drop k row))) {x = j + 1 + length cs} {y = j + suc (length cs)} (omega arith)
 
--- colours that are put back in one row
-restored-kept_row : (t : TileImage) (x y : ℕ) (old : List Colour) → IsTileImage t → HasRow t.place y → t.place.left ≤ x
-    → restored (kept_row x y old) t ≡ with_row t y (pasted (x - t.place.left) old (row_of t y))
-unfolding pasted
-restored-kept_row t x y [] filled crossed low = sym (with_row_same t y)
-restored-kept_row t x y (c ∷ cs) filled crossed low =
-    let rest : List Colour = pasted (x - t.place.left + 1) cs (row_of t y) in
-    let next : restored (kept_row (x + 1) y cs) t ≡ with_row t y rest =
-    restored-kept_row t (x + 1) y cs filled crossed (omega arith)
-    ∙ ap (λ j. with_row t y (pasted j cs (row_of t y))) {x = x + 1 - t.place.left} {y = x - t.place.left + 1} (omega arith) in
-    ap (λ u. with_colour u x y c) next
-    ∙ ap (λ r. with_row (with_row t y rest) y (slice_set r (x - t.place.left) c)) (row_of-with_row_same t y filled crossed rest)
-    ∙ with_row-with_row t y filled crossed rest (slice_set rest (x - t.place.left) c)
+-- one value more in a row that was written
+row_step : {X : Type 0} (p : Place) (rows : List (List X)) (y : ℕ) → FillsPlace p rows → HasRow p y → (rest : List X) (j : ℕ) (x : X)
+    → with_row_in p (with_row_in p rows y rest) y (slice_set (row_in p (with_row_in p rows y rest) y) j x) ≡ with_row_in p rows y (slice_set rest j x)
+row_step p rows y filled crossed rest j x =
+    ap (λ r. with_row_in p (with_row_in p rows y rest) y (slice_set r j x)) (row_in-same p rows y filled crossed rest)
+    ∙ with_row_in-twice p rows y filled crossed rest (slice_set rest j x)
 
--- what the code writes: the part of the row from column x on, over the lent row
-pub put_back_row_is : (t : TileImage) (x y j n : ℕ) (old row now : List Colour) → IsTileImage t → Inside t.place (kept_row x y old) → 0 < length old
-    → j ≡ x - t.place.left → n ≡ length old → row ≡ row_of t y → now ≡ old
-    → with_row_left t y (put_mid j n row now) ≡ restored (kept_row x y old) t
-put_back_row_is t x y j n old row now filled inside some at count read after =
-    let first : Holds t.place x y = kept_row-first t.place x y old inside some in
+abbrev of_rows : Place → List (List Colour) → List (List ℕ) → TileImage
+of_rows p rows depths = record { place = p; rows = rows; depths = depths }
+
+-- colours and depths that are put back in one row
+restored-kept_row : (t : TileImage) (x y : ℕ) (old : List Colour) (deep : List ℕ) → length deep ≡ length old → IsTileImage t → HasRow t.place y → t.place.left ≤ x
+    → restored (kept_row x y (zip old deep)) t
+    ≡ of_rows t.place (with_row_in t.place t.rows y (pasted (x - t.place.left) old (row_of t y))) (with_row_in t.place t.depths y (pasted (x - t.place.left) deep (depth_row_of t y)))
+unfolding pasted
+restored-kept_row t x y [] [] equal filled crossed low =
+    ap (λ rows. of_rows t.place rows t.depths) (sym (with_row_in-as_it_is t.place t.rows y))
+    ∙ ap (λ depths. of_rows t.place (with_row_in t.place t.rows y (row_of t y)) depths) (sym (with_row_in-as_it_is t.place t.depths y))
+restored-kept_row t x y [] (d ∷ ds) equal filled crossed low = absurd (omega arith)
+restored-kept_row t x y (c ∷ cs) [] equal filled crossed low = absurd (omega arith)
+restored-kept_row t x y (c ∷ cs) (d ∷ ds) equal filled crossed low =
+    let p : Place = t.place in
+    let j : ℕ = x - t.place.left in
+    let next : x + 1 - t.place.left ≡ x - t.place.left + 1 = omega arith in
+    let colours : List Colour = pasted (x - t.place.left + 1) cs (row_of t y) in
+    let depths : List ℕ = pasted (x - t.place.left + 1) ds (depth_row_of t y) in
+    let rest : restored (kept_row (x + 1) y (zip cs ds)) t ≡ of_rows t.place (with_row_in t.place t.rows y colours) (with_row_in t.place t.depths y depths) =
+    restored-kept_row t (x + 1) y cs ds (omega arith) filled crossed (omega arith)
+    ∙ ap (λ k. of_rows p (with_row_in p t.rows y (pasted k cs (row_of t y))) (with_row_in p t.depths y (pasted k ds (depth_row_of t y)))) next in
+    ap (λ u. with_pixel u x y (c, d)) rest
+    ∙ ap (λ rows. of_rows p rows (with_row_in p (with_row_in p t.depths y depths) y (slice_set (row_in p (with_row_in p t.depths y depths) y) j d))) (row_step p t.rows y filled.colours crossed colours j c)
+    ∙ ap (λ ds. of_rows p (with_row_in p t.rows y (slice_set colours j c)) ds) (row_step p t.depths y filled.depths crossed depths j d)
+
+-- a part of a row that is written over the row as it was read
+part_left : {X : Type 0} (p : Place) (rows : List (List X)) (y x j n : ℕ) (old row now : List X) (other : X) → FillsPlace p rows → HasRow p y → p.left ≤ x → x + length old ≤ p.left + p.width
+    → j ≡ x - p.left → n ≡ length old → row ≡ row_in p rows y → now ≡ old
+    → with_row_in p rows y (refill (length (row_in p rows y)) (row_in p rows y) (put_mid j n row now)) ≡ with_row_in p rows y (pasted (x - p.left) old (row_in p rows y))
+part_left p rows y x j n old row now other filled crossed low within at count read after =
+    let wide : length (row_in p rows y) ≡ p.width = length-row_in p rows y filled crossed in
+    let fits : x - p.left + length old ≤ length (row_in p rows y) = omega arith in
+    let is : put_mid j n row now ≡ pasted (x - p.left) old (row_in p rows y) =
+    ap (λ k. put_mid k n row now) at ∙ ap (λ k. put_mid (x - p.left) k row now) count
+    ∙ ap (λ r. put_mid (x - p.left) (length old) r now) read ∙ ap (λ l. put_mid (x - p.left) (length old) (row_in p rows y) l) after
+    ∙ ap (λ l. take (x - p.left) (row_in p rows y) ++ (old ++ l)) (drop-drop (length old) (x - p.left) (row_in p rows y))
+    ∙ sym (pasted_is other (x - p.left) old (row_in p rows y) fits) in
+    ap (λ w. with_row_in p rows y (refill (length (row_in p rows y)) (row_in p rows y) w)) is
+    ∙ left_row_is p rows y filled crossed (pasted (x - p.left) old (row_in p rows y)) (length-pasted (x - p.left) old (row_in p rows y) ∙ wide)
+
+-- what the code writes: the parts of the two rows from column x on, over the lent rows
+pub put_back_row_is : (t : TileImage) (x y j n : ℕ) (old row now : List Colour) (deep deep_row deep_now : List ℕ) → length deep ≡ length old → IsTileImage t
+    → Inside t.place (kept_row x y (zip old deep)) → 0 < length old
+    → j ≡ x - t.place.left → n ≡ length old → row ≡ row_of t y → now ≡ old → deep_row ≡ depth_row_of t y → deep_now ≡ deep
+    → with_depth_row_left (with_row_left t y (put_mid j n row now)) y (put_mid j n deep_row deep_now) ≡ restored (kept_row x y (zip old deep)) t
+put_back_row_is t x y j n old row now deep deep_row deep_now equal filled inside some at count read after deep_read deep_after =
+    let p : Place = t.place in
+    let long : length (zip old deep) ≡ length old = length-zip_equal old deep equal in
+    let first : Holds t.place x y = kept_row-first t.place x y (zip old deep) inside (omega arith) in
     let crossed : HasRow t.place y = record { from_top = first.from_top; to_bottom = first.to_bottom } in
-    let within : x + length old ≤ t.place.left + t.place.width = kept_row-within t.place x y old inside some in
-    let wide : length (row_of t y) ≡ t.place.width = length-row_of t y filled crossed in
-    let fits : x - t.place.left + length old ≤ length (row_of t y) = omega (arith, first.from_left) in
-    let is : put_mid j n row now ≡ pasted (x - t.place.left) old (row_of t y) =
-    ap (λ k. put_mid k n row now) at ∙ ap (λ k. put_mid (x - t.place.left) k row now) count
-    ∙ ap (λ r. put_mid (x - t.place.left) (length old) r now) read ∙ ap (λ l. put_mid (x - t.place.left) (length old) (row_of t y) l) after
-    ∙ ap (λ l. take (x - t.place.left) (row_of t y) ++ (old ++ l)) (drop-drop (length old) (x - t.place.left) (row_of t y))
-    ∙ sym (pasted_is fresh (x - t.place.left) old (row_of t y) fits) in
-    ap (λ w. with_row_left t y w) is
-    ∙ with_row_left_is t y filled crossed (pasted (x - t.place.left) old (row_of t y)) (length-pasted (x - t.place.left) old (row_of t y) ∙ wide)
-    ∙ sym (restored-kept_row t x y old filled crossed first.from_left)
+    let within : x + length old ≤ t.place.left + t.place.width = omega (arith, kept_row-within t.place x y (zip old deep) inside (omega arith), long) in
+    ap (λ rows. of_rows p rows (with_row_in p t.depths y (refill (length (row_in p t.depths y)) (row_in p t.depths y) (put_mid j n deep_row deep_now))))
+    (part_left p t.rows y x j n old row now fresh filled.colours crossed first.from_left within at count read after)
+    ∙ ap (λ depths. of_rows p (with_row_in p t.rows y (pasted (x - p.left) old (row_of t y))) depths)
+    (part_left p t.depths y x j n deep deep_row deep_now 0 filled.depths crossed first.from_left (omega (arith, within)) at (count ∙ sym equal) deep_read deep_after)
+    ∙ sym (restored-kept_row t x y old deep equal filled crossed first.from_left)

@@ -1,8 +1,10 @@
--- How an undo stack stores its frames: the spans of those that keep something, and the colours of all in one list.
-use Rattle.std.specs.Prelude.{◌≡◌, ℕ, ◌+◌, ◌-◌, ◌^◌, ◌<◌, ◌≤◌, ◌==◌, ◌&&◌, nat_le, nat_lt, Bool, true, false, List, [], ◌∷◌, ◌++◌, length, map, take, drop, slice_index_or, if◌then◌else◌}
-use Rattle.std.specs.List.{sum_by, range_with_len}
+-- How an undo stack stores its frames: the spans of those that keep something, the colours of all in one list, and in another the depths
+-- of those spans whose pixels are not all equally deep.
+use Rattle.std.specs.Prelude.{◌≡◌, ℕ, ◌+◌, ◌-◌, ◌^◌, ◌<◌, ◌≤◌, ◌==◌, ◌&&◌, nat_le, nat_lt, Bool, true, false, List, [], ◌∷◌, ◌++◌, length, map, take, drop, slice_index_or, if◌then◌else◌, replicate, Option, Some, None}
+use Rattle.std.specs.List.{sum_by, range_with_len, zip}
 use Rattle.smallvec.specs.SmallVec.{SmallVec, HasRoomFor}
 use Rattle.fd_blend.specs.declared.channel.Colour.{Colour}
+use Rattle.fd_tile.specs.Tile.{Pixel}
 use Rattle.fd_undo.specs.declared.span.Span.{Span}
 use Rattle.fd_undo.specs.declared.stored.StoredFrame.{StoredFrame}
 use Rattle.fd_undo.specs.Frame.{KeptPixel, kept_row}
@@ -15,28 +17,74 @@ span_holds s x y = (s.y == y) && (nat_le s.x x && nat_lt (x - s.x) s.len)
 abbrev pub pixel_count : List Span → ℕ
 pixel_count spans = sum_by (λ s. s.len) spans
 
--- the pixels of a frame: its spans take their colours in turn
-abbrev pub kept_of : List Span → List Colour → List KeptPixel
-kept_of [] colours = []
-kept_of (s ∷ spans) colours = kept_row s.x s.y (take s.len colours) ++ kept_of spans (drop s.len colours)
+-- how many depths in the list are those of so many pixels, and of a span
+abbrev pub listed_in : Option ℕ → ℕ → ℕ
+listed_in (Some depth) len = 0
+listed_in None len = len
+
+abbrev pub listed : Span → ℕ
+listed s = listed_in s.same_depth s.len
+
+-- how many depths in the list are those of some spans
+abbrev pub depth_count : List Span → ℕ
+depth_count spans = sum_by (λ s. listed s) spans
+
+-- the depths of so many pixels: all the same, or the next ones in the list
+abbrev pub depths_in : Option ℕ → ℕ → List ℕ → List ℕ
+depths_in (Some depth) len depths = replicate len depth
+depths_in None len depths = take len depths
+
+-- the depths of the pixels of some spans, which take theirs from the list in turn
+abbrev pub depths_of : List Span → List ℕ → List ℕ
+depths_of [] depths = []
+depths_of (s ∷ spans) depths = depths_in s.same_depth s.len depths ++ depths_of spans (drop (listed s) depths)
+
+-- the pixels of some spans that stand last in the lists
+abbrev pub last_pixels : List Span → List Colour → List ℕ → List Pixel
+last_pixels spans colours depths = zip (drop (length colours - pixel_count spans) colours) (depths_of spans (drop (length depths - depth_count spans) depths))
+
+-- the spans of all stored frames, and their pixels
+abbrev pub spans_of : List StoredFrame → List Span
+spans_of [] = []
+spans_of (f ∷ stored) = f.spans.items ++ spans_of stored
+
+abbrev pub pixels_in : List StoredFrame → List Colour → List ℕ → List Pixel
+pixels_in stored colours depths = zip colours (depths_of (spans_of stored) depths)
+
+-- what a frame keeps: its spans take their pixels in turn
+abbrev pub kept_of : List Span → List Pixel → List KeptPixel
+kept_of [] pixels = []
+kept_of (s ∷ spans) pixels = kept_row s.x s.y (take s.len pixels) ++ kept_of spans (drop s.len pixels)
 
 -- frame number i, which is empty where none is stored under that number
-abbrev pub frame_of : List StoredFrame → List Colour → ℕ → List KeptPixel
-frame_of [] colours i = []
-frame_of (f ∷ stored) colours i = if f.number == i then kept_of f.spans.items (drop f.first colours) else frame_of stored colours i
+abbrev pub frame_of : List StoredFrame → List Pixel → ℕ → List KeptPixel
+frame_of [] pixels i = []
+frame_of (f ∷ stored) pixels i = if f.number == i then kept_of f.spans.items (drop f.first pixels) else frame_of stored pixels i
 
 -- so many frames, oldest first
-abbrev pub frames_of : ℕ → List StoredFrame → List Colour → List (List KeptPixel)
-frames_of count stored colours = map (frame_of stored colours) (range_with_len 0 count)
+abbrev pub frames_of : ℕ → List StoredFrame → List Pixel → List (List KeptPixel)
+frames_of count stored pixels = map (frame_of stored pixels) (range_with_len 0 count)
 
--- from frame i and colour k on up to frame j and colour l: the numbers rise, and each frame's colours follow those of the one before
+-- from frame i and pixel k on up to frame j and pixel l: the numbers rise, and each frame's pixels follow those of the one before
 abbrev pub Follow : ℕ → ℕ → List StoredFrame → ℕ → ℕ → Type 0
 Follow i k [] j l = (i ≤ j) × (k ≡ l)
 Follow i k (f ∷ stored) j l = (i ≤ f.number) × (f.first ≡ k) × Follow (f.number + 1) (k + pixel_count f.spans.items) stored j l
 
+-- from depth k of the list on up to depth l: each frame's depths follow those of the one before
+abbrev pub DepthsFollow : ℕ → List StoredFrame → ℕ → Type 0
+DepthsFollow k [] l = k ≡ l
+DepthsFollow k (f ∷ stored) l = (f.first_depth ≡ k) × DepthsFollow (k + depth_count f.spans.items) stored l
+
 -- a stored frame that nothing rests on
 abbrev pub no_frame : StoredFrame
-no_frame = record { number = 0; first = 0; spans = record { items = []; capacity = 0 } }
+no_frame = record { number = 0; first = 0; first_depth = 0; spans = record { items = []; capacity = 0 } }
+
+-- the number of the frame that is stored at this place, and that the numbers rise
+abbrev pub number_at : List StoredFrame → ℕ → ℕ
+number_at stored place = (slice_index_or stored place no_frame).number
+
+abbrev pub NumbersRise : List StoredFrame → Type 0
+NumbersRise stored = (a b : ℕ) → a < b → b < length stored → number_at stored a < number_at stored b
 
 -- the youngest frame that is stored
 abbrev pub top_stored : List StoredFrame → StoredFrame
@@ -48,8 +96,8 @@ pub record HasOpenFrame (count : ℕ) (stored : List StoredFrame) (spans_left : 
   pub youngest : (top_stored stored).number + 1 ≡ count
   pub room : HasRoomFor (top_stored stored).spans spans_left
 
--- what holds of the fields: all colours belong to the stored frames in turn, and the room that is told is there
-pub record IsUndoStack (count : ℕ) (stored : List StoredFrame) (next : SmallVec Span) (stored_capacity colours_len colours_capacity : ℕ) (frame_left : Bool) (spans_left pixels_left : ℕ) : Type 0 where
+-- what holds of the fields: all colours and all listed depths belong to the stored frames in turn, and the room that is told is there
+pub record IsUndoStack (count : ℕ) (stored : List StoredFrame) (next : SmallVec Span) (stored_capacity colours_len colours_capacity depths_len depths_capacity : ℕ) (frame_left : Bool) (spans_left pixels_left : ℕ) : Type 0 where
   pub follow : Follow 0 0 stored count colours_len
   pub next_empty : next.items ≡ []
   pub next_room : frame_left ≡ true → spans_left ≤ next.capacity
@@ -57,3 +105,5 @@ pub record IsUndoStack (count : ℕ) (stored : List StoredFrame) (next : SmallVe
   pub stored_room : frame_left ≡ true → 0 < spans_left → length stored < stored_capacity
   pub begun : frame_left ≡ false → 0 < spans_left → HasOpenFrame count stored spans_left
   pub pixel_room : colours_len + pixels_left ≤ colours_capacity
+  pub depths_follow : DepthsFollow 0 stored depths_len
+  pub depth_room : depths_len + pixels_left ≤ depths_capacity

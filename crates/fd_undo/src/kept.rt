@@ -1,31 +1,70 @@
-ghost use Rattle.std.specs.Prelude.{◌≡◌, ◌+◌, ◌≤◌, length, drop, slice_get};
+ghost use Rattle.std.specs.Prelude.{◌≡◌, ◌≤◌, ◌++◌, length, take, slice_get, OnOk};
+ghost use Rattle.std.specs.List.{zip};
 ghost use Rattle.fd_undo.specs.Frame.{kept_at};
-ghost use Rattle.fd_undo.specs.Stored.{pixel_count, kept_of};
+ghost use Rattle.fd_undo.specs.Stored.{pixel_count, depth_count, depths_of, kept_of};
 
 use crate::span::Span;
 use fd_blend::Colour;
+use std::alloc::AllocError;
 
-/// The n-th colour, from 0, that some spans keep of pixel (x, y). Their colours stand in the list from `first` on.
+/// The n-th colour and depth, from 0, that some spans keep of pixel (x, y). They stand first in the lists.
 pub(crate) fn kept_in(
     spans: &[Span],
-    mut first: usize,
     colours: &[Colour],
+    depths: &[u16],
     x: u32,
     y: u32,
     n: usize,
-) -> Option<Colour>
-    requires { first + pixel_count spans.now ≤ length colours.now }
-    ensures { result ≡ slice_get (kept_at (kept_of spans.now (drop first colours.now)) x y) n }
+) -> Option<(Colour, u16)>
+    requires within { pixel_count spans.now ≤ length colours.now }
+    requires depths_within { depth_count spans.now ≤ length depths.now }
+    ensures { result ≡ slice_get (kept_at (kept_of spans.now (zip colours.now (depths_of spans.now depths.now))) x y) n }
 {
+    let (mut first, mut first_depth) = (0, 0);
     let mut left = n;
     for span in spans {
         if span.holds(x, y) {
             if left == 0 {
-                return Some(colours[first + (x - span.x as u32) as usize]);
+                let column = (x - span.x as u32) as usize;
+                let depth = span.depth(depths, first_depth, column);
+                return Some((colours[first + column], depth));
             }
             left -= 1;
         }
         first += span.len as usize;
+        first_depth += span.listed();
     }
     None
+}
+
+/// Adds the first colours and depths, at most so many, that some spans keep of pixel (x, y). They stand first in the lists.
+pub(crate) fn add_kept_in(
+    spans: &[Span],
+    colours: &[Colour],
+    depths: &[u16],
+    x: u32,
+    y: u32,
+    count: usize,
+    kept: &mut Vec<(Colour, u16)>,
+) -> Result<(), AllocError>
+    requires within { pixel_count spans.now ≤ length colours.now }
+    requires depths_within { depth_count spans.now ≤ length depths.now }
+    ensures { OnOk result (kept.new.items ≡ kept.old.items ++ take count (kept_at (kept_of spans.now (zip colours.now (depths_of spans.now depths.now))) x y)) }
+{
+    let (mut first, mut first_depth) = (0, 0);
+    let mut left = count;
+    for span in spans {
+        if left == 0 {
+            return Ok(());
+        }
+        if span.holds(x, y) {
+            let column = (x - span.x as u32) as usize;
+            let depth = span.depth(depths, first_depth, column);
+            kept.push((colours[first + column], depth))?;
+            left -= 1;
+        }
+        first += span.len as usize;
+        first_depth += span.listed();
+    }
+    Ok(())
 }

@@ -1,17 +1,18 @@
-ghost use Rattle.std.specs.Prelude.{◌≡◌, ◌+◌, ◌<◌, ◌≤◌, true, false, [], ◌∷◌, ◌++◌, length, slice_get, slice_index_or, All, OnOk, OnErr};
-ghost use Rattle.fd_tile.specs.declared.place.TheConstants.{BORDER_LIMIT};
+ghost use Rattle.std.specs.Prelude.{◌≡◌, ◌+◌, ◌<◌, ◌≤◌, true, false, [], ◌∷◌, ◌++◌, length, take, slice_get, slice_index_or, All, OnOk, OnErr};
+ghost use Rattle.std.specs.List.{zip};
+ghost use Rattle.fd_snap.specs.Limits.{most_pixels};
 ghost use Rattle.fd_tile.specs.Place.{Holds};
 ghost use Rattle.fd_undo.specs.Frame.{kept_row, kept_at, restored, top, older};
 ghost use Rattle.fd_undo.specs.Undo.{without_room, with_kept, recorded_in};
 
-use crate::kept::kept_in;
+use crate::kept::{add_kept_in, kept_in};
 use crate::restore::put_back;
-use crate::span::Span;
-use crate::stored::{INLINE_SPANS, StoredFrame, take_numbered};
+use crate::span::{Span, same_depth};
+use crate::stored::{INLINE_SPANS, StoredFrame, place_of, take_numbered};
 use fd_blend::Colour;
 use fd_tile::Tile;
 use smallvec::SmallVec;
-use std::alloc::Global;
+use std::alloc::{AllocError, Global};
 use std::marker::Model;
 use std::mem;
 use thiserror::Error;
@@ -34,6 +35,8 @@ pub struct UndoStack {
     stored: Vec<StoredFrame>,
     // the colours of all frames, oldest first
     colours: Vec<Colour>,
+    // the depths of the spans whose pixels are not all equally deep
+    depths: Vec<u16>,
     // the reserved spans of the next frame
     next: SmallVec<Span, INLINE_SPANS>,
     frame_left: bool,
@@ -44,18 +47,18 @@ pub struct UndoStack {
 impl Model for UndoStack {
     ghost use Rattle.std.specs.Vec.{vec_len, vec_capacity};
     ghost use Rattle.fd_undo.specs.Undo.{Undo};
-    ghost use Rattle.fd_undo.specs.Stored.{frames_of, IsUndoStack};
+    ghost use Rattle.fd_undo.specs.Stored.{frames_of, pixels_in, IsUndoStack};
 
     ghost Value = { Undo };
 
     ghost view = { λ u. record {
-      frames = frames_of u.count u.stored.items u.colours.items;
+      frames = frames_of u.count u.stored.items (pixels_in u.stored.items u.colours.items u.depths.items);
       frame_left = u.frame_left;
       spans_left = u.spans_left;
       pixels_left = u.pixels_left;
     } };
 
-    ghost invariant = { λ u. IsUndoStack u.count u.stored.items u.next (vec_capacity u.stored) (vec_len u.colours) (vec_capacity u.colours) u.frame_left u.spans_left u.pixels_left };
+    ghost invariant = { λ u. IsUndoStack u.count u.stored.items u.next (vec_capacity u.stored) (vec_len u.colours) (vec_capacity u.colours) (vec_len u.depths) (vec_capacity u.depths) u.frame_left u.spans_left u.pixels_left };
 }
 
 impl UndoStack {
@@ -68,6 +71,7 @@ impl UndoStack {
             count: 0,
             stored: Vec::new(alloc),
             colours: Vec::new(alloc),
+            depths: Vec::new(alloc),
             next: SmallVec::new(alloc),
             frame_left: false,
             spans_left: 0,
@@ -89,6 +93,7 @@ impl UndoStack {
             self.stored.reserve(1).map_err(|_| Full)?;
         }
         self.colours.reserve(pixels).map_err(|_| Full)?;
+        self.depths.reserve(pixels).map_err(|_| Full)?;
         self.frame_left = true;
         self.spans_left = spans;
         self.pixels_left = pixels;
@@ -135,6 +140,7 @@ impl UndoStack {
             self.stored.push_reserved(StoredFrame {
                 number: self.count,
                 first: self.colours.len(),
+                first_depth: self.depths.len(),
                 spans,
             });
         }
@@ -142,27 +148,33 @@ impl UndoStack {
         self.frame_left = false;
     }
 
-    /// Keeps the colours of row y from column x on, left to right, in the top frame.
-    pub fn keep(&mut self, x: u32, y: u32, old: &[Colour])
+    /// Keeps the colours and the depths of row y from column x on, left to right, in the top frame.
+    pub fn keep(&mut self, x: u32, y: u32, old: &[Colour], depths: &[u16])
         requires begun { self.old.frame_left ≡ false }
         requires span { 0 < self.old.spans_left }
         requires pixels { length old.now ≤ self.old.pixels_left }
-        requires right { x + length old.now ≤ BORDER_LIMIT }
-        requires bottom { y ≤ BORDER_LIMIT }
-        ensures { self.new ≡ with_kept self.old (kept_row x y old.now) }
+        requires equal { length depths.now ≡ length old.now }
+        requires right { x + length old.now ≤ most_pixels }
+        requires bottom { y ≤ most_pixels }
+        ensures { self.new ≡ with_kept self.old (kept_row x y (zip old.now depths.now)) }
     {
-        self.colours.extend_from_slice(old).unwrap();
-        let top = self.stored.len() - 1;
-        self.stored[top].spans.push_reserved(Span {
+        let span = Span {
             x: x as u16,
             y: y as u16,
             len: old.len() as u16,
-        });
+            same_depth: same_depth(depths),
+        };
+        self.colours.extend_from_slice(old).unwrap();
+        self.depths
+            .extend_from_slice(&depths[..span.listed()])
+            .unwrap();
+        let top = self.stored.len() - 1;
+        self.stored[top].spans.push_reserved(span);
         self.spans_left -= 1;
         self.pixels_left -= old.len();
     }
 
-    /// Writes the top frame's colours back, the last kept first, and drops the frame. No room is left.
+    /// Writes the top frame's colours and depths back, the last kept first, and drops the frame. No room is left.
     pub fn undo_top(&mut self, tile: &mut Tile)
         requires some { 0 < length self.old.frames }
         requires inside { All (λ k. Holds tile.old.place k.x k.y) (top self.old.frames) }
@@ -174,7 +186,7 @@ impl UndoStack {
         self.pixels_left = 0;
         self.count -= 1;
         if let Some(top) = take_numbered(&mut self.stored, self.count) {
-            put_back(top.spans, &mut self.colours, tile);
+            put_back(top.spans, &mut self.colours, &mut self.depths, tile);
         }
     }
 
@@ -192,19 +204,48 @@ impl UndoStack {
         self.colours.len() as u64
     }
 
-    /// The n-th colour, from 0, that a frame keeps of pixel (x, y), in the order in which they were kept. Frames are numbered from 0.
-    pub fn kept(&self, frame: usize, x: u32, y: u32, n: usize) -> Option<Colour>
+    /// The n-th colour and depth, from 0, that a frame keeps of pixel (x, y), in the order in which they were kept. Frames are numbered from 0.
+    pub fn kept(&self, frame: usize, x: u32, y: u32, n: usize) -> Option<(Colour, u16)>
         ensures { result ≡ slice_get (kept_at (slice_index_or self.now.frames frame []) x y) n }
     {
-        match self
-            .stored
-            .binary_search_by_key(&frame, |stored| stored.number)
-        {
-            Ok(place) => {
-                let stored = &self.stored[place];
-                kept_in(&stored.spans, stored.first, &self.colours, x, y, n)
-            }
-            Err(_) => None,
+        let place = place_of(&self.stored, frame)?;
+        let stored = &self.stored[place];
+        kept_in(
+            &stored.spans,
+            &self.colours[stored.first..],
+            &self.depths[stored.first_depth..],
+            x,
+            y,
+            n,
+        )
+    }
+
+    /// Adds the first colours and depths, at most so many, that a frame keeps of pixel (x, y) to a list, in the order in which they were kept.
+    pub fn add_kept(
+        &self,
+        frame: usize,
+        x: u32,
+        y: u32,
+        count: usize,
+        kept: &mut Vec<(Colour, u16)>,
+    ) -> Result<(), AllocError>
+        ensures { OnOk result (kept.new.items ≡ kept.old.items ++ take count (kept_at (slice_index_or self.now.frames frame []) x y)) }
+    {
+        if count == 0 {
+            return Ok(());
         }
+        let Some(place) = place_of(&self.stored, frame) else {
+            return Ok(());
+        };
+        let stored = &self.stored[place];
+        add_kept_in(
+            &stored.spans,
+            &self.colours[stored.first..],
+            &self.depths[stored.first_depth..],
+            x,
+            y,
+            count,
+            kept,
+        )
     }
 }

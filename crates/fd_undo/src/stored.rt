@@ -1,5 +1,5 @@
-ghost use Rattle.std.specs.Prelude.{◌≡◌, ◌≢◌, ◌<◌, [], ◌∷◌, ◌++◌, length, None, IfSome, vec_capacity};
-ghost use Rattle.fd_undo.specs.Stored.{top_stored};
+ghost use Rattle.std.specs.Prelude.{◌≡◌, ◌≢◌, ℕ, ◌<◌, [], ◌∷◌, ◌++◌, length, None, IfSome, vec_capacity};
+ghost use Rattle.fd_undo.specs.Stored.{NumbersRise, number_at, top_stored};
 
 use crate::span::Span;
 use smallvec::SmallVec;
@@ -7,11 +7,12 @@ use smallvec::SmallVec;
 /// So many spans of a frame need no memory of their own.
 pub(crate) const INLINE_SPANS: usize = 4;
 
-/// The spans of one frame, the frame's number from 0, and where its colours begin in the stack's list.
+/// The spans of one frame, the frame's number from 0, and where its colours and its depths begin in the stack's lists.
 #[derive(Drop)]
 pub(crate) struct StoredFrame {
     pub(crate) number: usize,
     pub(crate) first: usize,
+    pub(crate) first_depth: usize,
     pub(crate) spans: SmallVec<Span, INLINE_SPANS>,
 }
 
@@ -27,4 +28,15 @@ pub(crate) fn take_numbered(stored: &mut Vec<StoredFrame>, number: usize) -> Opt
     } else {
         None
     }
+}
+
+/// Where the frame of this number is stored, if it is.
+pub(crate) fn place_of(stored: &[StoredFrame], number: usize) -> Option<usize>
+    requires { NumbersRise stored.now }
+    ensures found { IfSome result (λ place. (place < length stored.now) × (number_at stored.now place ≡ number)) }
+    ensures absent { result ≡ None → (place : ℕ) → place < length stored.now → number_at stored.now place ≢ number }
+{
+    stored
+        .binary_search_by_key(&number, |frame| frame.number)
+        .ok()
 }

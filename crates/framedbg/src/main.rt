@@ -4,15 +4,17 @@
 ghost use Rattle.std.specs.Prelude.{◌≤◌};
 
 use clap::error::ErrorKind;
-use clap::{Arg, ArgMatches, Command, Error, value_parser};
+use clap::{ArgMatches, Error};
 use fd_cli::{Ending, image, list_events, serve};
 use fd_pam::Device;
-use std::alloc::{AllocError, Global};
-use std::io::Read;
+use std::alloc::Global;
+use std::io::{IsTerminal, Read};
 use std::process::ExitCode;
 use std::rt::Files;
 use std::thread::Threads;
 use std::{env, fs, io};
+
+mod words;
 
 /// The most bytes that are read of a capture: one more than a capture may have.
 const MAX_READ: u64 = 67_108_865;
@@ -26,52 +28,13 @@ const USAGE: u8 = 1;
 /// The status where the capture's file can't be read.
 const CANNOT_READ: u8 = 3;
 
-/// What the words of a command line may be.
-fn command<'a>(alloc: Global) -> Result<Command<'a>, AllocError> {
-    let run = Command::new(alloc, "run")
-        .about(
-            "Replays a capture: takes commands from standard input, writes replies to standard output",
-        )
-        .arg(workers_argument(alloc)?)?
-        .arg(capture_argument(alloc))?;
-    let at = Arg::new(alloc, "at")
-        .long("at")
-        .value_name("K")
-        .help("The position, from 0 to the number of events [default: the last]")
-        .value_parser(value_parser!(u32));
-    let image = Command::new(alloc, "image")
-        .about("Writes the image at a position as PAM to standard output")
-        .arg(workers_argument(alloc)?)?
-        .arg(at)?
-        .arg(capture_argument(alloc))?;
-    let events = Command::new(alloc, "events")
-        .about("Lists the events of a capture")
-        .arg(capture_argument(alloc))?;
-    Command::new(alloc, "framedbg")
-        .about("A reverse-stepping frame debugger")
-        .subcommand_required(true)
-        .subcommand(run)?
-        .subcommand(image)?
-        .subcommand(events)
-}
+/// What `run` says on standard error to somebody who types.
+const WAITING: &str =
+    "framedbg: waiting for commands, as events, goto 3, pixel 0 0, quit; framedbg run --help has them all";
 
-/// The capture's path.
-fn capture_argument<'a>(alloc: Global) -> Arg<'a> {
-    Arg::new(alloc, "CAPTURE")
-        .required(true)
-        .help("The capture, a JSON file")
-}
-
-/// The number of threads that draw.
-fn workers_argument<'a>(alloc: Global) -> Result<Arg<'a>, AllocError> {
-    Ok(
-        Arg::new(alloc, "workers")
-            .long("workers")
-            .value_name("N")
-            .help("The number of threads that draw, from 1 to 64 [default: 4]")
-            .value_parser(value_parser!(u32).range(1..=64)),
-    )
-}
+/// What it adds where the replies go to a terminal too.
+const SPILLS: &str =
+    "framedbg: show writes the bytes of an image, here to this terminal; framedbg image writes them to a file";
 
 /// The number of workers that the words ask for. `clap` has refused any other; no clause of it says so.
 fn workers(matches: &ArgMatches) -> u32
@@ -87,6 +50,14 @@ fn read_capture(rt: &impl Files, alloc: Global, path: &str) -> Result<Vec<u8>, i
     let mut bytes = Vec::new(alloc);
     file.take(MAX_READ).read_to_end(&mut bytes)?;
     Ok(bytes)
+}
+
+/// Tells somebody who types what is waited for.
+fn greet(rt: &HostRuntime) {
+    let _ = rt.eprintln(WAITING);
+    if rt.stdout().is_terminal() {
+        let _ = rt.eprintln(SPILLS);
+    }
 }
 
 /// Does what the words ask for with a capture's bytes. Threads are started by a handle of their own, which is `main`'s runtime.
@@ -106,7 +77,11 @@ fn perform<T: Threads + Sync>(
         }
         "events" => list_events(alloc, capture, &mut sink),
         _ => {
-            let mut source = Device::new(rt.reader());
+            let reader = rt.reader();
+            if reader.is_terminal() {
+                greet(rt);
+            }
+            let mut source = Device::new(reader);
             serve(
                 threads,
                 alloc,
@@ -126,6 +101,15 @@ fn report(rt: &HostRuntime, ending: &Ending) -> u8 {
     ending.status()
 }
 
+/// Says why the words can't be read, and gives the status: memory was wanted, or one of them is no text.
+fn refuse_words(rt: &HostRuntime, error: &io::Error) -> u8 {
+    if error.kind() == io::ErrorKind::OutOfMemory {
+        return report(rt, &Ending::Memory);
+    }
+    let _ = rt.eprintln("error: a word of the command line is not UTF-8");
+    USAGE
+}
+
 /// Says what is wrong with the words, or prints the help that they ask for, and gives the status.
 fn explain(rt: &HostRuntime, error: &Error) -> u8 {
     if error.kind() == ErrorKind::OutOfMemory {
@@ -138,13 +122,14 @@ fn explain(rt: &HostRuntime, error: &Error) -> u8 {
 /// Reads the words and then the file, does what they ask for, and gives the status.
 fn run<T: Threads + Sync>(rt: &HostRuntime, threads: &T) -> u8 {
     let alloc = rt.alloc();
-    let Ok(words) = env::args(rt) else {
-        return report(rt, &Ending::Memory);
+    let words = match env::args(rt) {
+        Ok(words) => words,
+        Err(error) => return refuse_words(rt, &error),
     };
     let Ok(words) = words.collect::<Vec<String>>(alloc) else {
         return report(rt, &Ending::Memory);
     };
-    let Ok(command) = command(alloc) else {
+    let Ok(command) = words::command(alloc) else {
         return report(rt, &Ending::Memory);
     };
     let matches = match command.try_get_matches_from(words.as_slice()) {

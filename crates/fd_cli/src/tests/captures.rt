@@ -46,3 +46,24 @@ pub(crate) const LINEAR_RED: &str =
 /// Two triangles by indices.
 pub(crate) const INDEXED: &str =
     r#"{"format":"framedbg","version":1,"width":2,"height":2,"events":[{"kind":"draw","interp":"flat","vertices":[{"x":0,"y":0,"color":[255,0,0,255]},{"x":131072,"y":0,"color":[0,255,0,255]},{"x":0,"y":131072,"color":[255,0,0,255]},{"x":131072,"y":131072,"color":[255,0,0,255]}],"indices":[0,1,2,1,3,2]}]}"#;
+
+/// With the depth test on: a triangle, the same one farther away, a clear of depths, and the farther one again.
+pub(crate) const DEPTH_TEST: &str =
+    r#"{"format":"framedbg","version":2,"width":1,"height":1,"events":[
+{"kind":"depth","enable":true,"write":true,"func":"LESS"},
+{"kind":"draw","interp":"flat","vertices":[{"x":0,"y":0,"z":1000,"color":[1,1,1,1]},{"x":131072,"y":0,"z":1000,"color":[1,1,1,1]},{"x":0,"y":131072,"z":1000,"color":[1,1,1,1]}]},
+{"kind":"draw","interp":"flat","vertices":[{"x":0,"y":0,"z":2000,"color":[2,2,2,2]},{"x":131072,"y":0,"z":2000,"color":[2,2,2,2]},{"x":0,"y":131072,"z":2000,"color":[2,2,2,2]}]},
+{"kind":"depth_clear","depth":65535},
+{"kind":"draw","interp":"flat","vertices":[{"x":0,"y":0,"z":2000,"color":[2,2,2,2]},{"x":131072,"y":0,"z":2000,"color":[2,2,2,2]},{"x":0,"y":131072,"z":2000,"color":[2,2,2,2]}]}
+]}"#;
+
+/// A target of 64 tiles: a clear, two halves of it drawn over one another, and a clear that hides all but what is drawn behind it.
+pub(crate) const MANY_TILES: &str =
+    r#"{"format":"framedbg","version":1,"width":256,"height":256,"events":[
+{"kind":"clear","color":[1,2,3,4]},
+{"kind":"blend","enable":true,"rgb":["ONE","ONE","ADD"],"alpha":["ONE","ONE","ADD"],"mask":15},
+{"kind":"draw","interp":"flat","vertices":[{"x":0,"y":0,"color":[10,0,0,0]},{"x":16777216,"y":0,"color":[10,0,0,0]},{"x":0,"y":16777216,"color":[10,0,0,0]}]},
+{"kind":"draw","interp":"flat","vertices":[{"x":0,"y":0,"color":[0,20,0,0]},{"x":16777216,"y":0,"color":[0,20,0,0]},{"x":0,"y":16777216,"color":[0,20,0,0]}]},
+{"kind":"clear","color":[5,6,7,8]},
+{"kind":"draw","interp":"flat","vertices":[{"x":0,"y":0,"color":[0,0,30,0]},{"x":16777216,"y":0,"color":[0,0,30,0]},{"x":0,"y":16777216,"color":[0,0,30,0]}]}
+]}"#;

@@ -102,6 +102,16 @@ impl Write for Limited {
 #[derive(Drop)]
 pub(crate) struct Interrupted(pub(crate) bool);
 
+impl Read for Interrupted {
+    fn read(&mut self, _buf: &mut [u8]) -> io::Result<usize> {
+        if !self.0 {
+            self.0 = true;
+            return Err(io::Error::from(io::ErrorKind::Interrupted));
+        }
+        Ok(0)
+    }
+}
+
 impl Write for Interrupted {
     fn write(&mut self, buf: &[u8]) -> io::Result<usize> {
         if !self.0 {
@@ -176,13 +186,21 @@ impl Read for Again {
     }
 }
 
-/// Counts the bytes that it takes.
+/// Counts the bytes that it takes, which have to be one line again and again.
 #[derive(Drop)]
-pub(crate) struct Count(pub(crate) usize);
+pub(crate) struct Repeats {
+    pub(crate) line: &'static [u8],
+    pub(crate) count: usize,
+    pub(crate) same: bool,
+}
 
-impl Write for Count {
+impl Write for Repeats {
     fn write(&mut self, buf: &[u8]) -> io::Result<usize> {
-        self.0 = self.0.saturating_add(buf.len());
+        for byte in buf {
+            let expected = self.line.get(self.count % self.line.len().max(1));
+            self.same = self.same && expected == Some(byte);
+            self.count = self.count.saturating_add(1);
+        }
         Ok(buf.len())
     }
 

@@ -1,6 +1,6 @@
 use crate::tests::captures::ONE_CLEAR;
-use crate::tests::devices::{Again, Asking, Count, Flushing, Interrupted, Limited, Pieces};
-use crate::{Ending, serve};
+use crate::tests::devices::{Again, Asking, Flushing, Interrupted, Limited, Pieces, Repeats};
+use crate::{Ending, image, list_events, serve};
 use fd_pam::{Device, Sink, Source};
 use std::alloc::Global;
 use std::cell::Cell;
@@ -112,6 +112,41 @@ fn a_flush_that_fails(rt: HostRuntime) {
 }
 
 #[test]
+fn a_flush_that_fails_behind_one_text(rt: HostRuntime) {
+    for workers in [1, 2, 64] {
+        let mut writer = Limited::of(rt.alloc(), 100, 100);
+        writer.last_flush = 69;
+        let mut sink = Device::new(writer);
+        let capture = ONE_CLEAR.as_bytes();
+        let ended = image(&rt, rt.alloc(), capture, workers, None, &mut sink);
+        assert_eq!(rt; ended, Ending::Write { sent: 69 });
+        assert_eq!(rt; sink.failures(), 1);
+        assert_eq!(rt; sink.into_inner().bytes.as_slice(), &OUTPUT[12..81]);
+    }
+    let mut writer = Limited::of(rt.alloc(), 100, 100);
+    writer.last_flush = 37;
+    let mut sink = Device::new(writer);
+    let ended = list_events(rt.alloc(), ONE_CLEAR.as_bytes(), &mut sink);
+    assert_eq!(rt; ended, Ending::Write { sent: 37 });
+    assert_eq!(rt; sink.failures(), 1);
+    let text = b"events 1 at 0\n1 on clear 10 20 30 40\n".as_slice();
+    assert_eq!(rt; sink.into_inner().bytes.as_slice(), text);
+}
+
+#[test]
+fn a_reader_that_is_interrupted(rt: HostRuntime) {
+    for workers in [1, 2, 64] {
+        let mut source = Device::new(Interrupted(false));
+        let mut sink = Device::new(Limited::of(rt.alloc(), 100, 100));
+        let capture = ONE_CLEAR.as_bytes();
+        let ended = serve(&rt, rt.alloc(), capture, workers, &mut source, &mut sink);
+        assert_eq!(rt; ended, Ending::Read);
+        assert_eq!(rt; Source::failures(&source), 1);
+        assert_eq!(rt; sink.into_inner().bytes.len(), 0);
+    }
+}
+
+#[test]
 fn a_reader_that_fails_after_each_byte(rt: HostRuntime) {
     for count in 0..16usize {
         let mut reader = Pieces::of(&INPUT[..count], 3);
@@ -159,36 +194,47 @@ fn replies_before_it_reads_on(rt: HostRuntime) {
     assert_eq!(rt; notes.as_slice(), [0, 5, 81].as_slice());
 }
 
-/// How a run on one byte again and again ends, and how much is then written.
-fn expect_count(
+/// How a run on one byte so many times ends, and that it then wrote one line so many times, whatever the number of workers.
+fn expect_repeats(
     rt: &(impl Abort + Threads + Sync),
     alloc: Global,
-    reader: Again,
+    byte: u8,
+    left: usize,
     ending: Ending,
-    length: usize,
+    line: &'static [u8],
+    times: usize,
 ) {
-    let mut source = Device::new(reader);
-    let mut sink = Device::new(Count(0));
-    let ended = serve(rt, alloc, ONE_CLEAR.as_bytes(), 1, &mut source, &mut sink);
-    assert_eq!(rt; ended, ending);
-    assert_eq!(rt; sink.into_inner().0, length);
+    for workers in [1, 2, 64] {
+        let mut source = Device::new(Again { byte, left });
+        let mut sink = Device::new(Repeats {
+            line,
+            count: 0,
+            same: true,
+        });
+        let capture = ONE_CLEAR.as_bytes();
+        let ended = serve(rt, alloc, capture, workers, &mut source, &mut sink);
+        assert_eq!(rt; ended, ending);
+        let written = sink.into_inner();
+        assert!(rt; written.same);
+        assert_eq!(rt; written.count, line.len().saturating_mul(times));
+    }
 }
 
 #[test]
 fn bounds_of_input(rt: HostRuntime) {
     for (left, ending) in [(1_000_000, Ending::Done), (1_000_001, Ending::TooMuch)] {
-        let reader = Again { byte: b'\n', left };
-        expect_count(&rt, rt.alloc(), reader, ending, 22_000_000);
+        let line = b"bad 1 unknown command\n";
+        expect_repeats(&rt, rt.alloc(), b'\n', left, ending, line, 1_000_000);
     }
 }
 
 #[test]
 fn bounds_of_input_in_bytes(rt: HostRuntime) {
-    for (left, ending, length) in [
-        (268_435_456, Ending::Done, 20),
+    for (left, ending, times) in [
+        (268_435_456, Ending::Done, 1),
         (268_435_457, Ending::TooMuch, 0),
     ] {
-        let reader = Again { byte: b'a', left };
-        expect_count(&rt, rt.alloc(), reader, ending, length);
+        let line = b"bad 3 line too long\n";
+        expect_repeats(&rt, rt.alloc(), b'a', left, ending, line, times);
     }
 }

@@ -1,6 +1,6 @@
 use super::*;
 use fd_blend::{BlendOp, BlendState, Factor, Mask, Part};
-use fd_cover::Interp;
+use fd_cover::{Depth, Func, Interp};
 use fd_events::{Draw, Event, Vertex};
 use fd_snap::Pos;
 use fd_tile::Grid;
@@ -10,8 +10,8 @@ fn colour(r: u8, g: u8, b: u8, a: u8) -> Colour {
     Colour { r, g, b, a }
 }
 
-/// A triangle by its corners in pixels, and its colour.
-type Triangle = ([(i8, i8); 3], Colour);
+/// A triangle by its corners in pixels, its colour and its depth.
+type Triangle = ([(i8, i8); 3], Colour, u16);
 
 /// The upper left half of the square from (0, 0) to (2, 2).
 const UPPER_LEFT: [(i8, i8); 3] = [(0, 0), (2, 0), (0, 2)];
@@ -22,11 +22,11 @@ const LOWER_RIGHT: [(i8, i8); 3] = [(2, 0), (2, 2), (0, 2)];
 /// A draw of triangles, each of one colour.
 fn flat(alloc: Global, triangles: &[Triangle]) -> Result<Event, Fail> {
     let mut vertices = Vec::new(alloc);
-    for (corners, colour) in triangles {
+    for (corners, colour, z) in triangles {
         for (x, y) in corners {
             let pos = Pos::new(i32::from(*x) * 65536, i32::from(*y) * 65536).ok_or("a position")?;
-            let colour = *colour;
-            vertices.push(Vertex { pos, colour })?;
+            let (colour, z) = (*colour, *z);
+            vertices.push(Vertex { pos, colour, z })?;
         }
     }
     Ok(Event::Draw(Draw::new(vertices, None, Interp::Flat)?))
@@ -47,11 +47,11 @@ fn additive() -> Result<Event, Fail> {
 fn table(alloc: Global, width: u32, height: u32, event: Event) -> Result<EventTable, Fail> {
     let mut events = Vec::new(alloc);
     events.push(event)?;
-    Ok(EventTable::start(alloc, width, height, events)?)
+    Ok(EventTable::start(alloc, 2, width, height, events)?)
 }
 
-/// A tile of one pixel with this colour.
-fn one_pixel(alloc: Global, colour: Colour) -> Result<Tile, Fail> {
+/// A tile of one pixel with this colour and depth.
+fn one_pixel(alloc: Global, colour: Colour, depth: u16) -> Result<Tile, Fail> {
     let place = Place {
         left: 0,
         top: 0,
@@ -63,6 +63,7 @@ fn one_pixel(alloc: Global, colour: Colour) -> Result<Tile, Fail> {
         return Err(Fail::from("no pixel"));
     }
     tile.set(0, 0, colour);
+    tile.set_depth(0, 0, depth);
     Ok(tile)
 }
 
@@ -87,22 +88,18 @@ fn back(owner: &mut Owner) -> Result<(), Fail> {
     Ok(())
 }
 
-/// The position, how many colours are kept up to it, and the colour of the tile's first pixel.
-fn shown(owner: &Owner) -> (u32, u64, Colour) {
+/// The position, how many pixels are kept up to it, and the colour and the depth of the tile's first pixel.
+type Shown = (u32, u64, (Colour, u16));
+
+fn shown(owner: &Owner) -> Shown {
     let place = owner.place();
-    (
-        owner.position(),
-        owner.recorded(),
-        owner.pixel(place.left, place.top),
-    )
+    let colour = owner.pixel(place.left, place.top);
+    let depth = owner.depth(place.left, place.top);
+    (owner.position(), owner.recorded(), (colour, depth))
 }
 
 /// What a fresh tile of a target shows past the table's first event, and what it shows when it went back.
-fn there_and_back(
-    alloc: Global,
-    table: &EventTable,
-    tile: usize,
-) -> Result<[(u32, u64, Colour); 2], Fail> {
+fn there_and_back(alloc: Global, table: &EventTable, tile: usize) -> Result<[Shown; 2], Fail> {
     let grid = Grid::new(table.width(), table.height()).ok_or("a grid")?;
     if tile >= grid.count() {
         return Err(Fail::from("no such tile"));
@@ -114,8 +111,8 @@ fn there_and_back(
     Ok([there, shown(&owner)])
 }
 
-/// The colours that event number 2 kept of pixel (0, 0): the first three of them.
-fn kept_by_the_second(owner: &Owner) -> Result<[Option<Colour>; 3], Fail> {
+/// The colours and depths that event number 2 kept of pixel (0, 0): the first three of them.
+fn kept_by_the_second(owner: &Owner) -> Result<[Option<(Colour, u16)>; 3], Fail> {
     if owner.position() < 2 {
         return Err(Fail::from("no second event"));
     }
@@ -126,20 +123,21 @@ fn kept_by_the_second(owner: &Owner) -> Result<[Option<Colour>; 3], Fail> {
     ])
 }
 
+/// A tile of any colour and depth.
 #[test]
 fn back_returns_to_the_image_before_the_draw(rt: HostRuntime) -> Result<(), Fail> {
     let alloc = rt.alloc();
-    let before = colour(5, 6, 7, 8);
-    let triangle = (UPPER_LEFT, colour(10, 10, 10, 10));
+    let before = (colour(5, 6, 7, 8), 500);
+    let triangle = (UPPER_LEFT, colour(10, 10, 10, 10), 400);
     let mut events = Vec::new(alloc);
     events.push(additive()?)?;
     events.push(flat(alloc, &[triangle, triangle])?)?;
-    let table = EventTable::start(alloc, 1, 1, events)?;
-    let mut owner = Owner::of(alloc, one_pixel(alloc, before)?);
+    let table = EventTable::start(alloc, 2, 1, 1, events)?;
+    let mut owner = Owner::of(alloc, one_pixel(alloc, before.0, before.1)?);
     forward(&mut owner, &table)?;
     forward(&mut owner, &table)?;
-    assert_eq!(rt; shown(&owner), (2, 2, colour(25, 26, 27, 28)));
-    let kept = [Some(before), Some(colour(15, 16, 17, 18)), None];
+    assert_eq!(rt; shown(&owner), (2, 2, (colour(25, 26, 27, 28), 500)));
+    let kept = [Some(before), Some((colour(15, 16, 17, 18), 500)), None];
     assert_eq!(rt; kept_by_the_second(&owner)?, kept);
     back(&mut owner)?;
     assert_eq!(rt; shown(&owner), (1, 0, before));
@@ -154,13 +152,63 @@ fn a_frame_is_put_back(rt: HostRuntime) -> Result<(), Fail> {
     let alloc = rt.alloc();
     let red = colour(255, 0, 0, 255);
     let green = colour(0, 255, 0, 255);
-    let fresh = (0, 0, colour(0, 0, 0, 0));
+    let fresh = (0, 0, (colour(0, 0, 0, 0), 65535));
+    let shows_red = |count: u64| (1, count, (red, 65535));
     let across = table(alloc, 33, 1, Event::Clear(red))?;
-    assert_eq!(rt; there_and_back(alloc, &across, 0)?, [(1, 32, red), fresh]);
-    assert_eq!(rt; there_and_back(alloc, &across, 1)?, [(1, 1, red), fresh]);
-    let halves = flat(alloc, &[(UPPER_LEFT, red), (LOWER_RIGHT, green)])?;
+    assert_eq!(rt; there_and_back(alloc, &across, 0)?, [shows_red(32), fresh]);
+    assert_eq!(rt; there_and_back(alloc, &across, 1)?, [shows_red(1), fresh]);
+    let halves = flat(alloc, &[(UPPER_LEFT, red, 0), (LOWER_RIGHT, green, 0)])?;
     let square = table(alloc, 2, 2, halves)?;
-    assert_eq!(rt; there_and_back(alloc, &square, 0)?, [(1, 4, red), fresh]);
+    assert_eq!(rt; there_and_back(alloc, &square, 0)?, [shows_red(4), fresh]);
+    let deep = table(alloc, 33, 1, Event::DepthClear(7))?;
+    let cleared = (1, 32, (colour(0, 0, 0, 0), 7));
+    assert_eq!(rt; there_and_back(alloc, &deep, 0)?, [cleared, fresh]);
+    Ok(())
+}
+
+/// A nearer triangle, one that it hides, a clear of depths, and the hidden one again.
+fn hidden_and_shown(alloc: Global) -> Result<EventTable, Fail> {
+    let depth = Depth {
+        enable: true,
+        write: true,
+        func: Func::Less,
+    };
+    let near = (UPPER_LEFT, colour(1, 1, 1, 1), 1000);
+    let far = (UPPER_LEFT, colour(2, 2, 2, 2), 2000);
+    let mut events = Vec::new(alloc);
+    events.push(Event::SetDepth(depth))?;
+    events.push(flat(alloc, &[near])?)?;
+    events.push(flat(alloc, &[far])?)?;
+    events.push(Event::DepthClear(65535))?;
+    events.push(flat(alloc, &[far])?)?;
+    Ok(EventTable::start(alloc, 2, 1, 1, events)?)
+}
+
+#[test]
+fn depths_go_back_with_colours(rt: HostRuntime) -> Result<(), Fail> {
+    let alloc = rt.alloc();
+    let table = hidden_and_shown(alloc)?;
+    let first = (colour(9, 9, 9, 9), 3000);
+    let near = (colour(1, 1, 1, 1), 1000);
+    let cleared = (colour(1, 1, 1, 1), 65535);
+    let far = (colour(2, 2, 2, 2), 2000);
+    let passed = [(0, first), (0, first), (1, near), (1, near), (2, cleared)];
+    let mut owner = Owner::of(alloc, one_pixel(alloc, first.0, first.1)?);
+    for (position, (recorded, pixel)) in passed.iter().enumerate() {
+        assert_eq!(rt; shown(&owner), (position as u32, *recorded, *pixel));
+        forward(&mut owner, &table)?;
+    }
+    assert_eq!(rt; shown(&owner), (5, 3, far));
+    let mut kept = Vec::new(alloc);
+    for event in 1..=5 {
+        assert!(rt; event <= owner.position());
+        owner.add_kept(event, 0, 0, 9, &mut kept)?;
+    }
+    assert_eq!(rt; kept.as_slice(), [first, near, cleared].as_slice());
+    for (position, (recorded, pixel)) in passed.iter().enumerate().rev() {
+        back(&mut owner)?;
+        assert_eq!(rt; shown(&owner), (position as u32, *recorded, *pixel));
+    }
     Ok(())
 }
 
@@ -171,9 +219,9 @@ fn an_event_switched_off_adds_an_image_and_keeps_nothing(rt: HostRuntime) -> Res
     let mut table = table(alloc, 1, 1, Event::Clear(colour(255, 0, 0, 255)))?;
     assert!(rt; table.len() == 1);
     table.set_on(1, false);
-    let mut owner = Owner::of(alloc, one_pixel(alloc, green)?);
+    let mut owner = Owner::of(alloc, one_pixel(alloc, green, 6)?);
     forward(&mut owner, &table)?;
-    assert_eq!(rt; shown(&owner), (1, 0, green));
+    assert_eq!(rt; shown(&owner), (1, 0, (green, 6)));
     assert!(rt; owner.place().holds(0, 0));
     assert_eq!(rt; owner.row(0), [green].as_slice());
     Ok(())
@@ -183,7 +231,7 @@ fn an_event_switched_off_adds_an_image_and_keeps_nothing(rt: HostRuntime) -> Res
 #[test]
 fn an_owner_has_no_further_field(rt: HostRuntime) -> Result<(), Fail> {
     let alloc = rt.alloc();
-    let owner = Owner::of(alloc, one_pixel(alloc, colour(1, 2, 3, 4))?);
+    let owner = Owner::of(alloc, one_pixel(alloc, colour(1, 2, 3, 4), 5)?);
     let Owner {
         tile,
         undo,

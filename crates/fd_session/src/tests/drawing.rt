@@ -149,7 +149,8 @@ impl Numbers {
         let y = (self.next() % 55 * 65536 + self.next()) as i32 - 655_360;
         let pos = position(x, y)?;
         let colour = colour(self.byte(), self.byte(), self.byte(), self.byte());
-        Ok(Vertex { pos, colour })
+        let z = self.next() as u16;
+        Ok(Vertex { pos, colour, z })
     }
 
     /// A draw of three triangles.

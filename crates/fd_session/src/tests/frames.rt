@@ -23,24 +23,39 @@ pub(crate) fn position(x: i32, y: i32) -> Result<Pos, Fail> {
 }
 
 /// A triangle by its corners in pixels, and their colours.
-pub(crate) type Corners = ([(i8, i8); 3], [Colour; 3]);
+pub(crate) type Corners = ([(i16, i16); 3], [Colour; 3]);
 
-pub(crate) const CLOCKWISE: [(i8, i8); 3] = [(0, 0), (2, 0), (0, 2)];
+pub(crate) const CLOCKWISE: [(i16, i16); 3] = [(0, 0), (2, 0), (0, 2)];
 
 pub(crate) fn draw(alloc: Global, interp: Interp, triangles: &[Corners]) -> Result<Event, Fail> {
+    draw_at(alloc, interp, triangles, 0)
+}
+
+/// A draw whose corners have one depth.
+fn draw_at(alloc: Global, interp: Interp, triangles: &[Corners], z: u16) -> Result<Event, Fail> {
     let mut vertices = Vec::new(alloc);
     for (corners, colours) in triangles {
         for ((x, y), colour) in corners.iter().zip(colours) {
             let pos = position(i32::from(*x) * 65536, i32::from(*y) * 65536)?;
             let colour = *colour;
-            vertices.push(Vertex { pos, colour })?;
+            vertices.push(Vertex { pos, colour, z })?;
         }
     }
     Ok(Event::Draw(Draw::new(vertices, None, interp)?))
 }
 
-pub(crate) fn flat(alloc: Global, corners: [(i8, i8); 3], colour: Colour) -> Result<Event, Fail> {
-    draw(alloc, Interp::Flat, &[(corners, [colour; 3])])
+pub(crate) fn flat(alloc: Global, corners: [(i16, i16); 3], colour: Colour) -> Result<Event, Fail> {
+    flat_at(alloc, corners, colour, 0)
+}
+
+/// A triangle of one colour and one depth.
+pub(crate) fn flat_at(
+    alloc: Global,
+    corners: [(i16, i16); 3],
+    colour: Colour,
+    z: u16,
+) -> Result<Event, Fail> {
+    draw_at(alloc, Interp::Flat, &[(corners, [colour; 3])], z)
 }
 
 pub(crate) fn blend(enable: bool, src: Factor, dst: Factor, bits: u8) -> Result<Event, Fail> {
@@ -82,7 +97,7 @@ pub(crate) fn session(
 ) -> Result<Session, Fail>
     requires { (1 ≤ workers) × (workers ≤ 64) }
 {
-    let table = EventTable::start(alloc, width, height, events)?;
+    let table = EventTable::start(alloc, 2, width, height, events)?;
     match Session::start(alloc, table, workers) {
         Ok(session) => Ok(session),
         Err(_) => Err(Fail::from("memory")),

@@ -2,6 +2,7 @@
 use crate::tests::frames::{colour, one_clear};
 use crate::{Answer, Session, SessionFault};
 use fd_blend::Colour;
+use fd_crew::Free;
 use std::alloc::{AllocError, Global};
 use std::process::Abort;
 use std::test::Fail;
@@ -61,35 +62,57 @@ fn expect_ends(rt: &impl Abort, session: &Session, position: u32, shown: Colour)
     }
 }
 
-/// A step is refused where the crew's fence wants memory, and stops where a tile does. Either way nothing has changed.
+/// How often each way of moving is tried with so many pieces given back: more often than a step has allocations.
+const TRIES: usize = 8;
+
+/// More pieces than all allocations of a step need together.
+const MOST_GIVEN: usize = 40;
+
+/// A step is refused where the crew's fence wants memory, and stops where a tile does. Either way nothing has changed. What a tile got it keeps, so each
+/// try gets a little further, though all memory is taken again before it. By the gate two workers are asked for, and the thread can't be started.
 #[test]
-fn each_refused_allocation_of_a_step(rt: HostRuntime) -> Result<(), Fail> {
+fn a_step_with_hardly_any_memory(rt: HostRuntime) -> Result<(), Fail> {
     let fresh = colour(0, 0, 0, 0);
-    let mut session = one_clear(rt.alloc(), 33, CLEARED, 2)?;
-    let mut pieces = exhaust(rt.alloc())?;
-    let mut refused = false;
-    let mut stopped = false;
-    let mut moved = false;
-    for _ in 0..pieces.len() {
-        match session.step(&rt) {
-            Answer::Moved { at } => {
-                assert_eq!(rt; at, 1);
-                moved = true;
-                break;
-            }
-            Answer::Stopped { at } => {
-                assert_eq!(rt; at, 0);
-                stopped = true;
-            }
-            Answer::Refused(fault) => {
-                assert_eq!(rt; fault, SessionFault::Memory);
-                refused = true;
+    for gated in [false, true] {
+        let mut session = one_clear(rt.alloc(), 33, CLEARED, 2)?;
+        let mut pieces = exhaust(rt.alloc())?;
+        let mut refused = false;
+        let mut stopped = false;
+        for given in 0..MOST_GIVEN {
+            for _ in 0..TRIES {
+                if session.position() == 1 {
+                    break;
+                }
+                take_all(rt.alloc(), &mut pieces, SMALLEST);
+                for _ in 0..given {
+                    drop(pieces.pop());
+                }
+                let answer = if gated {
+                    session.goto_gated(&rt, 1, &Free)
+                } else {
+                    session.step(&rt)
+                };
+                match answer {
+                    Answer::Moved { at } => assert_eq!(rt; at, 1),
+                    Answer::Stopped { at } => {
+                        assert_eq!(rt; at, 0);
+                        stopped = true;
+                    }
+                    Answer::Refused(fault) => {
+                        assert_eq!(rt; fault, SessionFault::Memory);
+                        refused = true;
+                    }
+                }
+                let shown = if session.position() == 1 {
+                    CLEARED
+                } else {
+                    fresh
+                };
+                expect_ends(&rt, &session, session.position(), shown);
             }
         }
-        expect_ends(&rt, &session, 0, fresh);
-        drop(pieces.pop());
+        assert!(rt; refused && stopped && session.position() == 1);
+        drop(pieces);
     }
-    assert!(rt; refused && stopped && moved);
-    expect_ends(&rt, &session, 1, CLEARED);
     Ok(())
 }

@@ -1,8 +1,8 @@
 ghost use Rattle.std.specs.Prelude.{◌≡◌, length, IfOk};
 
-use crate::tests::frames::{colour, flat};
+use crate::tests::frames::{colour, draw, flat};
 use crate::worth::workers_worth;
-use fd_blend::Colour;
+use fd_cover::Interp;
 use fd_events::{Event, EventTable};
 use std::alloc::Global;
 use std::test::Fail;
@@ -14,7 +14,7 @@ fn table(alloc: Global, first: Event, second: Event) -> Result<EventTable, Fail>
     let mut events = Vec::new(alloc);
     events.push(first)?;
     events.push(second)?;
-    Ok(EventTable::start(alloc, 1024, 512, events)?)
+    Ok(EventTable::start(alloc, 2, 1024, 512, events)?)
 }
 
 #[test]
@@ -41,5 +41,18 @@ fn work_decides_how_many_workers_start(rt: HostRuntime) -> Result<(), Fail> {
     assert_eq!(rt; workers_worth(&table, 0, 1, 3, 64), 3);
     table.set_on(1, false);
     assert_eq!(rt; workers_worth(&table, 0, 2, 512, 64), 1);
+    Ok(())
+}
+
+/// A group of triangles here is work of 128 by 128 pixels and 17 times 32 looks, which is 20,736. The first draw has one, and the second one twenty.
+#[test]
+fn triangles_over_one_another_are_worth_more(rt: HostRuntime) -> Result<(), Fail> {
+    let alloc = rt.alloc();
+    let triangles = vec![in alloc; ([(0, 0), (128, 0), (0, 128)], [colour(1, 2, 3, 4); 3]); 640]?;
+    let one = draw(alloc, Interp::Flat, &triangles[..1])?;
+    let all = draw(alloc, Interp::Flat, &triangles)?;
+    let table = table(alloc, one, all)?;
+    assert_eq!(rt; workers_worth(&table, 0, 1, 512, 64), 1);
+    assert_eq!(rt; workers_worth(&table, 0, 2, 512, 64), 13);
     Ok(())
 }

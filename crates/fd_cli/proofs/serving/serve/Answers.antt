@@ -10,5 +10,5 @@ returns-in-Err-clause-serves g c = (
   Consumes-nil (g.R.Source.remaining c.args.source.now),
   Appends-nil (g.W.Sink.contents c.args.sink.now),
   omega arith,
-  serves_nothing c.args.capture.now c.in-Err.ending _ c.in-Err.ensures,
+  serves_nothing c.args.capture.now c.in-Err.ending _ c.in-Err.ensures.opens,
 )

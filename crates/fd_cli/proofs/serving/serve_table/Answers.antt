@@ -2,8 +2,8 @@ use Rattle.std.proofs.Common.{◌≡◌, ◌∙◌, ap, sym, subst, [], ◌++◌
 use Rattle.std.proofs.KnownBytes.{Consumes-nil, Consumes-trans, Appends-nil, Appends-trans}
 use Rattle.std.proofs.lemmas.List.{length-take, length-take-le}
 use Rattle.fd_cli.specs.Progress.{IsServing}
-use Rattle.fd_cli.specs.Serving.{Serves, Stops}
-use Rattle.fd_cli.proofs.Advancing.{serving_start, serves_stop, front_of, end_reached}
+use Rattle.fd_cli.specs.Serving.{Serves}
+use Rattle.fd_cli.proofs.Advancing.{serving_start, serves_stop, front_of, end_reached, reader_kept, reader_kept_end}
 use Rattle.fd_cli.proofs.serving.serve_table.Goals as goal
 
 pub loop-count-init : goal.loop-count-init
@@ -69,11 +69,14 @@ returns-in-Err-clause-serves g c =
     )
 
 pub returns-in-Err-clause-read : goal.returns-in-Err-clause-read
-returns-in-Err-clause-read g c e =
+returns-in-Err-clause-read g c =
     let inv = c.loop-count.invariant in
     let a = c.in-Err.ensures.advances in
-    let taken = inv.input ++ take c.in-Ok-fill.count (c.fill.new.buffer ++ drop c.min-room.result c.loop-count.buffer) in
-    absurd (subst (λ ending. Stops c.args.table taken (inv.text ++ a.written) ending) e (a.after c.args.table inv.input inv.text inv.serving))
+    reader_kept _ _ _ c.in-Err.ending _ _ (a.after c.args.table inv.input inv.text inv.serving) (c.in-Ok-fill.ensures.failures ∙ inv.read)
+
+pub returns-then-count-eq0-clause-read : goal.returns-then-count-eq0-clause-read
+returns-then-count-eq0-clause-read g c =
+    reader_kept_end c.finish.result _ _ c.finish.ensures.only (c.in-Ok-fill.ensures.failures ∙ c.loop-count.invariant.read)
 
 pub loop-count-smaller : goal.loop-count-smaller
 loop-count-smaller g c =

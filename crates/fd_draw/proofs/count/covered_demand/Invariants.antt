@@ -7,6 +7,7 @@ use Rattle.fd_draw.proofs.count.covered_demand.Given as goal
 -- what was counted and what the rows that are left have is what all have
 abbrev pub invariant-loop-y : goal.invariant-loop-y
 invariant-loop-y l = record {
+  rows : l.rows ≡ (l.triangle, l.y);
   spans : l.demand.spans + total (row_spans (covers l.triangle) (place_in l.area)) l.y (l.area.bottom - l.y) ≡ spans_in (covers l.triangle) (place_in l.area);
   pixels : l.demand.pixels + total (row_pixels (covers l.triangle) (place_in l.area)) l.y (l.area.bottom - l.y) ≡ pixels_in (covers l.triangle) (place_in l.area);
   few_spans : l.demand.spans ≤ l.y - l.area.top;

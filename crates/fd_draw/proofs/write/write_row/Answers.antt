@@ -1,42 +1,45 @@
-use Rattle.std.proofs.Common.{◌-◌, ap, take, drop, arith}
-use Rattle.fd_undo.proofs.FrameLemmas.{length-kept_row}
-use Rattle.fd_draw.specs.Layer.{covers_at, writes_at, colour_written}
-use Rattle.fd_draw.proofs.Painting.{span_pixels, span_spans, span_old, Paints-code, Writes-no_span}
+use Rattle.std.proofs.Common.{◌∙◌, refl, arith, Some}
+use Rattle.fd_tile.specs.Place.{HasRow}
+use Rattle.fd_draw.specs.Layer.{covers_at, writes_at, layer_written}
+use Rattle.fd_draw.specs.Writing.{keep_each}
+use Rattle.fd_draw.proofs.Counts.{in_span-inside, row_pixels-span, spans_in-row}
+use Rattle.fd_draw.proofs.Painting.{span_written, Writes-no_span}
+use Rattle.fd_draw.proofs.PixelTests.{row_count, Paints-row_done}
 use Rattle.fd_draw.proofs.write.write_row.Goals as goal
 
-pub keep-requires-clause-span : goal.keep-requires-clause-span
-keep-requires-clause-span c =
-    let one = span_spans (writes_at c.args.layer.now c.args.state.now) (covers_at c.args.layer.now) (colour_written c.args.layer.now c.args.state.now) c.args.y c.in-Some.left c.in-Some.right c.args.tile.now c.args.undo.now
-    c.place-place.result c.place-place.ensures.value c.place-place.ensures.filled c.args.area c.requires.inside c.requires.written c.requires.from_top c.requires.to_bottom c.in-Some.ensures in
-    omega (arith, c.requires.room.spans, one)
+pub write_span-requires-clause-crossed : goal.write_span-requires-clause-crossed
+write_span-requires-clause-crossed c =
+    record { from_top = omega (arith, c.requires.inside.from_top, c.requires.from_top); to_bottom = omega (arith, c.requires.inside.to_bottom, c.requires.to_bottom) }
 
-pub keep-requires-clause-pixels : goal.keep-requires-clause-pixels
-keep-requires-clause-pixels c =
-    let count = span_pixels (writes_at c.args.layer.now c.args.state.now) (covers_at c.args.layer.now) (colour_written c.args.layer.now c.args.state.now) c.args.y c.in-Some.left c.in-Some.right c.args.tile.now c.args.undo.now
-    c.place-place.result c.place-place.ensures.value c.place-place.ensures.filled c.args.area c.requires.inside c.requires.written c.requires.from_top c.requires.to_bottom c.in-Some.ensures in
-    let long = span_old (writes_at c.args.layer.now c.args.state.now) (covers_at c.args.layer.now) (colour_written c.args.layer.now c.args.state.now) c.args.y c.in-Some.left c.in-Some.right c.args.tile.now c.args.undo.now
-    c.place-place.result c.place-place.ensures.value c.place-place.ensures.filled c.args.area c.requires.inside c.requires.written c.requires.from_top c.requires.to_bottom c.in-Some.ensures c.row.result.now c.row.ensures in
-    omega (arith, c.requires.room.pixels, count, long)
+pub write_span-requires-clause-covered : goal.write_span-requires-clause-covered
+write_span-requires-clause-covered c = λ column low high.
+    c.in-Some.ensures.same column (omega (arith, c.in-Some.ensures.bounds.0)) (omega (arith, c.in-Some.ensures.bounds.2)) ∙ in_span-inside c.in-Some.left c.in-Some.right column low high
+
+pub write_span-requires-clause-room : goal.write_span-requires-clause-room
+write_span-requires-clause-room c =
+    let written = writes_at c.args.layer.now c.args.state.now in
+    let p = c.args.tile.now.place in
+    let crossed : HasRow p c.args.y = record { from_top = omega (arith, c.requires.inside.from_top, c.requires.from_top); to_bottom = omega (arith, c.requires.inside.to_bottom, c.requires.to_bottom) } in
+    let span = span_written written (covers_at c.args.layer.now) p c.args.area c.args.y (Some (c.in-Some.left, c.in-Some.right)) c.requires.inside c.requires.written c.requires.from_top c.requires.to_bottom c.in-Some.ensures in
+    record {
+      begun = c.requires.room.begun;
+      spans = omega (arith, c.requires.room.spans, spans_in-row written p c.args.y crossed, row_pixels-span written p c.args.y c.in-Some.left c.in-Some.right span, span.bounds.1);
+      pixels = omega (arith, c.requires.room.pixels, row_count written p c.args.y c.in-Some.left c.in-Some.right crossed span);
+    }
 
 pub returns-in-Some : goal.returns-in-Some
 returns-in-Some c =
-    let one = span_spans (writes_at c.args.layer.now c.args.state.now) (covers_at c.args.layer.now) (colour_written c.args.layer.now c.args.state.now) c.args.y c.in-Some.left c.in-Some.right c.args.tile.now c.args.undo.now
-    c.place-place.result c.place-place.ensures.value c.place-place.ensures.filled c.args.area c.requires.inside c.requires.written c.requires.from_top c.requires.to_bottom c.in-Some.ensures in
-    let count = span_pixels (writes_at c.args.layer.now c.args.state.now) (covers_at c.args.layer.now) (colour_written c.args.layer.now c.args.state.now) c.args.y c.in-Some.left c.in-Some.right c.args.tile.now c.args.undo.now
-    c.place-place.result c.place-place.ensures.value c.place-place.ensures.filled c.args.area c.requires.inside c.requires.written c.requires.from_top c.requires.to_bottom c.in-Some.ensures in
-    let long = span_old (writes_at c.args.layer.now c.args.state.now) (covers_at c.args.layer.now) (colour_written c.args.layer.now c.args.state.now) c.args.y c.in-Some.left c.in-Some.right c.args.tile.now c.args.undo.now
-    c.place-place.result c.place-place.ensures.value c.place-place.ensures.filled c.args.area c.requires.inside c.requires.written c.requires.from_top c.requires.to_bottom c.in-Some.ensures c.row.result.now c.row.ensures in
-    let kept = length-kept_row c.in-Some.left c.args.y (take (c.in-Some.right - c.place-place.result.left - (c.in-Some.left - c.place-place.result.left)) (drop (c.in-Some.left - c.place-place.result.left) c.row.result.now)) in
+    let written = writes_at c.args.layer.now c.args.state.now in
+    let p = c.args.tile.now.place in
+    let crossed : HasRow p c.args.y = record { from_top = omega (arith, c.requires.inside.from_top, c.requires.from_top); to_bottom = omega (arith, c.requires.inside.to_bottom, c.requires.to_bottom) } in
+    let span = span_written written (covers_at c.args.layer.now) p c.args.area c.args.y (Some (c.in-Some.left, c.in-Some.right)) c.requires.inside c.requires.written c.requires.from_top c.requires.to_bottom c.in-Some.ensures in
     record {
-      painted =
-          Paints-code (writes_at c.args.layer.now c.args.state.now) (covers_at c.args.layer.now) (colour_written c.args.layer.now c.args.state.now) c.args.y c.in-Some.left c.in-Some.right c.args.tile.now c.args.undo.now
-          c.place-place.result c.place-place.ensures.value c.place-place.ensures.filled c.args.area c.requires.inside c.requires.written c.requires.from_top c.requires.to_bottom c.in-Some.ensures
-          c.row.result.now c.row_mut-row.result.now c.paint.new.row c.keep.new.self c.requires.room.begun c.row.ensures c.row_mut-row.ensures.value c.paint.ensures c.keep.ensures;
-      spans = omega (arith, c.requires.room.spans, one, ap (λ u. u.spans_left) c.keep.ensures);
-      pixels = omega (arith, c.requires.room.pixels, count, long, kept, ap (λ u. u.pixels_left) c.keep.ensures);
+      painted = Paints-row_done written p c.args.y c.in-Some.left c.in-Some.right crossed span (layer_written c.args.layer.now c.args.state.now) keep_each c.args.tile.now _ c.args.undo.now _ refl c.write_span.ensures.painted;
+      spans = omega (arith, spans_in-row written p c.args.y crossed, row_pixels-span written p c.args.y c.in-Some.left c.in-Some.right span, span.bounds.1, c.write_span.ensures.spans);
+      pixels = omega (arith, row_count written p c.args.y c.in-Some.left c.in-Some.right crossed span, c.write_span.ensures.pixels);
     }
 
 pub returns-in_default : goal.returns-in_default
 returns-in_default c =
     Writes-no_span (writes_at c.args.layer.now c.args.state.now) (covers_at c.args.layer.now) c.args.y c.args.tile.now c.args.area c.requires.inside c.requires.written c.requires.from_top c.requires.to_bottom
-    (rw c.in_default.is at c.span.ensures) (colour_written c.args.layer.now c.args.state.now) c.args.undo.now c.place-place.ensures.filled c.requires.room.begun
+    (rw c.in_default.is at c.span.ensures) _ _ _ _ c.args.undo.now c.place-place.ensures.filled c.requires.room.begun

@@ -22,12 +22,12 @@ returns-then-byte-ne10-clause-advances g c =
 pub returns-in_default-clause-advances : goal.returns-in_default-clause-advances
 returns-in_default-clause-advances g c =
     let same : c.as_slice-line.result.now ≡ c.args.self.now.line.items = c.as_slice-line.ensures.value in
-    advance_fault c.args.self.now _ (g.W.Sink.contents c.args.sink.now) _ c.args.byte (rw same at c.in_default.ensures.replies)
+    advance_fault c.args.self.now _ (g.W.Sink.contents c.args.sink.now) _ c.args.byte c.if-byte-ne10.false c.if-self-ge-MAX_BYTES.false c.if-self-ge-MAX_LINES.false (rw same at c.in_default.ensures.replies)
 
 pub returns-then-quit-clause-advances : goal.returns-then-quit-clause-advances
 returns-then-quit-clause-advances g c =
     let same : c.as_slice-line.result.now ≡ c.args.self.now.line.items = c.as_slice-line.ensures.value in
-    advance_quit c.args.self.now _ (g.W.Sink.contents c.args.sink.now) _ c.args.byte c.if-byte-ne10.false (rw same at c.in-Ok.ensures.replies) (rw same at (c.in-Ok.ensures.quit.0 c.if-quit.true))
+    advance_quit c.args.self.now _ (g.W.Sink.contents c.args.sink.now) _ c.args.byte c.if-byte-ne10.false c.if-self-ge-MAX_BYTES.false (rw same at c.in-Ok.ensures.replies) (rw same at (c.in-Ok.ensures.quit.0 c.if-quit.true))
 
 pub returns-else-quit-clause-advances : goal.returns-else-quit-clause-advances
 returns-else-quit-clause-advances g c =

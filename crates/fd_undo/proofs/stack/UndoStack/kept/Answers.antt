@@ -1,53 +1,79 @@
-use Rattle.std.proofs.Common.{rules, ◌≡◌, ℕ, ◌<◌, ◌≤◌, ◌∙◌, sym, ap, List, [], length, get_or, drop, Ok, Err, inl, inr, ◌⊎◌, arith}
+use Rattle.std.proofs.lemmas.List.{take_rest}
+use Rattle.std.proofs.Common.{◌≡◌, ◌-◌, ◌<◌, ◌∙◌, sym, ap, [], length, get_or, take, drop, arith}
 use Rattle.std.specs.Prelude.{slice_get}
-use Rattle.std.proofs.lemmas.Bool.{cases_lt}
-use Rattle.std.proofs.lemmas.List.{get_or_default, get_or_past}
-use Rattle.std.proofs.lemmas.List.Sorted.{answers_always}
-use Rattle.fd_undo.specs.declared.stored.StoredFrame.{StoredFrame}
 use Rattle.fd_undo.specs.Frame.{kept_at}
-use Rattle.fd_undo.specs.Stored.{pixel_count, kept_of, frame_of, frames_of, no_frame}
-use Rattle.fd_undo.proofs.Numbers.{get_or-frames_of, length-frames_of}
-use Rattle.fd_undo.proofs.Search.{number_at, frame_of-at, frame_of-none, Follow-at, searched}
+use Rattle.fd_undo.specs.Stored.{number_at}
+use Rattle.fd_undo.proofs.Pixels.{pixels_of}
+use Rattle.fd_undo.proofs.Search.{Follow-rise, frame_not_stored, frame_bounds, frame_fits, frame_read}
 use Rattle.fd_undo.proofs.stack.UndoStack.kept.Goals as goal
 
-pub kept_in-requires : goal.kept_in-requires
-kept_in-requires c =
-    let within : c.in-Ok.place < length c.self.inside.stored.items = omega (arith, c.in-Ok.ensures.bound, ap length c.deref.ensures.value) in
-    let read : c.index-stored.result.now ≡ get_or c.self.inside.stored.items c.in-Ok.place no_frame =
-    c.index-stored.ensures ∙ get_or_default c.self.inside.stored.items c.in-Ok.place c.index-stored.result.now no_frame within in
-    let bounds = Follow-at c.self.inside.stored.items 0 0 c.self.inside.count c.self.inside.colours.len c.in-Ok.place c.self.invariant.follow within in
-    omega (arith, bounds.1, ap (λ f. f.first) read, ap (λ f. pixel_count f.spans.items) read, ap pixel_count c.deref-in-Ok.ensures, ap length c.deref-in-Ok-2.ensures.value, c.self.inside.colours.ok.0)
+pub place_of-requires : goal.place_of-requires
+place_of-requires c =
+    rw c.deref.ensures.value (λ a b before within. Follow-rise c.self.inside.stored.items 0 0 c.self.inside.count c.self.inside.colours.len a b c.self.invariant.follow before within)
 
-pub returns-in-Ok : goal.returns-in-Ok
-returns-in-Ok c =
-    let found = (searched c.deref.result.now c.self.inside.count c.self.inside.colours.len (rw c.deref.ensures.value c.self.invariant.follow) c.args.frame (Ok c.in-Ok.place) c.in-Ok.ensures.bound
-    (c.in-Ok.ensures.position (λ f. f.number) (answers_always _ _ _ (λ f a r g called. search rules)))).found in
-    let number : number_at c.self.inside.stored.items c.in-Ok.place ≡ c.args.frame = rw (← c.deref.ensures.value) found.1 in
-    let within : c.in-Ok.place < length c.self.inside.stored.items = omega (arith, found.0, ap length c.deref.ensures.value) in
-    let read : c.index-stored.result.now ≡ get_or c.self.inside.stored.items c.in-Ok.place no_frame =
-    c.index-stored.ensures ∙ get_or_default c.self.inside.stored.items c.in-Ok.place c.index-stored.result.now no_frame within in
-    let bounds = Follow-at c.self.inside.stored.items 0 0 c.self.inside.count c.self.inside.colours.len c.in-Ok.place c.self.invariant.follow within in
-    let below : c.args.frame < c.self.inside.count = omega (arith, bounds.0, number) in
+pub returns-in_err-place : goal.returns-in_err-place
+returns-in_err-place c =
+    let none : get_or c.args.self.now.frames c.args.frame [] ≡ [] =
+    ap (λ u. get_or u.frames c.args.frame []) (sym c.self.view_is)
+    ∙ frame_not_stored c.self.inside.count c.self.inside.stored.items (pixels_of c.self.inside) c.args.frame (rw (← c.deref.ensures.value) (c.place_of.ensures.absent c.in_err-place.was)) in
+    c.from_residual.ensures ∙ ap (λ ks. slice_get (kept_at ks c.args.x c.args.y) c.args.n) (sym none)
+
+pub offset_bounds-deref-stored : goal.offset_bounds-deref-stored
+offset_bounds-deref-stored c =
+    let found : (c.in_ok-place.place < length c.self.inside.stored.items) × (number_at c.self.inside.stored.items c.in_ok-place.place ≡ c.args.frame) = rw (← c.deref.ensures.value) c.in_ok-place.ensures.found in
+    omega (arith, (frame_bounds c.self.inside c.self.invariant.follow c.self.invariant.depths_follow c.in_ok-place.place found.0 c.index-stored.result.now c.index-stored.ensures).0, ap length c.deref-3.ensures.value)
+
+pub slice_bounds-kept_in-count : goal.slice_bounds-kept_in-count
+slice_bounds-kept_in-count c =
+    let found : (c.in_ok-place.place < length c.self.inside.stored.items) × (number_at c.self.inside.stored.items c.in_ok-place.place ≡ c.args.frame) = rw (← c.deref.ensures.value) c.in_ok-place.ensures.found in
+    omega (arith, (frame_bounds c.self.inside c.self.invariant.follow c.self.invariant.depths_follow c.in_ok-place.place found.0 c.index-stored.result.now c.index-stored.ensures).0, ap length c.deref-3.ensures.value)
+
+pub slice_bounds-kept_in-start : goal.slice_bounds-kept_in-start
+slice_bounds-kept_in-start c =
+    let found : (c.in_ok-place.place < length c.self.inside.stored.items) × (number_at c.self.inside.stored.items c.in_ok-place.place ≡ c.args.frame) = rw (← c.deref.ensures.value) c.in_ok-place.ensures.found in
+    omega (arith, (frame_bounds c.self.inside c.self.invariant.follow c.self.invariant.depths_follow c.in_ok-place.place found.0 c.index-stored.result.now c.index-stored.ensures).0, ap length c.deref-3.ensures.value)
+
+pub offset_bounds-deref-stored-2 : goal.offset_bounds-deref-stored-2
+offset_bounds-deref-stored-2 c =
+    let found : (c.in_ok-place.place < length c.self.inside.stored.items) × (number_at c.self.inside.stored.items c.in_ok-place.place ≡ c.args.frame) = rw (← c.deref.ensures.value) c.in_ok-place.ensures.found in
+    omega (arith, (frame_bounds c.self.inside c.self.invariant.follow c.self.invariant.depths_follow c.in_ok-place.place found.0 c.index-stored.result.now c.index-stored.ensures).1, ap length c.deref-4.ensures.value)
+
+pub slice_bounds-kept_in-count-2 : goal.slice_bounds-kept_in-count-2
+slice_bounds-kept_in-count-2 c =
+    let found : (c.in_ok-place.place < length c.self.inside.stored.items) × (number_at c.self.inside.stored.items c.in_ok-place.place ≡ c.args.frame) = rw (← c.deref.ensures.value) c.in_ok-place.ensures.found in
+    omega (arith, (frame_bounds c.self.inside c.self.invariant.follow c.self.invariant.depths_follow c.in_ok-place.place found.0 c.index-stored.result.now c.index-stored.ensures).1, ap length c.deref-4.ensures.value)
+
+pub slice_bounds-kept_in-start-2 : goal.slice_bounds-kept_in-start-2
+slice_bounds-kept_in-start-2 c =
+    let found : (c.in_ok-place.place < length c.self.inside.stored.items) × (number_at c.self.inside.stored.items c.in_ok-place.place ≡ c.args.frame) = rw (← c.deref.ensures.value) c.in_ok-place.ensures.found in
+    omega (arith, (frame_bounds c.self.inside c.self.invariant.follow c.self.invariant.depths_follow c.in_ok-place.place found.0 c.index-stored.result.now c.index-stored.ensures).1, ap length c.deref-4.ensures.value)
+
+pub kept_in-requires-clause-within : goal.kept_in-requires-clause-within
+kept_in-requires-clause-within c =
+    let found : (c.in_ok-place.place < length c.self.inside.stored.items) × (number_at c.self.inside.stored.items c.in_ok-place.place ≡ c.args.frame) = rw (← c.deref.ensures.value) c.in_ok-place.ensures.found in
+    let colours_read : take (length c.deref-3.result.now - c.index-stored.result.now.first) (drop c.index-stored.result.now.first c.deref-3.result.now) ≡ drop c.index-stored.result.now.first c.self.inside.colours.items =
+    take_rest c.deref-3.result.now c.index-stored.result.now.first ∙ ap (λ l. drop c.index-stored.result.now.first l) c.deref-3.ensures.value in
+    let depths_read : take (length c.deref-4.result.now - c.index-stored.result.now.first_depth) (drop c.index-stored.result.now.first_depth c.deref-4.result.now) ≡ drop c.index-stored.result.now.first_depth c.self.inside.depths.items =
+    take_rest c.deref-4.result.now c.index-stored.result.now.first_depth ∙ ap (λ l. drop c.index-stored.result.now.first_depth l) c.deref-4.ensures.value in
+    (frame_fits c.self.inside c.self.invariant.follow c.self.invariant.depths_follow c.in_ok-place.place found.0 c.index-stored.result.now c.index-stored.ensures c.deref-2.result.now c.deref-2.ensures _ colours_read _ depths_read).0
+
+pub kept_in-requires-clause-depths_within : goal.kept_in-requires-clause-depths_within
+kept_in-requires-clause-depths_within c =
+    let found : (c.in_ok-place.place < length c.self.inside.stored.items) × (number_at c.self.inside.stored.items c.in_ok-place.place ≡ c.args.frame) = rw (← c.deref.ensures.value) c.in_ok-place.ensures.found in
+    let colours_read : take (length c.deref-3.result.now - c.index-stored.result.now.first) (drop c.index-stored.result.now.first c.deref-3.result.now) ≡ drop c.index-stored.result.now.first c.self.inside.colours.items =
+    take_rest c.deref-3.result.now c.index-stored.result.now.first ∙ ap (λ l. drop c.index-stored.result.now.first l) c.deref-3.ensures.value in
+    let depths_read : take (length c.deref-4.result.now - c.index-stored.result.now.first_depth) (drop c.index-stored.result.now.first_depth c.deref-4.result.now) ≡ drop c.index-stored.result.now.first_depth c.self.inside.depths.items =
+    take_rest c.deref-4.result.now c.index-stored.result.now.first_depth ∙ ap (λ l. drop c.index-stored.result.now.first_depth l) c.deref-4.ensures.value in
+    (frame_fits c.self.inside c.self.invariant.follow c.self.invariant.depths_follow c.in_ok-place.place found.0 c.index-stored.result.now c.index-stored.ensures c.deref-2.result.now c.deref-2.ensures _ colours_read _ depths_read).1
+
+pub returns : goal.returns
+returns c =
+    let found : (c.in_ok-place.place < length c.self.inside.stored.items) × (number_at c.self.inside.stored.items c.in_ok-place.place ≡ c.args.frame) = rw (← c.deref.ensures.value) c.in_ok-place.ensures.found in
+    let colours_read : take (length c.deref-3.result.now - c.index-stored.result.now.first) (drop c.index-stored.result.now.first c.deref-3.result.now) ≡ drop c.index-stored.result.now.first c.self.inside.colours.items =
+    take_rest c.deref-3.result.now c.index-stored.result.now.first ∙ ap (λ l. drop c.index-stored.result.now.first l) c.deref-3.ensures.value in
+    let depths_read : take (length c.deref-4.result.now - c.index-stored.result.now.first_depth) (drop c.index-stored.result.now.first_depth c.deref-4.result.now) ≡ drop c.index-stored.result.now.first_depth c.self.inside.depths.items =
+    take_rest c.deref-4.result.now c.index-stored.result.now.first_depth ∙ ap (λ l. drop c.index-stored.result.now.first_depth l) c.deref-4.ensures.value in
     c.kept_in.ensures
-    ∙ ap (λ l. slice_get (kept_at (kept_of l (drop c.index-stored.result.now.first c.deref-in-Ok-2.result.now)) c.args.x c.args.y) c.args.n) c.deref-in-Ok.ensures
-    ∙ ap (λ l. slice_get (kept_at (kept_of c.index-stored.result.now.spans.items (drop c.index-stored.result.now.first l)) c.args.x c.args.y) c.args.n) c.deref-in-Ok-2.ensures.value
-    ∙ ap (λ f. slice_get (kept_at (kept_of f.spans.items (drop f.first c.self.inside.colours.items)) c.args.x c.args.y) c.args.n) read
     ∙ ap (λ ks. slice_get (kept_at ks c.args.x c.args.y) c.args.n)
-    (sym (frame_of-at c.self.inside.stored.items c.self.inside.colours.items 0 0 c.self.inside.count c.self.inside.colours.len c.in-Ok.place c.self.invariant.follow within)
-    ∙ ap (λ i. frame_of c.self.inside.stored.items c.self.inside.colours.items i) number
-    ∙ sym (get_or-frames_of c.self.inside.count c.self.inside.stored.items c.self.inside.colours.items c.args.frame below)
+    (frame_read c.self.inside c.self.invariant.follow c.self.invariant.depths_follow c.in_ok-place.place found.0 c.index-stored.result.now c.index-stored.ensures c.deref-2.result.now c.deref-2.ensures _ colours_read _ depths_read c.args.frame found.1
     ∙ ap (λ u. get_or u.frames c.args.frame []) c.self.view_is)
-
-pub returns-in-Err : goal.returns-in-Err
-returns-in-Err c =
-    let absent = (searched c.deref.result.now c.self.inside.count c.self.inside.colours.len (rw c.deref.ensures.value c.self.invariant.follow) c.args.frame (Err c.in-Err.field-0) c.in-Err.ensures.bound
-    (c.in-Err.ensures.position (λ f. f.number) (answers_always _ _ _ (λ f a r g called. search rules)))).absent in
-    let none : frame_of c.self.inside.stored.items c.self.inside.colours.items c.args.frame ≡ [] =
-    frame_of-none c.self.inside.stored.items c.self.inside.colours.items c.args.frame (rw (← c.deref.ensures.value) absent) in
-    ap (λ ks. slice_get (kept_at ks c.args.x c.args.y) c.args.n)
-    (sym (empty c.self.inside.count c.self.inside.stored.items c.self.inside.colours.items c.args.frame none (cases_lt c.args.frame c.self.inside.count))
-    ∙ ap (λ u. get_or u.frames c.args.frame []) c.self.view_is)
-  where
-    empty : (count : ℕ) (fs : List StoredFrame) (cs : _) (i : ℕ) → frame_of fs cs i ≡ [] → (i < count) ⊎ (count ≤ i) → get_or (frames_of count fs cs) i [] ≡ []
-    empty count fs cs i none (inl below) = get_or-frames_of count fs cs i below ∙ none
-    empty count fs cs i none (inr past) = get_or_past (frames_of count fs cs) i [] (omega (arith, length-frames_of count fs cs))

@@ -1,0 +1,294 @@
+-- A capture that version 1 accepts is read as version 1 reads it.
+use Rattle.std.proofs.Common.{◌≡◌, ℕ, ℤ, pos, negsuc, ◌+◌, List, [], ◌∷◌, length, Bool, true, false, cond, Option, Some, None, Result, Ok, Err, refl, ap, arith, nat_lt}
+use Rattle.std.specs.Prelude.{unsigned_abs, codes, ok_or, All, IfSome, IfOk, nat_le, ◌&&◌}
+use Rattle.std.specs.Str.{bytes_eq}
+use Rattle.std.specs.Result.{result_ok}
+use Rattle.std.proofs.lemmas.Bool.Decides.{nat_tests}
+use Rattle.std.proofs.lemmas.List.Elements.{All-nil, All-cons}
+use Prim.Native.String.{String}
+use Rattle.serde_json.specs.Data.{Data}
+use Rattle.serde_json.specs.Find.{get}
+use Rattle.fd_blend.specs.Equation.{has_colour_factor}
+use Rattle.fd_cover.specs.declared.shading.Interp.{Interp}
+use Rattle.fd_events.specs.declared.draw.Vertex.{Vertex}
+use Rattle.fd_events.specs.declared.event.Event.{Event}
+use Rattle.fd_events.specs.declared.draw.DrawFault.TheVariants.{Vertices, Indices, IndexRange}
+use Rattle.fd_events.specs.Draw.{draw_of as listed_draw}
+use Rattle.fd_events.specs.Indices.{are_in_range}
+use Rattle.fd_events.specs.Label.{labelled}
+use Rattle.fd_events.specs.Table.{Table, all_on}
+use Rattle.fd_events.specs.VersionOne.{IsFlat}
+use Rattle.fd_capture.specs.declared.fault.CaptureFault.{CaptureFault}
+use Rattle.fd_capture.specs.declared.fault.CaptureFault.TheVariants.{TooLong, NotJson, NotCapture, Version, Size, TooMany}
+use Rattle.fd_capture.specs.declared.fault.EventFault.{EventFault}
+use Rattle.fd_capture.specs.declared.fault.EventFault.TheVariants.{BadField, UnknownEvent}
+use Rattle.fd_events.specs.declared.event.Event.TheVariants.{Draw}
+use Rattle.fd_capture.specs.Fault.{map_fault, numbered, ◌>>=◌}
+use Rattle.fd_capture.specs.Field.{text_at, number_at, colour_at, flag_at, rect_at, part_at, signed_at, position_of, vertex_of, vertices_at, array_at, indices_at, all_of, between, number_between, whole_number}
+use Rattle.fd_snap.specs.Limits.{most_pixels, position_limit}
+use Rattle.fd_events.specs.Limits.{most_events}
+use Rattle.fd_capture.specs.Limits.{most_bytes}
+use Rattle.fd_capture.specs.Kind.{draw_of, clear_of, raster_of, scissor_of, blend_of, factor_of, marker_of}
+use Rattle.fd_capture.specs.Spelling.{spelled_cull, spelled_interp}
+use Rattle.fd_capture.specs.Capture.{event_of, event_of_kind, event_numbered, events_from, listed_events, json_of, table_of_value, capture_of}
+use Rattle.fd_capture.specs.VersionOne as one
+use Rattle.fd_capture.specs.VersionOne.{◌>>?◌}
+
+-- ---- what was accepted still is
+
+-- the second optional value is the first, if there is a first
+abbrev Stays : {A : Type 0} → Option A → Option A → Type 0
+Stays o p = IfSome o (λ a. p ≡ Some a)
+
+stays : {A : Type 0} (o : Option A) → Stays o o
+stays None = tt
+stays (Some a) = refl
+
+next : {A B : Type 0} (o p : Option A) (f g : A → Option B) → Stays o p → ((a : A) → Stays (f a) (g a)) → Stays (o >>? f) (p >>? g)
+next None p f g first each = tt
+next (Some a) p f g first each = rw first (each a)
+
+-- the same of results
+abbrev StaysOk : {A E : Type 0} → Result A E → Result A E → Type 0
+StaysOk r s = IfOk r (λ a. s ≡ Ok a)
+
+stays_ok : {A E : Type 0} (r : Result A E) → StaysOk r r
+stays_ok (Ok a) = refl
+stays_ok (Err e) = tt
+
+next_ok : {A B E : Type 0} (r s : Result A E) (f g : A → Result B E) → StaysOk r s → ((a : A) → StaysOk (f a) (g a)) → StaysOk (r >>= f) (s >>= g)
+next_ok (Err e) s f g first each = tt
+next_ok (Ok a) s f g first each = rw first (each a)
+
+or_stays : {A E : Type 0} (o p : Option A) (e : E) → Stays o p → StaysOk (ok_or o e) (ok_or p e)
+or_stays None p e first = tt
+or_stays (Some a) p e first = ap (λ (q : Option _). ok_or q e) first
+
+under : {A : Type 0} (a : A) (b c : Bool) → (b ≡ true → c ≡ true) → Stays (cond b (Some a) None) (cond c (Some a) None)
+under a true c wider = ap (λ (d : Bool). cond d (Some a) None) (wider refl)
+under a false c wider = tt
+
+-- what is within the smaller limits is within the larger ones
+between_stays : (z : ℤ) → Stays (between 1 one.most_pixels z) (between 1 most_pixels z)
+between_stays (pos n) = under n (nat_le 1 n && nat_le n 2048) (nat_le 1 n && nat_le n 16384) (λ is. grind (arith, nat_tests))
+between_stays (negsuc n) = tt
+
+position_stays : (x y : ℤ) → Stays (one.position_of x y) (position_of x y)
+position_stays x y = under (record { x = x; y = y }) (nat_le (unsigned_abs x) one.position_limit && nat_le (unsigned_abs y) one.position_limit)
+    (nat_le (unsigned_abs x) position_limit && nat_le (unsigned_abs y) position_limit) (λ is. grind (arith, nat_tests))
+
+side_stays : (name : String) (d : Data) → Stays (number_at name 1 one.most_pixels d) (number_at name 1 most_pixels d)
+side_stays name d = next (get (codes name) d) _ _ _ (stays (get (codes name) d)) (λ value. next (whole_number value) _ _ _ (stays (whole_number value)) between_stays)
+
+vertex_stays : (d : Data) → Stays (one.vertex_of d) (vertex_of 1 d)
+vertex_stays d =
+    next (signed_at "x" d) _ _ _ (stays (signed_at "x" d)) (λ x. next (signed_at "y" d) _ _ _ (stays (signed_at "y" d)) (λ y.
+    next (one.position_of x y) (position_of x y) _ _ (position_stays x y) (λ position. stays (colour_at "color" d >>? λ colour. Some (record { pos = position; colour = colour; z = 0 })))))
+
+vertices_stay : (ds : List Data) → Stays (all_of one.vertex_of ds) (all_of (vertex_of 1) ds)
+vertices_stay [] = refl
+vertices_stay (d ∷ ds) =
+    next (one.vertex_of d) (vertex_of 1 d) _ _ (vertex_stays d) (λ v. next (all_of one.vertex_of ds) (all_of (vertex_of 1) ds) _ _ (vertices_stay ds) (λ vs. refl))
+
+draw_stays : (d : Data) → Stays (one.draw_of d) (draw_of 1 d)
+draw_stays d =
+    next (text_at "interp" d >>? spelled_interp) _ _ _ (stays (text_at "interp" d >>? spelled_interp)) (λ interp.
+    next (one.vertices_at "vertices" d) (vertices_at 1 "vertices" d) _ _ (next (array_at "vertices" d) _ _ _ (stays (array_at "vertices" d)) vertices_stay) (λ vertices.
+    stays (indices_at "indices" d >>? λ indices. result_ok (one.made vertices indices interp) >>? λ draw. Some (Draw draw))))
+
+kind_stays : (kind : List ℕ) (d : Data) → StaysOk (one.event_of_kind kind d) (event_of_kind 1 kind d)
+kind_stays kind d =
+    alike (bytes_eq kind (codes "clear")) (ok_or (clear_of d) BadField) _ _ (alike (bytes_eq kind (codes "raster")) (ok_or (raster_of d) BadField) _ _
+    (alike (bytes_eq kind (codes "scissor")) (ok_or (scissor_of d) BadField) _ _ (alike (bytes_eq kind (codes "blend")) (ok_or (blend_of d) BadField) _ _
+    (alike (bytes_eq kind (codes "factor")) (ok_or (factor_of d) BadField) _ _
+    (either (bytes_eq kind (codes "draw")) _ _ _ _ (or_stays (one.draw_of d) (draw_of 1 d) BadField (draw_stays d))
+    (stays_ok (cond (bytes_eq kind (codes "marker")) (ok_or (marker_of d) BadField) (Err UnknownEvent))))))))
+  where
+    alike : (b : Bool) (e r s : Result Event EventFault) → StaysOk r s → StaysOk (cond b e r) (cond b e s)
+    alike true e r s rest = stays_ok e
+    alike false e r s rest = rest
+
+    either : (b : Bool) (e f r s : Result Event EventFault) → StaysOk e f → StaysOk r s → StaysOk (cond b e r) (cond b f s)
+    either true e f r s first rest = first
+    either false e f r s first rest = rest
+
+number_stays : (number : ℕ) (d : Data) → StaysOk (one.event_numbered number d) (event_numbered 1 number d)
+number_stays number d = kept (one.event_of d) (event_of 1 d) (next_ok (ok_or (text_at "kind" d) BadField) _ _ _ (stays_ok (ok_or (text_at "kind" d) BadField)) (λ kind. kind_stays kind d))
+  where
+    kept : (r s : Result Event EventFault) → StaysOk r s → StaysOk (map_fault (numbered number) r) (map_fault (numbered number) s)
+    kept (Err fault) s first = tt
+    kept (Ok e) s first = ap (map_fault (numbered number)) first
+
+events_stay : (number : ℕ) (ds : List Data) → StaysOk (one.events_from number ds) (events_from 1 number ds)
+unfolding events_from one.events_from
+events_stay number [] = refl
+events_stay number (d ∷ ds) =
+    next_ok (one.event_numbered number d) (event_numbered 1 number d) _ _ (number_stays number d)
+    (λ event. next_ok (one.events_from (number + 1) ds) (events_from 1 (number + 1) ds) _ _ (events_stay (number + 1) ds) (λ others. refl))
+
+-- ---- no depths
+
+abbrev Flat : Option Event → Type 0
+Flat event = IfSome event IsFlat
+
+after : {A : Type 0} (P : A → Type 0) (o : Option A) (f : A → Option Event) → IfSome o P → ((a : A) → P a → Flat (f a)) → Flat (o >>? f)
+after P None f holds each = tt
+after P (Some a) f holds each = each a holds
+
+any : {A : Type 0} (o : Option A) (f : A → Option Event) → ((a : A) → Flat (f a)) → Flat (o >>? f)
+any None f each = tt
+any (Some a) f each = each a
+
+through : {A B : Type 0} (P : B → Type 0) (o : Option A) (f : A → Option B) → ((a : A) → IfSome (f a) P) → IfSome (o >>? f) P
+through P None f each = tt
+through P (Some a) f each = each a
+
+abbrev IsZero : Vertex → Type 0
+IsZero v = v.z ≡ 0
+
+vertex_zero : (d : Data) → IfSome (one.vertex_of d) IsZero
+vertex_zero d =
+    through IsZero (signed_at "x" d) _ (λ x. through IsZero (signed_at "y" d) _ (λ y. through IsZero (one.position_of x y) _ (λ position. through IsZero (colour_at "color" d) _ (λ colour. refl))))
+
+all_zero : (ds : List Data) → IfSome (all_of one.vertex_of ds) (λ vs. All IsZero vs)
+all_zero [] = All-nil IsZero
+all_zero (d ∷ ds) = both (one.vertex_of d) (all_of one.vertex_of ds) (vertex_zero d) (all_zero ds)
+  where
+    both : (first : Option Vertex) (others : Option (List Vertex)) → IfSome first IsZero → IfSome others (λ vs. All IsZero vs) → IfSome (first >>? λ v. others >>? λ vs. Some (v ∷ vs)) (λ vs. All IsZero vs)
+    both None others here rest = tt
+    both (Some v) None here rest = tt
+    both (Some v) (Some vs) here rest = All-cons IsZero v vs here rest
+
+made_of : (vs : List Vertex) (is : Option (List ℕ)) (interp : Interp) → All IsZero vs → IfSome (result_ok (one.made vs is interp)) (λ draw. All IsZero draw.vertices)
+made_of vs is interp zeros = tests (nat_lt one.most_vertices (length vs)) (one.has_too_many is) (are_in_range (length vs) is)
+  where
+    tests : (a b c : Bool) → IfSome (result_ok (cond a (Err Vertices) (cond b (Err Indices) (cond c (Ok (listed_draw vs is interp)) (Err IndexRange))))) (λ draw. All IsZero draw.vertices)
+    tests true b c = tt
+    tests false true c = tt
+    tests false false true = zeros
+    tests false false false = tt
+
+or_fault : (o : Option Event) → Flat o → IfOk (ok_or o BadField) IsFlat
+or_fault None flat = tt
+or_fault (Some e) flat = flat
+
+either : (b : Bool) (first second : Result Event EventFault) → IfOk first IsFlat → IfOk second IsFlat → IfOk (cond b first second) IsFlat
+either true first second f s = f
+either false first second f s = s
+
+nothing_or : (b : Bool) (o : Option Event) → Flat o → Flat (cond b None o)
+nothing_or true o flat = tt
+nothing_or false o flat = flat
+
+flat_kind : (kind : List ℕ) (d : Data) → IfOk (one.event_of_kind kind d) IsFlat
+flat_kind kind d =
+    either (bytes_eq kind (codes "clear")) _ _ (or_fault (clear_of d) (any (colour_at "color" d) _ (λ colour. tt)))
+    (either (bytes_eq kind (codes "raster")) _ _
+    (or_fault (raster_of d) (any (text_at "cull" d >>? spelled_cull) _ (λ cull. any (flag_at "front_ccw" d) _ (λ ccw. any (flag_at "scissor" d) _ (λ scissor. tt)))))
+    (either (bytes_eq kind (codes "scissor")) _ _ (or_fault (scissor_of d) (any (rect_at "rect" d) _ (λ rect. tt)))
+    (either (bytes_eq kind (codes "blend")) _ _
+    (or_fault (blend_of d)
+    (any (flag_at "enable" d) _ (λ enable. any (part_at "rgb" d) _ (λ rgb. any (part_at "alpha" d) _ (λ alpha. any (number_at "mask" 0 15 d) _ (λ mask. nothing_or (has_colour_factor alpha) _ tt))))))
+    (either (bytes_eq kind (codes "factor")) _ _ (or_fault (factor_of d) (any (colour_at "color" d) _ (λ colour. tt)))
+    (either (bytes_eq kind (codes "draw")) _ _
+    (or_fault (one.draw_of d)
+    (any (text_at "interp" d >>? spelled_interp) _ (λ interp.
+    after (λ vs. All IsZero vs) (one.vertices_at "vertices" d) _ (through (λ vs. All IsZero vs) (array_at "vertices" d) _ all_zero) (λ vertices zeros.
+    any (indices_at "indices" d) _ (λ indices.
+    after (λ draw. All IsZero draw.vertices) (result_ok (one.made vertices indices interp)) _ (made_of vertices indices interp zeros) (λ draw holds. holds))))))
+    (either (bytes_eq kind (codes "marker")) _ _ (or_fault (marker_of d) (any (text_at "name" d) _ (λ name. any (result_ok (labelled name)) _ (λ label. tt)))) tt))))))
+
+flat_numbered : (number : ℕ) (d : Data) → IfOk (one.event_numbered number d) IsFlat
+flat_numbered number d = kept (one.event_of d) (read (ok_or (text_at "kind" d) BadField))
+  where
+    read : (kind : Result (List ℕ) EventFault) → IfOk (kind >>= λ k. one.event_of_kind k d) IsFlat
+    read (Ok kind) = flat_kind kind d
+    read (Err fault) = tt
+
+    kept : (event : Result Event EventFault) → IfOk event IsFlat → IfOk (map_fault (numbered number) event) IsFlat
+    kept (Ok e) flat = flat
+    kept (Err fault) flat = tt
+
+flat_events : (number : ℕ) (ds : List Data) → IfOk (one.events_from number ds) (λ es. All IsFlat es)
+unfolding one.events_from
+flat_events number [] = All-nil IsFlat
+flat_events number (d ∷ ds) = both (one.event_numbered number d) (one.events_from (number + 1) ds) (flat_numbered number d) (flat_events (number + 1) ds)
+  where
+    both : (first : Result Event CaptureFault) (others : Result (List Event) CaptureFault) → IfOk first IsFlat → IfOk others (λ es. All IsFlat es)
+        → IfOk (first >>= λ event. others >>= λ es. Ok (event ∷ es)) (λ es. All IsFlat es)
+    both (Err fault) others flat rest = tt
+    both (Ok e) (Err fault) flat rest = tt
+    both (Ok e) (Ok es) flat rest = All-cons IsFlat e es flat rest
+
+-- ---- the same table
+
+abbrev IsRead : Table → Type 0
+IsRead t = (t.version ≡ 1) × All IsFlat t.events
+
+-- the second reading of a table is the first, which is flat
+abbrev Reads : Result Table CaptureFault → Result Table CaptureFault → Type 0
+Reads r s = IfOk r (λ t. (s ≡ Ok t) × IsRead t)
+
+-- a step before it, of which something is known
+reads : {A : Type 0} (P : A → Type 0) (r s : Result A CaptureFault) (f g : A → Result Table CaptureFault) → IfOk r (λ a. (s ≡ Ok a) × P a) → ((a : A) → P a → Reads (f a) (g a)) → Reads (r >>= f) (s >>= g)
+reads P (Err e) s f g first each = tt
+reads P (Ok a) s f g first each = rw first.0 (each a first.1)
+
+with_nothing : {A : Type 0} (r s : Result A CaptureFault) → StaysOk r s → IfOk r (λ a. (s ≡ Ok a) × Unit {0})
+with_nothing (Ok a) s first = (first, tt)
+with_nothing (Err e) s first = tt
+
+first_version : (d : Data) → IfOk (ok_or (number_at "version" 1 1 d) Version) (λ v. (ok_or (number_at "version" 1 2 d) Version ≡ Ok v) × (v ≡ 1))
+first_version d = of_value (get (codes "version") d)
+  where
+    of_number : (z : ℤ) → IfOk (ok_or (between 1 1 z) Version) (λ v. (ok_or (between 1 2 z) Version ≡ Ok v) × (v ≡ 1))
+    of_number (negsuc n) = tt
+    of_number (pos n) = tested (nat_le 1 n && nat_le n 1) refl
+      where
+        tested : (b : Bool) → (nat_le 1 n && nat_le n 1) ≡ b → IfOk (ok_or (cond b (Some n) None) Version) (λ v. (ok_or (cond (nat_le 1 n && nat_le n 2) (Some n) None) Version ≡ Ok v) × (v ≡ 1))
+        tested false test = tt
+        tested true test =
+            let first : n ≡ 1 = grind (arith, nat_tests) in
+            let second : (nat_le 1 n && nat_le n 2) ≡ true = grind (arith, nat_tests) in
+            (ap (λ b. ok_or (cond b (Some n) None) Version) second, first)
+
+    of_whole : (z : Option ℤ) → IfOk (ok_or (z >>? between 1 1) Version) (λ v. (ok_or (z >>? between 1 2) Version ≡ Ok v) × (v ≡ 1))
+    of_whole None = tt
+    of_whole (Some z) = of_number z
+
+    of_value : (value : Option Data) → IfOk (ok_or (value >>? number_between 1 1) Version) (λ v. (ok_or (value >>? number_between 1 2) Version ≡ Ok v) × (v ≡ 1))
+    of_value None = tt
+    of_value (Some e) = of_whole (whole_number e)
+
+few_stay : (listed : List Data)
+    → StaysOk {E = CaptureFault} (cond (nat_lt one.most_events (length listed)) (Err TooMany) (Ok listed)) (cond (nat_lt most_events (length listed)) (Err TooMany) (Ok listed))
+few_stay listed = fewer (nat_lt 65536 (length listed)) (nat_lt 1000000 (length listed)) (λ is. grind (arith, nat_tests))
+  where
+    fewer : (b c : Bool) → (b ≡ false → c ≡ false) → StaysOk {E = CaptureFault} (cond b (Err TooMany) (Ok listed)) (cond c (Err TooMany) (Ok listed))
+    fewer true c wider = tt
+    fewer false c wider = ap (λ d. cond d (Err TooMany) (Ok listed)) (wider refl)
+
+table_stays : (d : Data) → Reads (one.table_of_value d) (table_of_value d)
+unfolding table_of_value one.table_of_value
+table_stays d =
+    reads _ (ok_or (listed_events d) NotCapture) _ _ _ (with_nothing _ _ (stays_ok (ok_or (listed_events d) NotCapture))) (λ listed _.
+    reads (λ v. v ≡ 1) (ok_or (number_at "version" 1 1 d) Version) _ _ _ (first_version d) (λ version is_one. rw is_one (
+    reads _ (ok_or (number_at "width" 1 one.most_pixels d) Size) _ _ _ (with_nothing _ _ (or_stays _ _ Size (side_stays "width" d))) (λ width _.
+    reads _ (ok_or (number_at "height" 1 one.most_pixels d) Size) _ _ _ (with_nothing _ _ (or_stays _ _ Size (side_stays "height" d))) (λ height _.
+    reads _ (cond (nat_lt one.most_events (length listed)) (Err TooMany) (Ok listed)) _ _ _ (with_nothing _ _ (few_stay listed)) (λ few _.
+    found width height (one.events_from 1 few) (events_from 1 1 few) (events_stay 1 few) (flat_events 1 few)))))))
+  where
+    found : (width height : ℕ) (r s : Result (List Event) CaptureFault) → StaysOk r s → IfOk r (λ es. All IsFlat es)
+        → Reads (r >>= λ es. Ok (all_on 1 width height es)) (s >>= λ es. Ok (all_on 1 width height es))
+    found width height (Err e) s first flat = tt
+    found width height (Ok es) s first flat = (ap (λ (read : Result (List Event) CaptureFault). read >>= λ es. Ok (all_on 1 width height es)) first, (refl, flat))
+
+-- the same table, which is flat
+pub reads_same : (bytes : List ℕ) (t : Table) → one.capture_of bytes ≡ Ok t → (capture_of bytes ≡ Ok t) × (t.version ≡ 1) × All IsFlat t.events
+unfolding capture_of one.capture_of
+reads_same bytes t is = let found : Reads (Ok t) (capture_of bytes) = rw is at whole in (found.0, found.1.0, found.1.1)
+  where
+    whole : Reads (one.capture_of bytes) (capture_of bytes)
+    whole =
+        reads _ (cond (nat_lt most_bytes (length bytes)) (Err TooLong) (Ok bytes)) _ _ _ (with_nothing _ _ (stays_ok (cond (nat_lt most_bytes (length bytes)) (Err TooLong) (Ok bytes)))) (λ text _.
+        reads _ (ok_or (json_of text) NotJson) _ _ _ (with_nothing _ _ (stays_ok (ok_or (json_of text) NotJson))) (λ value _. table_stays value))

@@ -1,0 +1,258 @@
+//! The vertices of a draw, taken from the tokens of its text.
+ghost use Rattle.std.specs.Prelude.{◌≡◌, ◌<◌, ◌≤◌, ◌∷◌, ℤ, codes, length, map, Some, None, Err, IfOk, OnOk, option_map, option_and_then};
+ghost use Rattle.serde_json.specs.Data.{Data, Items, Members, object};
+ghost use Rattle.fd_json.specs.Taken.{taken, members_taken, items_taken};
+ghost use Rattle.fd_capture.specs.Field.{all_of, array_of, colour_of, list_of, number_between, signed_32, unsigned_32, vertex_of};
+ghost use Rattle.fd_capture.specs.Streamed.{colour_from, vertex_from};
+
+use crate::field;
+use crate::field::{byte, signed, unsigned};
+use fd_blend::Colour;
+use fd_events::Vertex;
+use fd_json::{Stop, leaf, open_array, open_object, pass};
+use fd_snap::Pos;
+use json::Reader;
+use std::alloc::Global;
+
+/// The vertex of these parts; version 1 has no depths.
+fn vertex_from(
+    version: u32,
+    x: Option<i32>,
+    y: Option<i32>,
+    z: Option<u16>,
+    colour: Option<Colour>,
+) -> Option<Vertex>
+    ensures { result ≡ vertex_from version x y z colour }
+{
+    let x = x?;
+    let y = y?;
+    let pos = Pos::new(x, y)?;
+    let z = if version == 2 { z? } else { 0 };
+    let colour = colour?;
+    Some(Vertex { pos, colour, z })
+}
+
+/// The next value as a whole number of 32 bits.
+fn coordinate(alloc: Global, reader: &mut Reader<'_>, depth: usize) -> Result<Option<i32>, Stop>
+    ensures ok { IfOk result (λ n. (d : Data) × (taken depth reader.old ≡ Some (d, reader.new)) × (n ≡ signed_32 d)) }
+    ensures refused { result ≡ Err Stop.NotJson → taken depth reader.old ≡ None }
+    ensures shorter { OnOk result (length reader.new < length reader.old) }
+{
+    let value = leaf(alloc, reader, depth)?;
+    Ok(signed(&value))
+}
+
+/// The next value as a depth.
+fn vertex_depth(alloc: Global, reader: &mut Reader<'_>, depth: usize) -> Result<Option<u16>, Stop>
+    ensures ok { IfOk result (λ n. (d : Data) × (taken depth reader.old ≡ Some (d, reader.new)) × (n ≡ number_between 0 65535 d)) }
+    ensures refused { result ≡ Err Stop.NotJson → taken depth reader.old ≡ None }
+    ensures shorter { OnOk result (length reader.new < length reader.old) }
+{
+    let value = leaf(alloc, reader, depth)?;
+    Ok(field::depth(&value))
+}
+
+/// The next value as a whole number from 0 to 255.
+fn channel(alloc: Global, reader: &mut Reader<'_>, depth: usize) -> Result<Option<u8>, Stop>
+    ensures ok { IfOk result (λ n. (d : Data) × (taken depth reader.old ≡ Some (d, reader.new)) × (n ≡ number_between 0 255 d)) }
+    ensures refused { result ≡ Err Stop.NotJson → taken depth reader.old ≡ None }
+    ensures shorter { OnOk result (length reader.new < length reader.old) }
+{
+    let value = leaf(alloc, reader, depth)?;
+    Ok(byte(&value))
+}
+
+/// The channels of an array whose bracket was taken, up to the bracket that closes it; none if one of them isn't well formed.
+fn channel_items(
+    alloc: Global,
+    reader: &mut Reader<'_>,
+    depth: usize,
+) -> Result<Option<Vec<u8>>, Stop>
+    ensures ok { IfOk result (λ v. (ds : Items) × (items_taken depth reader.old ≡ Some (ds, reader.new)) × (option_map (λ channels. channels.items) v ≡ all_of (number_between 0 255) (list_of ds))) }
+    ensures refused { result ≡ Err Stop.NotJson → items_taken depth reader.old ≡ None }
+    ensures shorter { OnOk result (length reader.new < length reader.old) }
+{
+    let mut channels = Vec::new(alloc);
+    let mut well_formed = true;
+    'items: while !reader.take_end_array() {
+        match channel(alloc, reader, depth)? {
+            Some(channel) => channels.push(channel)?,
+            None => well_formed = false,
+        }
+    }
+    if !well_formed {
+        return Ok(None);
+    }
+    Ok(Some(channels))
+}
+
+/// The colour of exactly four channels.
+fn colour_from(channels: &[u8]) -> Option<Colour>
+    ensures { result ≡ colour_from channels.now }
+{
+    let [r, g, b, a] = channels else {
+        return None;
+    };
+    Some(Colour {
+        r: *r,
+        g: *g,
+        b: *b,
+        a: *a,
+    })
+}
+
+/// The next value as a colour.
+fn colour(alloc: Global, reader: &mut Reader<'_>, depth: usize) -> Result<Option<Colour>, Stop>
+    ensures ok { IfOk result (λ c. (d : Data) × (taken depth reader.old ≡ Some (d, reader.new)) × (c ≡ colour_of d)) }
+    ensures refused { result ≡ Err Stop.NotJson → taken depth reader.old ≡ None }
+    ensures shorter { OnOk result (length reader.new < length reader.old) }
+{
+    if !open_array(reader, depth)? {
+        return Ok(None);
+    }
+    let channels = channel_items(alloc, reader, depth - 1)?;
+    let Some(channels) = channels else {
+        return Ok(None);
+    };
+    Ok(colour_from(&channels))
+}
+
+/// A vertex whose brace was taken, up to the brace that closes it.
+fn vertex_members(
+    alloc: Global,
+    version: u32,
+    reader: &mut Reader<'_>,
+    depth: usize,
+) -> Result<Option<Vertex>, Stop>
+    ensures ok { IfOk result (λ v. (found : Members) × (members_taken depth reader.old ≡ Some (found, reader.new)) × (v ≡ vertex_of version (object found))) }
+    ensures refused { result ≡ Err Stop.NotJson → members_taken depth reader.old ≡ None }
+    ensures shorter { OnOk result (length reader.new < length reader.old) }
+{
+    let mut x = None;
+    let mut y = None;
+    let mut color = None;
+    let mut z = None;
+    'members: while let Some(name) = reader.next_key()? {
+        if name == "x" {
+            x = coordinate(alloc, reader, depth)?;
+        } else if name == "y" {
+            y = coordinate(alloc, reader, depth)?;
+        } else if name == "color" {
+            color = colour(alloc, reader, depth)?;
+        } else if name == "z" {
+            z = vertex_depth(alloc, reader, depth)?;
+        } else {
+            pass(reader, depth)?;
+        }
+    }
+    Ok(vertex_from(version, x, y, z, color))
+}
+
+/// The next value as a vertex.
+fn vertex(
+    alloc: Global,
+    version: u32,
+    reader: &mut Reader<'_>,
+    depth: usize,
+) -> Result<Option<Vertex>, Stop>
+    ensures ok { IfOk result (λ v. (d : Data) × (taken depth reader.old ≡ Some (d, reader.new)) × (v ≡ vertex_of version d)) }
+    ensures refused { result ≡ Err Stop.NotJson → taken depth reader.old ≡ None }
+    ensures shorter { OnOk result (length reader.new < length reader.old) }
+{
+    if !open_object(reader, depth)? {
+        return Ok(None);
+    }
+    vertex_members(alloc, version, reader, depth - 1)
+}
+
+/// The vertices of an array whose bracket was taken, up to the bracket that closes it; none if one of them isn't well formed.
+fn vertex_items(
+    alloc: Global,
+    version: u32,
+    reader: &mut Reader<'_>,
+    depth: usize,
+) -> Result<Option<Vec<Vertex>>, Stop>
+    ensures ok { IfOk result (λ v. (ds : Items) × (items_taken depth reader.old ≡ Some (ds, reader.new)) × (option_map (λ vertices. vertices.items) v ≡ all_of (vertex_of version) (list_of ds))) }
+    ensures refused { result ≡ Err Stop.NotJson → items_taken depth reader.old ≡ None }
+    ensures shorter { OnOk result (length reader.new < length reader.old) }
+{
+    let mut vertices = Vec::new(alloc);
+    let mut well_formed = true;
+    'items: while !reader.take_end_array() {
+        match vertex(alloc, version, reader, depth)? {
+            Some(vertex) => vertices.push(vertex)?,
+            None => well_formed = false,
+        }
+    }
+    if !well_formed {
+        return Ok(None);
+    }
+    Ok(Some(vertices))
+}
+
+/// The next value as vertices, if it is an array of them.
+pub(crate) fn vertices(
+    alloc: Global,
+    version: u32,
+    reader: &mut Reader<'_>,
+    depth: usize,
+) -> Result<Option<Vec<Vertex>>, Stop>
+    ensures ok { IfOk result (λ v. (d : Data) × (taken depth reader.old ≡ Some (d, reader.new)) × (option_map (λ vertices. vertices.items) v ≡ option_and_then (all_of (vertex_of version)) (array_of d))) }
+    ensures refused { result ≡ Err Stop.NotJson → taken depth reader.old ≡ None }
+    ensures shorter { OnOk result (length reader.new < length reader.old) }
+{
+    if !open_array(reader, depth)? {
+        return Ok(None);
+    }
+    vertex_items(alloc, version, reader, depth - 1)
+}
+
+/// The next value as an index.
+fn index(alloc: Global, reader: &mut Reader<'_>, depth: usize) -> Result<Option<u32>, Stop>
+    ensures ok { IfOk result (λ n. (d : Data) × (taken depth reader.old ≡ Some (d, reader.new)) × (n ≡ unsigned_32 d)) }
+    ensures refused { result ≡ Err Stop.NotJson → taken depth reader.old ≡ None }
+    ensures shorter { OnOk result (length reader.new < length reader.old) }
+{
+    let value = leaf(alloc, reader, depth)?;
+    Ok(unsigned(&value))
+}
+
+/// The indices of an array whose bracket was taken, up to the bracket that closes it; none if one of them isn't well formed.
+fn index_items(
+    alloc: Global,
+    reader: &mut Reader<'_>,
+    depth: usize,
+) -> Result<Option<Vec<u32>>, Stop>
+    ensures ok { IfOk result (λ v. (ds : Items) × (items_taken depth reader.old ≡ Some (ds, reader.new)) × (option_map (λ indices. indices.items) v ≡ all_of unsigned_32 (list_of ds))) }
+    ensures refused { result ≡ Err Stop.NotJson → items_taken depth reader.old ≡ None }
+    ensures shorter { OnOk result (length reader.new < length reader.old) }
+{
+    let mut indices = Vec::new(alloc);
+    let mut well_formed = true;
+    'items: while !reader.take_end_array() {
+        match index(alloc, reader, depth)? {
+            Some(index) => indices.push(index)?,
+            None => well_formed = false,
+        }
+    }
+    if !well_formed {
+        return Ok(None);
+    }
+    Ok(Some(indices))
+}
+
+/// The next value as indices, if it is an array of them.
+pub(crate) fn indices(
+    alloc: Global,
+    reader: &mut Reader<'_>,
+    depth: usize,
+) -> Result<Option<Vec<u32>>, Stop>
+    ensures ok { IfOk result (λ v. (d : Data) × (taken depth reader.old ≡ Some (d, reader.new)) × (option_map (λ indices. indices.items) v ≡ option_and_then (all_of unsigned_32) (array_of d))) }
+    ensures refused { result ≡ Err Stop.NotJson → taken depth reader.old ≡ None }
+    ensures shorter { OnOk result (length reader.new < length reader.old) }
+{
+    if !open_array(reader, depth)? {
+        return Ok(None);
+    }
+    index_items(alloc, reader, depth - 1)
+}

@@ -1,0 +1,25 @@
+-- What a call does to the failure counts of its reader and its writer, by how it ends.
+use Rattle.std.specs.Prelude.{◌≡◌, ℕ, false}
+use Rattle.fd_pam.specs.Transfer.{CountsFailure}
+use Rattle.fd_cli.specs.declared.ending.Ending.{Ending}
+use Rattle.fd_cli.specs.declared.ending.Ending.TheVariants.{Done, Capture, NoSuchPosition, Read, Write, TooMuch, Memory}
+
+-- Only a write fault changes the writer's count, by one failure.
+abbrev pub CountsWriter : Ending → ℕ → ℕ → Type 0
+CountsWriter Done old new = new ≡ old
+CountsWriter (Capture fault) old new = new ≡ old
+CountsWriter NoSuchPosition old new = new ≡ old
+CountsWriter Read old new = new ≡ old
+CountsWriter (Write sent) old new = CountsFailure old new false
+CountsWriter TooMuch old new = new ≡ old
+CountsWriter Memory old new = new ≡ old
+
+-- Only a read fault changes the reader's count, by one failure.
+abbrev pub CountsReader : Ending → ℕ → ℕ → Type 0
+CountsReader Done old new = new ≡ old
+CountsReader (Capture fault) old new = new ≡ old
+CountsReader NoSuchPosition old new = new ≡ old
+CountsReader Read old new = CountsFailure old new false
+CountsReader (Write sent) old new = new ≡ old
+CountsReader TooMuch old new = new ≡ old
+CountsReader Memory old new = new ≡ old

@@ -1,0 +1,31 @@
+use Rattle.std.proofs.Common.{rules, ◌≡◌, ℕ, zero, suc, ◌+◌, ◌∷◌, ◌∙◌, refl, sym, ap, length, map, replicate, arith, length-set}
+use Rattle.std.specs.List.{range_with_len}
+use Rattle.std.proofs.lemmas.Grind.{get_or-set_at}
+use Rattle.fd_blend.specs.declared.channel.Colour.{Colour}
+use Rattle.fd_cover.specs.declared.shading.Interp.TheVariants.{Flat}
+use Rattle.fd_cover.specs.declared.triangle.Tri.{Tri}
+use Rattle.fd_cover.specs.Shade.{colour_of, shaded}
+use Rattle.fd_cover.proofs.WalkLemmas.{columns_from}
+use Rattle.fd_cover.proofs.shading.shade_row.Goals as goal
+
+-- a flat triangle has its first vertex's colour in every column
+flat_columns : (t : Tri) (a b c : Colour) (y x n : ℕ) → replicate n a ≡ map (λ column. shaded t Flat a b c column y) (range_with_len x n)
+unfolding shaded
+flat_columns t a b c y x zero = refl
+flat_columns t a b c y x (suc n) = ap (λ cs. a ∷ cs) (flat_columns t a b c y (x + 1) n)
+
+pub returns-in-Flat : goal.returns-in-Flat
+returns-in-Flat c =
+    let ka = colour_of c.args.colours.now 0 in
+    let kb = colour_of c.args.colours.now 1 in
+    let kc = colour_of c.args.colours.now 2 in
+    c.fill.ensures.after (λ y clone. search rules)
+    ∙ flat_columns c.args.triangle.now ka kb kc c.args.y c.args.x (length c.args.out.now)
+    ∙ ap (λ interp. map (λ column. shaded c.args.triangle.now interp ka kb kc column c.args.y) (range_with_len c.args.x (length c.args.out.now))) (sym c.in-Flat.is)
+
+pub returns-then-out-eq1 : goal.returns-then-out-eq1
+returns-then-out-eq1 c =
+    columns_from (colour_of c.args.colours.now 0) _ c.args.x _ _ (length-set c.args.out.now 0 _)
+    (λ k d low. let first : k ≡ 0 = omega (arith, low, c.if-out-eq1.true) in
+    let place : c.args.x + k ≡ c.args.x = omega (arith, first) in
+    get_or-set_at c.args.out.now 0 k _ d first (omega (arith, c.if-out-eq1.true)) ∙ rw place c.shade.ensures.value)

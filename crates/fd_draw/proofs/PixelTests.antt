@@ -1,0 +1,327 @@
+-- A triangle with the depth test on: of each row the pixels that pass, in runs.
+use Rattle.std.proofs.Common.{◌≡◌, ◌≢◌, ℕ, ◌+◌, ◌-◌, ◌<◌, ◌≤◌, Bool, true, false, ◌||◌, cond, eqb, List, [], ◌∷◌, ◌++◌, length, get_or, take, drop, map, replicate, refl, sym, ap, ◌∙◌, subst, arith, inl, inr, ◌⊎◌}
+use Rattle.std.specs.List.{zip, range_with_len}
+use Rattle.std.proofs.lemmas.List.FromFn.{get_or-map-range_with_len, length-map-range_with_len}
+use Rattle.std.proofs.lemmas.Slice.Zip.{get_or-zip}
+use Rattle.fd_undo.proofs.Zips.{length-zip_equal}
+use Rattle.fd_blend.specs.Blend.{blend}
+use Rattle.fd_draw.specs.Area.{IsWrittenIn}
+use Rattle.fd_draw.proofs.Areas.{within_from}
+use Rattle.std.specs.Prelude.{◌&&◌, Some, nat_le, nat_lt}
+use Rattle.std.proofs.lemmas.Bool.{eq-eqb, ne_eqb, cases_eq, cases_lt}
+use Rattle.std.proofs.lemmas.Bool.Decides.{nat_tests}
+use Rattle.std.proofs.lemmas.List.{length-replicate, get_or-replicate, get_or-take, get_or-drop}
+use Rattle.fd_blend.specs.declared.channel.Colour.{Colour}
+use Rattle.fd_blend.specs.Channel.{fresh}
+use Rattle.fd_cover.specs.declared.shading.Interp.{Interp}
+use Rattle.fd_cover.specs.declared.triangle.Tri.{Tri}
+use Rattle.fd_cover.specs.Depth.{depth_at, passes, stored_past}
+use Rattle.fd_events.specs.declared.pipeline.Pipeline.{Pipeline}
+use Rattle.fd_events.specs.Draw.{Triangle}
+use Rattle.fd_events.specs.Image.{is_drawn, depth_of as source_depth, pixel_drawn, pixel_after_triangle, source_of}
+use Rattle.fd_tile.specs.Place.{Holds, HasRow}
+use Rattle.fd_tile.specs.Tile.{Pixel, fresh_pixel, TileImage, IsTileImage, with_row_in, with_depth_row, with_depth_row_left, row_of, depth_row_of, colour_of, depth_of, pixel_of}
+use Rattle.fd_tile.proofs.Pixels.{length-row_in, row_in-same, row_in-other, left_row_is, with_row_in-as_it_is, with_depth_row_left_is, IsTileImage-with_depth_row}
+use borrow.Rule.Slice.PartMut.{put_mid}
+use Rattle.fd_undo.specs.Frame.{kept_row, kept_at, top}
+use Rattle.fd_undo.specs.Undo.{Undo, with_kept}
+use Rattle.fd_tile.specs.declared.place.Place.{Place}
+use Rattle.fd_draw.specs.Demand.{is_reached, pixels_in, spans_in}
+use Rattle.fd_draw.proofs.Counts.{pixels_in-row, spans_in-row, row_pixels-span, in_span-inside, in_span-after, and_false, and_true}
+use Rattle.fd_draw.specs.Layer.{kept_by_triangle}
+use Rattle.fd_draw.specs.Paints.{Paints}
+use Rattle.fd_draw.specs.Span.{IsRowSpan, in_span}
+use Rattle.fd_draw.specs.Writing.{Writes, StoresDepths, after_where, kept_where, keep_each, between, in_row}
+use Rattle.fd_draw.proofs.Areas.{drawn_reached}
+use Rattle.fd_draw.proofs.Rows.{length-put_mid, before_part, in_part, past_part}
+use Rattle.fd_draw.proofs.Painting.{with_rows, pair_at, Paints-span, Paints-same-here, Paints-nothing, Paints-both, Paints-as, Paints-unwritten}
+
+cond_at : {X : Type 0} (b : Bool) (p q other : X) → (b ≡ true → p ≡ q) → cond b p other ≡ cond b q other
+cond_at true p q other same = same refl
+cond_at false p q other same = refl
+
+cond_to : {X : Type 0} (b : Bool) (p other : X) → (b ≡ true → p ≡ other) → other ≡ cond b p other
+cond_to true p other same = sym (same refl)
+cond_to false p other same = refl
+
+-- ---- neighbouring pixels of a row that a triangle reaches
+
+run_columns : (first last y c r : ℕ) → in_row (between first last) y c r ≡ true → (first ≤ c) × (c < last) × (r ≡ y)
+run_columns first last y c r is = grind (arith, nat_tests)
+
+-- a pixel is written, and then given a depth
+run_pixel : (b : Bool) (p p' p'' : Pixel) (write store paint : Pixel → Pixel) → p' ≡ cond b (write p) p → p'' ≡ cond b (store p') p' → (b ≡ true → store (write p) ≡ paint p) → p'' ≡ cond b (paint p) p
+run_pixel true p p' p'' write store paint first then is = then ∙ ap store first ∙ is refl
+run_pixel false p p' p'' write store paint first then is = then ∙ first
+
+module _ (tri : Triangle) (interp : Interp) (s : Pipeline) (first last y : ℕ) (t : TileImage) (u : Undo) where
+  abbrev Run : ℕ → ℕ → Bool
+  Run = in_row (between first last) y
+
+  -- they all pass: their colours are written, and then their depths
+  pub Paints-passed : (t' t'' : TileImage) (u' : Undo)
+      → ((c : ℕ) → first ≤ c → c < last → is_drawn tri s c y (depth_of t c y) ≡ true)
+      → Paints (after_where (in_row (between first last) y) (λ x z before. (blend s.blend s.factor (source_of tri interp x z) before.0, before.1))) (kept_where (in_row (between first last) y) keep_each) t u t' u'
+      → t''.place ≡ t'.place → IsTileImage t''
+      → ((c r : ℕ) → Holds t'.place c r → pixel_of t'' c r ≡ cond (in_row (between first last) y c r) ((pixel_of t' c r).0, stored_past s.depth (source_depth tri c r) (pixel_of t' c r).1) (pixel_of t' c r))
+      → Paints (after_where (in_row (between first last) y) (pixel_after_triangle tri interp s)) (kept_where (in_row (between first last) y) (kept_by_triangle tri s)) t u t'' u'
+  Paints-passed t' t'' u' drawn painted placed filled stored =
+      let is_drawn_at : (c r : ℕ) → Run c r ≡ true → is_drawn tri s c r (depth_of t c r) ≡ true =
+      λ c r here. let at = run_columns first last y c r here in rw at.2 (drawn c at.0 at.1) in
+      record {
+        placed = placed ∙ painted.placed;
+        filled = filled;
+        below = painted.below;
+        begun = painted.begun;
+        some = painted.some;
+        pixels = λ c r held.
+            run_pixel (Run c r) (pixel_of t c r) (pixel_of t' c r) (pixel_of t'' c r) (λ p. (blend s.blend s.factor (source_of tri interp c r) p.0, p.1))
+            (λ p. (p.0, stored_past s.depth (source_depth tri c r) p.1)) (pixel_after_triangle tri interp s c r) (painted.pixels c r held)
+            (stored c r (subst (λ (q : Place). Holds q c r) (sym painted.placed) held)) (λ here. rw (is_drawn_at c r here) refl);
+        kept = λ c r held. painted.kept c r held
+            ∙ ap (λ l. kept_at (top u.frames) c r ++ l) (cond_at (Run c r) _ _ [] (λ here. rw (is_drawn_at c r here) refl));
+        inside = painted.inside;
+      }
+
+  -- they all fail
+  pub Paints-failed : IsTileImage t → u.frame_left ≡ false → ((c : ℕ) → first ≤ c → c < last → is_drawn tri s c y (depth_of t c y) ≡ false)
+      → Paints (after_where (in_row (between first last) y) (pixel_after_triangle tri interp s)) (kept_where (in_row (between first last) y) (kept_by_triangle tri s)) t u t u
+  Paints-failed filled begun failed =
+      let undrawn : (c r : ℕ) → Run c r ≡ true → is_drawn tri s c r (depth_of t c r) ≡ false =
+      λ c r here. let at = run_columns first last y c r here in rw at.2 (failed c at.0 at.1) in
+      Paints-same-here (λ c r p. p) (after_where (in_row (between first last) y) (pixel_after_triangle tri interp s)) (λ c r p. []) (kept_where (in_row (between first last) y) (kept_by_triangle tri s)) t t u u
+      (λ c r inside. cond_to (Run c r) _ _ (λ here. rw (undrawn c r here) refl))
+      (λ c r inside. cond_to (Run c r) _ _ (λ here. rw (undrawn c r here) refl))
+      (Paints-nothing t u filled begun)
+
+-- where nothing is stored, the depth stays
+pub nothing_stored : (b : Bool) (p : Pixel) (d : ℕ) → d ≡ p.1 → p ≡ cond b (p.0, d) p
+nothing_stored true p d same = ap (λ e. (p.0, e)) (sym same)
+nothing_stored false p d same = refl
+
+-- ---- depths that are stored in a row
+
+module _ (depths : List ℕ) (x y : ℕ) (t : TileImage) (filled : IsTileImage t) (crossed : HasRow t.place y) (from_left : t.place.left ≤ x) (to_right : x + length depths ≤ t.place.left + t.place.width) where
+  deep : length (depth_row_of t y) ≡ t.place.width
+  deep = length-row_in t.place t.depths y filled.depths crossed
+
+  abbrev stored_row : List ℕ
+  stored_row = put_mid (x - t.place.left) (length depths) (depth_row_of t y) depths
+
+  room : x - t.place.left + length depths ≤ length (depth_row_of t y)
+  room = omega (arith, deep, from_left, to_right)
+
+  stored_size : length stored_row ≡ t.place.width
+  stored_size = length-put_mid (x - t.place.left) (length depths) (depth_row_of t y) depths room refl ∙ deep
+
+  -- what the row has for column c
+  stored_at : (c : ℕ) → Holds t.place c y → (c < x) ⊎ (x ≤ c) → (c < x + length depths) ⊎ (x + length depths ≤ c)
+      → get_or stored_row (c - t.place.left) 65535 ≡ cond (between x (x + length depths) c y) (get_or depths (c - x) 65535) (depth_of t c y)
+  stored_at c held (inl low) high =
+      let out : between x (x + length depths) c y ≡ false = grind (arith, nat_tests) in
+      rw out (before_part (x - t.place.left) (length depths) (depth_row_of t y) depths room refl (c - t.place.left) 65535 (omega (arith, held.from_left)))
+  stored_at c held (inr low) (inl high) =
+      let in_it : between x (x + length depths) c y ≡ true = grind (arith, nat_tests) in
+      let place : x - t.place.left + (c - x) ≡ c - t.place.left = omega arith in
+      rw in_it (ap (λ k. get_or stored_row k 65535) (sym place)
+      ∙ in_part (x - t.place.left) (length depths) (depth_row_of t y) depths room refl (c - x) 65535 (omega arith))
+  stored_at c held (inr low) (inr high) =
+      let out : between x (x + length depths) c y ≡ false = grind (arith, nat_tests) in
+      rw out (past_part (x - t.place.left) (length depths) (depth_row_of t y) depths room refl (c - t.place.left) 65535 (omega arith))
+
+  pair_stored : (b : Bool) (p : Pixel) (d e : ℕ) → d ≡ cond b e p.1 → (p.0, d) ≡ cond b (p.0, e) p
+  pair_stored true p d e is = ap (λ n. (p.0, n)) is
+  pair_stored false p d e is = ap (λ n. (p.0, n)) is
+
+  pixel_stored : (c r : ℕ) → Holds t.place c r → (r ≡ y) ⊎ (r ≡ y → ⊥)
+      → pixel_of (with_depth_row t y stored_row) c r ≡ cond (in_row (between x (x + length depths)) y c r) ((pixel_of t c r).0, get_or depths (c - x) 65535) (pixel_of t c r)
+  pixel_stored c r held (inr other) =
+      let out : in_row (between x (x + length depths)) y c r ≡ false = and_false (eqb r y) (between x (x + length depths) c r) (ne_eqb r y other) in
+      rw out (ap (λ l. (colour_of t c r, get_or l (c - t.place.left) 65535)) (row_in-other t.place t.depths y filled.depths crossed stored_row r held.from_top other))
+  pixel_stored c r held (inl same) =
+      let here : Holds t.place c y = subst (λ k. Holds t.place c k) same held in
+      subst (λ k. pixel_of (with_depth_row t y stored_row) c k ≡ cond (in_row (between x (x + length depths)) y c k) ((pixel_of t c k).0, get_or depths (c - x) 65535) (pixel_of t c k)) (sym same)
+      (ap (λ l. (colour_of t c y, get_or l (c - t.place.left) 65535)) (row_in-same t.place t.depths y filled.depths crossed stored_row)
+      ∙ rw (and_true (eqb y y) (between x (x + length depths) c y) (eq-eqb y y refl))
+      (pair_stored (between x (x + length depths) c y) (pixel_of t c y) (get_or stored_row (c - t.place.left) 65535) (get_or depths (c - x) 65535) (stored_at c here (cases_lt c x) (cases_lt c (x + length depths)))))
+
+  stored_whole : StoresDepths depths x y t (with_depth_row t y stored_row)
+  stored_whole = record {
+    placed = refl;
+    filled = IsTileImage-with_depth_row t y filled crossed stored_row stored_size;
+    pixels = λ c r held. pixel_stored c r held (cases_eq r y);
+  }
+
+  -- as the code goes
+  pub Stores-code : (start len : ℕ) (lent new : List ℕ) → start ≡ x - t.place.left → len ≡ length depths → lent ≡ depth_row_of t y → new ≡ depths
+      → StoresDepths depths x y t (with_depth_row_left t y (put_mid start len lent new))
+  Stores-code start len lent new is_start is_len is_lent is_new =
+      let same : put_mid start len lent new ≡ stored_row =
+      ap (λ k. put_mid k len lent new) is_start ∙ ap (λ k. put_mid (x - t.place.left) k lent new) is_len
+      ∙ ap (λ l. put_mid (x - t.place.left) (length depths) l new) is_lent ∙ ap (λ l. put_mid (x - t.place.left) (length depths) (depth_row_of t y) l) is_new in
+      subst (λ v. StoresDepths depths x y t v) (sym (ap (λ l. with_depth_row_left t y l) same ∙ with_depth_row_left_is t y filled crossed stored_row stored_size)) stored_whole
+
+-- ---- which pixels of a row pass
+
+-- the depths of neighbouring pixels, one by one
+pub depths_at : (corners : Tri) (depths : List ℕ) (left y n : ℕ) (out : List ℕ) → out ≡ map (λ column. depth_at corners depths column y) (range_with_len left n)
+    → (column d : ℕ) → left ≤ column → column < left + length out → get_or out (column - left) d ≡ depth_at corners depths column y
+depths_at corners depths left y n out is column d low high =
+    let size : length out ≡ n = ap length is ∙ length-map-range_with_len (λ k. depth_at corners depths k y) left n in
+    let back : left + (column - left) ≡ column = omega arith in
+    ap (λ l. get_or l (column - left) d) is ∙ get_or-map-range_with_len (λ k. depth_at corners depths k y) left n (column - left) column d (omega (arith, size)) back
+
+-- a pixel that is reached is drawn as its test says
+pub drawn_as_tested : (tri : Triangle) (s : Pipeline) (x y source stored : ℕ) (passed : Bool) → passed ≡ passes s.depth source stored → source ≡ source_depth tri x y → is_reached tri s x y ≡ true
+    → passed ≡ is_drawn tri s x y stored
+drawn_as_tested tri s x y source stored passed is same reached =
+    is ∙ ap (λ d. passes s.depth d stored) same ∙ sym (drawn_reached tri s x y stored ∙ rw reached refl)
+
+-- behind the pixels that are done the depths are as they were, and some in turn are drawn or not as the first of them
+module _ (tri : Triangle) (interp : Interp) (s : Pipeline) (x y done count rest : ℕ) (passed : List Bool) (t t' : TileImage) (u u' : Undo)
+    (painted : Paints (after_where (in_row (between x (x + done)) y) (pixel_after_triangle tri interp s)) (kept_where (in_row (between x (x + done)) y) (kept_by_triangle tri s)) t u t' u')
+    (crossed : HasRow t.place y) (from_left : t.place.left ≤ x) (to_right : x + (done + count) ≤ t.place.left + t.place.width)
+    (tests : (column : ℕ) → x ≤ column → column < x + (done + count) → get_or passed (column - x) false ≡ is_drawn tri s column y (depth_of t column y))
+    (few : count ≤ rest) (alike : (k : ℕ) → k < count → get_or (take rest (drop done passed)) k false ≡ get_or (take rest (drop done passed)) 0 false) where
+  behind : (column : ℕ) → x + done ≤ column → column < x + (done + count) → depth_of t' column y ≡ depth_of t column y
+  behind column low high =
+      let held : Holds t.place column y = record { from_left = omega arith; to_right = omega arith; from_top = crossed.from_top; to_bottom = crossed.to_bottom } in
+      let none : in_row (between x (x + done)) y column y ≡ false = and_true (eqb y y) (between x (x + done) column y) (eq-eqb y y refl) ∙ in_span-after x (x + done) column low in
+      ap (λ (p : Pixel). p.1) (painted.pixels column y held ∙ ap (λ b. cond b (pixel_after_triangle tri interp s column y (pixel_of t column y)) (pixel_of t column y)) none)
+
+  rest_at : (k : ℕ) → k < rest → get_or (take rest (drop done passed)) k false ≡ get_or passed (done + k) false
+  rest_at k below = get_or-take rest (drop done passed) k false below ∙ get_or-drop done passed k false
+
+  pub drawn_alike : (column : ℕ) → x + done ≤ column → column < x + (done + count) → is_drawn tri s column y (depth_of t' column y) ≡ get_or passed done false
+  drawn_alike column low high =
+      let place : done + (column - (x + done)) ≡ column - x = omega arith in
+      let first : done + 0 ≡ done = omega arith in
+      ap (λ d. is_drawn tri s column y d) (behind column low high) ∙ sym (tests column (omega arith) high)
+      ∙ ap (λ k. get_or passed k false) (sym place) ∙ sym (rest_at (column - (x + done)) (omega arith))
+      ∙ alike (column - (x + done)) (omega arith) ∙ rest_at 0 (omega arith) ∙ ap (λ k. get_or passed k false) first
+
+-- ---- run after run of a row
+
+apart_columns : (e b d : Bool) → (b && d) ≡ false → ((e && b) && (e && d)) ≡ false
+apart_columns true b d h = h
+apart_columns false b d h = refl
+
+joined_columns : (e b d n : Bool) → n ≡ (b || d) → (e && n) ≡ ((e && b) || (e && d))
+joined_columns true b d n h = h
+joined_columns false b d n h = refl
+
+module _ (paint : ℕ → ℕ → Pixel → Pixel) (keep : ℕ → ℕ → Pixel → List Pixel) (first middle last y : ℕ) (from : first ≤ middle) (to : middle ≤ last) where
+  not_yet : (c : ℕ) → ((nat_le first c && nat_lt c middle) && (nat_le middle c && nat_lt c last)) ≡ false
+  not_yet c = grind (arith, nat_tests)
+
+  both_runs : (c : ℕ) → (nat_le first c && nat_lt c last) ≡ ((nat_le first c && nat_lt c middle) || (nat_le middle c && nat_lt c last))
+  both_runs c = grind (arith, nat_tests)
+
+  pub Paints-next : (t t' t'' : TileImage) (u u' u'' : Undo)
+      → Paints (after_where (in_row (between first middle) y) paint) (kept_where (in_row (between first middle) y) keep) t u t' u'
+      → Paints (after_where (in_row (between middle last) y) paint) (kept_where (in_row (between middle last) y) keep) t' u' t'' u''
+      → Paints (after_where (in_row (between first last) y) paint) (kept_where (in_row (between first last) y) keep) t u t'' u''
+  Paints-next t t' t'' u u' u'' =
+      Paints-both paint keep (in_row (between first middle) y) (in_row (between middle last) y) (in_row (between first last) y) t t' t'' u u' u''
+      (λ c r. apart_columns (eqb r y) (nat_le first c && nat_lt c middle) (nat_le middle c && nat_lt c last) (not_yet c))
+      (λ c r. joined_columns (eqb r y) (nat_le first c && nat_lt c middle) (nat_le middle c && nat_lt c last) (nat_le first c && nat_lt c last) (both_runs c))
+
+-- no column is before the first
+pub Paints-begin : (paint : ℕ → ℕ → Pixel → Pixel) (keep : ℕ → ℕ → Pixel → List Pixel) (first y : ℕ) (t : TileImage) (u : Undo) → IsTileImage t → u.frame_left ≡ false
+    → Paints (after_where (in_row (between first first) y) paint) (kept_where (in_row (between first first) y) keep) t u t u
+Paints-begin paint keep first y t u filled begun =
+    Paints-unwritten paint keep (in_row (between first first) y) t u filled begun (λ c r held. none c (eqb r y))
+  where
+    none : (c : ℕ) (e : Bool) → (e && (nat_le first c && nat_lt c first)) ≡ false
+    none c true = grind (arith, nat_tests)
+    none c false = refl
+
+-- the columns of a row's span
+module _ (written : ℕ → ℕ → Bool) (p : Place) (y first last : ℕ) (crossed : HasRow p y) (span : IsRowSpan (λ x. written x y) p.left (p.left + p.width) (Some (first, last))) where
+  pub row_count : pixels_in (in_row written y) p ≡ last - first
+  row_count = pixels_in-row written p y crossed ∙ row_pixels-span written p y first last span
+
+  same_columns : (c r : ℕ) → Holds p c r → (r ≡ y) ⊎ (r ≡ y → ⊥) → in_row (between first last) y c r ≡ in_row written y c r
+  same_columns c r held (inl same) =
+      and_true (eqb r y) (between first last c r) (eq-eqb r y same)
+      ∙ sym (span.same c held.from_left held.to_right) ∙ ap (λ k. written c k) (sym same)
+      ∙ sym (and_true (eqb r y) (written c r) (eq-eqb r y same))
+  same_columns c r held (inr other) = and_false (eqb r y) (between first last c r) (ne_eqb r y other) ∙ sym (and_false (eqb r y) (written c r) (ne_eqb r y other))
+
+  pub Paints-row_done : (paint : ℕ → ℕ → Pixel → Pixel) (keep : ℕ → ℕ → Pixel → List Pixel) (t t' : TileImage) (u u' : Undo) → t.place ≡ p
+      → Paints (after_where (in_row (between first last) y) paint) (kept_where (in_row (between first last) y) keep) t u t' u'
+      → Paints (after_where (in_row written y) paint) (kept_where (in_row written y) keep) t u t' u'
+  Paints-row_done paint keep t t' u u' placed =
+      Paints-as paint keep (in_row (between first last) y) (in_row written y) t t' u u' (λ c r held. same_columns c r (subst (λ (q : Place). Holds q c r) placed held) (cases_eq r y))
+
+-- ---- with the depth test off
+
+stays : (s : Pipeline) (source stored : ℕ) → s.depth.enable ≡ false → stored_past s.depth source stored ≡ stored
+stays s source stored off = rw off refl
+
+drawn_off : (tri : Triangle) (s : Pipeline) (x y stored : ℕ) → s.depth.enable ≡ false → is_reached tri s x y ≡ true → is_drawn tri s x y stored ≡ true
+drawn_off tri s x y stored off reached = drawn_reached tri s x y stored ∙ rw (reached, off) refl
+
+-- a triangle is drawn wherever it is reached, and leaves the depth
+pub Paints-untested : (tri : Triangle) (interp : Interp) (s : Pipeline) (t t' : TileImage) (u u' : Undo) → s.depth.enable ≡ false
+    → Paints (after_where (is_reached tri s) (λ x y before. (blend s.blend s.factor (source_of tri interp x y) before.0, before.1))) (kept_where (is_reached tri s) keep_each) t u t' u'
+    → Paints (after_where (is_reached tri s) (pixel_after_triangle tri interp s)) (kept_where (is_reached tri s) (kept_by_triangle tri s)) t u t' u'
+Paints-untested tri interp s t t' u u' off painted =
+    Paints-same-here _ (after_where (is_reached tri s) (pixel_after_triangle tri interp s)) _ (kept_where (is_reached tri s) (kept_by_triangle tri s)) t t' u u'
+    (λ x y held. cond_at (is_reached tri s x y) _ _ _ (λ reached.
+    rw (drawn_off tri s x y (pixel_of t x y).1 off reached)
+    (ap (λ d. (blend s.blend s.factor (source_of tri interp x y) (pixel_of t x y).0, d)) (sym (stays s (source_depth tri x y) (pixel_of t x y).1 off)))))
+    (λ x y held. cond_at (is_reached tri s x y) _ _ _ (λ reached. rw (drawn_off tri s x y (pixel_of t x y).1 off reached) refl))
+    painted
+
+-- ---- a row whose depths are cleared
+
+module _ (t : TileImage) (u : Undo) (y depth : ℕ) (filled : IsTileImage t) (crossed : HasRow t.place y) (begun : u.frame_left ≡ false) where
+  whole_row : IsRowSpan (λ _. true) t.place.left (t.place.left + t.place.width) (Some (t.place.left, t.place.left + t.place.width))
+  whole_row = record {
+    bounds = (omega arith, omega (arith, filled.colours.placed.wide), omega arith);
+    same = λ x low high. sym (in_span-inside t.place.left (t.place.left + t.place.width) x low high);
+  }
+
+  pub clear_pixels : pixels_in (in_row (λ _ _. true) y) t.place ≡ t.place.width
+  clear_pixels = row_count (λ _ _. true) t.place y t.place.left (t.place.left + t.place.width) crossed whole_row ∙ omega arith
+
+  pub clear_spans : spans_in (in_row (λ _ _. true) y) t.place ≡ 1
+  clear_spans =
+      spans_in-row (λ _ _. true) t.place y crossed
+      ∙ omega (arith, row_pixels-span (λ _ _. true) t.place y t.place.left (t.place.left + t.place.width) whole_row, filled.colours.placed.wide)
+
+  wide_row : length (row_of t y) ≡ t.place.width
+  wide_row = length-row_in t.place t.rows y filled.colours crossed
+
+  deep_row : length (depth_row_of t y) ≡ t.place.width
+  deep_row = length-row_in t.place t.depths y filled.depths crossed
+
+  pub Paints-clear_depths : (row : List Colour) (deep lent left : List ℕ) (u' : Undo) (column : ℕ) → row ≡ row_of t y → deep ≡ depth_row_of t y → lent ≡ depth_row_of t y → left ≡ replicate (length lent) depth
+      → column ≡ t.place.left → u' ≡ with_kept u (kept_row column y (zip row deep))
+      → Paints (after_where (in_row (λ _ _. true) y) (λ _ _ before. (before.0, depth))) (kept_where (in_row (λ _ _. true) y) keep_each) t u (with_depth_row_left t y left) u'
+  Paints-clear_depths row deep lent left u' column same same_deep same_lent is_left at is_kept =
+      let new : List ℕ = replicate t.place.width depth in
+      let size : length (replicate t.place.width depth) ≡ t.place.width = length-replicate t.place.width depth in
+      let filled_left : left ≡ replicate t.place.width depth = is_left ∙ ap (λ l. replicate (length l) depth) same_lent ∙ ap (λ n. replicate n depth) deep_row in
+      let whole : with_depth_row_left t y left ≡ with_rows t y (row_of t y) (replicate t.place.width depth) =
+      ap (λ l. with_depth_row_left t y l) filled_left
+      ∙ ap (λ depths. record { place = t.place; rows = t.rows; depths = depths }) (left_row_is t.place t.depths y filled.depths crossed (replicate t.place.width depth) size)
+      ∙ ap (λ rows. record { place = t.place; rows = rows; depths = with_row_in t.place t.depths y (replicate t.place.width depth) }) (sym (with_row_in-as_it_is t.place t.rows y)) in
+      let old : List Pixel = zip (row_of t y) (depth_row_of t y) in
+      let stack : u' ≡ with_kept u (kept_row t.place.left y (zip (row_of t y) (depth_row_of t y))) =
+      is_kept ∙ ap (λ r. with_kept u (kept_row column y (zip r deep))) same ∙ ap (λ d. with_kept u (kept_row column y (zip (row_of t y) d))) same_deep
+      ∙ ap (λ k. with_kept u (kept_row k y (zip (row_of t y) (depth_row_of t y)))) at in
+      let step : ℕ → ℕ → Pixel → Pixel = λ _ _ before. (before.0, depth) in
+      subst (λ v. Paints (after_where (in_row (λ _ _. true) y) step) (kept_where (in_row (λ _ _. true) y) keep_each) t u v u') (sym whole)
+      (subst (λ v. Paints (after_where (in_row (λ _ _. true) y) step) (kept_where (in_row (λ _ _. true) y) keep_each) t u (with_rows t y (row_of t y) (replicate t.place.width depth)) v) (sym stack)
+      (Paints-span (λ _ _. true) step y t.place.left (t.place.left + t.place.width) t u filled crossed begun whole_row (row_of t y) new old wide_row size
+      (length-zip_equal (row_of t y) (depth_row_of t y) (deep_row ∙ sym wide_row) ∙ wide_row ∙ omega arith)
+      (λ x low high. get_or-zip (row_of t y) (depth_row_of t y) (x - t.place.left) fresh_pixel (omega (arith, wide_row)) (omega (arith, deep_row)))
+      (λ x held apart. absurd (omega (arith, apart, held.from_left, held.to_right)))
+      (λ x held low high. ap (λ d. (colour_of t x y, d)) (get_or-replicate t.place.width (x - t.place.left) depth 65535 (omega (arith, held.from_left, held.to_right))))))
+
+-- all pixels of a place
+pub whole_written : (p : Place) → IsWrittenIn (λ _ _. true) (λ _ _. true) p (record { left = p.left; top = p.top; right = p.left + p.width; bottom = p.top + p.height })
+whole_written p x y held =
+    rw (within_from (record { left = p.left; top = p.top; right = p.left + p.width; bottom = p.top + p.height }) x y held.from_left held.to_right held.from_top held.to_bottom) refl

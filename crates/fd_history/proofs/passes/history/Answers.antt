@@ -1,0 +1,72 @@
+use Rattle.std.proofs.Common.{refl, ◌≡◌, ◌<◌, ◌≤◌, ◌+◌, ◌-◌, ◌*◌, ◌∙◌, ◌++◌, [], ◌∷◌, length, sym, ap, arith}
+use Rattle.fd_events.specs.Image.{Pixel, pixel_at, stored_at}
+use Rattle.fd_owner.specs.History.{History, position, last_image, drawn_history}
+use Rattle.fd_owner.proofs.Drawn.{pixel_drawn}
+use Rattle.fd_tile.specs.Tile.{pixel_in}
+use Rattle.fd_history.specs.Gathered.{Gathering}
+use Rattle.fd_history.specs.History.{history_at}
+use Rattle.fd_history.specs.Settled.{gathered_at, overwritten, drawn_count, settled}
+use Rattle.fd_history.proofs.Settles.{enough, history_settles, given_back, gathering_at, next_event, next_kept}
+use Rattle.fd_history.proofs.passes.history.Goals as goal
+
+pub invariant_of-gather : goal.invariant_of-gather
+invariant_of-gather c =
+    let placed = c.place-place.ensures.filled.placed in
+    (omega (arith, c.requires.pixel.to_right, placed.right), omega (arith, c.requires.pixel.to_bottom, placed.bottom))
+
+pub pass_number-requires-clause-depth : goal.pass_number-requires-clause-depth
+pass_number-requires-clause-depth c =
+    let t = c.args.table.now in
+    let is = c.loop-passed.invariant.gathered in
+    let before : c.loop-passed.passed ≡ c.loop-passed.passed + 1 - 1 = omega arith in
+    rw (ap (λ (g : Gathering). g.x) is, ap (λ (g : Gathering). g.y) is)
+    (ap (λ (g : Gathering). g.depth) is ∙ ap (λ n. stored_at t n c.args.x c.args.y) before)
+
+pub loop-passed-preserved : goal.loop-passed-preserved
+loop-passed-preserved c =
+    let t = c.args.table.now in
+    let k = c.loop-passed.passed in
+    let is = c.loop-passed.invariant.gathered in
+    record {
+      gathered = next_event t k (k + 1) c.args.x c.args.y c.loop-passed.gather c.pass_number.new.gather refl is c.in_ok-pass_number.ensures.entries;
+      kept = next_kept t k (k + 1) c.args.x c.args.y c.loop-passed.pixels.items c.pass_number.new.kept.items refl c.loop-passed.invariant.kept
+          (rw (ap (λ (g : Gathering). g.x) is, ap (λ (g : Gathering). g.y) is) at c.in_ok-pass_number.ensures.kept);
+      few = omega (arith, c.loop-passed.invariant.few, c.in_ok-pass_number.ensures.few);
+    }
+
+pub settle-requires : goal.settle-requires
+settle-requires c =
+    let k = position c.args.owner.now.history in
+    let t = c.args.table.now in
+    let at : c.loop-passed.passed ≡ k = omega (arith, c.loop-passed-test.false, c.position-passed-end.ensures, c.loop-passed.auto.passed-end) in
+    let entries : c.deref_mut.result.now ≡ gathered_at t k c.args.x c.args.y =
+    c.deref_mut.ensures.value ∙ ap (λ (g : Gathering). g.entries) (c.gather-2.view_is ∙ c.loop-passed.invariant.gathered) ∙ ap (λ n. gathered_at t n c.args.x c.args.y) at in
+    let pixels : c.deref.result.now ≡ overwritten t k c.args.x c.args.y ++ (c.pixel.result, c.depth.result) ∷ [] =
+    c.deref.ensures.value ∙ c.in_ok-push.ensures.items
+    ∙ ap (λ l. l ++ (c.pixel.result, c.depth.result) ∷ []) (c.loop-passed.invariant.kept ∙ ap (λ n. overwritten t n c.args.x c.args.y) at) in
+    rw (entries, pixels) (enough t k c.args.x c.args.y (c.pixel.result, c.depth.result))
+
+pub returns-clause-exact : goal.returns-clause-exact
+returns-clause-exact c =
+    let owner = c.args.owner.now in
+    let k = position owner.history in
+    let t = c.args.table.now in
+    let x = c.args.x in
+    let y = c.args.y in
+    let at : c.loop-passed.passed ≡ k = omega (arith, c.loop-passed-test.false, c.position-passed-end.ensures, c.loop-passed.auto.passed-end) in
+    let gathered : c.gather-2.inside.entries.items ≡ gathered_at t k x y =
+    ap (λ (g : Gathering). g.entries) (c.gather-2.view_is ∙ c.loop-passed.invariant.gathered) ∙ ap (λ n. gathered_at t n x y) at in
+    let image : pixel_in owner.place (last_image owner.history) x y ≡ pixel_at t k x y =
+    ap (λ (h : History). pixel_in owner.place (last_image h) x y) c.requires.follows ∙ pixel_drawn t owner.place k x y c.requires.pixel in
+    let shown : (c.pixel.result, c.depth.result) ≡ pixel_at t k x y =
+    ap (λ a. (a, c.depth.result)) (c.pixel.ensures ∙ ap (λ (p : Pixel). p.0) image) ∙ ap (λ a. ((pixel_at t k x y).0, a)) (c.depth.ensures ∙ ap (λ (p : Pixel). p.1) image) in
+    let pixels : c.deref.result.now ≡ overwritten t k x y ++ pixel_at t k x y ∷ [] =
+    c.deref.ensures.value ∙ c.in_ok-push.ensures.items
+    ∙ ap (λ l. l ++ (c.pixel.result, c.depth.result) ∷ []) (c.loop-passed.invariant.kept ∙ ap (λ n. overwritten t n x y) at)
+    ∙ ap (λ p. overwritten t k x y ++ p ∷ []) shown in
+    let is : c.settle.new.entries ≡ settled c.gather-2.inside.entries.items c.deref.result.now =
+    c.settle.ensures ∙ ap (λ es. settled es c.deref.result.now) c.deref_mut.ensures.value in
+    given_back c.gather-2.inside.entries.len c.gather-2.inside.entries.items c.settle.new.entries c.deref.result.now c.gather-2.inside.entries.ok.0 is
+    ∙ ap (λ es. settled es c.deref.result.now) gathered
+    ∙ ap (settled (gathered_at t k x y)) pixels
+    ∙ history_settles t k x y

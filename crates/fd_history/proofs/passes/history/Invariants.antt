@@ -1,0 +1,12 @@
+use Rattle.std.proofs.Common.{◌≡◌, ◌≤◌, ◌*◌, length}
+use Rattle.fd_history.specs.Settled.{overwritten}
+use Rattle.fd_history.proofs.Settles.{gathering_at}
+use Rattle.fd_history.proofs.passes.history.Given as goal
+
+abbrev pub invariant-loop-passed : goal.invariant-loop-passed
+invariant-loop-passed l =
+    record {
+      gathered : l.gather ≡ gathering_at l.table l.passed l.x l.y;
+      kept : l.pixels.items ≡ overwritten l.table l.passed l.x l.y;
+      few : length l.gather.entries ≤ 65536 * l.passed;
+    }

@@ -1,0 +1,64 @@
+use Rattle.std.proofs.Common.{◌≡◌, ◌+◌, ◌-◌, ◌<◌, ◌∙◌, ◌++◌, true, Some, List, sym, ap, subst, arith, length, take, drop, length-append}
+use Rattle.std.proofs.lemmas.List.{drop_at, take_all}
+use Rattle.std.specs.Prelude.{OnOk}
+use Rattle.fd_tile.specs.Place.{Holds}
+use Rattle.fd_events.specs.Image.{Pixel, stored_at, kept_at}
+use Rattle.fd_events.specs.Table.{flag_at, state_at}
+use Rattle.fd_owner.specs.History.{position, pixels_kept, drawn_history}
+use Rattle.fd_owner.proofs.Drawn.{kept_drawn}
+use Rattle.fd_history.specs.Gathered.{Gathering, gathered_of}
+use Rattle.fd_history.specs.Settled.{drawn_count}
+use Rattle.fd_history.proofs.Settles.{passes_by, overwrites_nothing, count_event}
+use Rattle.fd_history.proofs.passes.pass_number.Goals as goal
+
+pub returns-then-not-may_reach-clause-entries : goal.returns-then-not-may_reach-clause-entries
+returns-then-not-may_reach-clause-entries c =
+    let on : flag_at c.args.table.now c.args.number ≡ Some true = c.is_on.ensures ∙ ap (λ b. Some b) c.if-not-is_on.false in
+    passes_by c.args.table.now c.args.number c.gather.inside.x c.gather.inside.y c.event-event.result.now c.requires.first c.event-event.ensures on (c.may_reach.ensures c.if-not-may_reach.true)
+    c.args.gather.now (sym (ap (λ (g : Gathering). g.x) c.gather.view_is)) (sym (ap (λ (g : Gathering). g.y) c.gather.view_is))
+
+pub returns-then-not-may_reach-clause-kept : goal.returns-then-not-may_reach-clause-kept
+returns-then-not-may_reach-clause-kept c =
+    let on : flag_at c.args.table.now c.args.number ≡ Some true = c.is_on.ensures ∙ ap (λ b. Some b) c.if-not-is_on.false in
+    rw (← c.gather.view_is)
+    (overwrites_nothing c.args.table.now c.args.number c.gather.inside.x c.gather.inside.y c.event-event.result.now c.requires.first c.event-event.ensures on (c.may_reach.ensures c.if-not-may_reach.true)
+    c.args.kept.now.items)
+
+pub returns-clause-kept : goal.returns-clause-kept
+returns-clause-kept c =
+    let x = c.args.gather.now.x in
+    let y = c.args.gather.now.y in
+    let owner = c.args.owner.now in
+    let table = c.args.table.now in
+    let k = position owner.history in
+    let same : c.gather-2.inside.x ≡ x = ap (λ (g : Gathering). g.x) (c.gather-2.view_is ∙ c.in_ok-pass.ensures.exact) in
+    let row : c.gather-2.inside.y ≡ y = ap (λ (g : Gathering). g.y) (c.gather-2.view_is ∙ c.in_ok-pass.ensures.exact) in
+    let number : c.args.number - 1 + 1 ≡ c.args.number = omega (arith, c.requires.first) in
+    let kept : pixels_kept owner.place owner.history c.args.number c.gather-2.inside.x c.gather-2.inside.y ≡ kept_at table (c.args.number - 1) x y =
+    ap (λ a. pixels_kept owner.place owner.history c.args.number a c.gather-2.inside.y) same
+    ∙ ap (λ a. pixels_kept owner.place owner.history c.args.number x a) row
+    ∙ ap (λ h. pixels_kept owner.place h c.args.number x y) c.requires.follows
+    ∙ ap (λ n. pixels_kept owner.place (drawn_history table owner.place k) n x y) (sym number)
+    ∙ kept_drawn owner.place x y c.requires.pixel table k (c.args.number - 1) (omega (arith, c.requires.first, c.requires.last)) in
+    let event = c.event-event.result.now in
+    let on : flag_at table c.args.number ≡ Some true = c.is_on.ensures ∙ ap (λ b. Some b) c.if-not-is_on.false in
+    let before = c.args.gather.now.entries in
+    let depth = c.args.gather.now.depth in
+    let more = gathered_of c.args.number event c.state_before.result.now x y depth in
+    let entries : c.deref.result.now ≡ before ++ more =
+    c.deref.ensures.value ∙ ap (λ (g : Gathering). g.entries) (c.gather-2.view_is ∙ c.in_ok-pass.ensures.exact) in
+    let start : c.len-before.result ≡ length before =
+    omega (arith, c.len-before.ensures, c.gather.inside.entries.ok.0, ap (λ (g : Gathering). length g.entries) c.gather.view_is) in
+    let part : take (length c.deref.result.now - c.len-before.result) (drop c.len-before.result c.deref.result.now) ≡ more =
+    ap (λ l. take (length l - c.len-before.result) (drop c.len-before.result l)) entries
+    ∙ ap (take (length (before ++ more) - c.len-before.result)) (drop_at before more c.len-before.result (omega (arith, start)))
+    ∙ take_all (length (before ++ more) - c.len-before.result) more (omega (arith, start, length-append before more)) in
+    let drawn : c.count_drawn-drawn.result ≡ length (kept_at table (c.args.number - 1) x y) =
+    c.count_drawn-drawn.ensures ∙ ap drawn_count part
+    ∙ ap (λ s. drawn_count (gathered_of c.args.number event s x y depth)) c.state_before.ensures
+    ∙ ap (λ d. drawn_count (gathered_of c.args.number event (state_at table (c.args.number - 1)) x y d)) c.requires.depth
+    ∙ count_event table c.args.number x y event c.requires.first c.event-event.ensures on in
+    let all : take c.count_drawn-drawn.result (pixels_kept owner.place owner.history c.args.number c.gather-2.inside.x c.gather-2.inside.y) ≡ kept_at table (c.args.number - 1) x y =
+    ap (take c.count_drawn-drawn.result) kept
+    ∙ take_all c.count_drawn-drawn.result (kept_at table (c.args.number - 1) x y) (omega (arith, drawn)) in
+    subst (λ (l : List Pixel). OnOk c.add_kept.result (c.add_kept.new.kept.items ≡ c.args.kept.now.items ++ l)) all c.add_kept.ensures

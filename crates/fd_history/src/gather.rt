@@ -1,0 +1,201 @@
+//! First pass: each entry with its verdict, its source and its depths.
+ghost use Rattle.std.specs.Prelude.{◌≡◌, ◌<◌, ◌≤◌, ◌+◌, ◌*◌, ◌++◌, [], ◌∷◌, false, length, drop, slice_get, IfSome, OnOk};
+ghost use Rattle.fd_events.specs.Draw.{triangles_of};
+ghost use Rattle.fd_events.specs.declared.draw.TheConstants.{GROUP_LEN};
+ghost use Rattle.fd_events.specs.Limits.{most_triangles};
+ghost use Rattle.fd_history.specs.Gathered.{EntersNothing};
+
+use crate::entry::Entry;
+use fd_blend::Colour;
+use fd_cover::{Bounds, Verdict, depth_at, shade, verdict_at};
+use fd_events::{Draw, Event, GROUP_LEN, Pipeline};
+use std::alloc::AllocError;
+use std::marker::Model;
+
+/// The source of a clear of depths.
+const FRESH: Colour = Colour {
+    r: 0,
+    g: 0,
+    b: 0,
+    a: 0,
+};
+
+/// A pixel with its depth, and the entries that were gathered of it. Their sources stand for the colours before and after.
+#[derive(Drop)]
+pub(crate) struct Gather {
+    pub(crate) x: u32,
+    pub(crate) y: u32,
+    pub(crate) depth: u16,
+    pub(crate) entries: Vec<Entry>,
+}
+
+impl Model for Gather {
+    ghost use Rattle.std.specs.Prelude.{◌<◌};
+    ghost use Rattle.fd_snap.specs.Limits.{most_pixels};
+    ghost use Rattle.fd_history.specs.Gathered.{Gathering};
+
+    ghost Value = { Gathering };
+
+    ghost view = { λ g. record { x = g.x; y = g.y; depth = g.depth; entries = g.entries.items } };
+
+    ghost invariant = { λ g. (g.x < most_pixels) × (g.y < most_pixels) };
+}
+
+impl Gather {
+    ghost use Rattle.fd_history.specs.Gathered.{gone_on, past_triangle, past_triangles, past_event};
+
+    /// Takes an entry that begins at the pixel's depth.
+    fn enter(&mut self, entry: Entry) -> Result<(), AllocError>
+        ensures { OnOk result (self.new ≡ gone_on self.old entry.depth_after (entry ∷ [])) }
+    {
+        self.entries.push(entry)?;
+        self.depth = entry.depth_after;
+        Ok(())
+    }
+
+    /// Goes through one triangle of a draw.
+    #[tactic(auto, using(crate::proofs::Gathers::covered_unless_missed))]
+    fn pass_triangle(
+        &mut self,
+        event: u32,
+        draw: &Draw,
+        triangle: u32,
+        state: &Pipeline,
+    ) -> Result<(), AllocError>
+        requires { triangle < length (triangles_of draw.now) }
+        ensures exact { OnOk result (IfSome (slice_get (triangles_of draw.now) triangle) (λ t. self.new ≡ past_triangle event triangle t draw.now.interp state.now self.old)) }
+        ensures few { OnOk result (length self.new.entries ≤ length self.old.entries + 1) }
+    {
+        let tri = draw.tri(triangle);
+        if !Bounds::of(&tri).holds(self.x, self.y) {
+            return Ok(());
+        }
+        let depths = draw.depths(triangle);
+        let verdict = verdict_at(
+            &tri,
+            &depths,
+            &state.raster,
+            &state.scissor,
+            &state.depth,
+            self.depth,
+            self.x,
+            self.y,
+        );
+        if verdict == Verdict::Missed {
+            return Ok(());
+        }
+        let colours = draw.colours(triangle);
+        let source = shade(&tri, &colours, draw.interp(), self.x, self.y);
+        let source_depth = depth_at(&tri, &depths, self.x, self.y);
+        let depth_after = if verdict == Verdict::Drawn {
+            state.depth.stored_past(source_depth, self.depth)
+        } else {
+            self.depth
+        };
+        self.enter(Entry {
+            event,
+            triangle: Some(triangle),
+            verdict,
+            source,
+            before: source,
+            after: source,
+            source_depth,
+            depth_before: self.depth,
+            depth_after,
+        })
+    }
+
+    /// Goes through the triangles of a draw.
+    fn pass_draw(&mut self, event: u32, draw: &Draw, state: &Pipeline) -> Result<(), AllocError>
+        ensures exact { OnOk result (self.new ≡ past_triangles event 0 (triangles_of draw.now) draw.now.interp state.now self.old) }
+        ensures few { OnOk result (length self.new.entries ≤ length self.old.entries + most_triangles) }
+    {
+        let count = draw.triangles();
+        for group in 0..count.div_ceil(GROUP_LEN) {
+            if draw.group_bounds(group).holds(self.x, self.y) {
+                self.pass_group(event, draw, group, state)?;
+            }
+        }
+        Ok(())
+    }
+
+    /// Goes through a group of triangles of a draw.
+    fn pass_group(
+        &mut self,
+        event: u32,
+        draw: &Draw,
+        group: u32,
+        state: &Pipeline,
+    ) -> Result<(), AllocError>
+        requires { GROUP_LEN * group < length (triangles_of draw.now) }
+        ensures exact { OnOk result (past_triangles event (GROUP_LEN * group + GROUP_LEN) (drop (GROUP_LEN * group + GROUP_LEN) (triangles_of draw.now)) draw.now.interp state.now self.new ≡ past_triangles event (GROUP_LEN * group) (drop (GROUP_LEN * group) (triangles_of draw.now)) draw.now.interp state.now self.old) }
+        ensures few { OnOk result (length self.new.entries ≤ length self.old.entries + GROUP_LEN) }
+    {
+        let count = draw.triangles();
+        let first = group * GROUP_LEN;
+        for triangle in first..count.min(first + GROUP_LEN) {
+            self.pass_triangle(event, draw, triangle, state)?;
+        }
+        Ok(())
+    }
+
+    /// Goes through an event.
+    pub(crate) fn pass(
+        &mut self,
+        number: u32,
+        event: &Event,
+        state: &Pipeline,
+    ) -> Result<(), AllocError>
+        ensures exact { OnOk result (self.new ≡ past_event number event.now state.now self.old) }
+        ensures few { OnOk result (length self.new.entries ≤ length self.old.entries + most_triangles) }
+    {
+        match event {
+            Event::Clear(colour) => self.enter(Entry {
+                event: number,
+                triangle: None,
+                verdict: Verdict::Drawn,
+                source: *colour,
+                before: *colour,
+                after: *colour,
+                source_depth: 0,
+                depth_before: self.depth,
+                depth_after: self.depth,
+            }),
+            Event::DepthClear(depth) => self.enter(Entry {
+                event: number,
+                triangle: None,
+                verdict: Verdict::Drawn,
+                source: FRESH,
+                before: FRESH,
+                after: FRESH,
+                source_depth: *depth,
+                depth_before: self.depth,
+                depth_after: *depth,
+            }),
+            Event::Draw(draw) => self.pass_draw(number, draw, state),
+            Event::SetRaster(_)
+            | Event::SetScissor(_)
+            | Event::SetBlend(_)
+            | Event::SetFactor(_)
+            | Event::SetDepth(_)
+            | Event::Marker(_) => Ok(()),
+        }
+    }
+}
+
+/// Whether an event may have something to do with pixel (x, y): it clears, or the box round its triangles holds the pixel.
+pub(crate) fn may_reach(event: &Event, x: u32, y: u32) -> bool
+    ensures { result ≡ false → EntersNothing event.now x y }
+{
+    match event {
+        Event::Clear(_) => true,
+        Event::DepthClear(_) => true,
+        Event::Draw(draw) => draw.bounds().holds(x, y),
+        Event::SetRaster(_)
+        | Event::SetScissor(_)
+        | Event::SetBlend(_)
+        | Event::SetFactor(_)
+        | Event::SetDepth(_)
+        | Event::Marker(_) => false,
+    }
+}

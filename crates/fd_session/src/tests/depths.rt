@@ -1,0 +1,47 @@
+ghost use Rattle.std.specs.Prelude.{◌≤◌};
+
+use crate::tests::frames::{CLOCKWISE, flat_at, grey, session};
+use crate::{Answer, Session, SessionFault};
+use fd_cover::{Depth, Func};
+use fd_events::Event;
+use std::alloc::Global;
+use std::process::Abort;
+use std::test::Fail;
+
+/// A nearer triangle and a farther one under the depth test, and the farther one again after a clear of the depths.
+pub(crate) fn tested(alloc: Global, workers: u32) -> Result<Session, Fail>
+    requires { (1 ≤ workers) × (workers ≤ 64) }
+{
+    let mut events = Vec::new(alloc);
+    events.push(Event::SetDepth(Depth {
+        enable: true,
+        write: true,
+        func: Func::Less,
+    }))?;
+    events.push(flat_at(alloc, CLOCKWISE, grey(1), 1000)?)?;
+    events.push(flat_at(alloc, CLOCKWISE, grey(2), 2000)?)?;
+    events.push(Event::DepthClear(65535))?;
+    events.push(flat_at(alloc, CLOCKWISE, grey(2), 2000)?)?;
+    session(alloc, 1, 1, events, workers)
+}
+
+fn expect(rt: &impl Abort, session: &Session, level: u8, depth: u16) {
+    assert_eq!(rt; session.pixel(0, 0), Ok(grey(level)));
+    assert_eq!(rt; session.depth(0, 0), Ok(depth));
+}
+
+#[test]
+fn a_nearer_triangle_wins(rt: HostRuntime) -> Result<(), Fail> {
+    for workers in [1, 2, 64] {
+        let mut session = tested(rt.alloc(), workers)?;
+        expect(&rt, &session, 0, 65535);
+        for (at, level, depth) in [(3, 1, 1000), (5, 2, 2000), (4, 1, 65535), (3, 1, 1000)] {
+            assert_eq!(rt; session.goto(&rt, at), Answer::Moved { at });
+            expect(&rt, &session, level, depth);
+        }
+        assert_eq!(rt; session.switch(&rt, 2, false), Answer::Moved { at: 3 });
+        expect(&rt, &session, 2, 2000);
+        assert_eq!(rt; session.depth(1, 0), Err(SessionFault::NoSuchPixel));
+    }
+    Ok(())
+}

@@ -1,0 +1,227 @@
+use crate::tests::captures::{FRESH, MASKED, TWO_TILES, colour, session};
+use fd_capture::{CaptureFault, read};
+use fd_crew::{Free, Outcome, run_forward};
+use fd_events::{Event, EventTable, Label, TableFault};
+use fd_owner::Owner;
+use fd_pam::{Device, PamFault, header, write};
+use fd_tile::{Place, Tile};
+use fd_undo::UndoStack;
+use std::alloc::{AllocError, Global};
+use std::io;
+use std::io::Write;
+use std::process::Abort;
+use std::test::Fail;
+
+/// A clear and a marker.
+fn events(alloc: Global) -> Result<Vec<Event>, Fail> {
+    let mut events = Vec::new(alloc);
+    events.push(Event::Clear(colour(1, 2, 3, 4)))?;
+    events.push(Event::Marker(Label::new(String::from_str(alloc, "end")?)?))?;
+    Ok(events)
+}
+
+#[test]
+fn table_start(rt: HostRuntime) -> Result<(), Fail> {
+    let first = events(rt.alloc())?;
+    let second = events(rt.alloc())?;
+    println!(rt; "ready")?;
+    match EventTable::start(rt.alloc(), 2, 2, 2, first) {
+        Ok(table) => {
+            println!(rt; "told Ok")?;
+            assert_eq!(rt; table.len(), 2);
+        }
+        Err(fault) => {
+            println!(rt; "told {fault:?}")?;
+            assert_eq!(rt; fault, TableFault::Memory);
+            let again = EventTable::start(rt.alloc(), 2, 2, 2, second);
+            assert!(rt; again.is_ok_and(|table| table.len() == 2));
+        }
+    }
+    Ok(())
+}
+
+#[test]
+fn capture_read(rt: HostRuntime) -> Result<(), Fail> {
+    println!(rt; "ready")?;
+    match read(rt.alloc(), MASKED) {
+        Ok(table) => {
+            println!(rt; "told Ok")?;
+            assert_eq!(rt; table.len(), 5);
+        }
+        Err(fault) => {
+            println!(rt; "told {fault:?}")?;
+            assert_eq!(rt; fault, CaptureFault::Memory);
+            let again = read(rt.alloc(), MASKED);
+            assert!(rt; again.is_ok_and(|table| table.len() == 5));
+        }
+    }
+    Ok(())
+}
+
+const PLACE: Place = Place {
+    left: 0,
+    top: 0,
+    width: 32,
+    height: 1,
+};
+
+#[test]
+fn tile_fresh(rt: HostRuntime) -> Result<(), Fail> {
+    println!(rt; "ready")?;
+    match Tile::fresh(rt.alloc(), PLACE) {
+        Ok(tile) => {
+            println!(rt; "told Ok")?;
+            assert_eq!(rt; tile.get(31, 0), FRESH);
+            assert_eq!(rt; tile.depth(31, 0), 65535);
+        }
+        Err(AllocError) => {
+            println!(rt; "told Memory")?;
+            let again = Tile::fresh(rt.alloc(), PLACE);
+            assert!(rt; again.is_ok_and(|tile| tile.place() == PLACE));
+        }
+    }
+    Ok(())
+}
+
+#[test]
+fn undo_reserve(rt: HostRuntime) -> Result<(), Fail> {
+    let mut undo = UndoStack::new(rt.alloc());
+    println!(rt; "ready")?;
+    if undo.reserve(9, 40).is_ok() {
+        println!(rt; "told Ok")?;
+    } else {
+        println!(rt; "told Full")?;
+        assert!(rt; !undo.frame_left() && undo.spans_left() == 0 && undo.pixels_left() == 0);
+        assert_eq!(rt; undo.frames(), 0);
+        assert!(rt; undo.reserve(9, 40).is_ok());
+    }
+    assert!(rt; undo.frame_left() && undo.spans_left() == 9 && undo.pixels_left() == 40);
+    Ok(())
+}
+
+/// What an owner shows: its position, how much it keeps, and its first pixel's colour.
+fn expect_owner(rt: &impl Abort, owner: &Owner, position: u32, recorded: u64, red: u8) {
+    assert_eq!(rt; owner.position(), position);
+    assert_eq!(rt; owner.recorded(), recorded);
+    let place = owner.place();
+    assert_eq!(rt; owner.pixel(place.left, place.top).r, red);
+}
+
+/// An owner whose opening image is no fresh one.
+#[test]
+fn owner_forward(rt: HostRuntime) -> Result<(), Fail> {
+    let table = read(rt.alloc(), TWO_TILES)?;
+    let mut tile = Tile::fresh(rt.alloc(), PLACE)?;
+    tile.set(0, 0, colour(5, 6, 7, 8));
+    let mut owner = Owner::of(rt.alloc(), tile);
+    if table.len() != 1 || table.width() != 33 || table.height() != 1 {
+        return Err(Fail::from("one event"));
+    }
+    println!(rt; "ready")?;
+    if owner.forward(&table).is_ok() {
+        println!(rt; "told Ok")?;
+        assert_eq!(rt; owner.refusals(), 0);
+    } else {
+        println!(rt; "told Refused")?;
+        expect_owner(&rt, &owner, 0, 0, 5);
+        assert_eq!(rt; owner.refusals(), 1);
+        assert_eq!(rt; owner.refused_at(), Some(0));
+        assert!(rt; owner.forward(&table).is_ok());
+    }
+    expect_owner(&rt, &owner, 1, 32, 1);
+    if owner.position() == 0 {
+        return Err(Fail::from("one event"));
+    }
+    owner.back();
+    expect_owner(&rt, &owner, 0, 0, 5);
+    Ok(())
+}
+
+#[test]
+fn crew_run_forward(rt: HostRuntime) -> Result<(), Fail> {
+    let table = read(rt.alloc(), TWO_TILES)?;
+    let last = Place {
+        left: 32,
+        width: 1,
+        ..PLACE
+    };
+    let mut owners = [
+        Owner::of(rt.alloc(), Tile::fresh(rt.alloc(), PLACE)?),
+        Owner::of(rt.alloc(), Tile::fresh(rt.alloc(), last)?),
+    ];
+    if table.len() != 1 || table.width() != 33 || table.height() != 1 {
+        return Err(Fail::from("one event"));
+    }
+    println!(rt; "ready")?;
+    let first = run_forward(&rt, rt.alloc(), &mut owners, &table, 1, 2, &Free);
+    match first {
+        Ok(outcome) => {
+            println!(rt; "told {outcome:?}")?;
+            if outcome == Outcome::Reached {
+                expect_owner(&rt, &owners[0], 1, 32, 1);
+                expect_owner(&rt, &owners[1], 1, 1, 1);
+                return Ok(());
+            }
+            assert_eq!(rt; outcome, Outcome::Stopped { at: 0 });
+        }
+        Err(AllocError) => println!(rt; "told Memory")?,
+    }
+    expect_owner(&rt, &owners[0], 0, 0, 0);
+    expect_owner(&rt, &owners[1], 0, 0, 0);
+    Ok(())
+}
+
+/// Takes all bytes and counts them.
+#[derive(Drop)]
+struct Counts {
+    taken: u64,
+}
+
+impl Write for Counts {
+    fn write(&mut self, buf: &[u8]) -> io::Result<usize> {
+        self.taken = self.taken.saturating_add(buf.len() as u64);
+        Ok(buf.len())
+    }
+
+    fn flush(&mut self) -> io::Result<()> {
+        Ok(())
+    }
+}
+
+#[test]
+fn pam_header(rt: HostRuntime) -> Result<(), Fail> {
+    println!(rt; "ready")?;
+    match header(rt.alloc(), 16384, 16384) {
+        Ok(text) => {
+            println!(rt; "told Ok")?;
+            assert_eq!(rt; text.len(), 73);
+        }
+        Err(AllocError) => {
+            println!(rt; "told Memory")?;
+            let again = header(rt.alloc(), 16384, 16384);
+            assert!(rt; again.is_ok_and(|text| text.len() == 73));
+        }
+    }
+    Ok(())
+}
+
+/// On want of memory no byte is put.
+#[test]
+fn pam_write(rt: HostRuntime) -> Result<(), Fail> {
+    let session = session(rt.alloc(), TWO_TILES, 1)?;
+    println!(rt; "ready")?;
+    let mut sink = Device::new(Counts { taken: 0 });
+    let first = write(rt.alloc(), &mut sink, &session);
+    println!(rt; "told {first:?}")?;
+    let taken = sink.into_inner().taken;
+    if first.is_ok() {
+        assert_eq!(rt; taken, 198);
+    } else {
+        assert_eq!(rt; first, Err(PamFault::Memory));
+        assert_eq!(rt; taken, 0);
+        let mut sink = Device::new(Counts { taken: 0 });
+        assert!(rt; write(rt.alloc(), &mut sink, &session).is_ok());
+        assert_eq!(rt; sink.into_inner().taken, 198);
+    }
+    Ok(())
+}

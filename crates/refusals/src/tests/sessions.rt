@@ -1,0 +1,206 @@
+use crate::tests::captures::{
+    BLENDED, DEPTH_TEST, FRESH, MASKED, THREE_VERDICTS, TWO_TILES, colour, session,
+};
+use fd_blend::Colour;
+use fd_capture::read;
+use fd_crew::Free;
+use fd_events::EventTable;
+use fd_session::{Answer, Session, SessionFault};
+use std::process::Abort;
+use std::test::Fail;
+
+/// What the two ends of a row of 33 pixels show.
+fn expect_ends(rt: &impl Abort, session: &Session, position: u32, shown: Colour) {
+    assert_eq!(rt; session.position(), position);
+    for x in [0, 32] {
+        assert_eq!(rt; session.pixel(x, 0), Ok(shown), "at {x}");
+    }
+}
+
+/// A step, or a jump by all workers. After a refusal nothing has changed, and the next step succeeds.
+fn expect_cleared(rt: &impl Abort, session: &Session, answer: Answer) {
+    match answer {
+        Answer::Moved { at } => {
+            assert_eq!(rt; at, 1);
+            expect_ends(rt, session, 1, colour(1, 2, 3, 4));
+        }
+        Answer::Stopped { at } => {
+            assert_eq!(rt; at, 0);
+            expect_ends(rt, session, 0, FRESH);
+        }
+        Answer::Refused(fault) => {
+            assert_eq!(rt; fault, SessionFault::Memory);
+            expect_ends(rt, session, 0, FRESH);
+        }
+    }
+}
+
+#[test]
+fn step(rt: HostRuntime) -> Result<(), Fail> {
+    let mut session = session(rt.alloc(), TWO_TILES, 2)?;
+    println!(rt; "ready")?;
+    let answer = session.step(&rt);
+    println!(rt; "told {answer:?}")?;
+    expect_cleared(&rt, &session, answer);
+    if session.position() == 0 {
+        assert_eq!(rt; session.step(&rt), Answer::Moved { at: 1 });
+    }
+    expect_ends(&rt, &session, 1, colour(1, 2, 3, 4));
+    Ok(())
+}
+
+#[test]
+fn goto_gated(rt: HostRuntime) -> Result<(), Fail> {
+    let mut session = session(rt.alloc(), TWO_TILES, 2)?;
+    println!(rt; "ready")?;
+    let answer = session.goto_gated(&rt, 1, &Free);
+    println!(rt; "told {answer:?}")?;
+    expect_cleared(&rt, &session, answer);
+    if session.position() == 0 {
+        assert_eq!(rt; session.goto_gated(&rt, 1, &Free), Answer::Moved { at: 1 });
+    }
+    expect_ends(&rt, &session, 1, colour(1, 2, 3, 4));
+    Ok(())
+}
+
+/// What two by two pixels show at a position of the capture with a mask.
+fn expect_masked(rt: &impl Abort, session: &Session) {
+    let position = session.position();
+    let nine = colour(9, 9, 9, 9);
+    let shown = if position < 4 { FRESH } else { nine };
+    for (x, y) in [(1, 0), (0, 1), (1, 1)] {
+        assert_eq!(rt; session.pixel(x, y), Ok(shown), "at {x} {y}");
+    }
+    let first = if position == 5 {
+        colour(200, 9, 202, 9)
+    } else {
+        shown
+    };
+    assert_eq!(rt; session.pixel(0, 0), Ok(first));
+}
+
+#[test]
+fn goto(rt: HostRuntime) -> Result<(), Fail> {
+    let mut session = session(rt.alloc(), MASKED, 3)?;
+    println!(rt; "ready")?;
+    let answer = session.goto(&rt, 5);
+    println!(rt; "told {answer:?}")?;
+    match answer {
+        Answer::Moved { at } => assert_eq!(rt; at, 5),
+        Answer::Stopped { at } => assert!(rt; at < 5 && at == session.position()),
+        Answer::Refused(fault) => {
+            assert_eq!(rt; fault, SessionFault::Memory);
+            assert_eq!(rt; session.position(), 0);
+        }
+    }
+    expect_masked(&rt, &session);
+    assert_eq!(rt; session.goto(&rt, 5), Answer::Moved { at: 5 });
+    expect_masked(&rt, &session);
+    Ok(())
+}
+
+/// What the pixel of the capture with depth shows at each position.
+fn expect_depth(rt: &impl Abort, session: &Session) {
+    let (colour, depth) = match session.position() {
+        0 | 1 => (FRESH, 65535),
+        2 | 3 => (colour(1, 1, 1, 1), 1000),
+        4 => (colour(1, 1, 1, 1), 65535),
+        _ => (colour(2, 2, 2, 2), 2000),
+    };
+    assert_eq!(rt; session.pixel(0, 0), Ok(colour));
+    assert_eq!(rt; session.depth(0, 0), Ok(depth));
+}
+
+#[test]
+fn goto_with_depth(rt: HostRuntime) -> Result<(), Fail> {
+    let mut session = session(rt.alloc(), DEPTH_TEST, 2)?;
+    println!(rt; "ready")?;
+    let answer = session.goto(&rt, 5);
+    println!(rt; "told {answer:?}")?;
+    expect_depth(&rt, &session);
+    assert_eq!(rt; session.goto(&rt, 5), Answer::Moved { at: 5 });
+    expect_depth(&rt, &session);
+    for _ in 0..5 {
+        assert!(rt; session.back().is_ok());
+        expect_depth(&rt, &session);
+    }
+    Ok(())
+}
+
+#[test]
+fn switch(rt: HostRuntime) -> Result<(), Fail> {
+    let mut session = session(rt.alloc(), BLENDED, 2)?;
+    if session.goto(&rt, 2) != (Answer::Moved { at: 2 }) {
+        return Err(Fail::from("memory"));
+    }
+    println!(rt; "ready")?;
+    let answer = session.switch(&rt, 1, false);
+    println!(rt; "told {answer:?}")?;
+    match answer {
+        Answer::Moved { at } => assert_eq!(rt; at, 2),
+        Answer::Stopped { at } => assert!(rt; at < 2 && at == session.position()),
+        Answer::Refused(_) => assert!(rt; false),
+    }
+    assert_eq!(rt; session.is_on(1), Ok(false));
+    let again = session.switch(&rt, 1, false);
+    assert_eq!(rt; again, Answer::Refused(SessionFault::AlreadySo));
+    assert_eq!(rt; session.goto(&rt, 2), Answer::Moved { at: 2 });
+    assert_eq!(rt; session.pixel(0, 0), Ok(colour(200, 100, 50, 128)));
+    Ok(())
+}
+
+#[test]
+fn history(rt: HostRuntime) -> Result<(), Fail> {
+    let mut session = session(rt.alloc(), THREE_VERDICTS, 1)?;
+    if session.goto(&rt, 5) != (Answer::Moved { at: 5 }) {
+        return Err(Fail::from("memory"));
+    }
+    println!(rt; "ready")?;
+    match session.history(rt.alloc(), 0, 0) {
+        Ok(entries) => {
+            println!(rt; "told Ok")?;
+            assert_eq!(rt; entries.len(), 3);
+        }
+        Err(fault) => {
+            println!(rt; "told {fault:?}")?;
+            assert_eq!(rt; fault, SessionFault::Memory);
+            let again = session.history(rt.alloc(), 0, 0);
+            assert!(rt; again.is_ok_and(|entries| entries.len() == 3));
+        }
+    }
+    assert_eq!(rt; session.position(), 5);
+    assert_eq!(rt; session.pixel(0, 0), Ok(colour(3, 4, 5, 6)));
+    Ok(())
+}
+
+/// What is to be known of the table of three verdicts.
+fn expect_table(rt: &impl Abort, table: &EventTable) {
+    assert!(rt; table.len() == 5 && table.width() == 1 && table.height() == 1);
+    if table.len() == 5 {
+        assert!(rt; table.is_on(1) && !table.is_on(3) && table.is_on(5));
+    }
+}
+
+/// On a refusal the table is handed back as it was, its flags too.
+#[test]
+fn start(rt: HostRuntime) -> Result<(), Fail> {
+    let mut table = read(rt.alloc(), THREE_VERDICTS)?;
+    if table.len() < 3 {
+        return Err(Fail::from("five events"));
+    }
+    table.set_on(3, false);
+    println!(rt; "ready")?;
+    match Session::start(rt.alloc(), table, 2) {
+        Ok(session) => {
+            println!(rt; "told Ok")?;
+            expect_table(&rt, session.table());
+        }
+        Err((handed_back, _)) => {
+            println!(rt; "told Memory")?;
+            expect_table(&rt, &handed_back);
+            let again = Session::start(rt.alloc(), handed_back, 2);
+            assert!(rt; again.is_ok_and(|session| session.position() == 0));
+        }
+    }
+    Ok(())
+}
