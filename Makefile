@@ -1,22 +1,50 @@
-# make demo   builds framedbg and replays the sample capture: the replies, and an image in demo.pam (demo.png where netpbm is installed)
-# make test   reads the examples with netpbm and checks the guide, and then the gate: every proof from nothing, the must-fail edits, the tests, the programs
-# make bench  measures the program beside a plain loop in C, and prints ratios; no part of the gate
+# make try      a first picture before anything is proved: framedbg runs unproved, and writes try.png
+# make demo     proves and builds framedbg, finds the wrong colour of examples/house.json, and writes its image to demo.pam and demo.png
+# make view     shows the sample capture in the browser, step by step
+# make test     checks documents, examples and captures, and then the gate: every proof from nothing, the must-fail edits, the tests, the
+#               programs; and then what only the built program shows: its endings, its threads, and each of its allocations refused
+# make bench    measures the program beside a plain loop in C, and prints ratios; no part of the gate
+# make install  puts the program, its page, completions, viewer and documents below PREFIX; make uninstall takes them away
 
 PROGRAM := crates/framedbg/out/framedbg
 SAMPLE := examples/house.json
+PREFIX ?= /usr/local
+HOME_OF := $(DESTDIR)$(PREFIX)
 
-.PHONY: all bench demo test program
+.PHONY: all bench demo install program test test-viewer try uninstall view
 
 all: demo
 
 program:
-	cd crates/framedbg && rt run -- --help > /dev/null
+	@tools/build_program
+
+# the same where it is missing alone
+$(PROGRAM):
+	@tools/build_program
 
 demo: program
 	$(PROGRAM) run $(SAMPLE) < examples/house_find.session
 	$(PROGRAM) image $(SAMPLE) > demo.pam
-	@if command -v pamtopng > /dev/null; then pamtopng demo.pam > demo.png && echo "demo.png: `pamfile demo.pam`"; \
-	else echo "demo.pam: written (install netpbm to see it as demo.png)"; fi
+	tools/pam_to_png < demo.pam > demo.png
+	@echo "demo.pam is the image, and demo.png its colours"
+
+try:
+	@echo "framedbg is compiled with checks and run; nothing of it is proved in this way, make demo does that"
+	cd crates/framedbg && rt try --data house.json=../../$(SAMPLE) -- image house.json > ../../try.pam
+	tools/pam_to_png < try.pam > try.png
+	@echo "try.png is the picture of $(SAMPLE)"
+
+# ---- The viewer and the tools beside it
+view: program
+	tools/view $(SAMPLE)
+
+test-viewer: $(PROGRAM)
+	tools/check_hunts
+	tools/test_explain.py
+	tools/test_mesh_to_capture.py
+	tools/test_viewer.py
+	tools/viewer_mutations.py door server
+# ----
 
 bench: program
 	benches/measure.py
@@ -25,3 +53,15 @@ test:
 	tools/check_guide
 	tools/check_images
 	rt ci
+	tools/check_help
+	tools/check_captures $(PROGRAM)
+	tools/check_recipes
+	$(MAKE) --no-print-directory test-viewer
+	tools/refuse_allocations
+	tools/check_program
+
+install: program
+	tools/install $(HOME_OF)
+
+uninstall:
+	tools/install --remove $(HOME_OF)

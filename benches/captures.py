@@ -1,75 +1,117 @@
-"""Captures for the measurements: large blended triangles, many small ones, markers, clears."""
-import json
+"""Captures for the measurements: scenes of triangles, as JSON for the debugger and as numbers for plain.c, and frames without triangles."""
 import random
+import struct
 
 UNIT = 65536
+BLENDED = '{"kind":"blend","enable":true,"rgb":["SRC_ALPHA","INV_SRC_ALPHA","ADD"],"alpha":["ONE","INV_SRC_ALPHA","ADD"],"mask":15}'
+TESTED = '{"kind":"depth","enable":true,"write":true,"func":"LESS_EQUAL"}'
+NOTHING = '{"kind":"draw","interp":"flat","vertices":[]}'
+MARKER = '{"kind":"marker","name":"m"}'
 
 
-def vertex(x, y, colour):
-    return {"x": x * UNIT, "y": y * UNIT, "color": colour}
+def frame(width, height, events, version=1):
+    head = f'{{"format":"framedbg","version":{version},"width":{width},"height":{height},"events":['
+    return (head + ",".join(events) + "]}").encode()
 
 
-def blend(src, dst):
-    return {
-        "kind": "blend",
-        "enable": True,
-        "rgb": [src, dst, "ADD"],
-        "alpha": ["ONE", "INV_SRC_ALPHA", "ADD"],
-        "mask": 15,
-    }
+def depth_clear(depth):
+    return f'{{"kind":"depth_clear","depth":{depth}}}'
 
 
-BLENDED = blend("SRC_ALPHA", "INV_SRC_ALPHA")
-NO_CULL = {"kind": "raster", "cull": "none", "front_ccw": False, "scissor": False}
+class Scene:
+    """Blended triangles of one target, each three vertices (x, y, z, colour) in whole pixels; with a fresh depth they are tested by LESS_EQUAL."""
+
+    def __init__(self, width, height, triangles, interp="flat", fresh_depth=None):
+        self.width, self.height, self.triangles = width, height, triangles
+        self.interp, self.fresh_depth = interp, fresh_depth
+        self.setup = [BLENDED] if fresh_depth is None else [BLENDED, TESTED, depth_clear(fresh_depth)]
+
+    def vertex(self, x, y, z, colour):
+        depth = "" if self.fresh_depth is None else f'"z":{z},'
+        return f'{{"x":{x * UNIT},"y":{y * UNIT},{depth}"color":[{colour[0]},{colour[1]},{colour[2]},{colour[3]}]}}'
+
+    def draw(self, triangles):
+        vertices = ",".join([self.vertex(*vertex) for triangle in triangles for vertex in triangle])
+        return f'{{"kind":"draw","interp":"{self.interp}","vertices":[{vertices}]}}'
+
+    def draws(self, per_draw):
+        return [self.draw(self.triangles[start : start + per_draw]) for start in range(0, len(self.triangles), per_draw)]
+
+    def capture(self, per_draw=1, empty=0):
+        """As JSON, with so many empty draws after each draw."""
+        draws = self.draws(per_draw)
+        if empty:
+            draws = [event for draw in draws for event in [draw, *[NOTHING] * empty]]
+        return frame(self.width, self.height, self.setup + draws, 1 if self.fresh_depth is None else 2)
+
+    def numbers(self):
+        """As plain.c reads it."""
+        test = self.fresh_depth is not None
+        head = struct.pack("<6i", self.width, self.height, self.interp == "linear", test, self.fresh_depth or 0, len(self.triangles))
+        return head + b"".join(
+            struct.pack("<3i4B", 256 * x, 256 * y, z, *colour) for triangle in self.triangles for x, y, z, colour in triangle
+        )
 
 
-def frame(width, height, events):
-    return json.dumps(
-        {"format": "framedbg", "version": 1, "width": width, "height": height, "events": events}
-    ).encode()
+def large(width, height, count, interp="flat"):
+    """Triangles that cover the whole target."""
+    return Scene(width, height, [whole(width, height, number, interp, (0, 0, 0)) for number in range(count)], interp)
 
 
-def large(width, height, draws, interp="flat"):
-    """Draws of one triangle that covers the whole target, blended."""
-    events = [BLENDED]
-    for number in range(draws):
-        colour = [(40 * number + 10) % 256, 128, (90 * number) % 256, 128]
-        other = [255, colour[0], 0, 64] if interp == "linear" else colour
-        corners = [(0, 0), (2 * width, 0), (0, 2 * height)]
-        vertices = [vertex(x, y, c) for (x, y), c in zip(corners, [colour, other, colour])]
-        events.append({"kind": "draw", "interp": interp, "vertices": vertices})
-    return frame(width, height, events)
+def whole(width, height, number, interp, depths):
+    colour = [(40 * number + 10) % 256, 128, (90 * number) % 256, 128]
+    other = [255, colour[0], 0, 64] if interp == "linear" else colour
+    places = [(0, 0), (2 * width, 0), (0, 2 * height)]
+    return [(x, y, z, shade) for (x, y), z, shade in zip(places, depths, [colour, other, colour])]
 
 
-def small(width, height, count, per_draw, scattered):
-    """Triangles whose legs are 8 pixels long, blended, so many to a draw: row by row, or anywhere."""
-    random.seed(1)
-    places = []
-    across = width // 8
+def tested(width, height, count, passing, interp):
+    """The same with the depth test on: passing is all, none or alternate. Flat ones are level, linear ones slope both ways; no two of them cross."""
+    triangles = []
+    for number in range(count):
+        nearer = passing == "all" or (passing == "alternate" and number % 2 == 0)
+        depth = 20_000 - 10 * number if nearer else 30_000
+        slopes = [20_000, 10_000] if interp == "linear" else [0, 0]
+        triangles.append(whole(width, height, number, interp, [depth, depth + slopes[0], depth - slopes[1]]))
+    return Scene(width, height, triangles, interp, 0 if passing == "none" else 65_535)
+
+
+def small(width, height, count, scattered):
+    """Triangles whose legs are 8 pixels long: side by side in blocks of 32 by 32 pixels, as a mesh has them, or anywhere."""
+    generator = random.Random(1)
+    triangles = []
     for number in range(count):
         if scattered:
-            places.append((random.randrange(width - 8), random.randrange(height - 8)))
+            x, y = generator.randrange(width - 8), generator.randrange(height - 8)
         else:
-            # blocks of 32 by 32 pixels, as a mesh has its triangles side by side
             block, inner = divmod(number, 16)
-            blocks = width // 32
-            column, row = block % blocks, block // blocks % (height // 32)
-            places.append((32 * column + 8 * (inner % 4), 32 * row + 8 * (inner // 4)))
-    events = [BLENDED]
-    for start in range(0, count, per_draw):
-        vertices = []
-        for x, y in places[start : start + per_draw]:
-            colour = [x % 256, y % 256, 99, 128]
-            vertices += [vertex(x, y, colour), vertex(x + 8, y, colour), vertex(x, y + 8, colour)]
-        events.append({"kind": "draw", "interp": "flat", "vertices": vertices})
-    return frame(width, height, events)
+            column, row = block % (width // 32), block // (width // 32) % (height // 32)
+            x, y = 32 * column + 8 * (inner % 4), 32 * row + 8 * (inner // 4)
+        colour = (x % 256, y % 256, 99, 128)
+        triangles.append([(x, y, 0, colour), (x + 8, y, 0, colour), (x, y + 8, 0, colour)])
+    return Scene(width, height, triangles)
+
+
+def one_pixel(count):
+    """Triangles that cover the first pixel alone."""
+    colours = [(number % 256, 1, 2, 128) for number in range(count)]
+    return Scene(32, 32, [[(0, 0, 0, colour), (2, 0, 0, colour), (0, 2, 0, colour)] for colour in colours])
 
 
 def markers(width, height, count):
-    return frame(width, height, [{"kind": "marker", "name": "m"}] * count)
+    return frame(width, height, [MARKER] * count)
+
+
+def states(width, height, count):
+    """State events of each kind in turn."""
+    kinds = [
+        '{"kind":"factor","color":[1,2,3,4]}',
+        '{"kind":"raster","cull":"back","front_ccw":true,"scissor":false}',
+        '{"kind":"scissor","rect":[0,0,9,9]}',
+        BLENDED,
+    ]
+    return frame(width, height, [kinds[number % 4] for number in range(count)])
 
 
 def clears(width, height, count):
-    return frame(
-        width, height, [{"kind": "clear", "color": [n % 256, 1, 2, 3]} for n in range(count)]
-    )
+    return frame(width, height, [f'{{"kind":"clear","color":[{number % 256},1,2,3]}}' for number in range(count)])

@@ -13,28 +13,31 @@ EXAMPLES = pathlib.Path("examples")
 PIXEL = 65536  # captures give positions in 1/65536 pixel
 TRIANGLE = [(0, 0), (2, 0), (0, 2)]
 REPLACE, SUM, KEEP = ["ONE", "ZERO", "ADD"], ["ONE", "ONE", "ADD"], ["ZERO", "ONE", "ADD"]
+FUNCTIONS = ["NEVER", "LESS", "EQUAL", "LESS_EQUAL", "GREATER", "NOT_EQUAL", "GREATER_EQUAL", "ALWAYS"]
 sessions = {}
 
 
-def vertex(x, y, colour):
-    return {"x": int(x * PIXEL), "y": int(y * PIXEL), "color": list(colour)}
+def vertex(x, y, colour, z=None):
+    """A corner, of version 2 where it has a depth."""
+    return {"x": int(x * PIXEL), "y": int(y * PIXEL)} | ({} if z is None else {"z": z}) | {"color": list(colour)}
 
 
-def draw(triangles, colour=None, interp="flat"):
-    """Triangles in pixels, in one colour, or with a colour as the third part of each corner."""
-    return {"kind": "draw", "interp": interp, "vertices": [vertex(p[0], p[1], colour or p[2]) for t in triangles for p in t]}
+def draw(triangles, colour=None, interp="flat", z=None):
+    """Triangles in pixels, in one colour and at one depth, or with a colour as the third part of each corner and a depth as the fourth."""
+    corners = [(p[0], p[1], colour or p[2], p[3] if len(p) > 3 else z) for t in triangles for p in t]
+    return {"kind": "draw", "interp": interp, "vertices": [vertex(*corner) for corner in corners]}
 
 
-def quad(left, top, right, bottom, upper, lower=None, interp="flat"):
+def quad(left, top, right, bottom, upper, lower=None, interp="flat", z=None):
     lower = lower or upper
     a, b, c, d = (left, top, upper), (right, top, upper), (right, bottom, lower), (left, bottom, lower)
-    return draw([[a, b, d], [b, c, d]], interp=interp)
+    return draw([[a, b, d], [b, c, d]], interp=interp, z=z)
 
 
-def fan(x, y, radius, corners, centre, rim):
-    """A disc as triangles round its centre, by indices; rim is a colour for each corner in turn."""
+def fan(x, y, radius, corners, centre, rim, z=None, z_rim=None):
+    """A disc as triangles round its centre, by indices; rim is a colour for each corner in turn. With z_rim it is a cone in depth."""
     around = [(x + radius * math.cos(2 * math.pi * i / corners), y + radius * math.sin(2 * math.pi * i / corners)) for i in range(corners)]
-    vertices = [vertex(x, y, centre)] + [vertex(px, py, rim[i % len(rim)]) for i, (px, py) in enumerate(around)]
+    vertices = [vertex(x, y, centre, z)] + [vertex(px, py, rim[i % len(rim)], z if z_rim is None else z_rim) for i, (px, py) in enumerate(around)]
     return {"kind": "draw", "interp": "linear", "vertices": vertices,
             "indices": [k for i in range(corners) for k in (0, 1 + i, 1 + (i + 1) % corners)]}
 
@@ -55,12 +58,20 @@ def clear(*colour):
     return {"kind": "clear", "color": list(colour)}
 
 
+def depth(enable, write, func):
+    return {"kind": "depth", "enable": bool(enable), "write": bool(write), "func": func}
+
+
+def depth_clear(value):
+    return {"kind": "depth_clear", "depth": value}
+
+
 def marker(name):
     return {"kind": "marker", "name": name}
 
 
-def capture(name, width, height, events):
-    head = '{"format":"framedbg","version":1,"width":%d,"height":%d,"events":[' % (width, height)
+def capture(name, width, height, events, version=1):
+    head = '{"format":"framedbg","version":%d,"width":%d,"height":%d,"events":[' % (version, width, height)
     body = ",\n".join(json.dumps(e, separators=(",", ":")) for e in events)
     (EXAMPLES / f"{name}.json").write_text(head + ("\n" + body + "\n" if len(events) > 1 else body) + "]}\n")
 
@@ -88,6 +99,7 @@ def small_captures():
     indexed["vertices"].append(vertex(2, 2, red))
     indexed["indices"] = [0, 1, 2, 1, 3, 2]
     capture("indexed", 2, 2, [indexed])
+    capture("widest_target", 16384, 1, [draw([[(0, 0), (16384, 0), (0, 16384)]], (7, 7, 7, 7))])
 
 
 def small_sessions():
@@ -102,7 +114,78 @@ def small_sessions():
     session("across_two_tiles", "across_two_tiles", "step", "pixel 32 0", "show")
     session("culled_then_scissored", "culled_then_scissored", "goto 5", "history 0 0", "off 5", "history 0 0")
     session("linear_red", "linear_red", "goto 1", "pixel 0 0", "history 0 0")
+    session("widest_target", "widest_target", "goto 1", "pixel 16382 0", "pixel 16383 0", "history 16382 0", "history 16383 0", "pixel 16384 0")
     session("indexed", "indexed", "goto 1", "pixel 0 0", "pixel 1 0", "pixel 0 1", "pixel 1 1", "events")
+
+
+def depth_captures():
+    """Captures of version 2: depth tested, hidden whatever the order, crossing, by each function, not written, not cleared."""
+    capture("row01_version_2", 1, 1, [clear(10, 20, 30, 40)], version=2)
+    farther = draw([TRIANGLE], (2, 2, 2, 2), z=2000)
+    capture("depth_test", 1, 1, [depth(1, 1, "LESS"), draw([TRIANGLE], (1, 1, 1, 1), z=1000), farther, depth_clear(65535), farther], version=2)
+    hill = fan(11, 13, 11, 7, (250, 230, 90, 255), [(120, 60, 10, 255), (160, 90, 20, 255)], z=42000, z_rim=50000)
+    tower = fan(20, 11, 9, 5, (240, 240, 255, 255), [(20, 60, 160, 255)], z=9000, z_rim=30000)
+    capture("hidden_in_any_order", 32, 24, [clear(20, 30, 40, 255), depth(1, 1, "LESS"), hill, tower, hill, marker("the hill is drawn before and after the tower")], version=2)
+    red, blue = (220, 30, 20, 255), (30, 60, 230, 255)
+    capture("crossing", 16, 16, [depth(1, 1, "LESS_EQUAL"), draw([[(0, 0, red, 0), (16, 0, red, 60000), (0, 16, red, 20000)]]),
+                                 draw([[(0, 0, blue, 40000), (16, 0, blue, 1000), (0, 16, blue, 20000)]], interp="linear")], version=2)
+    black = (0, 0, 0, 255)
+    capture("depth_rounded", 1, 1, [depth(1, 1, "ALWAYS"), draw([[(0, 0, black, 0), (2, 0, black, 0), (0, 2, black, 65535)]])], version=2)
+    rows = [depth_clear(1000)]
+    for row, func in enumerate(FUNCTIONS):
+        rows += [depth(1, 1, func)] + [quad(column, row, column + 1, row + 1, (10 * row, column, 7, 255), z=999 + column) for column in range(3)]
+    rows += [depth(0, 1, "NEVER"), quad(0, 8, 3, 9, (80, 9, 9, 255), z=999)]
+    capture("each_depth_function", 3, 9, rows, version=2)
+    glass = (200, 200, 255, 128)
+    capture("writes_off", 4, 4, [depth(1, 1, "LESS"), quad(0, 0, 4, 4, (90, 60, 30, 255), z=30000), blend(1, ["SRC_ALPHA", "INV_SRC_ALPHA", "ADD"], REPLACE, 15),
+                                 depth(1, 0, "LESS"), quad(0, 0, 2, 4, glass, z=10000), quad(0, 0, 4, 2, glass, z=20000), quad(0, 0, 4, 4, glass, z=40000)], version=2)
+    capture("depth_left_alone", 2, 2, [depth(1, 1, "LESS_EQUAL"), quad(0, 0, 2, 2, (1, 1, 1, 1), z=500), clear(5, 6, 7, 8), blend(0, REPLACE, REPLACE, 0),
+                                       quad(0, 0, 2, 2, (2, 2, 2, 2), z=400), blend(0, REPLACE, REPLACE, 15), raster("back", 0, 1), scissor(0, 0, 1, 2),
+                                       quad(0, 0, 2, 2, (3, 3, 3, 3), z=300), raster("front", 0, 0), quad(0, 0, 2, 2, (4, 4, 4, 4), z=200),
+                                       depth(0, 1, "LESS"), raster("none", 0, 0), quad(0, 0, 2, 1, (6, 6, 6, 6), z=100), depth_clear(600), depth_clear(0)], version=2)
+
+
+def depth_sessions():
+    session("row01_version_2", "row01_version_2", "step", "show", "pixel 0 0", "state", "quit")
+    session("depth_test", "depth_test", "goto 3", "pixel 0 0", "goto 5", "pixel 0 0", "goto 3", "pixel 0 0", "off 2", "pixel 0 0", "on 2", "goto 5", "history 0 0",
+            "state", "events")
+    session("depth_clear_switched_off", "depth_test", "goto 5", "off 4", "pixel 0 0", "history 0 0", "back", "pixel 0 0", "back", "back", "back", "pixel 0 0", "on 4",
+            "goto 4", "pixel 0 0", "step", "pixel 0 0", "events")
+    session("hidden_in_any_order", "hidden_in_any_order", "goto 6", "off 5", "show", "on 5", "off 3", "show", "history 16 12", "on 3", "history 16 12", "quit")
+    session("crossing", "crossing", "goto 3", "show", "pixel 2 2", "pixel 10 2", "history 2 5", "history 3 5", "history 4 5", "history 5 5", "back", "pixel 4 5", "pixel 5 5")
+    session("depth_rounded", "depth_rounded", "goto 2", "pixel 0 0")
+    everywhere = [f"pixel {column} {row}" for row in range(9) for column in range(3)]
+    session("each_depth_function", "each_depth_function", "goto 100", "goto 35", *everywhere, "show", "history 1 4", "events", "goto 30", "state", "back", "pixel 0 7")
+    session("writes_off", "writes_off", "goto 7", "show", "history 0 0", "history 3 0", "history 3 3", "off 4", "history 0 0", "show", "state")
+    session("depth_left_alone", "depth_left_alone", "goto 15", *[f"history {x} {y}" for y in (0, 1) for x in (0, 1)], "off 1", "history 0 0", "goto 14", "pixel 1 1",
+            "on 1", "pixel 1 1", "off 14", "pixel 1 0")
+
+
+def crowd():
+    """Frames upon frames on a target of 64 tiles: enough to draw for a crew of 64 workers to start them all."""
+    events = [marker("a crowd of discs, tested by depth")]
+    for turn in range(12):
+        events += [clear(8 * turn, 20, 40, 255), depth_clear(65535 - 500 * turn), clear(20, 40, 8 * turn, 255), depth(1, turn % 5 != 4, ("LESS", "LESS_EQUAL", "NOT_EQUAL")[turn % 3])]
+        for i in range(3):
+            x, y = 128 + 40 * math.cos(turn + 1.6 * i), 128 + 40 * math.sin(turn + 1.6 * i)
+            rim = [(50 * i, 20 * turn, 255 - 20 * turn, 255), (255 - 60 * i, 90, 20 * turn, 160)]
+            events.append(fan(x, y, 118, 4, (255, 250, 200, 255), rim, z=8000 + 9000 * i, z_rim=60000 - 6000 * i - 900 * turn))
+            if i == 1:
+                events.append(blend(turn % 2, ["SRC_ALPHA", "INV_SRC_ALPHA", "ADD"], SUM, 15))
+    capture("crowd", 256, 256, events, version=2)
+    last = len(events)
+    session("crowd", "crowd", f"goto {last}", "pixel 128 128", "pixel 40 200", "history 100 140", "show", "back", "step", f"goto {last - 20}", "pixel 128 128",
+            "pixel 255 255", f"goto {last}", f"off {last - 5}", "pixel 3 3", "pixel 128 128", f"on {last - 5}", "pixel 3 3", "goto 0", "goto 20", "off 3", "pixel 128 128",
+            "on 3", "pixel 40 200", "off 2", "goto 4", "pixel 200 20", f"goto {last - 1}", "history 30 128")
+
+
+def hides_in_any_order():
+    """The two images of the session hidden_in_any_order are one: the order of drawing makes no difference."""
+    replies = (EXAMPLES / "hidden_in_any_order.expected").read_bytes()
+    size = 24 * 32 * 4
+    first = replies.index(b"ENDHDR\n") + 7
+    second = replies.index(b"ENDHDR\n", first) + 7
+    assert replies[first:first + size] == replies[second:second + size]
 
 
 def house():
@@ -132,12 +215,17 @@ def gallery():
 def main():
     small_captures()
     small_sessions()
+    depth_captures()
+    depth_sessions()
+    crowd()
     house()
     gallery()
     (EXAMPLES / "sessions.txt").write_text("".join(f"{name} {of}\n" for name, of in sessions.items()))
+    pathlib.Path("crates/worked_sessions/stdout").write_text("".join(f"{name}: as expected\n" for name in sessions))
     for name, of in sessions.items():
         with open(EXAMPLES / f"{name}.session", "rb") as lines, open(EXAMPLES / f"{name}.expected", "wb") as expected:
             subprocess.run([sys.executable, "tools/reference.py", EXAMPLES / f"{of}.json"], stdin=lines, stdout=expected, check=True)
+    hides_in_any_order()
 
 
 main()

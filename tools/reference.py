@@ -2,10 +2,16 @@
 """reference.py CAPTURE < SESSION: what framedbg answers, worked out a second time and independently.
 
 A slow and plain replay, pixel by pixel, straight from docs/DEFINITIONS.md and docs/FORMATS.md: it shares no code and no
-method with the program (no row is cut by division, no image is kept, every colour is made anew from a fresh target).
+method with the program (no row is cut by division, no image is kept, every pixel is made anew from a fresh target).
 Its outputs stand in examples/*.expected, and the gate compares what the program writes with them.
+
+Other tools import it: fault says why a capture is refused, Frame holds one, replay gives a pixel and its history, reply
+answers one line of a session.
 """
+import functools
 import json
+import math
+import re
 import sys
 from fractions import Fraction
 
@@ -13,9 +19,143 @@ FACTORS = ["ZERO", "ONE", "SRC_COLOR", "INV_SRC_COLOR", "SRC_ALPHA", "INV_SRC_AL
            "DEST_ALPHA", "INV_DEST_ALPHA", "DEST_COLOR", "INV_DEST_COLOR", "BLEND_FACTOR", "INV_BLEND_FACTOR"]
 DEFAULTS = {
     "raster": ("back", 0, 0), "scissor": (0, 0, 0, 0), "factor": (255, 255, 255, 255),
-    "blend": (0, ("ONE", "ZERO", "ADD"), ("ONE", "ZERO", "ADD"), 15),
+    "blend": (0, ("ONE", "ZERO", "ADD"), ("ONE", "ZERO", "ADD"), 15), "depth": (0, 1, "LESS"),
+}
+FRESH = ((0, 0, 0, 0), 65535)  # a pixel before the first event: its colour and its depth
+PASSES = {
+    "NEVER": lambda source, stored: False, "LESS": lambda source, stored: source < stored,
+    "EQUAL": lambda source, stored: source == stored, "LESS_EQUAL": lambda source, stored: source <= stored,
+    "GREATER": lambda source, stored: source > stored, "NOT_EQUAL": lambda source, stored: source != stored,
+    "GREATER_EQUAL": lambda source, stored: source >= stored, "ALWAYS": lambda source, stored: True,
 }
 REFUSALS = ["", "at end", "at start", "no such position", "no such event", "already so", "no such pixel", "memory"]
+
+
+FAULTS = ["", "too long", "not json", "not a capture", "version", "size", "too many events", "unknown event", "bad field"]
+OPERATIONS = ["ADD", "SUBTRACT", "REV_SUBTRACT", "MIN", "MAX"]
+
+
+def no_json(*_):
+    raise ValueError
+
+
+def number_of(text):
+    """A number of JSON: whole where it has neither point nor exponent, and none at all where no double holds its size."""
+    if math.isinf(float(text)):
+        raise ValueError
+    return int(text) if text.lstrip("-").isdigit() and len(text) < 25 else float(text)
+
+
+def unpaired(text):
+    return any(0xD800 <= ord(character) < 0xE000 for character in text)
+
+
+def check_texts(value):
+    """Half a surrogate pair is no text."""
+    if isinstance(value, str) and unpaired(value):
+        raise ValueError
+    for part in value if isinstance(value, list) else []:
+        check_texts(part)
+    return value
+
+
+def object_of(members):
+    for name, value in members:
+        check_texts(name)
+        check_texts(value)
+    return dict(members)
+
+
+def nesting(text):
+    """How deep the arrays and objects of a JSON text nest."""
+    depth = deepest = 0
+    for bracket in re.findall(r'[\[{\]}]', re.sub(r'"(?:[^"\\]|\\.)*"', "", text)):
+        depth += 1 if bracket in "[{" else -1
+        deepest = max(deepest, depth)
+    return deepest
+
+
+def json_of(data):
+    text = data.decode("utf-8")
+    value = json.loads(text, parse_constant=no_json, parse_int=number_of, parse_float=number_of, object_pairs_hook=object_of)
+    return value if nesting(text) <= 127 else no_json()
+
+
+def whole(value, least, most):
+    return type(value) is int and least <= value <= most
+
+
+def is_color(value):
+    return isinstance(value, list) and len(value) == 4 and all(whole(n, 0, 255) for n in value)
+
+
+def is_part(value, allowed):
+    return isinstance(value, list) and len(value) == 3 and value[0] in allowed and value[1] in allowed and value[2] in OPERATIONS
+
+
+def is_vertex(value, version):
+    return (isinstance(value, dict) and all(whole(value.get(name), -2**30, 2**30) for name in "xy") and is_color(value.get("color"))
+            and (version == 1 or whole(value.get("z"), 0, 65535)))
+
+
+def is_draw(e, version):
+    vertices, indices = e.get("vertices"), e.get("indices", [])
+    return (e.get("interp") in ("flat", "linear") and all(isinstance(list_, list) and len(list_) <= 196608 for list_ in (vertices, indices))
+            and all(is_vertex(v, version) for v in vertices) and all(whole(i, 0, len(vertices) - 1) for i in indices))
+
+
+def truths(e, *names):
+    return all(isinstance(e.get(name), bool) for name in names)
+
+
+def is_label(name):
+    return isinstance(name, str) and len(name.encode()) <= 64 and not any(character < " " or character == "\x7f" for character in name)
+
+
+KINDS = {
+    "clear": lambda e, version: is_color(e.get("color")),
+    "raster": lambda e, version: e.get("cull") in ("none", "front", "back") and truths(e, "front_ccw", "scissor"),
+    "scissor": lambda e, version: isinstance(e.get("rect"), list) and len(e["rect"]) == 4 and all(whole(n, -2**31, 2**31 - 1) for n in e["rect"]),
+    "blend": lambda e, version: (truths(e, "enable") and is_part(e.get("rgb"), FACTORS) and whole(e.get("mask"), 0, 15)
+                                 and is_part(e.get("alpha"), [f for f in FACTORS if f[-6:] != "_COLOR"])),
+    "factor": lambda e, version: is_color(e.get("color")),
+    "draw": is_draw,
+    "marker": lambda e, version: is_label(e.get("name")),
+    "depth": lambda e, version: truths(e, "enable", "write") and e.get("func") in list(PASSES),
+    "depth_clear": lambda e, version: whole(e.get("depth"), 0, 65535),
+}
+SINCE_VERSION_2 = ("depth", "depth_clear")
+
+
+def event_fault(e, version):
+    if not isinstance(e, dict) or not isinstance(e.get("kind"), str):
+        return 8
+    if e["kind"] not in KINDS or version == 1 and e["kind"] in SINCE_VERSION_2:
+        return 7
+    return None if KINDS[e["kind"]](e, version) else 8
+
+
+def fault(data):
+    """Why bytes are refused as a capture: the number of the fault, its name, and the event's number where it has one. None: they are one."""
+    if len(data) > 67108864:
+        return 1, FAULTS[1]
+    try:
+        capture = json_of(data)
+    except (ValueError, RecursionError):
+        return 2, FAULTS[2]
+    if not isinstance(capture, dict) or capture.get("format") != "framedbg" or not isinstance(capture.get("events"), list):
+        return 3, FAULTS[3]
+    if not whole(capture.get("version"), 1, 2):
+        return 4, FAULTS[4]
+    if not all(whole(capture.get(name), 1, 16384) for name in ("width", "height")):
+        return 5, FAULTS[5]
+    if len(capture["events"]) > 1000000:
+        return 6, FAULTS[6]
+    for number, e in enumerate(capture["events"], 1):
+        found = event_fault(e, capture["version"])
+        if found:
+            return found, FAULTS[found], number
+    return None
 
 
 def nearest_even(value):
@@ -32,9 +172,10 @@ def centre(x, y):
 
 
 def covers(t, x, y):
-    if cross(*t) == 0:
-        return False
     p = centre(x, y)
+    (ax, ay), (bx, by), (cx, cy) = t
+    if not (min(ax, bx, cx) <= p[0] <= max(ax, bx, cx) and min(ay, by, cy) <= p[1] <= max(ay, by, cy)) or cross(*t) == 0:
+        return False
     for i in range(3):
         u, v, c = t[i], t[(i + 1) % 3], t[(i + 2) % 3]
         side, inside = cross(u, v, p), cross(u, v, c)
@@ -50,7 +191,7 @@ def covers(t, x, y):
     return True
 
 
-def verdict(t, state, x, y):
+def verdict(t, depths, state, stored, x, y):
     if not covers(t, x, y):
         return "missed"
     cull, ccw, scissor = state["raster"]
@@ -61,19 +202,32 @@ def verdict(t, state, x, y):
     left, top, right, bottom = state["scissor"]
     if scissor and not (left <= x < right and top <= y < bottom):
         return "scissored"
+    enable, _, func = state["depth"]
+    if enable and not PASSES[func](depth_of(t, depths, x, y), stored):
+        return "depthfailed"
     return "drawn"
+
+
+def nearest_mean(t, values, x, y):
+    """The whole number nearest to the mean of three corners' values, weighted by the areas opposite to them; the larger on a tie."""
+    p = centre(x, y)
+    weights = [abs(cross(t[(i + 1) % 3], t[(i + 2) % 3], p)) for i in range(3)]
+    whole, rest = divmod(sum(w * v for w, v in zip(weights, values)), abs(cross(*t)))
+    return whole + (2 * rest >= abs(cross(*t)))
 
 
 def source(t, colours, interp, x, y):
     if interp == "flat":
         return tuple(colours[0])
-    p = centre(x, y)
-    area = abs(cross(*t))
-    weights = [abs(cross(t[(i + 1) % 3], t[(i + 2) % 3], p)) for i in range(3)]
-    mean = [Fraction(sum(w * c[k] for w, c in zip(weights, colours)), area) for k in range(4)]
-    return tuple(int(m + Fraction(1, 2)) for m in mean)  # nearest, the larger on a tie
+    return tuple(nearest_mean(t, [c[k] for c in colours], x, y) for k in range(4))
 
 
+def depth_of(t, depths, x, y):
+    """A fragment's depth, in 1/65535: linear, whatever the draw's colours are."""
+    return nearest_mean(t, depths, x, y)
+
+
+@functools.lru_cache(maxsize=None)
 def unorm(value):
     """The byte nearest to a value in 1/65025."""
     value = min(max(value, 0), 65025)
@@ -113,47 +267,52 @@ def blend(state, src, dst):
 
 class Frame:
     def __init__(self, capture):
-        self.width, self.height = capture["width"], capture["height"]
+        self.version, self.width, self.height = capture["version"], capture["width"], capture["height"]
         self.events = [self.event(e) for e in capture["events"]]
         self.on = [True] * len(self.events)
         self.position = 0
 
-    @staticmethod
-    def event(e):
+    def event(self, e):
         kind = e["kind"]
         if kind == "draw":
-            corners = [((nearest_even(v["x"]), nearest_even(v["y"])), tuple(v["color"])) for v in e["vertices"]]
+            corners = [((nearest_even(v["x"]), nearest_even(v["y"])), tuple(v["color"]), v["z"] if self.version == 2 else 0) for v in e["vertices"]]
             named = [corners[i] for i in e["indices"]] if "indices" in e else corners
             triangles = [named[i:i + 3] for i in range(0, len(named) - 2, 3)]
-            return kind, ([([p for p, _ in t], [c for _, c in t]) for t in triangles], e["interp"])
+            return kind, ([tuple(zip(*t)) for t in triangles], e["interp"])
         return kind, {
             "clear": lambda: tuple(e["color"]), "factor": lambda: tuple(e["color"]), "marker": lambda: e["name"],
             "raster": lambda: (e["cull"], int(e["front_ccw"]), int(e["scissor"])), "scissor": lambda: tuple(e["rect"]),
             "blend": lambda: (int(e["enable"]), tuple(e["rgb"]), tuple(e["alpha"]), e["mask"]),
+            "depth": lambda: (int(e["enable"]), int(e["write"]), e["func"]), "depth_clear": lambda: e["depth"],
         }[kind]()
 
     def replay(self, position, x, y):
-        """The pixel's colour at a position, and its history."""
-        state, colour, history = dict(DEFAULTS), (0, 0, 0, 0), []
+        """The pixel's colour and depth at a position, and its history: in each entry the source, what was there, what came out, and the three depths."""
+        state, (colour, depth), history = dict(DEFAULTS), FRESH, []
         for number, (kind, what) in enumerate(self.events[:position], 1):
             if not self.on[number - 1]:
                 continue
             if kind == "clear":
-                history.append((number, "-", "drawn", what, colour, what))
+                history.append((number, "-", "drawn", what, colour, what, 0, depth, depth))
                 colour = what
+            elif kind == "depth_clear":
+                history.append((number, "-", "drawn", (0, 0, 0, 0), colour, colour, what, depth, what))
+                depth = what
             elif kind == "draw":
                 triangles, interp = what
-                for i, (t, colours) in enumerate(triangles):
-                    v = verdict(t, state, x, y)
+                for i, (t, colours, depths) in enumerate(triangles):
+                    v = verdict(t, depths, state, depth, x, y)
                     if v == "missed":
                         continue
-                    src = source(t, colours, interp, x, y)
+                    src, src_depth = source(t, colours, interp, x, y), depth_of(t, depths, x, y)
+                    enable, write, _ = state["depth"]
                     after = blend(state, src, colour) if v == "drawn" else colour
-                    history.append((number, i, v, src, colour, after))
-                    colour = after
+                    depth_after = src_depth if v == "drawn" and enable and write else depth
+                    history.append((number, i, v, src, colour, after, src_depth, depth, depth_after))
+                    colour, depth = after, depth_after
             elif kind != "marker":
                 state[kind] = what
-        return colour, history
+        return (colour, depth), history
 
     def state(self):
         state = dict(DEFAULTS)
@@ -167,7 +326,7 @@ class Frame:
 
     def pam(self):
         header = f"P7\nWIDTH {self.width}\nHEIGHT {self.height}\nDEPTH 4\nMAXVAL 255\nTUPLTYPE RGB_ALPHA\nENDHDR\n".encode()
-        return header + b"".join(bytes(self.replay(self.position, x, y)[0]) for y in range(self.height) for x in range(self.width))
+        return header + b"".join(bytes(self.replay(self.position, x, y)[0][0]) for y in range(self.height) for x in range(self.width))
 
 
 def words(*parts):
@@ -214,16 +373,18 @@ def answer(frame, name, arguments):
     if name in ("pixel", "history"):
         if not frame.inside(*arguments):
             return refused(6)
-        colour, history = frame.replay(k, *arguments)
+        (colour, depth), history = frame.replay(k, *arguments)
         if name == "pixel":
-            return (words("pixel", colour) + "\n").encode()
+            return (words("pixel", colour, depth if frame.version == 2 else ()) + "\n").encode()
+        if frame.version == 1:
+            history = [entry[:6] for entry in history]
         return "".join(words(*line) + "\n" for line in [("history", len(history))] + history).encode()
     if name == "state":
         s = frame.state()
         cull, ccw, scissor = s["raster"]
         enable, rgb, alpha, mask = s["blend"]
         return (words("state cull", cull, "ccw", ccw, "scissor", scissor, "rect", s["scissor"], "blend", enable, rgb, alpha,
-                      "mask", mask, "factor", s["factor"]) + "\n").encode()
+                      "mask", mask, "factor", s["factor"], ("depth",) + s["depth"] if frame.version == 2 else ()) + "\n").encode()
     if name == "events":
         lines = [event_line(i, on, *e) for i, (e, on) in enumerate(zip(frame.events, frame.on), 1)]
         return "".join(line + "\n" for line in [f"events {n} at {k}"] + lines).encode()
@@ -250,8 +411,13 @@ def reply(frame, line):
 
 
 def main():
-    with open(sys.argv[1], encoding="utf-8") as f:
-        frame = Frame(json.load(f))
+    with open(sys.argv[1], "rb") as f:
+        data = f.read()
+    found = fault(data)
+    if found:
+        print("framedbg: capture refused", *found, file=sys.stderr)
+        sys.exit(2)
+    frame = Frame(json_of(data))
     lines = sys.stdin.buffer.read().split(b"\n")
     for line in lines if lines[-1] else lines[:-1]:
         text = reply(frame, line)
@@ -260,4 +426,5 @@ def main():
             break
 
 
-main()
+if __name__ == "__main__":
+    main()

@@ -1,0 +1,10 @@
+# Completions of framedbg for fish.
+complete -c framedbg -n __fish_use_subcommand -f -a run -d 'Replays a capture'
+complete -c framedbg -n __fish_use_subcommand -f -a image -d 'Writes the image at a position'
+complete -c framedbg -n __fish_use_subcommand -f -a events -d 'Lists the events of a capture'
+complete -c framedbg -n __fish_use_subcommand -f -a help -d 'Print help'
+complete -c framedbg -n __fish_use_subcommand -l version -d 'Print version'
+complete -c framedbg -l help -d 'Print help'
+complete -c framedbg -n '__fish_seen_subcommand_from run image' -x -l workers -a '1 2 4 8 16 32 64' -d 'The number of threads that draw, from 1 to 64'
+complete -c framedbg -n '__fish_seen_subcommand_from image' -x -l at -d 'The position, from 0 to the number of events'
+complete -c framedbg -n '__fish_seen_subcommand_from help' -f -a 'run image events'

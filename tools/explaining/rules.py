@@ -1,0 +1,214 @@
+"""What framedbg wants of a capture, and the first member that isn't so, in the order in which framedbg looks."""
+import difflib
+
+from .json_text import Other
+
+MOST_BYTES = 67_108_864
+MOST_EVENTS = 1_000_000
+MOST_SIDE = 16_384
+MOST_CORNERS = 196_608        # vertices of a draw, and indices
+MOST_NAME = 64                # bytes of a marker's name
+MOST_POSITION = 1 << 30       # in 1/65536 pixel, to both sides
+FAULTS = {1: "too long", 2: "not json", 3: "not a capture", 4: "version", 5: "size", 6: "too many events", 7: "unknown event", 8: "bad field"}
+FACTORS = ("ZERO", "ONE", "SRC_COLOR", "INV_SRC_COLOR", "SRC_ALPHA", "INV_SRC_ALPHA", "DEST_ALPHA", "INV_DEST_ALPHA", "DEST_COLOR",
+           "INV_DEST_COLOR", "BLEND_FACTOR", "INV_BLEND_FACTOR")
+ALPHA_FACTORS = tuple(name for name in FACTORS if not name.endswith("_COLOR"))
+OPERATIONS = ("ADD", "SUBTRACT", "REV_SUBTRACT", "MIN", "MAX")
+FUNCTIONS = ("NEVER", "LESS", "EQUAL", "LESS_EQUAL", "GREATER", "NOT_EQUAL", "GREATER_EQUAL", "ALWAYS")
+
+
+class Wrong(Exception):
+    """A fault of framedbg's list, at a path, and why."""
+
+    def __init__(self, fault, path, why):
+        super().__init__(why)
+        self.fault, self.path = fault, path
+
+    @property
+    def event(self):
+        """The number of the event, from 1, or None."""
+        return self.path[1] + 1 if self.fault >= 7 else None
+
+
+def check(capture):
+    """Raises Wrong where the capture is refused."""
+    if not isinstance(capture, dict):
+        raise Wrong(3, (), f"a capture is an object; this is {told(capture)}")
+    if capture.get("format") != "framedbg":
+        raise missing_or(3, capture, (), "format", 'the text "framedbg" is wanted')
+    if not isinstance(capture.get("events"), list):
+        raise missing_or(3, capture, (), "events", "an array is wanted")
+    if not is_whole(capture.get("version"), 1, 2):
+        raise missing_or(4, capture, (), "version", "1 or 2 is wanted")
+    for name in ("width", "height"):
+        if not is_whole(capture.get(name), 1, MOST_SIDE):
+            raise missing_or(5, capture, (), name, f"a whole number from 1 to {MOST_SIDE} is wanted")
+    events = capture["events"]
+    if len(events) > MOST_EVENTS:
+        raise Wrong(6, ("events",), f"{len(events)} events are more than {MOST_EVENTS}")
+    for number, event in enumerate(events):
+        check_event(event, capture["version"], ("events", number))
+
+
+def check_event(event, version, path):
+    if not isinstance(event, dict):
+        raise Wrong(8, path, f"an event is an object; this is {told(event)}")
+    kind = event.get("kind")
+    if not isinstance(kind, str):
+        raise missing_or(8, event, path, "kind", "a text is wanted")
+    kinds = KINDS if version == 2 else {name: rule for name, rule in KINDS.items() if name not in ONLY_IN_TWO}
+    if kind not in kinds:
+        why = f'"{kind}" comes with version 2 only' if kind in ONLY_IN_TWO else f'there is no kind "{kind}"{near(kind, kinds)}'
+        raise Wrong(7, (*path, "kind"), why)
+    kinds[kind](event, version, path)
+
+
+# ---- The kinds of events ------------------------------------------------------------------------------------
+
+def clear(event, _, path):
+    colour(event, path)
+
+
+def raster(event, _, path):
+    one_of(event, path, "cull", ("none", "front", "back"))
+    flag(event, path, "front_ccw")
+    flag(event, path, "scissor")
+
+
+def scissor(event, _, path):
+    whole_numbers(event, path, "rect", 4, -(1 << 31), (1 << 31) - 1)
+
+
+def blend(event, _, path):
+    flag(event, path, "enable")
+    for name in ("rgb", "alpha"):
+        blend_part(array(event, path, name, 3), (*path, name))
+    whole(event, path, "mask", 0, 15)
+    for i in (0, 1):
+        if event["alpha"][i] not in ALPHA_FACTORS:
+            raise Wrong(8, (*path, "alpha", i), f"{event['alpha'][i]} is a colour, and the alpha part has none")
+
+
+def blend_part(part, path):
+    for i, allowed in enumerate((FACTORS, FACTORS, OPERATIONS)):
+        if not isinstance(part[i], str) or part[i] not in allowed:
+            raise Wrong(8, (*path, i), f"{'a factor' if i < 2 else 'an operation'} is wanted, not {told(part[i])}{near(part[i], allowed)}")
+
+
+def draw(event, version, path):
+    one_of(event, path, "interp", ("flat", "linear"))
+    vertices = array(event, path, "vertices")
+    for number, corner in enumerate(vertices):
+        vertex(corner, version, (*path, "vertices", number))
+    indices = array(event, path, "indices") if "indices" in event else []
+    for number, index in enumerate(indices):
+        if not is_whole(index, 0, (1 << 32) - 1):
+            raise Wrong(8, (*path, "indices", number), f"a vertex' number is wanted, not {told(index)}")
+    for name, some in (("vertices", vertices), ("indices", indices)):
+        if len(some) > MOST_CORNERS:
+            raise Wrong(8, (*path, name), f"{len(some)} are more than {MOST_CORNERS}")
+    for number, index in enumerate(indices):
+        if index >= len(vertices):
+            raise Wrong(8, (*path, "indices", number), f"{index} names no vertex: the draw has {len(vertices)}, numbered from 0")
+
+
+def vertex(corner, version, path):
+    if not isinstance(corner, dict):
+        raise Wrong(8, path, f"a vertex is an object; this is {told(corner)}")
+    for name in ("x", "y"):
+        whole(corner, path, name, -MOST_POSITION, MOST_POSITION, " of 1/65536 pixel")
+    if version == 2:
+        whole(corner, path, "z", 0, 65535)
+    colour(corner, path)
+
+
+def marker(event, _, path):
+    name = event.get("name")
+    if not isinstance(name, str):
+        raise missing_or(8, event, path, "name", "a text is wanted")
+    if len(name.encode()) > MOST_NAME:
+        raise Wrong(8, (*path, "name"), f"the name's {len(name.encode())} bytes are more than {MOST_NAME}")
+    if any(ord(c) < 0x20 or ord(c) == 0x7f for c in name):
+        raise Wrong(8, (*path, "name"), "the name has a control character")
+
+
+def depth(event, _, path):
+    flag(event, path, "enable")
+    flag(event, path, "write")
+    one_of(event, path, "func", FUNCTIONS)
+
+
+def depth_clear(event, _, path):
+    whole(event, path, "depth", 0, 65535)
+
+
+ONLY_IN_TWO = ("depth", "depth_clear")
+KINDS = {"clear": clear, "raster": raster, "scissor": scissor, "blend": blend, "factor": clear, "draw": draw, "marker": marker,
+         "depth": depth, "depth_clear": depth_clear}
+
+
+# ---- Members ------------------------------------------------------------------------------------------------
+
+def is_whole(value, low, high):
+    return type(value) is int and low <= value <= high
+
+
+def whole(owner, path, name, low, high, unit=""):
+    if not is_whole(owner.get(name), low, high):
+        raise missing_or(8, owner, path, name, f"a whole number from {low} to {high}{unit} is wanted")
+
+
+def flag(owner, path, name):
+    if not isinstance(owner.get(name), bool):
+        raise missing_or(8, owner, path, name, "true or false is wanted")
+
+
+def one_of(owner, path, name, allowed):
+    value = owner.get(name)
+    if not isinstance(value, str) or value not in allowed:
+        raise missing_or(8, owner, path, name, f"one of {', '.join(allowed)} is wanted{near(value, allowed)}")
+
+
+def array(owner, path, name, length=None):
+    value = owner.get(name)
+    if not isinstance(value, list) or length not in (None, len(value)):
+        raise missing_or(8, owner, path, name, "an array is wanted" if length is None else f"an array of {length} is wanted")
+    return value
+
+
+def whole_numbers(owner, path, name, length, low, high):
+    for i, value in enumerate(array(owner, path, name, length)):
+        if not is_whole(value, low, high):
+            raise Wrong(8, (*path, name, i), f"a whole number from {low} to {high} is wanted, not {told(value)}")
+
+
+def colour(owner, path):
+    whole_numbers(owner, path, "color", 4, 0, 255)
+
+
+# ---- Words --------------------------------------------------------------------------------------------------
+
+def missing_or(fault, owner, path, name, wanted):
+    """A member that isn't there, or isn't as it should be."""
+    if name in owner:
+        return Wrong(fault, (*path, name), f"{wanted}, not {told(owner[name])}")
+    return Wrong(fault, path, f"the member {name} is missing: {wanted}{near(name, owner)}")
+
+
+def near(value, allowed):
+    found = difflib.get_close_matches(value.lower(), {name.lower(): name for name in allowed}, 1) if isinstance(value, str) else []
+    return f" ({next(name for name in allowed if name.lower() == found[0])}?)" if found else ""
+
+
+def told(value):
+    if value is None:
+        return "null"
+    if isinstance(value, bool):
+        return str(value).lower()
+    if isinstance(value, str):
+        return f'the text "{value if len(value) <= 24 else value[:20] + " .."}"'
+    if isinstance(value, list):
+        return f"an array of {len(value)}"
+    if isinstance(value, dict):
+        return "an object"
+    return repr(value) if isinstance(value, Other) else str(value)

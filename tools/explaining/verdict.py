@@ -1,0 +1,40 @@
+"""Whether framedbg accepts a capture, and why not, in words."""
+from . import json_text, rules
+
+
+def explained(data):
+    """Whether a capture of these bytes is accepted, framedbg's own word for it, and the explanation."""
+    if len(data) > rules.MOST_BYTES:
+        return False, "1 too long", f"{len(data)} bytes are more than {rules.MOST_BYTES}"
+    text = data.decode("utf-8", "replace")
+    try:
+        text = json_text.decoded(data)
+        capture = json_text.read(text)
+        rules.check(capture)
+    except json_text.Malformed as fault:
+        return False, "2 not json", f"{place(text, fault.at)}: {fault}"
+    except rules.Wrong as fault:
+        number = f" {fault.event}" if fault.event else ""
+        return False, f"{fault.fault} {rules.FAULTS[fault.fault]}{number}", f"{place(text, json_text.locate(text, fault.path))}: {named(capture, fault)}{fault}"
+    size = f"{capture['width']} by {capture['height']} pixels"
+    return True, "accepted", f"version {capture['version']}, {size}, {len(capture['events'])} events"
+
+
+def place(text, at):
+    return "line {}, column {}".format(*json_text.line_and_column(text, at))
+
+
+def named(capture, fault):
+    """The way to the member in words: event 5 (draw), vertex 3, color 0"""
+    words = []
+    path = list(fault.path)
+    if path[:1] == ["events"] and len(path) > 1:
+        event = capture["events"][path[1]]
+        kind = event.get("kind") if isinstance(event, dict) else None
+        words.append(f"event {path[1] + 1}" + (f" ({kind})" if isinstance(kind, str) and fault.fault == 8 else ""))
+        path = path[2:]
+    while path:
+        name = path.pop(0)
+        number = path.pop(0) if path and isinstance(path[0], int) else None
+        words.append(name if number is None else f"{ {'vertices': 'vertex', 'indices': 'index'}.get(name, name) } {number}")
+    return ", ".join(words) + ": " if words else ""

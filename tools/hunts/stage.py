@@ -1,0 +1,114 @@
+"""From meshes to events: one camera, one light, and the events of a capture."""
+import math
+
+PIXEL = 65536
+WIDTH, HEIGHT = 120, 90
+LIGHT = (-0.45, 0.75, 0.55)
+REPLACE, OVER, ADDED = ["ONE", "ZERO", "ADD"], ["SRC_ALPHA", "INV_SRC_ALPHA", "ADD"], ["SRC_ALPHA", "ONE", "ADD"]
+KEEP = ["ZERO", "ONE", "ADD"]
+NEAR, FAR = 3.0, 9.0           # of the depth, in the meshes' units from the eye
+
+
+def marker(name):
+    return {"kind": "marker", "name": name}
+
+
+def clear(*colour):
+    return {"kind": "clear", "color": [*colour, 255]}
+
+
+def blend(enable, rgb=REPLACE, alpha=KEEP, mask=15):
+    return {"kind": "blend", "enable": enable, "rgb": rgb, "alpha": alpha if enable else REPLACE, "mask": mask}
+
+
+def raster(cull="back", scissor=False):
+    return {"kind": "raster", "cull": cull, "front_ccw": False, "scissor": scissor}
+
+
+def scissor(*rect):
+    return {"kind": "scissor", "rect": list(rect)}
+
+
+def depth(enable, func, write=True):
+    return {"kind": "depth", "enable": enable, "write": write, "func": func}
+
+
+def vertex(x, y, colour, z=None):
+    return {"x": round(x * PIXEL), "y": round(y * PIXEL), **({} if z is None else {"z": z}), "color": list(colour) + [255] * (4 - len(colour))}
+
+
+def shape(corners, colour, interp="flat"):
+    """A flat figure as a fan round its first corner; colour is one, or one for each corner."""
+    colours = colour if isinstance(colour, list) else [colour] * len(corners)
+    vertices = [vertex(*corner, c) for corner, c in zip(corners, colours)]
+    return {"kind": "draw", "interp": interp, "vertices": vertices, "indices": [k for i in range(1, len(corners) - 1) for k in (0, i, i + 1)]}
+
+
+def band(top, bottom, upper, lower, left=0, right=WIDTH):
+    """A rectangle that shades from its upper colour to its lower one."""
+    return shape([(left, top), (right, top), (right, bottom), (left, bottom)], [upper, upper, lower, lower], "linear")
+
+
+def disc(x, y, radius, corners, centre, rim, tall=1.0):
+    """A disc, or an ellipse that is so many times as tall as it is wide, shaded from its centre to its rim."""
+    turns = [2 * math.pi * i / corners for i in range(corners)]
+    around = [(x + radius * math.cos(turn), y + tall * radius * math.sin(turn)) for turn in turns]
+    return shape([(x, y), *around, around[0]], [centre] + [rim] * (corners + 1), "linear")
+
+
+# ---- Bodies, seen from the front: x to the right, y up, z towards the eye ------------------------------------
+
+def seen(point, eye=6.0, scale=150.0, middle=(WIDTH / 2, HEIGHT / 2)):
+    x, y, z = point
+    return middle[0] + scale * x / (eye - z), middle[1] - scale * y / (eye - z)
+
+
+def depth_of(point, eye=6.0):
+    """As a projection has it: the nearer, the finer."""
+    far = (1 / NEAR - 1 / max(NEAR, min(FAR, eye - point[2]))) / (1 / NEAR - 1 / FAR)
+    return round(65535 * far)
+
+
+def normal(a, b, c):
+    u, v = [q - p for p, q in zip(a, b)], [q - p for p, q in zip(a, c)]
+    return (u[2] * v[1] - u[1] * v[2], u[0] * v[2] - u[2] * v[0], u[1] * v[0] - u[0] * v[1])
+
+
+def lit(colour, n, alpha=255):
+    length = math.hypot(*n) or 1
+    light = 0.35 + 0.75 * max(0.0, sum(a * b for a, b in zip(n, LIGHT)) / (length * math.hypot(*LIGHT)))
+    return [round(min(255, c * light)) for c in colour] + [alpha]
+
+
+def facing(mesh):
+    """The faces that look at the eye, farthest first."""
+    points, faces = mesh
+    flat = [seen(p) for p in points]
+    cross = lambda a, b, c: (b[0] - a[0]) * (c[1] - a[1]) - (b[1] - a[1]) * (c[0] - a[0])
+    kept = [face for face in faces if cross(*(flat[c] for c in face[0])) > 0.05]
+    return sorted(kept, key=lambda face: sum(points[c][2] for c in face[0]))
+
+
+def flat_body(mesh, alpha=255, deep=False):
+    """A draw with one colour for each face."""
+    points, vertices = mesh[0], []
+    for corners, colour in facing(mesh):
+        shade = lit(colour, normal(*(points[c] for c in corners)), alpha)
+        vertices += [vertex(*seen(points[c]), shade, depth_of(points[c]) if deep else None) for c in corners]
+    return {"kind": "draw", "interp": "flat", "vertices": vertices}
+
+
+def smooth_body(mesh, interp="linear", alpha=255, deep=False):
+    """A draw by indices, with a normal for each corner."""
+    points, faces = mesh
+    normals, colours = {}, {}
+    for corners, colour in faces:
+        n = normal(*(points[c] for c in corners))
+        for c in corners:
+            normals[c] = [a + b for a, b in zip(normals.get(c, (0, 0, 0)), n)]
+            colours.setdefault(c, colour)
+    kept = facing(mesh)
+    named = sorted({c for corners, _ in kept for c in corners})
+    place = {c: i for i, c in enumerate(named)}
+    vertices = [vertex(*seen(points[c]), lit(colours[c], normals[c], alpha), depth_of(points[c]) if deep else None) for c in named]
+    return {"kind": "draw", "interp": interp, "vertices": vertices, "indices": [place[c] for corners, _ in kept for c in corners]}

@@ -1,0 +1,150 @@
+"""The events that draw a model: a backdrop, and each part with its state; and the bugs that may be planted in one of them."""
+from dataclasses import dataclass
+
+from .camera import depth_of, lit, looked_at, normal
+from .model import Fault
+
+PIXEL = 65536                # captures give positions in 1/65536 pixel
+MOST_TRIANGLES = 65536       # of one draw
+LAYERS = 24
+REPLACE, KEEP = ["ONE", "ZERO", "ADD"], ["ZERO", "ONE", "ADD"]
+OFF = {"kind": "blend", "enable": False, "rgb": REPLACE, "alpha": REPLACE, "mask": 15}
+OVER = {**OFF, "enable": True, "rgb": ["SRC_ALPHA", "INV_SRC_ALPHA", "ADD"], "alpha": ["ONE", "INV_SRC_ALPHA", "ADD"]}
+ADDED = {**OFF, "enable": True, "rgb": ["ONE", "ONE", "ADD"], "alpha": KEEP}
+# What may be planted: in a part and those after it, or in the part alone
+BUGS = {
+    "blend": "the part is added to what is behind it, and that is never taken back",
+    "mask": "the part writes red alone, and so does all after it",
+    "scissor": "from the part on, half of the target is cut off",
+    "winding": "back faces are culled, and the part's corners run the wrong way round",
+    "order": "the part's triangles come from the nearest to the farthest",
+    "flat": "the part is shaded flat where the others are smooth, or the other way round",
+    "index": "the part's corners slip by one, from its middle on",
+    "depth": "the part's depth test is turned round (with --depth)",
+}
+
+
+@dataclass
+class Look:
+    size: tuple                 # of the target
+    view: tuple                 # degrees round the model and above it
+    by: str = "part"            # what is drawn from far to near: part, or depth
+    smooth: bool = False
+    depth: bool = False         # a capture of version 2, whose test hides what is behind
+    bug: str = ""
+    part: int = 0               # where the bug is, from 1
+
+
+def capture(model, look):
+    width, height = look.size
+    seen, placed = looked_at(model.points, width, height, *look.view)
+    events = [marker("backdrop"), {"kind": "clear", "color": [0, 0, 0, 255]}, backdrop(width, height, look.depth)]
+    events.append({"kind": "raster", "cull": "back" if look.bug == "winding" else "none", "front_ccw": False, "scissor": False})
+    if look.depth:
+        events.append(depth("LESS"))
+    blend, parts = OFF, parts_of(model.faces, placed, look.by)
+    if look.bug and not 1 <= look.part <= len(parts):
+        raise Fault(f"it has {len(parts)} parts, so a bug can't be planted in part {look.part}")
+    for number, (name, opaque, faces) in enumerate(parts, 1):
+        wrong = look.bug if number == look.part else ""
+        events.append(marker(name))
+        wanted = state_of(look, number, opaque)
+        if wanted != blend:
+            events.append(wanted)
+            blend = wanted
+        events += before(wrong, look) + list(draws(faces, seen, placed, look, wrong)) + after(wrong)
+    return {"format": "framedbg", "version": 2 if look.depth else 1, "width": width, "height": height, "events": events}
+
+
+def state_of(look, number, opaque):
+    """The blend state that a part is drawn with; a planted one stays."""
+    started = look.part and number >= look.part
+    if look.bug == "blend" and started:
+        return ADDED
+    state = OFF if opaque else OVER
+    return {**state, "mask": 1} if look.bug == "mask" and started else state
+
+
+def before(wrong, look):
+    if wrong == "scissor":
+        width, height = look.size
+        return [{"kind": "scissor", "rect": [0, 0, width // 2, height]}, {"kind": "raster", "cull": "none", "front_ccw": False, "scissor": True}]
+    return [depth("GREATER")] if wrong == "depth" else []
+
+
+def after(wrong):
+    return [depth("LESS")] if wrong == "depth" else []
+
+
+def depth(function):
+    return {"kind": "depth", "enable": True, "write": True, "func": function}
+
+
+def parts_of(faces, placed, by):
+    """The faces in parts (name, opaque, faces), farthest first, and those that aren't opaque last."""
+    distance = lambda face: -sum(placed[c][2] for c in face[0])
+    if by == "depth":
+        faces = sorted(faces, key=distance)
+        step = max(1, -(-len(faces) // LAYERS))
+        return [(f"layer {i // step + 1}", all(f[2][3] >= 1 for f in faces[i:i + step]), faces[i:i + step]) for i in range(0, len(faces), step)]
+    named = {}
+    for face in faces:
+        named.setdefault(face[1], []).append(face)
+    parts = [(name, all(f[2][3] >= 1 for f in some), sorted(some, key=distance)) for name, some in named.items()]
+    return sorted(parts, key=lambda part: (not part[1], sum(map(distance, part[2])) / len(part[2])))
+
+
+def draws(faces, seen, placed, look, wrong):
+    normals = corner_normals(faces, seen)
+    smooth = look.smooth != (wrong == "flat")
+    faces = faces[::-1] if wrong == "order" else faces
+    for at in range(0, len(faces), MOST_TRIANGLES):
+        vertices = []
+        for corners, _, colour in faces[at:at + MOST_TRIANGLES]:
+            n = normal(*(seen[c] for c in corners))
+            for c in in_turn(corners, placed, look, wrong):
+                vertices.append(vertex(*placed[c], lit(colour, normals[c] if look.smooth or wrong == "flat" else n), look.depth))
+        yield slipped(vertices, wrong) | {"interp": "linear" if smooth else "flat"}
+
+
+def in_turn(corners, placed, look, wrong):
+    """Where back faces are culled, as the model has its corners: counter-clockwise from outside, so turned here, where y grows down."""
+    if look.bug != "winding":
+        return corners
+    (ax, ay, _), (bx, by, _), (cx, cy, _) = (placed[c] for c in corners)
+    clockwise = (bx - ax) * (cy - ay) - (by - ay) * (cx - ax) > 0
+    return corners if clockwise != (wrong == "winding") else (corners[0], corners[2], corners[1])
+
+
+def slipped(vertices, wrong):
+    made = {"kind": "draw", "interp": "flat", "vertices": vertices}
+    if wrong == "index":
+        count = len(vertices)
+        made["indices"] = [i if i < count // 2 or i % 3 else (i + 4) % count for i in range(count)]
+    return made
+
+
+def corner_normals(faces, seen):
+    normals = {}
+    for corners, *_ in faces:
+        n = normal(*(seen[c] for c in corners))
+        for c in corners:
+            normals[c] = [a + b for a, b in zip(normals.get(c, (0, 0, 0)), n)]
+    return normals
+
+
+def vertex(x, y, distance, colour, deep):
+    return {"x": round(x * PIXEL), "y": round(y * PIXEL), **({"z": depth_of(distance)} if deep else {}), "color": colour}
+
+
+def marker(name):
+    name = "".join(c for c in name if ord(c) >= 32 and ord(c) != 127)
+    return {"kind": "marker", "name": name.encode()[:64].decode(errors="ignore")}
+
+
+def backdrop(width, height, deep):
+    far = {"z": 65535} if deep else {}
+    corner = lambda x, y, colour: {"x": x * PIXEL, "y": y * PIXEL, **far, "color": colour}
+    up, down = [236, 239, 244, 255], [150, 160, 178, 255]
+    a, b, c, d = corner(0, 0, up), corner(width, 0, up), corner(width, height, down), corner(0, height, down)
+    return {"kind": "draw", "interp": "linear", "vertices": [a, b, c, d], "indices": [0, 1, 3, 1, 2, 3]}

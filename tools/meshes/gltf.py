@@ -1,0 +1,160 @@
+"""glTF 2.0 in its binary form (.glb): triangles, base colours, node transforms."""
+import json
+import math
+import struct
+
+from .model import GREY, Fault, Model, number
+
+MAGIC, JSON_CHUNK, BINARY_CHUNK = 0x46546C67, 0x4E4F534A, 0x004E4942
+COMPONENTS = {5120: "b", 5121: "B", 5122: "h", 5123: "H", 5125: "I", 5126: "f"}
+WIDE = {"SCALAR": 1, "VEC2": 2, "VEC3": 3, "VEC4": 4, "MAT4": 16}
+TRIANGLES, STRIP, FAN = 4, 5, 6
+MOST_NODES = 100_000
+ONE = (1, 0, 0, 0, 0, 1, 0, 0, 0, 0, 1, 0, 0, 0, 0, 1)       # columns one after another, as glTF has them
+
+
+def read(path):
+    tree, binary = chunks(path.read_bytes())
+    try:
+        file = File(tree, binary)
+        model = Model()
+        for mesh, matrix in file.placed():
+            file.add_mesh(model, mesh, matrix)
+        return model
+    except (KeyError, IndexError, TypeError, AttributeError, ValueError, struct.error) as fault:
+        raise Fault(f"the JSON doesn't fit the buffer: {type(fault).__name__} {fault}") from None
+
+
+def chunks(data):
+    """The JSON and the binary chunk."""
+    if len(data) < 20 or struct.unpack_from("<I", data)[0] != MAGIC:
+        raise Fault("a .glb begins with glTF")
+    _, version, length = struct.unpack_from("<III", data)
+    if version != 2:
+        raise Fault(f"version {version}: only glTF 2.0 is read")
+    if length != len(data):
+        raise Fault(f"the file has {len(data)} bytes, and says {length}: it is cut short or grown")
+    found, at = {}, 12
+    while at + 8 <= length:
+        size, kind = struct.unpack_from("<II", data, at)
+        if at + 8 + size > length:
+            raise Fault("a chunk ends behind the file")
+        found.setdefault(kind, data[at + 8:at + 8 + size])
+        at += 8 + size
+    try:
+        tree = json.loads(found[JSON_CHUNK])
+    except (KeyError, ValueError, RecursionError):
+        raise Fault("the first chunk is no JSON") from None
+    if not isinstance(tree, dict):
+        raise Fault("the JSON is no object")
+    return tree, found.get(BINARY_CHUNK, b"")
+
+
+class File:
+    def __init__(self, tree, binary):
+        self.tree, self.binary = tree, binary
+        needed = tree.get("extensionsRequired", [])
+        if needed:
+            raise Fault(f"it needs the extension {needed[0]}")
+
+    def placed(self):
+        """The meshes of the scene with their matrices; of a file without scenes, the meshes as they are."""
+        scenes = self.tree.get("scenes")
+        if not scenes:
+            yield from ((mesh, ONE) for mesh in range(len(self.tree.get("meshes", []))))
+            return
+        waiting, seen = [(node, ONE) for node in scenes[self.tree.get("scene", 0)].get("nodes", [])], 0
+        while waiting:
+            index, above = waiting.pop(0)
+            seen += 1
+            if seen > MOST_NODES:
+                raise Fault("the nodes go round in a ring")
+            node = self.tree["nodes"][index]
+            matrix = times(above, matrix_of(node))
+            if "mesh" in node:
+                yield node["mesh"], matrix
+            waiting += [(child, matrix) for child in node.get("children", [])]
+
+    def add_mesh(self, model, index, matrix):
+        mesh = self.tree["meshes"][index]
+        for primitive in mesh["primitives"]:
+            mode = primitive.get("mode", TRIANGLES)
+            if mode not in (TRIANGLES, STRIP, FAN):
+                continue                                # points and lines aren't drawn
+            first = len(model.points)
+            model.points += [applied(matrix, point) for point in self.values(primitive["attributes"]["POSITION"], "VEC3")]
+            count = len(model.points) - first
+            order = [i for i, in self.values(primitive["indices"], "SCALAR")] if "indices" in primitive else list(range(count))
+            name, colour = self.material(primitive, mesh.get("name", f"mesh {index}"))
+            turned = determinant(matrix) < 0            # a mirror turns the winding
+            for a, b, c in triangles(order, mode):
+                if max(a, b, c) >= count:
+                    raise Fault(f"an index names point {max(a, b, c)} of {count}")
+                model.add_polygon([first + a, first + c, first + b] if turned else [first + a, first + b, first + c], name, colour)
+
+    def material(self, primitive, name):
+        if "material" not in primitive:
+            return name, GREY
+        material = self.tree["materials"][primitive["material"]]
+        base = material.get("pbrMetallicRoughness", {}).get("baseColorFactor", [1, 1, 1, 1])
+        red, green, blue, alpha = (number(channel) for channel in base)
+        opaque = material.get("alphaMode", "OPAQUE") == "OPAQUE"
+        return material.get("name", name), (*(encoded(c) for c in (red, green, blue)), 1.0 if opaque else alpha)
+
+    def values(self, index, kind):
+        """The rows of an accessor."""
+        accessor = self.tree["accessors"][index]
+        if accessor["type"] != kind or "sparse" in accessor:
+            raise Fault(f"accessor {index} is {'sparse' if 'sparse' in accessor else accessor['type']}, and a plain {kind} is wanted")
+        view = self.tree["bufferViews"][accessor["bufferView"]]
+        if self.tree["buffers"][view["buffer"]].get("uri") is not None:
+            raise Fault("its buffer is another file; only a .glb that has all is read")
+        row = struct.Struct("<" + str(WIDE[kind]) + COMPONENTS[accessor["componentType"]])
+        start, stride = view.get("byteOffset", 0) + accessor.get("byteOffset", 0), view.get("byteStride") or row.size
+        end = start + stride * (accessor["count"] - 1) + row.size
+        if accessor["count"] < 0 or start < 0 or (accessor["count"] and end > min(len(self.binary), view.get("byteOffset", 0) + view["byteLength"])):
+            raise Fault(f"accessor {index} reads behind the end of its buffer: the file is cut short")
+        rows = [row.unpack_from(self.binary, start + stride * i) for i in range(accessor["count"])]
+        return [tuple(map(number, some)) for some in rows] if kind != "SCALAR" else rows
+
+
+def triangles(order, mode):
+    if mode == TRIANGLES:
+        return (order[i:i + 3] for i in range(0, len(order) - 2, 3))
+    if mode == FAN:
+        return ((order[0], b, c) for b, c in zip(order[1:], order[2:]))
+    return ((order[i], order[i + 1 + i % 2], order[i + 2 - i % 2]) for i in range(len(order) - 2))
+
+
+def encoded(channel):
+    """A linear channel as sRGB has it: base colours are linear."""
+    channel = min(1.0, max(0.0, channel))
+    return 12.92 * channel if channel <= 0.0031308 else 1.055 * channel ** (1 / 2.4) - 0.055
+
+
+def matrix_of(node):
+    if "matrix" in node:
+        if len(node["matrix"]) != 16:
+            raise Fault("a matrix has 16 numbers")
+        return tuple(map(number, node["matrix"]))
+    x, y, z, w = map(number, node.get("rotation", (0, 0, 0, 1)))
+    a, b, c = map(number, node.get("scale", (1, 1, 1)))
+    t = tuple(map(number, node.get("translation", (0, 0, 0))))
+    length = math.sqrt(x * x + y * y + z * z + w * w) or 1
+    x, y, z, w = x / length, y / length, z / length, w / length
+    return (a * (1 - 2 * (y * y + z * z)), a * 2 * (x * y + z * w), a * 2 * (x * z - y * w), 0,
+            b * 2 * (x * y - z * w), b * (1 - 2 * (x * x + z * z)), b * 2 * (y * z + x * w), 0,
+            c * 2 * (x * z + y * w), c * 2 * (y * z - x * w), c * (1 - 2 * (x * x + y * y)), 0, *t, 1)
+
+
+def times(m, n):
+    return tuple(sum(m[row + 4 * k] * n[k + 4 * column] for k in range(4)) for column in range(4) for row in range(4))
+
+
+def applied(m, point):
+    x, y, z = point
+    return tuple(m[row] * x + m[row + 4] * y + m[row + 8] * z + m[row + 12] for row in range(3))
+
+
+def determinant(m):
+    return (m[0] * (m[5] * m[10] - m[6] * m[9]) - m[4] * (m[1] * m[10] - m[2] * m[9]) + m[8] * (m[1] * m[6] - m[2] * m[5]))

@@ -1,0 +1,161 @@
+#!/usr/bin/env python3
+"""test_explain: what is explained stands where it says, and whether a capture is accepted is never told otherwise than by framedbg.
+
+    tools/test_explain.py [--seed N] [--cases N] [TEST ..]
+
+Captures are changed by chance, as values and as bytes: all are compared with tools/reference.py, and some with the program (FRAMEDBG names another).
+"""
+import copy
+import json
+import os
+import pathlib
+import random
+import re
+import subprocess
+import sys
+import tempfile
+import unittest
+
+import reference
+from explaining import json_text
+from explaining.verdict import explained
+
+TOOLS = pathlib.Path(__file__).resolve().parent
+EXAMPLES = TOOLS.parent / "examples"
+PROGRAM = os.path.abspath(os.environ.get("FRAMEDBG", TOOLS.parent / "crates/framedbg/out/framedbg"))
+
+SEED, CASES, RUN_CASES = 20, 3000, 150
+CORNER = {"x": 65536, "y": -65536, "z": 9, "color": [1, 2, 3, 4]}
+FRAME = {"format": "framedbg", "version": 2, "width": 4, "height": 4, "events": [
+    {"kind": "clear", "color": [1, 2, 3, 4]}, {"kind": "raster", "cull": "none", "front_ccw": False, "scissor": True},
+    {"kind": "scissor", "rect": [0, 0, 2, 2]}, {"kind": "blend", "enable": True, "rgb": ["ONE", "SRC_COLOR", "ADD"], "alpha": ["ONE", "ZERO", "MIN"], "mask": 15},
+    {"kind": "factor", "color": [0, 0, 0, 0]}, {"kind": "draw", "interp": "flat", "vertices": [CORNER] * 3, "indices": [0, 1, 2]},
+    {"kind": "draw", "interp": "linear", "vertices": []}, {"kind": "marker", "name": "a name"}, {"kind": "depth", "enable": True, "write": True, "func": "LESS"},
+    {"kind": "depth_clear", "depth": 65535}]}
+WORDS = ["framedbg", "clear", "draw", "depth", "flat", "ADD", "SRC_COLOR", "ONE", "less", "LESS", "", "a" * 65, "\u00e9" * 33, "\n", "\x7f", "none", "\u2028"]
+NUMBERS = [-1, 0, 1, 2, 3, 15, 16, 255, 256, 65535, 65536, 16384, 16385, 1 << 30, (1 << 30) + 1, -(1 << 30) - 1, (1 << 31) - 1, 1 << 31, -(1 << 31) - 1, (1 << 32) - 1,
+           1 << 32, (1 << 63) - 1, 1 << 63, 1 << 64, 10 ** 400, -10 ** 400, 1.0, 0.5, 1e308]
+PIECES = [b"\\ud800", b"\\udc00\\ud800", b"\\ud83d\\ude00", b"\xff", b"\xef\xbb\xbf", b"\xed\xa0\x80", b"-0", b"1e400", b"1e-400", b"01", b"1.", b"+1", b".5", b"1E5",
+          b"NaN", b"Infinity", b"null", b"true", b"tru", b"//", b",", b"]", b"}", b"[" * 130, b"[" * 126 + b"]" * 126, b"[" * 127 + b"]" * 127, b'"\\x"',
+          b'"\t"', b'"\\u00e9"', b"\0", b"\x0b", b"\xa0", b" ", b"\r\n", b'"kind":"clear",', b'"version":1,']
+
+
+def places(value, path=()):
+    """Every path into a value."""
+    yield path
+    for step, inner in value.items() if isinstance(value, dict) else enumerate(value) if isinstance(value, list) else ():
+        yield from places(inner, (*path, step))
+
+
+def changed(dice):
+    """A capture with a value changed, taken away or set beside."""
+    frame = copy.deepcopy(FRAME)
+    frame["version"] = dice.choice([1, 2, 2, 2])
+    for _ in range(dice.randint(0, 2)):
+        path = dice.choice(list(places(frame))[1:] or [()])
+        if not path:
+            continue
+        owner = frame
+        for step in path[:-1]:
+            owner = owner[step]
+        how = dice.randrange(5)
+        if how == 0:
+            del owner[path[-1]]
+        elif how == 1 and isinstance(owner, list):
+            owner.insert(path[-1], copy.deepcopy(owner[path[-1]]))
+        else:
+            owner[path[-1]] = dice.choice([dice.choice(NUMBERS), dice.choice(NUMBERS), dice.choice(WORDS), None, True, [], {}, [0] * 4, ["ONE"] * 3, {"kind": "clear"}])
+    return json.dumps(frame, ensure_ascii=dice.random() < 0.5).encode("utf-8", "surrogatepass")
+
+
+def disturbed(dice):
+    """Its text with bytes changed."""
+    text = bytearray(changed(dice))
+    for _ in range(dice.randint(0, 2)):
+        at, how = dice.randrange(len(text) + 1), dice.randrange(4)
+        if how == 0:
+            del text[at:at + dice.randint(1, 3)]
+        elif how == 1:
+            del text[at:]
+        else:
+            text[at:at + (0 if how == 2 else dice.randint(1, 4))] = dice.choice(PIECES)
+        if not text:
+            return b" "
+    return bytes(text)
+
+
+def cases(count):
+    dice = random.Random(SEED)
+    for number in range(count):
+        yield changed(dice) if number % 2 else disturbed(dice)
+    for piece in PIECES:                                # each where a value may stand, and around the whole
+        whole = json.dumps(FRAME).encode()
+        yield b'{"new":' + piece + b"," + whole[1:]
+        yield whole.replace(b'"depth": 65535', b'"depth": ' + piece)
+        yield piece + whole
+        yield whole + piece
+
+
+def told_by_reference(data):
+    found = reference.fault(data)
+    return " ".join(map(str, found)) if found else "accepted"
+
+
+class Explained(unittest.TestCase):
+    def test_never_otherwise_than_the_reference(self):
+        accepted = 0
+        for data in cases(CASES):
+            if re.search(rb"-0(?![0-9.eE])", data):
+                continue                                # a float to framedbg, and a whole number to the reference
+            verdict = explained(data)[1]
+            self.assertEqual(verdict, told_by_reference(data), data)
+            accepted += verdict == "accepted"
+        self.assertGreater(accepted, CASES // 20)
+
+    @unittest.skipUnless(pathlib.Path(PROGRAM).exists(), "the program isn't built")
+    def test_never_otherwise_than_framedbg(self):
+        with tempfile.TemporaryDirectory() as folder:
+            file = pathlib.Path(folder) / "frame.json"
+            for data in cases(RUN_CASES):
+                file.write_bytes(data)
+                run = subprocess.run([PROGRAM, "events", file], capture_output=True)
+                told = run.stderr.decode().strip().removeprefix("framedbg: capture refused ") if run.returncode else "accepted"
+                self.assertEqual(explained(data)[1], told, data)
+
+    def test_the_examples_are_accepted(self):
+        for file in sorted(EXAMPLES.glob("**/*.json")):
+            self.assertTrue(explained(file.read_bytes())[0], file)
+
+    def test_it_points_at_the_member(self):
+        text = json.dumps(FRAME, indent=1)
+        where = lambda found, more=0: "line {}, column {}".format(*json_text.line_and_column(text, text.index(found) + more))
+        change = lambda old, new: explained(text.replace(old, new, 1).encode())[2]
+        self.assertEqual(change('"x": 65536', '"x": 1.5'), f"{where('65536,')}: event 6 (draw), vertex 0, x: a whole number from -1073741824 to 1073741824 of "
+                         "1/65536 pixel is wanted, not 1.5")
+        self.assertEqual(change('"func": "LESS"', '"func": "less"'), f"{where('LESS', -1)}: event 9 (depth), func: one of NEVER, LESS, EQUAL, LESS_EQUAL, GREATER, NOT_EQUAL, "
+                         'GREATER_EQUAL, ALWAYS is wanted (LESS?), not the text "less"')
+        self.assertEqual(change('"kind": "raster"', '"kind": "rastre"'), f'{where(chr(34) + "raster")}: event 2, kind: there is no kind "rastre" (raster?)')
+        self.assertIn("event 5 (factor): the member color is missing: an array of 4 is wanted (colour?)", change('"color": [\n    0', '"colour": [\n    0'))
+        self.assertIn("event 6 (draw), index 2: 3 names no vertex: the draw has 3, numbered from 0", change("    1,\n    2\n   ]\n  },\n", "    1,\n    3\n   ]\n  },\n"))
+        self.assertIn("the text ends too early", explained(text[:-1].encode())[2])
+        self.assertEqual(explained(b'{\n "a": 1 2}')[2], "line 2, column 9: , or } is wanted here")
+        twice = text.replace('"mask": 15', '"mask": 3,\n   "mask": 16', 1)      # of equal names the last counts
+        line = twice[:twice.index('"mask": 16')].count("\n") + 1
+        self.assertTrue(explained(twice.encode())[2].startswith(f"line {line}, column 12: event 4 (blend), mask: a whole number from 0 to 15 is wanted, not 16"))
+
+    def test_the_status(self):
+        with tempfile.TemporaryDirectory() as folder:
+            file = pathlib.Path(folder) / "frame.json"
+            for data, status in ((json.dumps(FRAME).encode(), 0), (b"[]", 2)):
+                file.write_bytes(data)
+                self.assertEqual(subprocess.run([sys.executable, TOOLS / "explain", file], capture_output=True).returncode, status)
+            self.assertEqual(subprocess.run([sys.executable, TOOLS / "explain", folder], capture_output=True).returncode, 3)
+
+
+if __name__ == "__main__":
+    for option in ("--seed", "--cases"):
+        if option in sys.argv:
+            at = sys.argv.index(option)
+            globals()[option[2:].upper()] = int(sys.argv[at + 1])
+            del sys.argv[at:at + 2]
+    unittest.main()

@@ -1,0 +1,61 @@
+"""An image as framedbg writes it, read from its pipe: the part that is asked for, or the whole, with pixels left out where it is too large."""
+import fcntl
+import math
+
+MOST_PIXELS = 1 << 22    # of an image that are kept: those of 2048 by 2048
+PIECE = 1 << 20          # bytes that are read at once
+HEADER_LINES = 7
+
+
+def widen(pipe):
+    """Lets the pipe hold more, where the system can: then an image goes through it with fewer turns."""
+    try:
+        fcntl.fcntl(pipe, fcntl.F_SETPIPE_SZ, PIECE)
+    except (AttributeError, OSError):
+        pass
+
+
+def read_image(stream, size, window=None):
+    """What is kept of a PAM of `size` bytes, and its pixels: (a description, a bytes-like object); None where the stream ends before.
+    The window is (left, top, right, bottom) in pixels of the target."""
+    header = [stream.readline() for _ in range(HEADER_LINES)]
+    if not header[-1].endswith(b"\n"):
+        return None
+    fields = dict(line.decode("latin-1").split()[:2] for line in header[1:-1])
+    part = kept_part(int(fields["WIDTH"]), int(fields["HEIGHT"]), window)
+    pixels = read_part(stream, part)
+    return None if pixels is None else ({**part, "bytes": len(pixels)}, pixels)
+
+
+def kept_part(width, height, window):
+    """The window cut to the target, and every how many pixels one is kept."""
+    left, top, right, bottom = window or (0, 0, width, height)
+    left, top = min(left, width - 1), min(top, height - 1)
+    right, bottom = min(max(right, left + 1), width), min(max(bottom, top + 1), height)
+    every = max(1, math.isqrt((right - left) * (bottom - top) // MOST_PIXELS))
+    while kept(right - left, every) * kept(bottom - top, every) > MOST_PIXELS:
+        every += 1
+    return {"width": width, "height": height, "left": left, "top": top, "every": every, "most": MOST_PIXELS,
+            "columns": kept(right - left, every), "rows": kept(bottom - top, every)}
+
+
+def kept(length, every):
+    return -(-length // every)
+
+
+def read_part(stream, part):
+    """The kept pixels, row by row, and the rest of the image read and dropped; None where the stream ends before."""
+    width, height, top, every = (part[name] for name in ("width", "height", "top", "every"))
+    if every == 1 and part["columns"] == width and part["rows"] == height:
+        pixels = stream.read(4 * width * height)
+        return pixels if len(pixels) == 4 * width * height else None
+    rows = bytearray()
+    bottom = top + (part["rows"] - 1) * every
+    for y in range(height):
+        row = stream.read(4 * width)
+        if len(row) < 4 * width:
+            return None
+        if top <= y <= bottom and (y - top) % every == 0:
+            pixels = memoryview(row).cast("I")[part["left"]:part["left"] + (part["columns"] - 1) * every + 1]
+            rows += pixels[::every].tobytes()
+    return rows

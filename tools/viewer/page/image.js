@@ -1,0 +1,57 @@
+// An image, or the part of it that was fetched: { width, height, left, top, every, columns, rows, most, bytes }. Width and height are the
+// target's; the part begins at (left, top), of its pixels every so many in a row and a column is there, four bytes each, and at most so many are.
+
+export const isWhole = image => image.columns === image.width && image.rows === image.height;
+const indexIn = ({ left, top, every, columns }, x, y) => 4 * (Math.floor((y - top) / every) * columns + Math.floor((x - left) / every));
+const holds = ({ left, top, every, columns, rows }, x, y) => x >= left && y >= top && x < left + columns * every && y < top + rows * every;
+
+// The colour that stands for a pixel in what was fetched, or null
+export function colourAt(image, x, y) {
+  if (!holds(image, x, y)) return null;
+  const { bytes } = image, at = indexIn(image, x, y);
+  return { r: bytes[at], g: bytes[at + 1], b: bytes[at + 2], a: bytes[at + 3] };
+}
+
+// Whether two images can be compared: the other is whole, or the same part
+export const isComparable = (image, other) => isWhole(other) || ["left", "top", "every", "columns", "rows"].every(name => image[name] === other[name]);
+
+// The pixels of an image as words of 32 bits, alpha highest: every machine that a browser runs on has the lowest byte first
+export const wordsOf = bytes => new Uint32Array(bytes.buffer, bytes.byteOffset, bytes.length >> 2);
+
+// Which of the fetched pixels of two images differ by more than a tolerance: a mask, how many, the box round them, the most that a channel differs
+export function difference(image, other, tolerance = 0) {
+  const { left, top, every, columns, rows } = image, one = wordsOf(image.bytes), two = wordsOf(other.bytes);
+  const compared = other.hasAlpha === false ? 0xffffff : -1, mask = new Uint8Array(columns * rows);
+  const found = { mask, count: 0, most: 0, left: Infinity, top: Infinity, right: -1, bottom: -1, every, whole: isWhole(image) };
+  const aside = every / other.every;              // from one of the kept pixels to the next, in the other's
+  for (let row = 0, i = 0; row < rows; row++) {
+    let q = indexIn(other, left, top + row * every) / 4;
+    for (let column = 0; column < columns; column++, i++, q += aside) {
+      if (((one[i] ^ two[q]) & compared) === 0) continue;
+      const by = mostBetween(one[i] & compared, two[q] & compared);
+      if (by <= tolerance) continue;
+      mask[i] = 1;
+      found.count++;
+      if (by > found.most) found.most = by;
+      if (column < found.left) found.left = column;
+      if (column > found.right) found.right = column;
+      if (row < found.top) found.top = row;
+      found.bottom = row;
+    }
+  }
+  for (const [side, start] of [["left", left], ["right", left], ["top", top], ["bottom", top]]) found[side] = start + found[side] * every;
+  return found;
+}
+
+function mostBetween(a, b) {
+  let most = 0;
+  for (let shift = 0; shift < 32; shift += 8) most = Math.max(most, Math.abs((a >>> shift & 255) - (b >>> shift & 255)));
+  return most;
+}
+
+// The place of the first pixel in a mask at or after another place in reading order, and round again; null where there is none
+export function nextIn({ left, top, every, columns, rows }, mask, from) {
+  const start = from ? Math.floor((from.y - top) / every) * columns + Math.floor((from.x - left) / every) + 1 : 0;
+  const next = mask.indexOf(1, Math.max(0, Math.min(start, columns * rows))), at = next < 0 ? mask.indexOf(1) : next;
+  return at < 0 ? null : { x: left + at % columns * every, y: top + Math.floor(at / columns) * every };
+}

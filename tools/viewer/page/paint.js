@@ -1,0 +1,38 @@
+// The pixels of an image as the canvas shows them.
+
+import { wordsOf } from "./image.js";
+
+const DIM = 0.22;        // of what didn't change
+const OPAQUE = 0xff000000;
+
+// One channel alone is grey; alpha with others shows the chequerboard; what the mask leaves out is dim
+export function paint(out, bytes, mask, on) {
+  const colours = on.r + on.g + on.b;
+  if (colours === 3 && !on.a && !mask) return paintOpaque(wordsOf(out), wordsOf(bytes));
+  const only = colours === 1 && !on.a ? (on.r ? 0 : on.g ? 1 : 2) : colours === 0 && on.a ? 3 : null;
+  for (let i = 0, p = 0; p < bytes.length; i++, p += 4) {
+    if (only !== null) out[p] = out[p + 1] = out[p + 2] = bytes[p + only];
+    else {
+      out[p] = on.r ? bytes[p] : 0;
+      out[p + 1] = on.g ? bytes[p + 1] : 0;
+      out[p + 2] = on.b ? bytes[p + 2] : 0;
+    }
+    out[p + 3] = only === null && on.a && colours ? bytes[p + 3] : 255;
+    if (mask && !mask[i]) {
+      out[p] = out[p + 1] = out[p + 2] = DIM * (0.3 * out[p] + 0.59 * out[p + 1] + 0.11 * out[p + 2]) + 18;
+      out[p + 3] = 255;
+    }
+  }
+}
+
+// What is shown most often, in the least time
+function paintOpaque(out, words) {
+  for (let i = 0; i < words.length; i++) out[i] = words[i] | OPAQUE;
+}
+
+export function paintGreys(out, greys) {
+  for (let i = 0, p = 0; i < greys.length; i++, p += 4) {
+    out[p] = out[p + 1] = out[p + 2] = greys[i];
+    out[p + 3] = 255;
+  }
+}

@@ -1,0 +1,163 @@
+// The image on its canvas: channels, zoom, what changed, and what is laid over it.
+
+import { paint, paintGreys } from "./paint.js";
+
+export class Picture {
+  constructor(parts) {
+    Object.assign(this, parts);         // stage, sheet, canvas, grid, scissor, cross, outline: elements of the page
+    this.zoom = 1;
+    this.fitted = true;
+    this.channels = { r: true, g: true, b: true, a: false };
+    this.onPick = this.onHover = this.onZoom = this.onMove = () => {};
+    this.moved = 0;
+    this.listen();
+  }
+
+  // Shows an image; where a difference is given, what is the same is dim
+  show(image, difference = null) {
+    this.setSize(image);
+    this.draw(image, pixels => paint(pixels, image.bytes, difference?.mask, this.channels));
+    this.sheet.classList.toggle("transparent", this.channels.a && (this.channels.r || this.channels.g || this.channels.b));
+  }
+
+  // Shows depths as greys, in their part of the target
+  showDepths({ part: [left, top, right, bottom], greys }) {
+    this.draw({ left, top, every: 1, columns: right - left, rows: bottom - top }, pixels => paintGreys(pixels, greys));
+    this.sheet.classList.remove("transparent");
+  }
+
+  setSize({ width, height }) {
+    if (this.width === width && this.height === height) return;
+    Object.assign(this, { width, height });
+    this.outline.setAttribute("viewBox", `0 0 ${width} ${height}`);
+    if (this.fitted) this.fit();
+  }
+
+  draw(part, paintOn) {
+    const { columns, rows } = part, { canvas } = this;
+    this.part = part;
+    if (canvas.width !== columns || canvas.height !== rows) Object.assign(canvas, { width: columns, height: rows });
+    const shown = new ImageData(columns, rows);
+    paintOn(shown.data);
+    canvas.getContext("2d").putImageData(shown, 0, 0);
+    this.placeCanvas();
+  }
+
+  placeCanvas() {
+    if (!this.part) return;
+    const { left, top, every, columns, rows } = this.part;
+    this.place(this.canvas, [left, top, left + columns * every, top + rows * every]);
+    this.canvas.classList.toggle("smooth", this.zoom * every < 1);
+  }
+
+  // What of the target is in sight: [left, top, right, bottom] in its pixels
+  visible() {
+    const stage = this.stage.getBoundingClientRect(), sheet = this.sheet.getBoundingClientRect();
+    const inside = (value, most) => Math.max(0, Math.min(most, value));
+    return [inside(Math.floor((stage.left - sheet.left) / this.zoom), this.width - 1), inside(Math.floor((stage.top - sheet.top) / this.zoom), this.height - 1),
+      inside(Math.ceil((stage.right - sheet.left) / this.zoom), this.width), inside(Math.ceil((stage.bottom - sheet.top) / this.zoom), this.height)];
+  }
+
+  fit() {
+    const { clientWidth, clientHeight } = this.stage;
+    const most = Math.min((clientWidth - 32) / this.width, (clientHeight - 32) / this.height);
+    this.fitted = true;
+    this.setZoom(most >= 1 ? Math.floor(most) : most);
+  }
+
+  // A zoom, with the stage's point (x, y) kept where it is
+  zoomTo(zoom, x = this.stage.clientWidth / 2, y = this.stage.clientHeight / 2) {
+    const stage = this.stage.getBoundingClientRect(), sheet = this.sheet.getBoundingClientRect();
+    const held = [(stage.left + x - sheet.left) / this.zoom, (stage.top + y - sheet.top) / this.zoom];
+    this.fitted = false;
+    this.setZoom(zoom);
+    const moved = this.sheet.getBoundingClientRect();
+    this.stage.scrollLeft += moved.left + held[0] * this.zoom - stage.left - x;
+    this.stage.scrollTop += moved.top + held[1] * this.zoom - stage.top - y;
+  }
+
+  larger(x, y) { this.zoomTo(Math.min(64, this.zoom < 1 ? Math.min(1, this.zoom * 1.5) : this.zoom < 4 ? Math.floor(this.zoom) + 1 : Math.round(this.zoom * 1.5)), x, y); }
+  smaller(x, y) { this.zoomTo(Math.max(1 / 64, this.zoom <= 1 ? this.zoom / 1.5 : this.zoom <= 4 ? Math.ceil(this.zoom) - 1 : Math.round(this.zoom / 1.5)), x, y); }
+
+  setZoom(zoom) {
+    this.zoom = zoom;
+    const { style } = this.sheet;
+    style.width = `${this.width * zoom}px`;
+    style.height = `${this.height * zoom}px`;
+    this.grid.style.backgroundSize = `${zoom}px ${zoom}px`;
+    this.grid.hidden = zoom < 10;
+    this.placeCanvas();
+    this.place(this.cross, this.crossAt);
+    this.place(this.scissor, this.scissorAt);
+    this.onZoom(zoom);
+    this.tellMove();
+  }
+
+  // Tells of another part in sight, once it stays
+  tellMove() {
+    clearTimeout(this.moved);
+    this.moved = setTimeout(() => this.onMove(this.visible()), 150);
+  }
+
+  setCross(x, y) { this.place(this.cross, this.crossAt = [x, y, x + 1, y + 1]); }
+  setScissor(rect) { this.place(this.scissor, this.scissorAt = rect && this.inside(rect)); }
+
+  // Three corners in pixels, or null
+  setOutline(corners) {
+    for (const line of this.outline.children) line.setAttribute("points", corners ? corners.map(corner => corner.join(",")).join(" ") : "");
+  }
+
+  inside([left, top, right, bottom]) {
+    if (left >= right || top >= bottom) return [0, 0, 0, 0];
+    const x = v => Math.max(-1, Math.min(this.width + 1, v)), y = v => Math.max(-1, Math.min(this.height + 1, v));
+    return [x(left), y(top), x(right), y(bottom)];
+  }
+
+  place(element, rect) {
+    element.hidden = !rect;
+    if (!rect) return;
+    const [left, top, right, bottom] = rect.map(v => v * this.zoom);
+    Object.assign(element.style, { left: `${left}px`, top: `${top}px`, width: `${right - left}px`, height: `${bottom - top}px` });
+  }
+
+  listen() {
+    const { stage, sheet } = this;
+    let from = null, turned = 0;
+    const at = event => {
+      const box = sheet.getBoundingClientRect();
+      const x = Math.floor((event.clientX - box.left) / this.zoom), y = Math.floor((event.clientY - box.top) / this.zoom);
+      return this.part && x >= 0 && y >= 0 && x < this.width && y < this.height ? { x, y } : null;
+    };
+    stage.addEventListener("pointerdown", event => {
+      if (event.button > 1 || event.offsetX > stage.clientWidth + stage.scrollLeft) return;
+      from = { x: event.clientX, y: event.clientY, left: stage.scrollLeft, top: stage.scrollTop, moved: false };
+    });
+    stage.addEventListener("pointermove", event => {
+      this.onHover(at(event));
+      if (!from) return;
+      const dx = event.clientX - from.x, dy = event.clientY - from.y;
+      from.moved ||= Math.hypot(dx, dy) > 4;
+      if (from.moved) stage.scrollTo(from.left - dx, from.top - dy);
+    });
+    addEventListener("pointerup", event => {
+      const picked = from && !from.moved && event.button === 0 && at(event);
+      from = null;
+      if (picked) this.onPick(picked);
+    });
+    stage.addEventListener("scroll", () => this.tellMove());
+    stage.addEventListener("pointerleave", () => this.onHover(null));
+    stage.addEventListener("wheel", event => {
+      event.preventDefault();
+      turned += event.deltaY * (event.deltaMode ? 40 : 1);
+      if (Math.abs(turned) < 40) return;                // a touchpad tells of many small turns
+      const box = stage.getBoundingClientRect();
+      this[turned < 0 ? "larger" : "smaller"](event.clientX - box.left, event.clientY - box.top);
+      turned = 0;
+    }, { passive: false });
+    new ResizeObserver(() => {
+      if (!this.part) return;
+      if (this.fitted) this.fit();
+      else this.tellMove();
+    }).observe(stage);
+  }
+}

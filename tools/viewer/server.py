@@ -1,0 +1,112 @@
+"""The page's server: static files and a few calls, for this machine's own browser alone.
+
+It listens on 127.0.0.1 and answers what passes the doors (doors.py). Nothing of a request names a file or reaches a shell: the page's files
+are read once at the start and found by exact name, and a call is a few lines for framedbg's standard input.
+
+    POST /commands   lines for framedbg; the answer is a line of JSON, {switches: [before, after], replies: [{text, lines?, left_out?, image?}]},
+                     and then the bytes of the images in their order. The header X-Window, four numbers, names the part of the images that is wanted
+    POST /triangle   an event's and a triangle's number; the answer is its three corners in pixels, as JSON
+    POST /restart    a new run of the same capture, after one that has ended
+    GET  /capture    the capture's name, as JSON
+"""
+import http.server
+import json
+import pathlib
+import secrets
+
+from . import doors
+from .doors import Refused
+from .session import Ended
+
+PAGE = pathlib.Path(__file__).parent / "page"
+TYPES = {".html": "text/html; charset=utf-8", ".css": "text/css; charset=utf-8", ".js": "text/javascript; charset=utf-8"}
+FILES = {"/" if p.name == "index.html" else f"/{p.name}": (TYPES[p.suffix], p.read_bytes()) for p in PAGE.iterdir() if p.suffix in TYPES}
+
+
+class Server(http.server.ThreadingHTTPServer):
+    daemon_threads = True
+
+    def __init__(self, session, capture, port=0, on_first_call=lambda: None):
+        super().__init__(("127.0.0.1", port), Handler)
+        self.session, self.capture, self.on_first_call = session, capture, on_first_call
+        self.token = secrets.token_urlsafe(32)
+        self.host = f"127.0.0.1:{self.server_address[1]}"
+        self.origin = f"http://{self.host}"
+        self.address = f"{self.origin}/#{self.token}"   # a fragment stays in the browser, and in no log
+
+    def handle_error(self, request, client_address):
+        pass             # a browser that went away in the middle of an answer
+
+    def called(self):
+        told, self.on_first_call = self.on_first_call, lambda: None
+        told()
+
+
+class Handler(http.server.BaseHTTPRequestHandler):
+    timeout = 30         # seconds for a request to arrive
+    server_version, sys_version = "framedbg-view", ""
+
+    def do_GET(self):
+        self.attempt(self.get)
+
+    def do_POST(self):
+        self.attempt(self.post)
+
+    def attempt(self, answer):
+        try:
+            doors.check_caller(self.headers, self.server.host, self.server.origin)
+            answer()
+        except Refused as refusal:
+            self.close_connection = True
+            self.send(refusal.status, "text/plain; charset=utf-8", f"{refusal}\n".encode())
+        except Ended as ended:
+            self.send_json({"ended": str(ended)}, 410)
+
+    def check_token(self):
+        doors.check_token(self.headers, self.server.token)
+        self.server.called()
+
+    def get(self):
+        if self.path == "/capture":
+            self.check_token()
+            return self.send_json({"name": self.server.capture.name})
+        if self.path not in FILES:
+            raise Refused(404, "no such page")
+        self.send(200, *FILES[self.path])
+
+    def post(self):
+        self.check_token()
+        calls = {"/commands": self.commands, "/triangle": self.triangle, "/restart": self.restart}
+        if self.path not in calls:
+            raise Refused(404, "no such call")
+        calls[self.path](self.rfile.read(doors.body_length(self.headers)))
+
+    def commands(self, body):
+        window = self.headers.get("X-Window")
+        window = None if window is None else doors.numbers(window, 4)
+        replies, images, switches = self.server.session.answer(doors.commands(body), window)
+        told = json.dumps({"switches": switches, "replies": replies}, separators=(",", ":"))
+        self.send(200, "application/octet-stream", told.encode() + b"\n", *images)
+
+    def triangle(self, body):
+        self.send_json(self.server.capture.triangle(*doors.numbers(body.decode("latin-1"), 2)))
+
+    def restart(self, _):
+        self.server.session.start()
+        self.send_json({})
+
+    def send_json(self, told, status=200):
+        self.send(status, "application/json", json.dumps(told).encode())
+
+    def send(self, status, kind, *pieces):
+        self.send_response(status)
+        self.send_header("Content-Type", kind)
+        self.send_header("Content-Length", str(sum(map(len, pieces))))
+        for name, value in doors.HEADERS.items():
+            self.send_header(name, value)
+        self.end_headers()
+        for piece in pieces:
+            self.wfile.write(piece)
+
+    def log_message(self, *_):
+        pass

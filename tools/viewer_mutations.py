@@ -1,0 +1,99 @@
+#!/usr/bin/env python3
+"""viewer_mutations: wrong versions of the viewer, each of which the tests must see.
+
+    tools/viewer_mutations.py [WORD ..]
+
+Each is a copy of the viewer with one text exchanged, and the test that has to fail on it (and to pass on the viewer as it is). With words, only
+those whose name has one of them are tried. Those of the page want Chromium.
+"""
+import os
+import pathlib
+import shutil
+import subprocess
+import sys
+import tempfile
+
+import browser
+
+TOOLS = pathlib.Path(__file__).resolve().parent
+MUTATIONS = [   # name, file, text, what stands there instead, test
+    ("door: any address", "server.py", '("127.0.0.1", port)', '("", port)', "Doors.test_loopback"),
+    ("door: any host", "doors.py", 'if headers.get_all("Host", []) != [host]:', "if False:", "Doors.test_host"),
+    ("door: host without port", "doors.py", 'headers.get_all("Host", []) != [host]', 'not (headers.get("Host") or "").startswith("127.0.0.1")', "Doors.test_host"),
+    ("door: any origin", "doors.py", 'if headers.get_all("Origin", [origin]) != [origin]:', "if False:", "Doors.test_origin"),
+    ("door: the first origin counts", "doors.py", 'headers.get_all("Origin", [origin]) != [origin]', 'headers.get("Origin", origin) != origin', "Doors.test_origin"),
+    ("door: any site", "doors.py", 'not in ("same-origin", "none")', "is None", "Doors.test_site"),
+    ("door: no token", "doors.py", "if len(tokens) != 1 or not", "if len(tokens) == 1 and not", "Doors.test_token"),
+    ("door: any token", "doors.py", "or not hmac.compare_digest(", "or not isinstance(", "Doors.test_token"),
+    ("door: the name without token", "server.py", '        if self.path == "/capture":\n            self.check_token()', '        if self.path == "/capture":', "Doors.test_token"),
+    ("door: short token", "server.py", "token_urlsafe(32)", "token_urlsafe(4)", "Doors.test_token"),
+    ("door: paths reach the disk", "server.py", 'raise Refused(404, "no such page")\n        self.send(200, *FILES[self.path])',
+     'return self.send(200, "text/plain", (PAGE / self.path[1:]).read_bytes())', "Doors.test_paths"),
+    ("door: any length", "doors.py", "if int(length) > MAX_BODY:", "if False:", "Doors.test_lengths"),
+    ("door: quit", "doors.py", '== [b"quit"]', '== [b"leave"]', "Doors.test_bodies"),
+    ("door: any byte", "doors.py", "or not all(32 <= byte < 127 for byte in line)", "", "Doors.test_bodies"),
+    ("door: endless lines", "doors.py", "1 <= len(lines) <= MAX_COMMANDS", "1 <= len(lines)", "Doors.test_bodies"),
+    ("door: no policy", "server.py", "for name, value in doors.HEADERS.items():", "for name, value in ():", "Doors.test_policy"),
+    ("door: scripts from anywhere", "doors.py", "script-src 'self'", "script-src *", "Doors.test_policy"),
+    ("door: a file that all can read", "handover.py", "0o600", "0o644", "AddressForTheBrowser"),
+    ("door: the token among the words", "handover.py", "webbrowser.open(self.page.as_uri())", 'webbrowser.open(self.page.read_text().split("url=")[1].split(chr(34))[0])',
+     "AddressForTheBrowser"),
+    ("server: a part one pixel off", "image.py", '[part["left"]:part["left"]', '[part["left"] + 1:part["left"] + 1', "Parts"),
+    ("server: a row too many left out", "image.py", "(y - top) % every == 0", "(y - top) % every == every - 1", "Parts"),
+    ("server: switches aren't counted", "session.py", "            self.switches += 1\n        return reply", "            pass\n        return reply", "Run"),
+    ("page: before and after exchanged", "page/frame.js", "frame.before = images.get(position - 1) ?? null;\n  frame.after = images.get(position) ?? null;",
+     "frame.before = images.get(position) ?? null;\n  frame.after = images.get(position - 1) ?? images.get(position);", "Page.test_before_after_and_changed"),
+    ("page: half a pixel off", "page/picture.js", "Math.floor((event.clientX - box.left) / this.zoom)", "Math.round((event.clientX - box.left) / this.zoom)",
+     "Page.test_channels_zoom_and_scissor"),
+    ("page: an image kept after a switch", "page/frame.js", "async function refresh(position = frame.position) {\n  images.clear();",
+     "async function refresh(position = frame.position) {", "Page.test_events_off_and_on"),
+    ("page: the next state in place of the last", "page/frame.js", "with: to > 0 ? found.states[0] : null", "with: found.states.at(-1)", "Page.test_who_painted_the_house_wrong"),
+    ("page: a rectangle read one word early", "page/replies.js", "w.slice(8, 12)", "w.slice(7, 11)", "Page.test_channels_zoom_and_scissor"),
+    ("page: Paeth's ties the other way", "page/compare.js", "pa <= pb && pa <= pc", "pa <= pb && pa < pc", "Page.test_compared_with_a_png_of_noise"),
+    ("page: red and green exchanged", "page/paint.js", "out[p] = on.r ? bytes[p] : 0;", "out[p] = on.r ? bytes[p + 1] : 0;", "Page.test_channels_zoom_and_scissor"),
+    ("page: alpha shown unasked", "page/paint.js", "words[i] | OPAQUE", "words[i]", "Page.test_who_painted_the_house_wrong"),
+    ("page: a tolerance one too small", "page/image.js", "if (by <= tolerance) continue;", "if (by < tolerance) continue;", "Page.test_compared_with_another_picture"),
+    ("page: alpha left out of what differs", "page/image.js", "? 0xffffff : -1", "? 0xffffff : 0xffffff", "Page.test_compared_in_alpha_alone"),
+    ("page: the run isn't brought back", "page/frame.js", "const lines = [here, `pixel ${x} ${y}`", "const lines = [`pixel ${x} ${y}`", "Page.test_two_pages_at_once"),
+    ("page: deaf to other pages", "page/run.js", "foreign ||= switches !== null && switches !== before;", "", "Page.test_two_pages_at_once"),
+    ("page: the focus is lost", "page/list.js", "element.tabIndex = 0;", "", "Page.test_the_focus_lasts"),
+    ("page: buttons drop the focus", "page/viewer.js", '$(id).setAttribute("aria-disabled", position === last());', "$(id).disabled = position === last();", "Page.test_the_focus_lasts"),
+    ("page: a tinted ground", "page/viewer.css", "--stage: #2b2b2b", "--stage: #2b2b33", "Page.test_dark_and_light"),
+    ("page: parts at the wrong place", "page/picture.js", "this.place(this.canvas, [left, top,", "this.place(this.canvas, [left + every, top,", "Page.test_a_target_that_is_too_large_at_once"),
+    ("page: depths of before and after exchanged", "page/replies.js", "const [source, before, after] = numbers", "const [source, after, before] = numbers", "Page.test_depths"),
+    ("page: far is light", "page/depths.js", "240 - 180 *", "60 + 180 *", "Page.test_depths"),
+    ("page: an older picture of depths", "page/frame.js", "  await readDepths();\n  show(\"position\");", "  show(\"position\");", "Page.test_depths"),
+]
+
+
+def seen(mutation):
+    """Whether the test fails on the wrong version."""
+    name, file, old, new, test = mutation
+    with tempfile.TemporaryDirectory() as folder:
+        for part in ("view", "viewer"):
+            copy = shutil.copytree if part == "viewer" else shutil.copy
+            copy(TOOLS / part, pathlib.Path(folder) / part)
+        path = pathlib.Path(folder) / "viewer" / file
+        text = path.read_text()
+        if text.count(old) != 1:
+            sys.exit(f"viewer_mutations: {name}: its text stands {text.count(old)} times in {file}")
+        path.write_text(text.replace(old, new))
+        run = subprocess.run([sys.executable, TOOLS / "test_viewer.py", "-f", test], env={**os.environ, "VIEWER": folder}, capture_output=True, text=True)
+        return "skipped" if "skipped=" in run.stderr else "seen" if run.returncode else "MISSED"
+
+
+def main():
+    wanted = [m for m in MUTATIONS if not sys.argv[1:] or any(word in m[0] for word in sys.argv[1:])]
+    missed = 0
+    for mutation in wanted:
+        if mutation[0].startswith("page") and not browser.is_installed():
+            print(f"{mutation[0]}: not tried, Chromium and chromedriver aren't installed")
+            continue
+        verdict = seen(mutation)
+        missed += verdict == "MISSED"
+        print(f"{mutation[0]}: {verdict}", flush=True)
+    sys.exit(f"{missed} wrong versions were missed" if missed else 0)
+
+
+if __name__ == "__main__":
+    main()

@@ -1,0 +1,146 @@
+"""What the viewer's tests stand on: the program, captures, pictures in files, and a server for the time of a test."""
+import http.client
+import json
+import os
+import pathlib
+import struct
+import subprocess
+import sys
+import threading
+import zlib
+
+TOOLS = pathlib.Path(__file__).resolve().parent
+sys.path.insert(0, os.environ.get("VIEWER", str(TOOLS)))        # a wrong version of the viewer, where one is tried
+
+from viewer.capture import Capture   # noqa: E402
+from viewer.server import Server     # noqa: E402
+from viewer.session import Session   # noqa: E402
+
+PROGRAM = os.path.abspath(os.environ.get("FRAMEDBG", TOOLS.parent / "crates/framedbg/out/framedbg"))
+EXAMPLES = pathlib.Path(os.environ.get("EXAMPLES", TOOLS.parent / "examples")).resolve()
+
+
+def vertices(*corners):
+    """Corners as (x, y, colour) in pixels, or (x, y, z, colour)."""
+    return [{"x": x << 16, "y": y << 16, **({"z": z[0]} if z else {}), "color": colour} for x, y, *z, colour in corners]
+
+
+def capture_of(width, height, events, version=1):
+    return json.dumps({"format": "framedbg", "version": version, "width": width, "height": height, "events": events})
+
+
+RED, GREEN, BLUE = [255, 0, 0, 255], [0, 255, 0, 0], [0, 0, 255, 128]
+WINDOW = capture_of(64, 48, [
+    {"kind": "clear", "color": [30, 60, 90, 255]}, {"kind": "raster", "cull": "none", "front_ccw": False, "scissor": True},
+    {"kind": "scissor", "rect": [8, 4, 40, 30]}, {"kind": "draw", "interp": "linear", "vertices": vertices((0, 0, RED), (64, 0, GREEN), (0, 48, BLUE))}])
+# A near triangle, then a farther one that fails the test where the near one is, on 8 by 8 pixels
+DEPTH = capture_of(8, 8, [
+    {"kind": "clear", "color": [40, 40, 40, 255]}, {"kind": "depth", "enable": True, "write": True, "func": "LESS"},
+    {"kind": "draw", "interp": "flat", "vertices": vertices((0, 0, 1000, RED), (8, 0, 1000, RED), (0, 8, 1000, RED))},
+    {"kind": "draw", "interp": "flat", "vertices": vertices((0, 0, 2000, BLUE), (16, 0, 2000, BLUE), (0, 16, 2000, BLUE))},
+    {"kind": "depth", "enable": True, "write": False, "func": "GREATER_EQUAL"}, {"kind": "depth_clear", "depth": 3000}], 2)
+# A slope in depth from left to right, on more pixels than are asked for one by one
+SLOPE = capture_of(160, 120, [
+    {"kind": "depth", "enable": True, "write": True, "func": "LESS"},
+    {"kind": "draw", "interp": "linear", "vertices": vertices(
+        (0, 0, 0, RED), (160, 0, 16000, RED), (0, 120, 0, RED), (160, 0, 16000, RED), (160, 120, 16000, RED), (0, 120, 0, RED))}], 2)
+# Answers as framedbg does where memory is wanted on the way forward: it never comes past position 2
+STOPPING = """#!/usr/bin/env python3
+import sys
+position = 0
+for line in sys.stdin:
+    word, *rest = line.split()
+    if word == "events":
+        reply = f"events 3 at {position}\\n" + "".join(f"{i} on clear 1 2 3 4\\n" for i in (1, 2, 3))
+    elif word == "goto":
+        wanted, position = int(rest[0]), min(int(rest[0]), 2)
+        reply = f"at {position}\\n" if wanted == position else f"stopped {position}\\n"
+    elif word == "show":
+        reply = "pam 69\\nP7\\nWIDTH 1\\nHEIGHT 1\\nDEPTH 4\\nMAXVAL 255\\nTUPLTYPE RGB_ALPHA\\nENDHDR\\n" + chr(position) * 4
+    elif word == "state":
+        reply = "state cull back ccw 0 scissor 0 rect 0 0 0 0 blend 0 ONE ZERO ADD ONE ZERO ADD mask 15 factor 255 255 255 255\\n"
+    else:
+        print("framedbg: memory", file=sys.stderr)
+        sys.exit(5)
+    sys.stdout.write(reply)
+    sys.stdout.flush()
+"""
+
+
+def asked(program, capture, commands):
+    return subprocess.run([program, "run", str(capture)], input="".join(c + "\n" for c in commands).encode(), capture_output=True)
+
+
+def replies(capture, commands):
+    """What framedbg itself answers, images left out."""
+    out = asked(PROGRAM, capture, commands).stdout
+    lines = []
+    while out:
+        line, _, out = out.partition(b"\n")
+        lines.append(line.decode())
+        if line.startswith(b"pam "):
+            out = out[int(line[4:]):]
+    return lines
+
+
+def image(capture):
+    """The samples of the last image, and the header before them."""
+    pam = subprocess.run([PROGRAM, "image", str(capture)], capture_output=True, check=True).stdout
+    head, _, samples = pam.partition(b"ENDHDR\n")
+    return bytearray(samples), head + b"ENDHDR\n"
+
+
+def png(samples, width, height):
+    """A PNG of four channels that goes through the five filters, row by row."""
+    def predicted(filter, a, b, c):
+        near = min((abs(b - c), 0, a), (abs(a - c), 1, b), (abs(a + b - 2 * c), 2, c))[2]
+        return (0, a, b, (a + b) // 2, near)[filter]
+
+    rows, stride, at = bytearray(), 4 * width, lambda x, y: samples[y * 4 * width + x] if x >= 0 and y >= 0 else 0
+    for y in range(height):
+        rows.append(y % 5)
+        rows += bytes((at(x, y) - predicted(y % 5, at(x - 4, y), at(x, y - 1), at(x - 4, y - 1))) % 256 for x in range(stride))
+    chunk = lambda kind, data: struct.pack(">I", len(data)) + kind + data + struct.pack(">I", zlib.crc32(kind + data))
+    packed = zlib.compress(bytes(rows))
+    return (b"\x89PNG\r\n\x1a\n" + chunk(b"IHDR", struct.pack(">IIBBBBB", width, height, 8, 6, 0, 0, 0))
+            + chunk(b"IDAT", packed[:100]) + chunk(b"IDAT", packed[100:]) + chunk(b"IEND", b""))
+
+
+class Viewer:
+    """A server over a run, for the time of a test."""
+
+    def __init__(self, capture, program=PROGRAM):
+        self.session = Session(program, str(capture), 2)
+        self.server = Server(self.session, Capture(capture))
+        self.thread = threading.Thread(target=self.server.serve_forever, args=(0.02,))
+        self.thread.start()
+
+    def __enter__(self):
+        return self
+
+    def __exit__(self, *_):
+        self.server.shutdown()
+        self.server.server_close()
+        self.session.close()
+        self.thread.join()
+
+    def request(self, method="POST", path="/commands", body=b"state\n", more=(), **headers):
+        """Status, headers and body of an answer. A header that is None isn't sent, one in `more` is sent once more."""
+        connection = http.client.HTTPConnection(self.server.host, timeout=10)
+        given = {"Host": self.server.host, "X-Token": self.server.token, "Content-Length": str(len(body))}
+        given.update((name.replace("_", "-"), value) for name, value in headers.items())
+        connection.putrequest(method, path, skip_host=True)
+        for name, value in [*given.items(), *more]:
+            if value is not None:
+                connection.putheader(name, value)
+        connection.endheaders(body)
+        answer = connection.getresponse()
+        text = answer.read()
+        connection.close()
+        return answer.status, answer.headers, text
+
+    def ask(self, *lines, window=None):
+        """The replies to some lines, by the server's call, and the images' bytes behind them."""
+        given = {"X_Window": " ".join(map(str, window))} if window else {}
+        told, _, images = self.request(body="".join(line + "\n" for line in lines).encode(), **given)[2].partition(b"\n")
+        return json.loads(told), images
