@@ -7,6 +7,7 @@ use clap::error::ErrorKind;
 use clap::{ArgMatches, Error};
 use fd_cli::{Ending, image, list_events, serve};
 use fd_pam::Device;
+use screen::Screen;
 use std::alloc::Global;
 use std::io::{IsTerminal, Read};
 use std::process::ExitCode;
@@ -14,6 +15,7 @@ use std::rt::Files;
 use std::thread::Threads;
 use std::{env, fs, io};
 
+mod screen;
 mod words;
 
 /// The most bytes that are read of a capture: one more than a capture may have.
@@ -32,10 +34,6 @@ const CANNOT_READ: u8 = 3;
 const WAITING: &str =
     "framedbg: waiting for commands, as events, goto 3, pixel 0 0, quit; framedbg run --help has them all";
 
-/// What it adds where the replies go to a terminal too.
-const SPILLS: &str =
-    "framedbg: show writes the bytes of an image, here to this terminal; framedbg image writes them to a file";
-
 /// The number of workers that the words ask for. `clap` has refused any other; no clause of it says so.
 fn workers(matches: &ArgMatches) -> u32
     ensures { (1 ≤ result) × (result ≤ 64) }
@@ -50,14 +48,6 @@ fn read_capture(rt: &impl Files, alloc: Global, path: &str) -> Result<Vec<u8>, i
     let mut bytes = Vec::new(alloc);
     file.take(MAX_READ).read_to_end(&mut bytes)?;
     Ok(bytes)
-}
-
-/// Tells somebody who types what is waited for.
-fn greet(rt: &HostRuntime) {
-    let _ = rt.eprintln(WAITING);
-    if rt.stdout().is_terminal() {
-        let _ = rt.eprintln(SPILLS);
-    }
 }
 
 /// Does what the words ask for with a capture's bytes. Threads are started by a handle of their own, which is `main`'s runtime.
@@ -79,16 +69,17 @@ fn perform<T: Threads + Sync>(
         _ => {
             let reader = rt.reader();
             if reader.is_terminal() {
-                greet(rt);
+                let _ = rt.eprintln(WAITING);
             }
             let mut source = Device::new(reader);
+            let mut screen = Screen::new(sink, Device::new(rt.stderr()), rt.stdout().is_terminal());
             serve(
                 threads,
                 alloc,
                 capture,
                 workers(matches),
                 &mut source,
-                &mut sink,
+                &mut screen,
             )
         }
     }
