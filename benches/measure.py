@@ -14,6 +14,7 @@ import tempfile
 import drawing
 import frames
 import reading
+import short_memory
 from bench import Bench
 
 PARTS = [
@@ -26,6 +27,7 @@ PARTS = [
     frames.history,
     frames.memory,
     frames.growth,
+    short_memory.going_on,
     drawing.workers,
     drawing.single_steps,
     reading.reading,
