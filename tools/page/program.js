@@ -39,16 +39,16 @@ const host = {
     if (count && !lines[0].length) lines.shift();       // an empty piece is the end of the input, and stays
     return count;
   }),
-  write(file, place, count) {
-    const bytes = at(place, Math.min(count, most)).slice();
+  write(file, place, whole) {
+    const count = Math.min(whole, most), bytes = at(place, count).slice();
     if (file === ERRORS) {
       errors += said.decode(bytes, { stream: true });
     } else {
       written.push(bytes);
-      kept += bytes.length;
+      kept += count;
       if (kept >= PIECE) send();
     }
-    return bytes.length;
+    return count;
   },
   arg(number, place, room) {
     if (number >= words.length) return -1;

@@ -30,6 +30,7 @@ export class Picture {
   clear() {
     Object.assign(this, { width: 0, height: 0, part: null, fitted: true, crossAt: null });
     this.sheet.hidden = this.cross.hidden = true;
+    this.setOutline(null);
   }
 
   setSize({ width, height }) {
