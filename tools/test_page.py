@@ -7,6 +7,7 @@ It makes the page, and wants Chromium and chromedriver; Firefox is tried too whe
 folder that the viewer and the page are taken from. With another kit than the one it was tried with, a page that can't be made is told and passed over.
 """
 import base64
+import json
 import pathlib
 import random
 import shutil
@@ -133,8 +134,10 @@ class Alone:
         """A capture whose lists grow by doubling, and an image of as many bytes."""
         self.plain()
         dice = random.Random(SEED)
-        events = [runs.event(dice, 1200, 900, 2) for _ in range(3000)]
-        capture, session = capture_of(1200, 900, events, 2).encode(), b"goto 40\nshow\nhistory 60 50\ngoto 3000\nevents\npixel 20 20\ngoto 10\nshow\n"
+        corners = [{"x": dice.randrange(1 << 25), "y": dice.randrange(1 << 25), "z": 5, "color": [9, 9, dice.randrange(256), 99]} for _ in range(300)]
+        many = {"kind": "draw", "interp": "flat", "vertices": corners, "indices": [at % 300 for at in range(5000)]}
+        events = [runs.event(dice, 600, 500, 2) for _ in range(20)] + [{"kind": "marker", "name": str(at)} for at in range(5000)] + [many]
+        capture, session = capture_of(600, 500, events, 2).encode(), b"goto 20\nshow\nhistory 60 50\ngoto 5021\nevents\npixel 20 20\ngoto 10\nshow\n"
         self.assertEqual(list(runs.compare(self.browser, [runs.Run(["run", "CAPTURE"], capture, [session], 1 << 20)])), [])
 
     def test_answers_as_the_server_does(self):
@@ -181,6 +184,20 @@ class Alone:
         self.drop("house.json", HOUSE.read_bytes(), "header")
         self.at(13)
         self.assertEqual(self.drawn(50, 50), [125, 95, 55, 255])
+
+    def test_another_triangle(self):
+        """The outline is that of the capture that is shown."""
+        self.show(HOUSE)
+        self.at(13)
+        self.assertEqual(self.browser.within("return (await import('run.js')).triangle(11, 0)"), [[44, 36], [76, 36], [44, 60]])
+        self.assertEqual(self.browser.within("const { triangle } = await import('run.js'); return [await triangle(11, 2), await triangle(10, 0), await triangle(14, 0)]"), [None] * 3)
+        self.drop("indexed.json", (EXAMPLES / "indexed.json").read_bytes())
+        self.reads("#capture", "indexed.json")
+        capture = json.loads((EXAMPLES / "indexed.json").read_text())
+        number, event = next((number, event) for number, event in enumerate(capture["events"], 1) if "indices" in event)
+        corners = [event["vertices"][at] for at in event["indices"][3:6] or event["indices"][:3]]
+        found = self.browser.within("return (await import('run.js')).triangle(...given)", number, int(len(event["indices"]) >= 6))
+        self.assertEqual(found, [[corner["x"] / 65536, corner["y"] / 65536] for corner in corners])
 
     def test_another_capture_while_it_answers(self):
         self.show(HOUSE)
