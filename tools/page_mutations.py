@@ -35,7 +35,7 @@ MUTATIONS = [   # name, file, text, what stands there instead, test
     ("program: output by view", "page/program.js", "bytes = at(place, count).slice();", "bytes = at(place, count);", CHANCE),
     ("program: the capture is read anew", "page/program.js", "capture.subarray(read)", "capture", SESSIONS),
     ("program: the rest of a line is lost", "page/program.js", "    lines[0] = lines[0].subarray(count);\n", "    lines[0] = lines[0].subarray(count ? lines[0].length : 0);\n", CHANCE),
-    ("program: the input never ends", "page/program.js", "if (count && !lines[0].length)", "if (!lines[0].length)", CHANCE),
+    ("program: each piece is the end", "page/program.js", "if (count && !lines[0].length)", "if (!count)", CHANCE),
     ("program: errors among the output", "page/program.js", "if (file === ERRORS) {", "if (file === -1) {", CHANCE),
     ("program: each status is 0", "page/program.js", "throw new Exit(status);", "throw new Exit(0);", CHANCE),
     ("program: the last is kept", "page/program.js", "  send();\n  postMessage({ ended", "  postMessage({ ended", SESSIONS),

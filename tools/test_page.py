@@ -57,7 +57,8 @@ def setUpModule():
     except kit.Failed as fault:
         if tried_kit():
             raise
-        raise unittest.SkipTest(f"{fault}; it was tried with {kit.TRIED}") from None
+        print(f"The page alone can't be made with this kit, so it wasn't tried: {fault}", flush=True)
+        raise unittest.SkipTest("no page") from None
     PAGE.write_text(packing.page(made, HOUSE))
     PACKED.write_text(packing.page(made, HOUSE, opens=True))
 
@@ -233,6 +234,7 @@ class Alone:
 
     def test_the_sample(self):
         self.plain()
+        self.browser.until("return document.getElementById('choice').open")
         self.browser.click("#own-capture")
         self.at(13)
         self.reads("#capture", "house.json")
@@ -261,6 +263,8 @@ class Alone:
             self.show(None)
             self.at(13)
             self.reads("#capture", "house.json")
+        self.show(HOUSE)
+        self.at(13)
         self.drop("the chain's <1> & \"2\".json", CHAIN.read_bytes())
         self.at(9)
         text, name = self.browser.within(SAVED)
