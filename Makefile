@@ -1,6 +1,7 @@
 # make try      a first picture before anything is proved: framedbg runs unproved, and writes try.png
 # make demo     proves and builds framedbg, finds the wrong colour of examples/house.json, and writes its image to demo.pam and demo.png
 # make view     shows the sample capture in the browser, step by step
+# make page     makes out/framedbg.html, the viewer with the program inside, as one file for a browser; with CAPTURE=.. another with that capture inside
 # make test     checks documents, examples and captures, and then the gate: every proof from nothing, the must-fail edits, the tests, the
 #               programs; and then what only the built program shows: its endings, its threads, and each of its allocations refused
 # make bench    measures the program beside a plain loop in C, and prints ratios; no part of the gate
@@ -11,7 +12,7 @@ SAMPLE := examples/house.json
 PREFIX ?= /usr/local
 HOME_OF := $(DESTDIR)$(PREFIX)
 
-.PHONY: all bench demo install program test test-viewer try uninstall view
+.PHONY: all bench demo install page program test test-page test-viewer try uninstall view
 
 all: demo
 
@@ -38,6 +39,12 @@ try:
 view: program
 	tools/view $(SAMPLE)
 
+page: program
+	tools/build_page $(if $(CAPTURE),--capture '$(CAPTURE)')
+
+test-page: $(PROGRAM)
+	tools/test_page.py
+
 test-viewer: $(PROGRAM)
 	tools/check_hunts
 	tools/test_explain.py
@@ -57,6 +64,7 @@ test:
 	tools/check_captures $(PROGRAM)
 	tools/check_recipes
 	$(MAKE) --no-print-directory test-viewer
+	$(MAKE) --no-print-directory test-page
 	tools/refuse_allocations
 	tools/check_program
 

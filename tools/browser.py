@@ -1,10 +1,11 @@
-"""A browser for tests: Chromium by chromedriver, over the WebDriver protocol with the standard library alone."""
+"""A browser for tests, with the standard library alone: Chromium by chromedriver, over the WebDriver protocol, and Firefox by its own, Marionette."""
 import base64
 import json
 import os
 import shutil
 import socket
 import subprocess
+import tempfile
 import time
 import urllib.error
 import urllib.request
@@ -12,15 +13,30 @@ import urllib.request
 KEYS = {"Home": "\ue011", "End": "\ue010", "Left": "\ue012", "Up": "\ue013", "Right": "\ue014", "Down": "\ue015", "Enter": "\ue007", "Escape": "\ue00c"}
 
 
+# A module of the page's own, which leaves what it gives as text
+WITHIN = """
+const [script, given] = arguments, made = document.createElement("script"), { dataset } = document.documentElement;
+delete dataset.answer;
+made.type = "module";
+made.textContent = `const given = ${JSON.stringify(given)};
+  document.documentElement.dataset.answer = JSON.stringify(await (async () => {${script}})().catch(fault => ({ fault: String(fault) })) ?? null);`;
+document.body.append(made);
+"""
+
+
 def is_installed():
     return shutil.which("chromedriver") is not None and shutil.which("chromium") is not None
 
 
+def free_port():
+    with socket.socket() as probe:
+        probe.bind(("127.0.0.1", 0))
+        return probe.getsockname()[1]
+
+
 class Browser:
     def __init__(self, width=1440, height=960):
-        with socket.socket() as probe:
-            probe.bind(("127.0.0.1", 0))
-            port = probe.getsockname()[1]
+        port = free_port()
         self.driver = subprocess.Popen(["chromedriver", f"--port={port}"], stdout=subprocess.DEVNULL, stderr=subprocess.DEVNULL)
         self.address = f"http://127.0.0.1:{port}/session"
         words = ["--headless=new", "--disable-gpu", "--hide-scrollbars", f"--window-size={width},{height}"]
@@ -51,6 +67,14 @@ class Browser:
     def run_to_end(self, script, *arguments):
         """What the script hands to the function that is its last argument."""
         return self.call("/execute/async", {"script": script, "args": list(arguments)})
+
+    def within(self, script, *given, seconds=120):
+        """What a script gives that is the page's own, so that it can import the page's scripts and wait. It finds `given`."""
+        self.run(WITHIN, script, given)
+        answer = json.loads(self.until("return document.documentElement.dataset.answer", seconds=seconds))
+        if isinstance(answer, dict) and "fault" in answer:
+            raise AssertionError(answer["fault"])
+        return answer
 
     def until(self, script, *arguments, seconds=10):
         """What the script gives as soon as that is true."""
@@ -107,3 +131,58 @@ class Browser:
         finally:
             self.driver.terminate()
             self.driver.wait()
+
+
+class Firefox(Browser):
+    """The same hands on Firefox. It has no log of complaints."""
+    COMMANDS = {"/url": "Navigate", "/refresh": "Refresh", "/execute/sync": "ExecuteScript", "/execute/async": "ExecuteAsyncScript", "/actions": "PerformActions",
+                "/element": "FindElement", "/screenshot": "TakeScreenshot", "/window/rect": "SetWindowRect"}
+
+    def __init__(self, width=1440, height=960):
+        self.profile, port = tempfile.TemporaryDirectory(ignore_cleanup_errors=True), free_port()
+        with open(f"{self.profile.name}/user.js", "w") as settings:
+            settings.write(f'user_pref("marionette.port", {port});\n')
+        words = [self.installed(), "--headless", "--marionette", "--no-remote", "--profile", self.profile.name]
+        self.driver = subprocess.Popen(words, stdout=subprocess.DEVNULL, stderr=subprocess.DEVNULL, env={**os.environ, "MOZ_HEADLESS_WIDTH": str(width), "MOZ_HEADLESS_HEIGHT": str(height)})
+        for _ in range(300):
+            try:
+                self.line = socket.create_connection(("127.0.0.1", port), 60)
+                break
+            except ConnectionError:
+                time.sleep(0.1)
+        self.stream = self.line.makefile("rwb")
+        self.told()
+        self.ask("NewSession", {"capabilities": {"alwaysMatch": {}}})
+
+    @staticmethod
+    def installed():
+        return shutil.which("firefox-esr") or shutil.which("firefox")
+
+    def told(self):
+        length = b""
+        while not length.endswith(b":"):
+            length += self.stream.read(1)
+        return json.loads(self.stream.read(int(length[:-1])))
+
+    def ask(self, command, given):
+        message = json.dumps([0, 1, f"WebDriver:{command}", given]).encode()
+        self.stream.write(b"%d:%s" % (len(message), message))
+        self.stream.flush()
+        _, _, fault, found = self.told()
+        if fault:
+            raise AssertionError(fault["message"])
+        return found.get("value") if isinstance(found, dict) else found
+
+    def call(self, path, body=None, method=None):
+        if path.startswith("/element/"):
+            return self.ask("ElementSendKeys", {"id": path.split("/")[2], **body})
+        return self.ask(self.COMMANDS[path], body or {"full": False})
+
+    def complaints(self):
+        return []
+
+    def close(self):
+        self.line.close()
+        self.driver.terminate()
+        self.driver.wait()
+        self.profile.cleanup()

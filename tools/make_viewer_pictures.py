@@ -2,22 +2,25 @@
 """make_viewer_pictures: the pictures of the viewer in docs/images, from Chromium. The program must be built."""
 import pathlib
 import sys
+import tempfile
 import time
 
 import browser
+from page import module, packing
 from viewer_testing import EXAMPLES, Viewer
 
-PICTURES = pathlib.Path(__file__).resolve().parent.parent / "docs/images"
+TOP = pathlib.Path(__file__).resolve().parent.parent
+PICTURES = TOP / "docs/images"
 SETTLED = 0.4      # seconds until what was asked for is drawn
 
 
 class Shown:
     """A capture in the viewer, and hands on it."""
 
-    def __init__(self, page, viewer, theme, last):
+    def __init__(self, page, address, theme, last):
         self.page = page
         page.open("about:blank")
-        page.open(viewer.server.address)
+        page.open(address)
         page.run("localStorage.theme = arguments[0]", theme)
         page.call("/refresh", {})
         self.at(last)
@@ -40,22 +43,34 @@ class Shown:
         self.page.picture(PICTURES / f"{name}.png")
 
 
+def page_alone(page):
+    """The page that a bug was sent as, from a file."""
+    with tempfile.TemporaryDirectory() as folder:
+        file = pathlib.Path(folder) / "framedbg_lantern.html"
+        file.write_text(packing.page(module.build(TOP / "out/page"), EXAMPLES / "hunts/lantern.json", opens=True))
+        shown = Shown(page, file.as_uri(), "light", 16)
+        shown.pixel(78, 66, 120)
+        shown.entry(15)
+        shown.save("page_alone")
+
+
 def main():
     if not browser.is_installed():
         sys.exit("make_viewer_pictures: Chromium and chromedriver aren't installed")
     page = browser.Browser(1320, 880)
     try:
         with Viewer(EXAMPLES / "house.json") as viewer:
-            shown = Shown(page, viewer, "dark", 13)
+            shown = Shown(page, viewer.server.address, "dark", 13)
             shown.pixel(50, 50, 96)
             shown.entry(11)
             shown.save("viewer_house")
         with Viewer(EXAMPLES / "hunts/chain.json") as viewer:
-            shown = Shown(page, viewer, "light", 9)
+            shown = Shown(page, viewer.server.address, "light", 9)
             shown.pixel(95, 40, 120)
             shown.entry(9)
             page.click("[data-look='depth']")
             shown.save("viewer_depth")
+        page_alone(page)
     finally:
         page.close()
 

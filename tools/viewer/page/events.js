@@ -16,6 +16,7 @@ export function setFilter(text) {
 
 export function listEvents() {
   const rows = [];
+  if (!frame.events.length) folded.clear();
   let group = null;
   for (const event of frame.events) {
     if (event.kind === "marker") {

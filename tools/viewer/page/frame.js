@@ -5,7 +5,8 @@ import { readEvent, readEntry, readPixel, readState, positionIn, isRefusal } fro
 import { askDepths, depthPart, greyOf, tooManyDepths } from "./depths.js";
 import { tell, notice } from "./log.js";
 
-export const frame = {
+// Nothing is known yet
+const unset = () => ({
   position: 0, target: 0,             // where it stands, and where the last move asked for leads
   events: [],
   before: null, after: null,          // the images before the last event and after it
@@ -16,7 +17,8 @@ export const frame = {
   pixel: null, value: null,           // the chosen place, and its colour and depth here
   entries: [], writers: new Set(),
   outlined: null, corners: null,      // the entry whose triangle is outlined
-};
+});
+export const frame = unset();
 
 const IMAGES = 6;                     // positions whose images are kept here
 const images = new Map();
@@ -100,7 +102,11 @@ async function refresh(position = frame.position) {
   if (frame.pixel) await readHistory();
 }
 
+// The run's capture, from its end
 export const open = () => inTurn(async () => {
+  Object.assign(frame, unset());
+  sight = null;
+  show("events");
   await refresh(0);
   await arrive(last(), `goto ${last()}`);
 });

@@ -26,7 +26,15 @@ export class Picture {
     this.sheet.classList.remove("transparent");
   }
 
+  // Nothing is shown until there is another image
+  clear() {
+    Object.assign(this, { width: 0, height: 0, part: null, fitted: true, crossAt: null });
+    this.sheet.hidden = this.cross.hidden = true;
+    this.setOutline(null);
+  }
+
   setSize({ width, height }) {
+    this.sheet.hidden = false;
     if (this.width === width && this.height === height) return;
     Object.assign(this, { width, height });
     this.outline.setAttribute("viewBox", `0 0 ${width} ${height}`);

@@ -10,6 +10,7 @@ export class Ended extends Error {}
 const others = new BroadcastChannel("switches");
 let switches = null, foreign = false;
 export const onForeign = told => { others.onmessage = told; };
+export const onCapture = () => {};        // this run has one capture; that of the page alone has others
 
 async function call(path, body, headers = {}) {
   const answer = await fetch(path, { method: body === undefined ? "GET" : "POST", body, headers: { "X-Token": token, ...headers }, cache: "no-store" });

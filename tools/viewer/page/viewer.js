@@ -1,6 +1,6 @@
 // The page: wires the panels to the frame, and hands to both.
 
-import { captureName } from "./run.js";
+import { captureName, onCapture } from "./run.js";
 import { frame, onShow, inTurn, open, again, last, goTo, neighbour, switchOver, pick, command, fetchPart, wantDepths } from "./frame.js";
 import { WRITES, setFilter, listEvents, drawEvents, drawTicks } from "./events.js";
 import { drawPixel, drawState } from "./panels.js";
@@ -12,7 +12,7 @@ import { readPicture } from "./compare.js";
 import { followTheme } from "./theme.js";
 import { element, swatch } from "./list.js";
 import { figures } from "./words.js";
-import { notice, session } from "./log.js";
+import { forget, notice, session } from "./log.js";
 
 const $ = id => document.getElementById(id);
 const picture = new Picture(Object.fromEntries(["stage", "sheet", "grid", "scissor", "cross", "outline"].map(id => [id, $(id)]).concat([["canvas", $("image")]])));
@@ -207,9 +207,18 @@ function listen() {
   $("theme").onclick = followTheme(drawTicks);
 }
 
+// The run's capture: at first, and where there is another
+function begin() {
+  Object.assign(view, { look: "after", held: null, other: null, found: null, hover: null, shown: null });
+  picture.clear();
+  forget();
+  inTurn(async () => {
+    $("capture").textContent = await captureName();
+    document.title = `${$("capture").textContent} – framedbg`;
+  });
+  open();
+}
+
 listen();
-inTurn(async () => {
-  $("capture").textContent = await captureName();
-  document.title = `${$("capture").textContent} – framedbg`;
-});
-open();
+onCapture(begin);
+begin();

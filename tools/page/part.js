@@ -1,0 +1,14 @@
+// Which pixels of an image are kept: the window cut to the target, and every how many pixels one, as the viewer's server has it.
+
+const MOST_PIXELS = 1 << 22;       // those of 2048 by 2048
+
+const kept = (length, every) => Math.ceil(length / every);
+
+export function keptPart(width, height, window, most = MOST_PIXELS) {
+  let [left, top, right, bottom] = window ?? [0, 0, width, height];
+  [left, top] = [Math.min(left, width - 1), Math.min(top, height - 1)];
+  [right, bottom] = [Math.min(Math.max(right, left + 1), width), Math.min(Math.max(bottom, top + 1), height)];
+  let every = Math.max(1, Math.floor(Math.sqrt(Math.floor((right - left) * (bottom - top) / most))));
+  while (kept(right - left, every) * kept(bottom - top, every) > most) every++;
+  return { width, height, left, top, every, most, columns: kept(right - left, every), rows: kept(bottom - top, every) };
+}

@@ -1,0 +1,100 @@
+#!/usr/bin/env python3
+"""page_mutations: wrong versions of the page alone, each of which its tests must see.
+
+    tools/page_mutations.py [WORD ..]
+
+Each is a copy of the viewer and the page with one text exchanged, and the test that has to fail on it (and to pass on the page as it is). With words,
+only those whose name has one of them are tried. They want Chromium, and the page made once (make page).
+"""
+import os
+import pathlib
+import shutil
+import subprocess
+import sys
+import tempfile
+
+import browser
+
+TOOLS = pathlib.Path(__file__).resolve().parent
+SESSIONS, CHANCE, WORKERS, MEMORY, LARGE = "test_sessions", "test_runs_by_chance", "test_more_workers_than_threads", "test_without_memory", "test_large_blocks_of_memory"
+SERVER, ANOTHER, INSIDE, REFUSED, ENDS = "test_answers_as_the_server_does", "test_another_capture", "test_a_capture_inside", "test_a_refused_capture", "test_it_ends_and_starts_again"
+HUNT = "test_who_painted_the_house_wrong"
+MUTATIONS = [   # name, file, text, what stands there instead, test
+    ("host: a thread is promised", "page/host.c", "{ return EAGAIN; }", "{ return 0; }", WORKERS),
+    ("host: blocks too short", "page/host.c", "(n + HEAD + ALIGNMENT - 1)", "(n / 2 + HEAD + ALIGNMENT - 1)", SESSIONS),
+    ("host: a block given twice", "page/host.c", "free_blocks[class] = *(void **)block;\n        return block;", "return block;", SESSIONS),
+    ("host: half is copied", "page/host.c", "n < room ? n : room);", "(n < room ? n : room) / 2);", SESSIONS),
+    ("host: a larger block of the same size", "page/host.c", "if (n <= room && class_of(n) == *class_at(block)) return block;", "return block;", SESSIONS),
+    ("host: nothing is free again", "page/host.c", "    size_t class = *class_at(block);\n    *(void **)block = free_blocks[class];\n    free_blocks[class] = block;", "", MEMORY),
+    ("host: memory that isn't there", "page/host.c", "    if (__builtin_wasm_memory_grow(0, pages) == (size_t)-1) return 0;", "    __builtin_wasm_memory_grow(0, pages);", MEMORY),
+    ("host: no memory at all", "page/host.c", "    if (n > MOST) return 0;", "    if (n > MOST / PAGE) return 0;", LARGE),
+    ("host: a refusal is a place", "page/host.c", "return (Tried){p != 0, p};", "return (Tried){1, p};", MEMORY),
+    ("host: the least block of one word", "page/host.c", "if (m < LEAST) m = LEAST;", "if (m < LEAST) m = 2 * HEAD - ALIGNMENT;", SESSIONS),
+    ("host: memory begins too early", "page/host.c", "next = ((size_t)&__heap_base + ALIGNMENT - 1)", "next = ((size_t)&__heap_base - PAGE + ALIGNMENT - 1)", SESSIONS),
+    ("host: standard output is a terminal", "page/host.c", "the_errno = ENOTTY; return 0;", "return 1;", CHANCE),
+    ("program: output by view", "page/program.js", "bytes = at(place, count).slice();", "bytes = at(place, count);", CHANCE),
+    ("program: the capture is read anew", "page/program.js", "capture.subarray(read)", "capture", SESSIONS),
+    ("program: the rest of a line is lost", "page/program.js", "    lines[0] = lines[0].subarray(count);\n", "    lines[0] = lines[0].subarray(count ? lines[0].length : 0);\n", CHANCE),
+    ("program: each piece is the end", "page/program.js", "if (count && !lines[0].length)", "if (!count)", CHANCE),
+    ("program: errors among the output", "page/program.js", "if (file === ERRORS) {", "if (file === -1) {", CHANCE),
+    ("program: each status is 0", "page/program.js", "throw new Exit(status);", "throw new Exit(0);", CHANCE),
+    ("program: the last is kept", "page/program.js", "  send();\n  postMessage({ ended", "  postMessage({ ended", SESSIONS),
+    ("program: all is said to be written", "page/program.js", "    return count;\n  },\n  arg", "    return whole;\n  },\n  arg", CHANCE),
+    ("program: a buffer that is gone", "page/program.js", "    return count;\n  },\n  arg", "    return bytes.length;\n  },\n  arg", LARGE),
+    ("program: a word too many", "page/program.js", "if (number >= words.length) return -1;", "if (number > words.length) return -1;", CHANCE),
+    ("page: one line short", "page/output.js", "for (let i = 0; i < count; i++) {", "for (let i = 1; i < count; i++) {", SERVER),
+    ("page: the part one pixel off", "page/output.js", "pixels[left + column * every]", "pixels[left + column * every + 1]", SERVER),
+    ("page: a row too few is passed over", "page/output.js", "(next - top - row * every - 1)", "(next - top - row * every - 2)", SERVER),
+    ("page: a coarser part", "page/part.js", "while (kept(right - left, every) * kept(bottom - top, every) > most)", "while (kept(right - left, every) * kept(bottom - top, every) >= most)", SERVER),
+    ("page: an empty window", "page/part.js", "Math.max(right, left + 1)", "right", SERVER),
+    ("page: the last byte of a piece", "page/output.js", "subarray(0, count - at);", "subarray(0, Math.max(1, count - at - 1));\n      if (part.length > 99) part[0] ^= 1;", SERVER),
+    ("page: the ending is lost", "page/run.js", "its.end(new Ended(`${ended.errors.trim() || \"framedbg has ended\"} (${ended.ending})`))", "its.end(new Ended(\"framedbg has ended\"))", REFUSED),
+    ("page: a restart keeps the run", "page/run.js", "export const restart = () => inTurn(start);", "export const restart = () => inTurn(async () => {});", ENDS),
+    ("page: the first capture for ever", "page/run.js", "  [capture, events] = [other, null];", "  capture ??= other;", ANOTHER),
+    ("page: triangles of another capture", "page/run.js", "  [capture, events] = [other, null];", "  capture = other;", "test_another_triangle"),
+    ("page: nobody is told of another capture", "page/run.js", "  tellCapture();\n", "", ANOTHER),
+    ("page: a dropped picture is a capture", "page/choose.js", "PICTURE.test(file.name) && !dialog.open", "false", "test_a_dropped_picture"),
+    ("page: the sample at once", "page/choose.js", 'if ("opens" in inside.dataset) takeOwn();', "if (inside) takeOwn();", "test_the_sample"),
+    ("page: the capture inside waits", "page/choose.js", 'if ("opens" in inside.dataset) takeOwn();', "if (!inside) takeOwn();", INSIDE),
+    ("page: another page is saved", "page/choose.js", "  own.textContent = await pack(bytes);\n", "", INSIDE),
+    ("page: a saved page that doesn't open", "page/choose.js", '{ name, opens: "" }', "{ name }", INSIDE),
+    ("page: it may send", "page/packing.py", "default-src 'none'", "default-src *", "test_nothing_is_sent"),
+    ("page: no word of what is missing", "page/needs.js", "if (missing.length) {", "if (missing.length > 9) {", "test_a_browser_that_lacks_something"),
+    ("viewer: the outline stays", "viewer/page/picture.js", "    this.setOutline(null);\n  }", "  }", ANOTHER),
+    ("viewer: the pixel stays", "viewer/page/frame.js", "  Object.assign(frame, unset());\n", "", ANOTHER),
+    ("viewer: the log stays", "viewer/page/log.js", "  log.replaceChildren();\n", "", ANOTHER),
+    ("viewer: the old image stays", "viewer/page/picture.js", "this.sheet.hidden = this.cross.hidden = true;", "this.cross.hidden = true;", REFUSED),
+]
+
+
+def seen(mutation):
+    """Whether the test fails on the wrong version."""
+    name, file, old, new, test = mutation
+    with tempfile.TemporaryDirectory() as folder:
+        for part in ("viewer", "page"):
+            shutil.copytree(TOOLS / part, pathlib.Path(folder) / part)
+        path = pathlib.Path(folder) / file
+        text = path.read_text()
+        if text.count(old) != 1:
+            sys.exit(f"page_mutations: {name}: its text stands {text.count(old)} times in {file}")
+        path.write_text(text.replace(old, new))
+        words = [sys.executable, TOOLS / "test_page.py", "-f", f"InChromium.{test}"]
+        run = subprocess.run(words, env={"EXAMPLES": TOOLS.parent / "examples", "FRAMEDBG": TOOLS.parent / "crates/framedbg/out/framedbg", **os.environ, "VIEWER": folder},
+                             capture_output=True, text=True, check=False)
+        return "skipped" if "skipped=" in run.stderr else "seen" if run.returncode and "FAILED" in run.stderr else "BROKEN" if run.returncode else "MISSED"
+
+
+def main():
+    if not browser.is_installed():
+        sys.exit(print("page_mutations: not tried, Chromium and chromedriver aren't installed"))
+    wanted = [m for m in MUTATIONS if not sys.argv[1:] or any(word in m[0] for word in sys.argv[1:])]
+    missed = 0
+    for mutation in wanted:
+        verdict = seen(mutation)
+        missed += verdict not in ("seen", "skipped")
+        print(f"{mutation[0]}: {verdict}", flush=True)
+    sys.exit(f"{missed} wrong versions were missed" if missed else 0)
+
+
+if __name__ == "__main__":
+    main()

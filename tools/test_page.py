@@ -1,0 +1,342 @@
+#!/usr/bin/env python3
+"""test_page: tries the page alone, opened from the disk: the viewer's own tests over it, and its answers beside those of the program.
+
+    tools/test_page.py [TEST ..]
+
+It makes the page, and wants Chromium and chromedriver; Firefox is tried too where it is installed. FRAMEDBG names another program, VIEWER another
+folder that the viewer and the page are taken from. With another kit than the one it was tried with, a page that can't be made is told and passed over.
+"""
+import base64
+import json
+import pathlib
+import random
+import shutil
+import tempfile
+import unittest
+from unittest import mock
+
+import browser
+import test_viewer_page
+from viewer_testing import DEPTH, EXAMPLES, PROGRAM, TOOLS, capture_of, image, png
+from viewer import image as viewer_image
+from viewer.session import Session
+from page import kit, module, packing, runs
+
+HOUSE, CHAIN = EXAMPLES / "house.json", EXAMPLES / "hunts/chain.json"
+FOLDER = tempfile.TemporaryDirectory()
+OBJECTS, PAGE, PACKED = TOOLS.parent / "out/page", pathlib.Path(FOLDER.name) / "framedbg.html", pathlib.Path(FOLDER.name) / "framedbg_house.html"
+SEED, RUNS = 1, 60
+SMALL = 64 << 20        # bytes of memory, for a page that wants more
+# Calls of the page's own run, with a window of the images: what each is answered with
+ASKED = """
+const { ask } = await import("run.js"), told = [];
+const letters = bytes => { let text = ""; for (const byte of bytes) text += String.fromCharCode(byte); return btoa(text); };
+for (const [lines, window] of given[0]) {
+  told.push((await ask(lines, window)).map(({ image, ...more }) => image ? { ...more, image: { ...image, bytes: letters(image.bytes) } } : more));
+}
+return told;
+"""
+DROP = """
+const [name, letters, place] = given, moved = new DataTransfer();
+moved.items.add(new File([Uint8Array.from(atob(letters), letter => letter.charCodeAt(0))], name));
+document.querySelector(place).dispatchEvent(new DragEvent("drop", { dataTransfer: moved, bubbles: true, cancelable: true }));
+"""
+SAVED = """
+const made = new Promise(resolve => { URL.createObjectURL = blob => { resolve(blob); return "data:,"; }; });
+HTMLAnchorElement.prototype.click = function () { window.savedAs = this.download; };
+document.getElementById("save-page").click();
+return [await (await made).text(), window.savedAs];
+"""
+WITHOUT = "delete WebAssembly.Suspending; WebAssembly.validate = () => false;"
+
+
+def setUpModule():
+    try:
+        module.compile_program(OBJECTS)
+        made = linked()
+    except kit.Failed as fault:
+        if tried_kit():
+            raise
+        print(f"The page alone can't be made with this kit, so it wasn't tried: {fault}", flush=True)
+        raise unittest.SkipTest("no page") from None
+    PAGE.write_text(packing.page(made, HOUSE))
+    PACKED.write_text(packing.page(made, HOUSE, opens=True))
+
+
+def tried_kit():
+    try:
+        return kit.name() == kit.TRIED
+    except OSError:
+        return False
+
+
+def linked(**how):
+    made = pathlib.Path(FOLDER.name) / "framedbg.wasm"
+    module.link(OBJECTS, made, **how)
+    return made.read_bytes()
+
+
+def exchanged(file, old, new):
+    """The page with a text of one of its scripts exchanged."""
+    own, other = pathlib.Path(packing.__file__).parent, pathlib.Path(FOLDER.name) / "exchanged"
+    shutil.copytree(own, other, dirs_exist_ok=True)
+    text = (own / file).read_text()
+    assert text.count(old) == 1, old
+    (other / file).write_text(text.replace(old, new))
+    path = PAGE.with_stem("exchanged")
+    path.write_text(packing.page(linked(), HOUSE, own=other))
+    return path
+
+
+class Alone:
+    """What is tried in each browser."""
+    page = PAGE
+
+    def open(self, viewer):
+        """The viewer's tests come here with a server. It isn't asked: its capture is chosen in the page."""
+        self.show(viewer.session.words[-1])
+
+    def show(self, capture):
+        self.browser.open("about:blank")
+        self.browser.open(self.page.as_uri())
+        if self.page != PACKED:
+            self.browser.until("return document.getElementById('capture-file') !== null")
+            self.browser.choose("#capture-file", capture)
+        self.browser.until("return document.querySelector('#position b') !== null")
+
+    def drop(self, name, data, place="#stage"):
+        self.browser.within(DROP, name, base64.b64encode(data).decode(), place)
+
+    def plain(self, page=None):
+        self.browser.open("about:blank")
+        self.browser.open((page or self.page).as_uri())
+        self.browser.until("return document.getElementById('capture-file') !== null")
+
+    def test_sessions(self):
+        self.plain()
+        pairs = [line.split() for line in (EXAMPLES / "sessions.txt").read_text().splitlines()]
+        asked = [runs.Run(["run", "CAPTURE"], (EXAMPLES / f"{capture}.json").read_bytes(), [(EXAMPLES / f"{session}.session").read_bytes()], 1 << 20)
+                 for session, capture in pairs if capture != "widest_target"]
+        expected = [(EXAMPLES / f"{session}.expected").read_bytes() for session, capture in pairs if capture != "widest_target"]
+        self.assertEqual([out for out, *_ in runs.in_page(self.browser, asked)], expected)
+
+    def test_runs_by_chance(self):
+        self.plain()
+        self.assertEqual(list(runs.compare(self.browser, list(runs.runs(random.Random(SEED), RUNS)))), [])
+
+    def test_more_workers_than_threads(self):
+        """No thread can be had here, and the work of all is done."""
+        self.plain()
+        capture, session = (EXAMPLES / "crowd.json").read_bytes(), (EXAMPLES / "crowd.session").read_bytes()
+        asked = [runs.Run([word, "--workers", str(count), "CAPTURE"], capture, [session], 1 << 20) for word in ("run", "image") for count in (1, 2, 4, 64)]
+        self.assertEqual(list(runs.compare(self.browser, asked)), [])
+
+    def test_large_blocks_of_memory(self):
+        """A capture whose lists grow by doubling, and an image of as many bytes."""
+        self.plain()
+        dice = random.Random(SEED)
+        corners = [{"x": dice.randrange(1 << 25), "y": dice.randrange(1 << 25), "z": 5, "color": [9, 9, dice.randrange(256), 99]} for _ in range(300)]
+        many = {"kind": "draw", "interp": "flat", "vertices": corners, "indices": [at % 300 for at in range(5000)]}
+        events = [runs.event(dice, 600, 500, 2) for _ in range(20)] + [{"kind": "marker", "name": str(at)} for at in range(5000)] + [many]
+        capture, session = capture_of(600, 500, events, 2).encode(), b"goto 20\nshow\nhistory 60 50\ngoto 5021\nevents\npixel 20 20\ngoto 10\nshow\n"
+        self.assertEqual(list(runs.compare(self.browser, [runs.Run(["run", "CAPTURE"], capture, [session], 1 << 20)])), [])
+
+    def test_answers_as_the_server_does(self):
+        """Replies, lists and parts of images are those of the viewer's server."""
+        dice = random.Random(SEED)
+        calls = [([f"goto {dice.randrange(15)}", "show", "state", "events", "sing", f"history {dice.randrange(99)} 50", "show"],
+                  dice.choice([None, sorted(dice.randrange(70) for _ in range(4)), [dice.randrange(200) for _ in range(4)]])) for _ in range(40)]
+        session = Session(PROGRAM, str(HOUSE), 1)
+        try:
+            for most in (1 << 22, 1000, 7):
+                with mock.patch.object(self, "page", exchanged("part.js", "1 << 22", str(most))), mock.patch.object(viewer_image, "MOST_PIXELS", most):
+                    self.show(HOUSE)
+                    found = self.browser.within(ASKED, calls)
+                    self.assertEqual(found, [self.answered(session, *call) for call in calls])
+        finally:
+            session.close()
+
+    def answered(self, session, lines, window):
+        replies, images, _ = session.answer([line.encode() for line in lines], window)
+        images = iter(images)
+        return [{**reply, "image": {**reply["image"], "bytes": base64.b64encode(next(images)).decode()}} if "image" in reply else reply for reply in replies]
+
+    def test_another_capture(self):
+        """Captures are dropped one after another, and nothing of one is left in the next."""
+        self.show(HOUSE)
+        self.at(13)
+        self.browser.run("window.loaded = 'once'")
+        self.click_pixel(50, 50, 96)
+        self.browser.until("return document.querySelectorAll('#history .entry').length === 4")
+        self.choose_entry(11)
+        self.browser.press("Escape", "p")
+        self.reads("#difference", "no pixel differs")
+        self.drop("depth.json", DEPTH.encode())
+        self.at(6)
+        self.reads("#capture", "depth.json")
+        self.reads("#size", "8 × 8")
+        self.assertEqual(self.browser.run("return [document.title, window.loaded]"), ["depth.json – framedbg", "once"])
+        self.assertEqual(self.browser.run("return ['#history', '#cross', '#comparison'].map(s => document.querySelector(s).checkVisibility())"), [False] * 3)
+        self.assertEqual(self.browser.run("return document.querySelector('#outline polygon').getAttribute('points') || ''"), "")
+        self.assertEqual(self.browser.run("return [...document.querySelectorAll('#log .asked')].map(e => e.innerText)"), ["goto 6"])
+        self.assertEqual(self.drawn(1, 1), [255, 0, 0, 255])
+        self.click_pixel(1, 1, 8)
+        self.reads("#depth-here", "depth 3000")
+        self.drop("house.json", HOUSE.read_bytes(), "header")
+        self.at(13)
+        self.assertEqual(self.drawn(50, 50), [125, 95, 55, 255])
+
+    def test_another_triangle(self):
+        """The outline is that of the capture that is shown."""
+        self.show(HOUSE)
+        self.at(13)
+        self.assertEqual(self.browser.within("return (await import('run.js')).triangle(11, 0)"), [[44, 36], [76, 36], [44, 60]])
+        self.assertEqual(self.browser.within("const { triangle } = await import('run.js'); return [await triangle(11, 2), await triangle(10, 0), await triangle(14, 0)]"), [None] * 3)
+        self.drop("indexed.json", (EXAMPLES / "indexed.json").read_bytes())
+        self.reads("#capture", "indexed.json")
+        capture = json.loads((EXAMPLES / "indexed.json").read_text())
+        number, event = next((number, event) for number, event in enumerate(capture["events"], 1) if "indices" in event)
+        corners = [event["vertices"][at] for at in event["indices"][3:6] or event["indices"][:3]]
+        found = self.browser.within("return (await import('run.js')).triangle(...given)", number, int(len(event["indices"]) >= 6))
+        self.assertEqual(found, [[corner["x"] / 65536, corner["y"] / 65536] for corner in corners])
+
+    def test_another_capture_while_it_answers(self):
+        self.show(HOUSE)
+        self.at(13)
+        self.browser.within("import('run.js').then(({ ask }) => ask(Array(4000).fill(['goto 13', 'show', 'goto 0']).flat())).catch(fault => { window.refused = fault.message; });")
+        self.drop("depth.json", DEPTH.encode())
+        self.at(6)
+        self.reads("#capture", "depth.json")
+        self.assertEqual(self.browser.within("return window.refused"), "depth.json is shown now")
+
+    def test_a_dropped_picture(self):
+        """It is compared with, as in the viewer, and is no capture."""
+        self.show(HOUSE)
+        self.at(13)
+        samples, _ = image(HOUSE)
+        samples[4 * (50 * 96 + 60)] += 40
+        self.drop("driver.png", png(samples, 96, 64))
+        self.reads("#compared-with", "driver.png")
+        self.reads("#difference", "1 px differ by ≤ 40, 60 50 to 60 50")
+
+    def test_a_refused_capture(self):
+        """The page says how the program ended, shows nothing of another capture, and takes the next one."""
+        self.show(HOUSE)
+        self.at(13)
+        self.drop("README.md", b"# no capture")
+        self.browser.until("return document.getElementById('notice').innerText.includes('framedbg: capture refused 2 not json (status 2)')")
+        self.assertEqual(self.browser.run("return document.querySelectorAll('#event-list .event').length"), 0)
+        self.assertFalse(self.browser.run("return document.querySelector('#image').checkVisibility()"))
+        self.drop("house.json", HOUSE.read_bytes())
+        self.at(13)
+        self.assertEqual(self.drawn(50, 50), [125, 95, 55, 255])
+        self.assertFalse(self.browser.run("return document.querySelector('#notice').checkVisibility()"))
+
+    def test_the_sample(self):
+        self.plain()
+        self.browser.until("return document.getElementById('choice').open")
+        self.browser.click("#own-capture")
+        self.at(13)
+        self.reads("#capture", "house.json")
+
+    def test_it_ends_and_starts_again(self):
+        self.show(HOUSE)
+        self.at(13)
+        self.browser.click(self.row(8) + " input")
+        self.browser.until(f"return document.querySelector(\"{self.row(8)}\").classList.contains('off')")
+        self.browser.click("#command")
+        self.browser.press(*"quit", "Enter")
+        self.reads("#log .told:last-child .reply", "bye")
+        self.browser.press("Escape", "Left")
+        self.browser.until("return document.getElementById('notice').innerText.includes('framedbg has ended (status 0)')")
+        self.browser.click("#notice button")
+        self.browser.until("return document.getElementById('notice').hidden")
+        self.browser.press("Home")
+        self.at(0)
+        self.browser.press("End")
+        self.at(13)
+        self.assertEqual(self.drawn(50, 50), [190, 60, 50, 255])     # event 8 is off as it was
+
+    def test_a_capture_inside(self):
+        """A page with a capture shows it at once; saved with another, it shows that one."""
+        with mock.patch.object(self, "page", PACKED):
+            self.show(None)
+            self.at(13)
+            self.reads("#capture", "house.json")
+        self.show(HOUSE)
+        self.at(13)
+        self.drop("the chain's <1> & \"2\".json", CHAIN.read_bytes())
+        self.at(9)
+        text, name = self.browser.within(SAVED)
+        self.assertEqual(name, "framedbg_the chain's <1> & \"2\".html")
+        saved = PAGE.with_stem("saved")
+        saved.write_text(text)
+        self.browser.open(saved.as_uri())
+        self.at(9)
+        self.reads("#capture", "the chain's <1> & \"2\".json")
+        again, _ = self.browser.within(SAVED)
+        self.assertEqual(again, text)
+
+    def test_nothing_is_sent(self):
+        self.plain()
+        self.browser.within("addEventListener('securitypolicyviolation', fault => { window.refused = fault.effectiveDirective; }); fetch('http://127.0.0.1:9/').catch(() => {});")
+        self.assertEqual(self.browser.within("while (!window.refused) await new Promise(resolve => setTimeout(resolve, 10)); return window.refused"), "connect-src")
+        self.browser.complaints()
+
+    def test_without_memory(self):
+        """Where memory is wanted the session stays where it stands, and goes on."""
+        page = PAGE.with_stem("small")
+        page.write_text(packing.page(linked(most_memory=SMALL), HOUSE))
+        self.plain(page)
+        corners = [{"x": x << 16, "y": y << 16, "color": [x % 256, y % 256, 9, 99]} for x, y in ((0, 0), (4096, 0), (0, 4096))]
+        capture, steps = capture_of(1024, 1024, [{"kind": "draw", "interp": "linear", "vertices": corners}] * 12).encode(), 12
+        then = b"pixel 3 3\nback\nstep\nhistory 3 3\ngoto 0\nstep\nquit\n"
+        (out, errors, ending), = runs.in_page(self.browser, [runs.Run(["run", "CAPTURE"], capture, [b"step\n" * steps + then], 1 << 20)])
+        stands = out.count(b"\n", 0, out.index(b"stopped"))
+        self.assertGreater(stands, 0)
+        told = [b"at %d\n" % at for at in range(1, stands + 1)] + [b"stopped %d\n" % stands] * (steps - stands)
+        replies = runs.by_program(runs.Run(["run", "CAPTURE"], capture, [b"goto %d\n%s" % (stands, then)], 1))[0].partition(b"\n")[2]
+        self.assertEqual((out, errors, ending), (b"".join(told) + replies, "", "status 0"))
+
+
+@unittest.skipUnless(browser.is_installed(), "Chromium and chromedriver aren't installed")
+class InChromium(Alone, test_viewer_page.Page):
+    # Of the server alone
+    test_two_pages_at_once = test_the_file_for_the_browser_leads_to_the_page = test_without_the_token = test_stopped_and_ended = None
+
+    def test_dark_and_light(self):
+        with mock.patch.object(self, "page", PACKED):
+            super().test_dark_and_light()
+
+    def test_a_target_that_is_too_large_at_once(self):
+        with mock.patch.object(self, "page", exchanged("part.js", "1 << 22", "1000")):
+            super().test_a_target_that_is_too_large_at_once()
+
+    def test_a_browser_that_lacks_something(self):
+        added = self.browser.call("/goog/cdp/execute", {"cmd": "Page.addScriptToEvaluateOnNewDocument", "params": {"source": WITHOUT}})
+        try:
+            self.browser.open(self.page.as_uri())
+            self.reads("body", "This browser can't run framedbg: its WebAssembly lacks 64-bit memory and JavaScript promise integration. "
+                       "Chromium 156 and Firefox 153 have both; so does tools/view, which wants neither.")
+        finally:
+            self.browser.call("/goog/cdp/execute", {"cmd": "Page.removeScriptToEvaluateOnNewDocument", "params": added})
+
+
+@unittest.skipUnless(browser.is_installed() and browser.Firefox.installed(), "Firefox isn't installed")
+class InFirefox(Alone, test_viewer_page.Page):
+    @classmethod
+    def setUpClass(cls):
+        cls.browser = browser.Firefox()
+
+
+# Of the viewer's tests, those that are tried in Firefox too
+for test in [name for name in dir(test_viewer_page.Page) if name.startswith("test_")]:
+    if test not in ("test_who_painted_the_house_wrong", "test_events_off_and_on", "test_depths"):
+        setattr(InFirefox, test, None)
+
+
+if __name__ == "__main__":
+    if not browser.is_installed():
+        print("Chromium and chromedriver aren't installed here: the page alone wasn't tried", flush=True)
+    else:
+        unittest.main()
