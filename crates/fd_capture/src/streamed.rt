@@ -183,11 +183,7 @@ fn vertex_members(
 }
 
 /// The next value as a vertex.
-fn vertex(
-    version: u32,
-    reader: &mut Reader<'_>,
-    depth: usize,
-) -> Result<Option<Vertex>, Stop>
+fn vertex(version: u32, reader: &mut Reader<'_>, depth: usize) -> Result<Option<Vertex>, Stop>
     ensures ok { IfOk result (λ v. (d : Data) × (taken depth reader.old ≡ Some (d, reader.new)) × (v ≡ vertex_of version d)) }
     ensures refused { result ≡ Err Stop.NotJson → taken depth reader.old ≡ None }
     ensures shorter { OnOk result (length reader.new < length reader.old) }

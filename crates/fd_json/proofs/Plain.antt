@@ -1,20 +1,18 @@
 -- A few digits, and the number that they write.
-use Rattle.std.proofs.Common.{◌≡◌, ℕ, ◌+◌, ◌-◌, ◌*◌, ◌%◌, ◌^◌, ◌<◌, ◌≤◌, List, [], ◌++◌, length, take, get_or, Bool, true, false, Option, Some, refl, sym, ap, ◌∙◌, cond, arith, append-nil, rules, ℤ, pos, negsuc, zero, suc, neg_ℤ, ◌-ℤ◌, w64, to_z, of_z, SFits}
+use Rattle.std.proofs.Common.{◌≡◌, ℕ, ◌+◌, ◌%◌, ◌^◌, ◌<◌, ◌≤◌, List, [], ◌++◌, length, Bool, true, false, Some, refl, sym, ap, ◌∙◌, arith, append-nil, ℤ, pos, negsuc, zero, suc, neg_ℤ, ◌-ℤ◌, w64, to_z, of_z, SFits}
 use Rattle.std.specs.Prelude.{nat_lt, nat_le, ◌&&◌, if◌then◌else◌}
 use Rattle.std.proofs.lemmas.Bool.Decides.{nat_tests}
 use Rattle.std.proofs.Math.IntN.{+ℤ_idl}
 use Rattle.std.proofs.lemmas.Int.{to_z_pos, to_z-of_z}
 use Rattle.serde_json.specs.Find.{of_integer}
-use Rattle.serde_json.specs.Data.{Num, unsigned, negative}
+use Rattle.serde_json.specs.Data.{unsigned, negative}
 use Rattle.serde_json.specs.Read.{number_from, float_of}
 use Rattle.std.specs.Char.{digit_value}
 use Rattle.std.specs.Str.Parse.{AllDigits, IsNumeral, digits_value}
 use Rattle.std.proofs.lemmas.Str.{digit_value_digit}
 use Rattle.std.proofs.lemmas.Str.Parse.{numerals_by_value, tells_digits, digits_value_short}
-use Rattle.std.proofs.lemmas.Int.Digits.{digits_more, digits_value_more}
-use Rattle.std.proofs.lemmas.List.{length-take-le}
 use Rattle.std.proofs.lemmas.Float.Parse.{scan_numeral-text_of}
-use Rattle.fast_float.specs.Text.{Parts, scan, text_of, IsWellFormed}
+use Rattle.fast_float.specs.Text.{Parts, scan, text_of}
 
 -- a byte whose distance from `0` is at most 9, in bytes that wrap
 pub digit_is : (b : ℕ) → b < 256 → (b + 208) % 256 ≤ 9 → digit_value b ≡ (b + 208) % 256
@@ -52,6 +50,7 @@ number-minus_digits ds n numeral is small positive = ap (number_from true) (scan
       where
         above : nat_lt 0 n ≡ true
         above = grind (arith, nat_tests, positive)
+
         below : nat_le n (2 ^ 63) ≡ true
         below = grind (arith, nat_tests, small)
 

@@ -1,5 +1,5 @@
 -- Whole numbers of a JSON text.
-use Rattle.std.specs.Prelude.{ℕ, ℤ, ◌^◌, ◌&&◌, Bool, true, false, nat_lt, nat_le, if◌then◌else◌, Option, Some, None, option_and_then}
+use Rattle.std.specs.Prelude.{ℤ, ◌^◌, ◌&&◌, Bool, true, false, nat_lt, nat_le, if◌then◌else◌, Option, Some, None, option_and_then}
 use Rattle.fast_float.specs.Text.{Parts, digits_of, with_sign}
 use Rattle.serde_json.specs.Data.{Num, unsigned, negative, Data}
 use Rattle.serde_json.specs.Find.{as_number, as_i64}
