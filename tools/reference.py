@@ -40,10 +40,10 @@ def no_json(*_):
 
 
 def number_of(text):
-    """A number of JSON: whole where it has neither point nor exponent, and none at all where no double holds its size."""
+    """A number of JSON as serde_json reads it: whole where it has neither point nor exponent, but for -0, and none at all where no double holds its size."""
     if math.isinf(float(text)):
         raise ValueError
-    return int(text) if text.lstrip("-").isdigit() and len(text) < 25 else float(text)
+    return int(text) if text.lstrip("-").isdigit() and text != "-0" and len(text) < 25 else float(text)
 
 
 def unpaired(text):

@@ -1,9 +1,9 @@
 //! The members of a capture, and their values.
-ghost use Rattle.std.specs.Prelude.{◌≡◌, map, option_map, option_and_then, ◌-◌, ◌^◌};
+ghost use Rattle.std.specs.Prelude.{◌≡◌, map, option_map, option_and_then};
 ghost use Rattle.serde_json.specs.Find.{as_str};
 ghost use Rattle.serde_json.specs.View.{view};
 ghost use Rattle.fd_blend.specs.Mask.{mask_of};
-ghost use Rattle.fd_capture.specs.Field.{number_between, signed_32, unsigned_32, array_of, colour_of, rect_of, part_of};
+ghost use Rattle.fd_capture.specs.Field.{number_between, signed_32, array_of, colour_of, rect_of, part_of};
 ghost use Rattle.fd_capture.specs.Spelling.{spelled_factor, spelled_op};
 
 use crate::spelling;
@@ -25,13 +25,6 @@ pub(crate) fn signed(value: &Value) -> Option<i32>
     ensures { result ≡ signed_32 (view value.now) }
 {
     i32::try_from(value.as_i64()?).ok()
-}
-
-/// A whole number of 32 bits without a sign.
-pub(crate) fn unsigned(value: &Value) -> Option<u32>
-    ensures { result ≡ unsigned_32 (view value.now) }
-{
-    u32::try_from(value.as_i64()?).ok()
 }
 
 /// The items of an array.

@@ -1,15 +1,14 @@
 //! The vertices of a draw, taken from the tokens of its text.
-ghost use Rattle.std.specs.Prelude.{◌≡◌, ◌<◌, ◌≤◌, ◌∷◌, ℤ, codes, length, map, Some, None, Err, IfOk, OnOk, option_map, option_and_then};
+ghost use Rattle.std.specs.Prelude.{◌≡◌, ◌<◌, ◌≤◌, ◌-◌, ◌^◌, [], ◌∷◌, ◌++◌, ℤ, codes, length, map, take, Some, None, Err, IfOk, OnOk, option_map, option_and_then};
 ghost use Rattle.serde_json.specs.Data.{Data, Items, Members, object};
 ghost use Rattle.fd_json.specs.Taken.{taken, members_taken, items_taken};
-ghost use Rattle.fd_capture.specs.Field.{all_of, array_of, colour_of, list_of, number_between, signed_32, unsigned_32, vertex_of};
+ghost use Rattle.fd_capture.specs.Field.{all_of, array_of, between, colour_of, list_of, within_32, number_between, signed_32, unsigned_32, vertex_of};
 ghost use Rattle.fd_capture.specs.Streamed.{colour_from, vertex_from};
 
-use crate::field;
-use crate::field::{byte, signed, unsigned};
+use arrayvec::ArrayVec;
 use fd_blend::Colour;
 use fd_events::Vertex;
-use fd_json::{Stop, leaf, open_array, open_object, pass};
+use fd_json::{Stop, integer, open_array, open_object, pass};
 use fd_snap::Pos;
 use json::Reader;
 use std::alloc::Global;
@@ -32,51 +31,87 @@ fn vertex_from(
     Some(Vertex { pos, colour, z })
 }
 
+/// A whole number of 32 bits.
+fn signed(whole: Option<i64>) -> Option<i32>
+    ensures { result ≡ option_and_then within_32 whole }
+{
+    i32::try_from(whole?).ok()
+}
+
+/// One without a sign.
+fn unsigned(whole: Option<i64>) -> Option<u32>
+    ensures { result ≡ option_and_then (between 0 (2 ^ 32 - 1)) whole }
+{
+    u32::try_from(whole?).ok()
+}
+
+/// One of 16 bits.
+fn short(whole: Option<i64>) -> Option<u16>
+    ensures { result ≡ option_and_then (between 0 65535) whole }
+{
+    u16::try_from(whole?).ok()
+}
+
+/// One of 8 bits.
+fn byte(whole: Option<i64>) -> Option<u8>
+    ensures { result ≡ option_and_then (between 0 255) whole }
+{
+    u8::try_from(whole?).ok()
+}
+
 /// The next value as a whole number of 32 bits.
-fn coordinate(alloc: Global, reader: &mut Reader<'_>, depth: usize) -> Result<Option<i32>, Stop>
+fn coordinate(reader: &mut Reader<'_>, depth: usize) -> Result<Option<i32>, Stop>
     ensures ok { IfOk result (λ n. (d : Data) × (taken depth reader.old ≡ Some (d, reader.new)) × (n ≡ signed_32 d)) }
     ensures refused { result ≡ Err Stop.NotJson → taken depth reader.old ≡ None }
     ensures shorter { OnOk result (length reader.new < length reader.old) }
 {
-    let value = leaf(alloc, reader, depth)?;
-    Ok(signed(&value))
+    let whole = integer(reader, depth)?;
+    Ok(signed(whole))
 }
 
 /// The next value as a depth.
-fn vertex_depth(alloc: Global, reader: &mut Reader<'_>, depth: usize) -> Result<Option<u16>, Stop>
+fn vertex_depth(reader: &mut Reader<'_>, depth: usize) -> Result<Option<u16>, Stop>
     ensures ok { IfOk result (λ n. (d : Data) × (taken depth reader.old ≡ Some (d, reader.new)) × (n ≡ number_between 0 65535 d)) }
     ensures refused { result ≡ Err Stop.NotJson → taken depth reader.old ≡ None }
     ensures shorter { OnOk result (length reader.new < length reader.old) }
 {
-    let value = leaf(alloc, reader, depth)?;
-    Ok(field::depth(&value))
+    let whole = integer(reader, depth)?;
+    Ok(short(whole))
 }
 
 /// The next value as a whole number from 0 to 255.
-fn channel(alloc: Global, reader: &mut Reader<'_>, depth: usize) -> Result<Option<u8>, Stop>
+fn channel(reader: &mut Reader<'_>, depth: usize) -> Result<Option<u8>, Stop>
     ensures ok { IfOk result (λ n. (d : Data) × (taken depth reader.old ≡ Some (d, reader.new)) × (n ≡ number_between 0 255 d)) }
     ensures refused { result ≡ Err Stop.NotJson → taken depth reader.old ≡ None }
     ensures shorter { OnOk result (length reader.new < length reader.old) }
 {
-    let value = leaf(alloc, reader, depth)?;
-    Ok(byte(&value))
+    let whole = integer(reader, depth)?;
+    Ok(byte(whole))
 }
 
-/// The channels of an array whose bracket was taken, up to the bracket that closes it; none if one of them isn't well formed.
-fn channel_items(
-    alloc: Global,
-    reader: &mut Reader<'_>,
-    depth: usize,
-) -> Result<Option<Vec<u8>>, Stop>
-    ensures ok { IfOk result (λ v. (ds : Items) × (items_taken depth reader.old ≡ Some (ds, reader.new)) × (option_map (λ channels. channels.items) v ≡ all_of (number_between 0 255) (list_of ds))) }
+/// The first channels of an array: as many as tell that there are four, or more.
+type Channels = ArrayVec<u8, 5>;
+
+/// Keeps a channel, if it is one of the first.
+fn keep(channels: &mut Channels, channel: u8)
+    ensures { channels.new.items ≡ take 5 (channels.old.items ++ channel ∷ []) }
+{
+    if !channels.is_full() {
+        channels.push(channel);
+    }
+}
+
+/// The first channels of an array whose bracket was taken, up to the bracket that closes it; none if one of all isn't well formed.
+fn channel_items(reader: &mut Reader<'_>, depth: usize) -> Result<Option<Channels>, Stop>
+    ensures ok { IfOk result (λ v. (ds : Items) × (items_taken depth reader.old ≡ Some (ds, reader.new)) × (option_map (λ channels. channels.items) v ≡ option_map (take 5) (all_of (number_between 0 255) (list_of ds)))) }
     ensures refused { result ≡ Err Stop.NotJson → items_taken depth reader.old ≡ None }
     ensures shorter { OnOk result (length reader.new < length reader.old) }
 {
-    let mut channels = Vec::new(alloc);
+    let mut channels = ArrayVec::new();
     let mut well_formed = true;
     'items: while !reader.take_end_array() {
-        match channel(alloc, reader, depth)? {
-            Some(channel) => channels.push(channel)?,
+        match channel(reader, depth)? {
+            Some(channel) => keep(&mut channels, channel),
             None => well_formed = false,
         }
     }
@@ -102,7 +137,7 @@ fn colour_from(channels: &[u8]) -> Option<Colour>
 }
 
 /// The next value as a colour.
-fn colour(alloc: Global, reader: &mut Reader<'_>, depth: usize) -> Result<Option<Colour>, Stop>
+fn colour(reader: &mut Reader<'_>, depth: usize) -> Result<Option<Colour>, Stop>
     ensures ok { IfOk result (λ c. (d : Data) × (taken depth reader.old ≡ Some (d, reader.new)) × (c ≡ colour_of d)) }
     ensures refused { result ≡ Err Stop.NotJson → taken depth reader.old ≡ None }
     ensures shorter { OnOk result (length reader.new < length reader.old) }
@@ -110,16 +145,15 @@ fn colour(alloc: Global, reader: &mut Reader<'_>, depth: usize) -> Result<Option
     if !open_array(reader, depth)? {
         return Ok(None);
     }
-    let channels = channel_items(alloc, reader, depth - 1)?;
+    let channels = channel_items(reader, depth - 1)?;
     let Some(channels) = channels else {
         return Ok(None);
     };
-    Ok(colour_from(&channels))
+    Ok(colour_from(channels.as_slice()))
 }
 
 /// A vertex whose brace was taken, up to the brace that closes it.
 fn vertex_members(
-    alloc: Global,
     version: u32,
     reader: &mut Reader<'_>,
     depth: usize,
@@ -134,13 +168,13 @@ fn vertex_members(
     let mut z = None;
     'members: while let Some(name) = reader.next_key()? {
         if name == "x" {
-            x = coordinate(alloc, reader, depth)?;
+            x = coordinate(reader, depth)?;
         } else if name == "y" {
-            y = coordinate(alloc, reader, depth)?;
+            y = coordinate(reader, depth)?;
         } else if name == "color" {
-            color = colour(alloc, reader, depth)?;
+            color = colour(reader, depth)?;
         } else if name == "z" {
-            z = vertex_depth(alloc, reader, depth)?;
+            z = vertex_depth(reader, depth)?;
         } else {
             pass(reader, depth)?;
         }
@@ -149,12 +183,7 @@ fn vertex_members(
 }
 
 /// The next value as a vertex.
-fn vertex(
-    alloc: Global,
-    version: u32,
-    reader: &mut Reader<'_>,
-    depth: usize,
-) -> Result<Option<Vertex>, Stop>
+fn vertex(version: u32, reader: &mut Reader<'_>, depth: usize) -> Result<Option<Vertex>, Stop>
     ensures ok { IfOk result (λ v. (d : Data) × (taken depth reader.old ≡ Some (d, reader.new)) × (v ≡ vertex_of version d)) }
     ensures refused { result ≡ Err Stop.NotJson → taken depth reader.old ≡ None }
     ensures shorter { OnOk result (length reader.new < length reader.old) }
@@ -162,7 +191,7 @@ fn vertex(
     if !open_object(reader, depth)? {
         return Ok(None);
     }
-    vertex_members(alloc, version, reader, depth - 1)
+    vertex_members(version, reader, depth - 1)
 }
 
 /// The vertices of an array whose bracket was taken, up to the bracket that closes it; none if one of them isn't well formed.
@@ -179,7 +208,7 @@ fn vertex_items(
     let mut vertices = Vec::new(alloc);
     let mut well_formed = true;
     'items: while !reader.take_end_array() {
-        match vertex(alloc, version, reader, depth)? {
+        match vertex(version, reader, depth)? {
             Some(vertex) => vertices.push(vertex)?,
             None => well_formed = false,
         }
@@ -208,13 +237,13 @@ pub(crate) fn vertices(
 }
 
 /// The next value as an index.
-fn index(alloc: Global, reader: &mut Reader<'_>, depth: usize) -> Result<Option<u32>, Stop>
+fn index(reader: &mut Reader<'_>, depth: usize) -> Result<Option<u32>, Stop>
     ensures ok { IfOk result (λ n. (d : Data) × (taken depth reader.old ≡ Some (d, reader.new)) × (n ≡ unsigned_32 d)) }
     ensures refused { result ≡ Err Stop.NotJson → taken depth reader.old ≡ None }
     ensures shorter { OnOk result (length reader.new < length reader.old) }
 {
-    let value = leaf(alloc, reader, depth)?;
-    Ok(unsigned(&value))
+    let whole = integer(reader, depth)?;
+    Ok(unsigned(whole))
 }
 
 /// The indices of an array whose bracket was taken, up to the bracket that closes it; none if one of them isn't well formed.
@@ -230,7 +259,7 @@ fn index_items(
     let mut indices = Vec::new(alloc);
     let mut well_formed = true;
     'items: while !reader.take_end_array() {
-        match index(alloc, reader, depth)? {
+        match index(reader, depth)? {
             Some(index) => indices.push(index)?,
             None => well_formed = false,
         }

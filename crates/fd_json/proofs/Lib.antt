@@ -1,3 +1,4 @@
+pub mod Plain
 pub mod Signs
 pub mod Turns
 pub mod Within

@@ -1,11 +1,11 @@
 -- The grammar of JSON and the reading of its data, one turn of a loop at a time.
-use Rattle.std.proofs.Common.{◌≡◌, ℕ, zero, suc, ◌-◌, ◌<◌, ◌≤◌, List, [], ◌∷◌, length, Option, Some, None, ◌⊎◌, inl, inr, option_map, option_and_then, refl, sym, ap, ◌∙◌, arith}
+use Rattle.std.proofs.Common.{◌≡◌, ℕ, zero, suc, ◌-◌, ◌<◌, ◌≤◌, List, [], ◌∷◌, length, Option, Some, None, ◌⊎◌, inl, inr, option_map, option_and_then, refl, ap, ◌∙◌, arith}
 use Rattle.json.specs.Token.{Token}
 use Rattle.json.specs.Lex.{tokens}
 use Rattle.json.specs.Json as json
 use Rattle.json.specs.Json.{Json, Parse, parse_map, value, after_end_array, read_key, items, members, if_last}
 use Rattle.json.proofs.Grammar.{items_end, items_more, items_fail, members_end, members_no_key, members_more, members_fail}
-use Rattle.serde_json.specs.Data.{Data, array, object, Items, no_items, item, Members, no_members, put}
+use Rattle.serde_json.specs.Data.{Data, array, object, no_items, item, Members, no_members, put}
 use Rattle.serde_json.specs.Read.{of_json, of_items, of_members, converted, read, max_depth}
 use Rattle.fd_json.specs.Taken.{taken}
 

@@ -1,5 +1,7 @@
 //! Numbers.
-ghost use Rattle.std.specs.Prelude.{◌≡◌, option_map};
+ghost use Rattle.std.specs.Prelude.{◌≡◌, ◌<◌, ◌^◌, Some, IfSome, option_map};
+ghost use Rattle.std.specs.Str.Parse.{IsNumeral, digits_value};
+ghost use Rattle.serde_json.specs.Find.{as_i64, of_integer};
 ghost use Rattle.serde_json.specs.Read.{number_of, number_from};
 ghost use Rattle.serde_json.specs.View.{number_view};
 ghost use Rattle.fd_json.specs.Numeral.{integer_of};
@@ -7,8 +9,58 @@ ghost use Rattle.fd_json.specs.Numeral.{integer_of};
 use fast_float::Numeral;
 use serde_json::Number;
 
+/// How many digits are read without looking for anything else.
+const PLAIN_DIGITS: usize = 18;
+
 /// The number that a token writes, unless it is too large for a float.
 pub fn number(text: &str) -> Option<Number>
+    ensures { option_map number_view result ≡ number_of text.now }
+{
+    match short_integer(text) {
+        Some(whole) => Some(Number::from(whole)),
+        None => any_number(text),
+    }
+}
+
+/// The whole number of a few digits, perhaps behind a minus, and nothing else. There is no `-0`.
+pub(crate) fn short_integer(text: &str) -> Option<i64>
+    ensures value { IfSome result (λ z. number_of text.now ≡ Some (of_integer z)) }
+    ensures whole { IfSome result (λ z. as_i64 (of_integer z) ≡ Some z) }
+{
+    let bytes = text.as_bytes();
+    if !bytes.is_empty() && bytes[0] == b'-' {
+        let size = digits(&bytes[1..])?;
+        if size == 0 {
+            return None;
+        }
+        Some(-(size as i64))
+    } else {
+        let size = digits(bytes)?;
+        Some(size as i64)
+    }
+}
+
+/// The value of a few digits.
+fn digits(bytes: &[u8]) -> Option<u64>
+    ensures value { IfSome result (λ n. IsNumeral 10 bytes.now × (n ≡ digits_value 10 bytes.now)) }
+    ensures small { IfSome result (λ n. n < 10 ^ 18) }
+{
+    if bytes.is_empty() || bytes.len() > PLAIN_DIGITS {
+        return None;
+    }
+    let mut value: u64 = 0;
+    for i in 0..bytes.len() {
+        let digit = bytes[i].wrapping_sub(b'0');
+        if digit > 9 {
+            return None;
+        }
+        value = value * 10 + u64::from(digit);
+    }
+    Some(value)
+}
+
+/// The number of any text of a token.
+pub(crate) fn any_number(text: &str) -> Option<Number>
     ensures { option_map number_view result ≡ number_of text.now }
 {
     let bytes = text.as_bytes();

@@ -14,6 +14,13 @@ fn passes(alloc: Global, text: &str) -> Result<bool, Fail> {
     Ok(pass(&mut reader, DEPTH).is_ok())
 }
 
+/// Whether a text begins with a value, seen as a whole number.
+fn is_taken(alloc: Global, text: &str) -> Result<bool, Fail> {
+    let mut scratch = Scratch::new(alloc);
+    let mut reader = Reader::new(text, &mut scratch)?;
+    Ok(integer(&mut reader, DEPTH).is_ok())
+}
+
 /// Values, and whether they are taken where they nest three deep at most.
 const VALUES: [(&str, bool); 16] = [
     ("{\"a\":[1,{\"b\":null}],\"c\":\"\\u00e4\"}", true),
@@ -38,14 +45,19 @@ const VALUES: [(&str, bool); 16] = [
 fn values_that_are_passed(rt: HostRuntime) -> Result<(), Fail> {
     for (text, passed) in VALUES {
         assert_eq!(rt; passes(rt.alloc(), text)?, passed, "{text}");
+        assert_eq!(rt; is_taken(rt.alloc(), text)?, passed, "{text}");
     }
     Ok(())
 }
 
 /// Numbers, and the whole number that each of them is.
-const NUMBERS: [(&str, Option<i64>); 9] = [
+const NUMBERS: [(&str, Option<i64>); 13] = [
     ("0", Some(0)),
     ("-1", Some(-1)),
+    ("999999999999999999", Some(999_999_999_999_999_999)),
+    ("-999999999999999999", Some(-999_999_999_999_999_999)),
+    ("1000000000000000000", Some(1_000_000_000_000_000_000)),
+    ("-1000000000000000000", Some(-1_000_000_000_000_000_000)),
     ("9223372036854775807", Some(i64::MAX)),
     ("9223372036854775808", None),
     ("-9223372036854775808", Some(i64::MIN)),
@@ -61,6 +73,37 @@ fn whole_numbers(rt: HostRuntime) -> Result<(), Fail> {
         let value = number(text).ok_or("a number")?;
         assert_eq!(rt; value.as_i64(), whole, "{text}");
     }
+    Ok(())
+}
+
+/// Values, some of which are whole numbers of 64 bits.
+const ITEMS: &str =
+    "[1073741824,-7,-0,1.0,7e0,null,\"7\",[7],{\"a\":7},9223372036854775807,9223372036854775808]";
+
+/// What each of them is as such a number.
+const WHOLES: [Option<i64>; 11] = [
+    Some(1_073_741_824),
+    Some(-7),
+    None,
+    None,
+    None,
+    None,
+    None,
+    None,
+    None,
+    Some(i64::MAX),
+    None,
+];
+
+#[test]
+fn whole_numbers_among_other_values(rt: HostRuntime) -> Result<(), Fail> {
+    let mut scratch = Scratch::new(rt.alloc());
+    let mut reader = Reader::new(ITEMS, &mut scratch)?;
+    assert_eq!(rt; open_array(&mut reader, DEPTH).ok(), Some(true));
+    for whole in WHOLES {
+        assert_eq!(rt; integer(&mut reader, DEPTH).ok(), Some(whole));
+    }
+    assert!(rt; reader.take_end_array());
     Ok(())
 }
 

@@ -1,10 +1,10 @@
-use Rattle.std.proofs.Common.{rules, arith, ◌≡◌, ◌==◌, option_map, ℕ, List, length, drop, true, false, sym, ap, ◌∙◌}
+use Rattle.std.proofs.Common.{rules, arith, ◌≡◌, ◌==◌, ℕ, List, drop, true, false, sym, ap, ◌∙◌}
 use Rattle.std.specs.Prelude.{slice_index}
 use Rattle.fast_float.specs.Text.{minus, scan}
-use Rattle.serde_json.specs.Read.{number_of, number_from}
+use Rattle.serde_json.specs.Read.{number_from}
 use Rattle.fd_json.proofs.Signs.{number_of-minus, number_of-plain, no_sign, rest}
-use Rattle.fd_json.proofs.numeral.number.Goals.{else-not-is_empty-via-then-not-is_empty+else-bytes-eq45, else-not-is_empty-via-else-not-is_empty}
-use Rattle.fd_json.proofs.numeral.number.Goals as goal
+use Rattle.fd_json.proofs.numeral.any_number.Goals.{else-not-is_empty-via-then-not-is_empty+else-bytes-eq45, else-not-is_empty-via-else-not-is_empty}
+use Rattle.fd_json.proofs.numeral.any_number.Goals as goal
 
 pub returns-then-bytes-eq45 : goal.returns-then-bytes-eq45
 returns-then-bytes-eq45 c =
