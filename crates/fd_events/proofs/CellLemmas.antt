@@ -1,5 +1,5 @@
 -- Cells that list the triangles which meet them.
-use Rattle.std.proofs.Common.{◌≡◌, ℕ, suc, ◌+◌, ◌-◌, ◌*◌, ◌/◌, ◌<◌, ◌≤◌, IsTrue, ◌⊎◌, inl, inr, List, [], ◌∷◌, ◌++◌, length, length-append, map, get_or, set, replicate, arith, refl, sym, ap, ◌∙◌, subst}
+use Rattle.std.proofs.Common.{◌≡◌, ℕ, ◌+◌, ◌-◌, ◌<◌, ◌≤◌, inl, inr, List, [], ◌∷◌, ◌++◌, length, get_or, set, replicate, arith, refl, sym, ◌∙◌, subst}
 use Rattle.std.specs.List.{All, Contains}
 use Rattle.std.specs.List.Sorted.{IsNonDecreasing}
 use Rattle.std.proofs.Math.ListN.{length-set, get_or-eq_default}
@@ -7,7 +7,7 @@ use Rattle.std.proofs.lemmas.Bool.{cases_eq, cases_lt}
 use Rattle.std.proofs.lemmas.List.{get_or-set_same, get_or-set_other, get_or-replicate, length-replicate}
 use Rattle.std.proofs.lemmas.List.Elements.{All-nil, All-push, All-get_or, All-weaker, Contains-append_left, Contains-push}
 use Rattle.std.proofs.lemmas.List.Sorted.{IsNonDecreasingBy-push}
-use Rattle.fd_events.specs.Numbers.{numbers_of, listed_at, AreOrdered, Grow}
+use Rattle.fd_events.specs.Numbers.{listed_at, AreOrdered, Grow}
 
 -- ---- a number is added to one list
 
@@ -30,8 +30,8 @@ Grow-add lists cell number here = record {
   same = length-set lists cell (listed_at lists cell ++ number ∷ []);
   kept = λ at other holds. elim (cases_eq at cell) [
     | inl same ↦
-      rw same (subst (λ (xs : List ℕ). Contains xs other) (sym (added_here lists cell 0 (listed_at lists cell ++ number ∷ []) here))
-      (Contains-append_left (listed_at lists cell) (number ∷ []) other (rw same at holds)))
+        rw same (subst (λ (xs : List ℕ). Contains xs other) (sym (added_here lists cell 0 (listed_at lists cell ++ number ∷ []) here))
+        (Contains-append_left (listed_at lists cell) (number ∷ []) other (rw same at holds)))
     | inr apart ↦ subst (λ (xs : List ℕ). Contains xs other) (sym (added_there lists cell at (listed_at lists cell ++ number ∷ []) apart)) holds
   ];
   ordered = λ before. record {

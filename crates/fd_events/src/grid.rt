@@ -141,12 +141,7 @@ impl Grid {
     }
 
     /// Adds a number to the lists of the cells that a box meets.
-    fn add(
-        self,
-        bounds: Bounds,
-        number: u32,
-        lists: &mut Vec<Vec<u32>>,
-    ) -> Result<(), AllocError>
+    fn add(self, bounds: Bounds, number: u32, lists: &mut Vec<Vec<u32>>) -> Result<(), AllocError>
         requires grid { IsGrid self }
         requires lists { vec_len lists.old ≡ cell_count self }
         ensures { IfOk result (λ _. Grow number (numbers_of lists.old.items) (numbers_of lists.new.items) × ListBox self (numbers_of lists.new.items) number bounds) }
@@ -199,11 +194,7 @@ impl Grid {
 impl Cells {
     /// The cells of a grid over a box, with the numbers of the boxes that meet each. None where the boxes are few, or all in a cell,
     /// or meet too many cells.
-    fn over(
-        bounds: Bounds,
-        boxes: &[Bounds],
-        alloc: Global,
-    ) -> Result<Option<Cells>, AllocError>
+    fn over(bounds: Bounds, boxes: &[Bounds], alloc: Global) -> Result<Option<Cells>, AllocError>
         requires { length boxes.now ≤ most_triangles }
         ensures { IfOk result (λ cells. IfSome cells (λ cells. AreCells cells boxes.now)) }
     {

@@ -1,4 +1,4 @@
-use Rattle.std.proofs.Common.{◌≡◌, ℕ, ◌<◌, ◌≤◌, vec_len}
+use Rattle.std.proofs.Common.{ℕ, ◌<◌, ◌≤◌}
 use Rattle.std.specs.List.{Contains}
 use Rattle.fd_events.specs.Numbers.{numbers_of, listed_at, Grow}
 use Rattle.fd_events.proofs.numbers.add_row.Given as goal

@@ -2,7 +2,7 @@ use Rattle.std.proofs.Common.{◌≡◌, ◌+◌, ◌++◌, ◌∷◌, [], List,
 use Rattle.std.proofs.lemmas.Option.{IfSome_then}
 use Rattle.fd_cover.specs.declared.bounds.Bounds.{Bounds}
 use Rattle.fd_events.specs.Bounds.{AreRoundGroups}
-use Rattle.fd_events.specs.Cells.{AreCells, ListTriangles}
+use Rattle.fd_events.specs.Cells.{AreCells}
 use Rattle.fd_events.proofs.GridLemmas.{ListTriangles-from}
 use Rattle.fd_events.specs.Draw.{triangles_of}
 use Rattle.fd_events.proofs.BoundsLemmas.{AreRoundGroups-next}
@@ -23,7 +23,10 @@ on_target-requires c = rw c.deref.ensures.value c.in_ok-boxes.ensures.2
 pub invariant_of-self : goal.invariant_of-self
 invariant_of-self c =
     let ts = triangles_of c.self.inside.list in
-    let boxes = c.in_ok-boxes.ensures in
-    (c.self.invariant.0, c.loop-group.invariant.2, boxes.0,
-    IfSome_then c.in_ok-cells.cells c.in_ok-cells.ensures
-    (λ cells are. ListTriangles-from cells.value c.in_ok-boxes.boxes.items ts (subst (λ (bs : List Bounds). AreCells cells.value bs) c.deref.ensures.value are) boxes.0 boxes.1))
+    let boxes = c.in_ok-boxes.ensures in (
+      c.self.invariant.0,
+      c.loop-group.invariant.2,
+      boxes.0,
+      IfSome_then c.in_ok-cells.cells c.in_ok-cells.ensures
+          (λ cells are. ListTriangles-from cells.value c.in_ok-boxes.boxes.items ts (subst (λ (bs : List Bounds). AreCells cells.value bs) c.deref.ensures.value are) boxes.0 boxes.1),
+    )

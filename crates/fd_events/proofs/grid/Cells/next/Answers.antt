@@ -1,4 +1,4 @@
-use Rattle.std.proofs.Common.{◌≡◌, ℕ, List, sym, subst}
+use Rattle.std.proofs.Common.{ℕ, List, subst}
 use Rattle.std.specs.List.{Contains}
 use Rattle.fd_events.proofs.grid.Cells.next.Goals as goal
 

@@ -1,4 +1,4 @@
-use Rattle.std.proofs.Common.{◌≡◌, ℕ, ◌<◌, ◌≤◌, ◌/◌, ◌^◌, inl, inr, length, Vec, true, false, IsTrue, sym, arith, ◌∙◌}
+use Rattle.std.proofs.Common.{◌≡◌, ℕ, ◌<◌, ◌≤◌, inl, inr, Vec, true, false, sym, arith, ◌∙◌}
 use Rattle.std.proofs.lemmas.List.{length-map}
 use Rattle.std.proofs.lemmas.Bool.{cases_lt}
 use Rattle.std.specs.declared.alloc.Global.{Global}
@@ -12,11 +12,13 @@ use Rattle.fd_events.proofs.grid.Grid.add.Goals as goal
 
 pub returns-then-is_empty : goal.returns-then-is_empty
 returns-then-is_empty c =
-    let part = c.part_under-part.result in
-    (Grow-nothing c.args.number (numbers_of c.args.lists.now.items), λ x y within has.
-    let inside : is_within part (cell_over c.args.self x) (cell_over c.args.self y) ≡ true = c.part_under-part.ensures.under x y within has in
-    let outside : is_within part (cell_over c.args.self x) (cell_over c.args.self y) ≡ false = empty_holds_none part _ _ (sym c.is_empty.ensures ∙ c.if-is_empty.true) in
-    absurd (cc (inside, outside)))
+    let part = c.part_under-part.result in (
+      Grow-nothing c.args.number (numbers_of c.args.lists.now.items),
+      λ x y within has.
+          let inside : is_within part (cell_over c.args.self x) (cell_over c.args.self y) ≡ true = c.part_under-part.ensures.under x y within has in
+          let outside : is_within part (cell_over c.args.self x) (cell_over c.args.self y) ≡ false = empty_holds_none part _ _ (sym c.is_empty.ensures ∙ c.if-is_empty.true) in
+          absurd (cc (inside, outside)),
+    )
 
 pub loop-row-init : goal.loop-row-init
 loop-row-init c = record {
@@ -47,20 +49,22 @@ loop-row-preserved c =
       added = λ column row left right top bottom. elim (cases_lt row c.loop-row.row) [
         | inl before ↦ more.0.kept (place_of grid column row) c.args.number (inv.added column row left right top before)
         | inr after ↦
-          let same : row ≡ c.loop-row.row = omega (arith, after, bottom) in
-          let first : c.place.result ≤ place_of grid column c.loop-row.row = rw c.place.ensures (omega (arith, part.ensures.left, left)) in
-          let last : place_of grid column c.loop-row.row < c.place-in-loop-row.result = rw c.place-in-loop-row.ensures (omega (arith, part.ensures.left, left, right)) in
-          rw same (more.1 (place_of grid column c.loop-row.row) first last)
+            let same : row ≡ c.loop-row.row = omega (arith, after, bottom) in
+            let first : c.place.result ≤ place_of grid column c.loop-row.row = rw c.place.ensures (omega (arith, part.ensures.left, left)) in
+            let last : place_of grid column c.loop-row.row < c.place-in-loop-row.result = rw c.place-in-loop-row.ensures (omega (arith, part.ensures.left, left, right)) in
+            rw same (more.1 (place_of grid column c.loop-row.row) first last)
       ];
     }
 
 pub returns : goal.returns
 returns c =
     let inv = c.loop-row.invariant in
-    let part = c.part_under-part in
-    (inv.grown, λ x y within has.
-    let inside = part.ensures.under x y within has in
-    let column = cell_over c.args.self x in
-    let row = cell_over c.args.self y in
-    let bottom : row < c.loop-row.row = omega (arith, to_bottom part.result column row inside, c.loop-row-test.false) in
-    inv.added column row (from_left part.result column row inside) (to_right part.result column row inside) (from_top part.result column row inside) bottom)
+    let part = c.part_under-part in (
+      inv.grown,
+      λ x y within has.
+          let inside = part.ensures.under x y within has in
+          let column = cell_over c.args.self x in
+          let row = cell_over c.args.self y in
+          let bottom : row < c.loop-row.row = omega (arith, to_bottom part.result column row inside, c.loop-row-test.false) in
+          inv.added column row (from_left part.result column row inside) (to_right part.result column row inside) (from_top part.result column row inside) bottom,
+    )

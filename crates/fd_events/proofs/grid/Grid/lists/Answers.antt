@@ -1,11 +1,9 @@
-use Rattle.std.proofs.Common.{◌≡◌, ℕ, ◌<◌, ◌≤◌, inl, inr, [], length, Vec, Some, slice_get, sym, ap, arith, ◌∙◌, rules}
+use Rattle.std.proofs.Common.{◌≡◌, ℕ, inl, inr, [], length, Vec, ap, arith, ◌∙◌}
 use Rattle.std.proofs.lemmas.List.{length-map, length-replicate}
 use Rattle.std.proofs.lemmas.Bool.{cases_lt}
 use Rattle.std.proofs.lemmas.Option.{slice_get_within, get_or_from_slice_get}
 use Rattle.std.specs.declared.alloc.Global.{Global}
 use Rattle.fd_cover.specs.declared.bounds.Bounds.{Bounds}
-use Rattle.fd_events.specs.Numbers.{numbers_of}
-use Rattle.fd_events.specs.Cells.{cell_count}
 use Rattle.fd_events.proofs.CellLemmas.{AreOrdered-none, AreOrdered-more}
 use Rattle.fd_events.proofs.grid.Grid.lists.Goals as goal
 
@@ -34,10 +32,10 @@ loop-number-preserved c =
       listed = λ i box before at. elim (cases_lt i number) [
         | inl earlier ↦ λ x y within has. more.0.kept _ i (inv.listed i box earlier at x y within has)
         | inr later ↦
-          let same : i ≡ number = omega (arith, later, before) in
-          let nothing : Bounds = record { left = 0; top = 0; right = 0; bottom = 0 } in
-          let its = get_or_from_slice_get boxes number box nothing (rw same at at) in
-          rw (same, ← its) more.1
+            let same : i ≡ number = omega (arith, later, before) in
+            let nothing : Bounds = record { left = 0; top = 0; right = 0; bottom = 0 } in
+            let its = get_or_from_slice_get boxes number box nothing (rw same at at) in
+            rw (same, ← its) more.1
       ];
     }
 
