@@ -38,7 +38,8 @@ fn past_far(draw: &Draw, triangle: u32, window: Bounds) -> u32
     }
 }
 
-/// The first triangle from this one on whose box and whose group's box share a pixel with the window, or the number of triangles.
+/// The first triangle from this one on that the draw lists for the window and whose box and whose group's box share a pixel with it, or the
+/// number of triangles.
 pub(crate) fn next_near(draw: &Draw, triangle: u32, window: Bounds) -> u32
     requires { triangle ≤ length (triangles_of draw.now) }
     ensures from { triangle ≤ result }
@@ -48,9 +49,13 @@ pub(crate) fn next_near(draw: &Draw, triangle: u32, window: Bounds) -> u32
     let count = draw.triangles();
     let mut near = triangle;
     while near < count {
-        let next = past_far(draw, near, window);
-        if next == near {
-            return near;
+        let listed = draw.next_listed(near, window);
+        if listed == count {
+            return count;
+        }
+        let next = past_far(draw, listed, window);
+        if next == listed {
+            return listed;
         }
         near = next;
     }

@@ -159,7 +159,7 @@ kept_by_triangles-outside (t ∷ ts) interp s box x y before holds outside =
 
 -- ---- the box round triangles holds what they cover
 
-empty_holds_none : (a : Bounds) (x y : ℕ) → is_empty a ≡ true → is_within a x y ≡ false
+pub empty_holds_none : (a : Bounds) (x y : ℕ) → is_empty a ≡ true → is_within a x y ≡ false
 empty_holds_none a x y empty = grind (arith, nat_tests)
 
 hull_holds : (a b : Bounds) (x y : ℕ) → (is_within a x y || is_within b x y) ≡ true

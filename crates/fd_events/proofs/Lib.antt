@@ -6,3 +6,5 @@ pub mod Triangles
 pub mod BoundsLemmas
 pub mod ReachLemmas
 pub mod VersionOnes
+pub mod CellLemmas
+pub mod GridLemmas

@@ -1,7 +1,8 @@
 -- The box round the triangles of a draw.
-use Rattle.std.specs.Prelude.{◌≡◌, ℕ, ◌+◌, ◌-◌, ◌*◌, ◌<◌, ◌≤◌, ◌⊎◌, min, List, [], ◌∷◌, length, Some, slice_get, take, drop}
+use Rattle.std.specs.Prelude.{◌≡◌, ℕ, ◌+◌, ◌-◌, ◌*◌, ◌<◌, ◌≤◌, ◌⊎◌, min, false, IsTrue, List, [], ◌∷◌, length, Some, slice_get, take, drop}
 use Rattle.fd_cover.specs.declared.bounds.Bounds.{Bounds}
-use Rattle.fd_cover.specs.Bounds.{HoldsCovered, bounds_of, joined}
+use Rattle.fd_cover.specs.Bounds.{is_within, HoldsCovered, bounds_of, joined}
+use Rattle.fd_cover.specs.Covers.{covers}
 use Rattle.fd_events.specs.Limits.{group_size}
 use Rattle.fd_events.specs.Draw.{Triangle}
 
@@ -55,3 +56,7 @@ HoldsTriangle box number ts = (t : Triangle) → slice_get ts number ≡ Some t 
 -- so does the box of each number
 abbrev pub HoldEach : List Bounds → List Triangle → Type 0
 HoldEach boxes ts = (number : ℕ) (box : Bounds) → slice_get boxes number ≡ Some box → HoldsTriangle box number ts
+
+-- none of the triangles from number first up to number last covers a pixel of the window
+abbrev pub CoverNone : Bounds → List Triangle → ℕ → ℕ → Type 0
+CoverNone window ts first last = (i : ℕ) (t : Triangle) → first ≤ i → i < last → slice_get ts i ≡ Some t → (x y : ℕ) → IsTrue (is_within window x y) → covers t.corners x y ≡ false

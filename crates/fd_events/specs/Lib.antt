@@ -10,3 +10,6 @@ pub mod Image
 pub mod Laws
 pub mod VersionOne
 pub mod Reach
+pub mod Numbers
+pub mod Under
+pub mod Cells

@@ -1,5 +1,6 @@
 ghost use Rattle.std.specs.Prelude.{◌≡◌, ◌+◌, ◌-◌, ◌*◌, ◌/◌, ◌<◌, ◌≤◌, length, Some, option_map, slice_get};
 
+use crate::grid::Cells;
 use crate::list::TriangleList;
 use fd_blend::Colour;
 use fd_cover::{Bounds, Interp, Tri};
@@ -49,22 +50,25 @@ pub struct Draw {
     groups: Option<Vec<Bounds>>,
     // the box of each triangle, where they have been computed
     boxes: Option<Vec<Bounds>>,
+    // for many triangles that are small: those that meet each cell of a grid
+    cells: Option<Box<Cells>>,
 }
 
 impl Model for Draw {
     ghost use Rattle.std.specs.Prelude.{IfSome};
     ghost use Rattle.fd_events.specs.Bounds.{IsRound, AreRoundGroups, HoldEach};
+    ghost use Rattle.fd_events.specs.Cells.{ListTriangles};
     ghost use Rattle.fd_events.specs.Draw.{DrawList, triangles_of};
 
     ghost Value = { DrawList };
 
     ghost view = { λ d. d.list };
 
-    ghost invariant = { λ d. IsRound d.bounds (triangles_of d.list) × IfSome d.groups (λ boxes. AreRoundGroups boxes.items (triangles_of d.list)) × IfSome d.boxes (λ boxes. HoldEach boxes.items (triangles_of d.list)) };
+    ghost invariant = { λ d. IsRound d.bounds (triangles_of d.list) × IfSome d.groups (λ boxes. AreRoundGroups boxes.items (triangles_of d.list)) × IfSome d.boxes (λ boxes. HoldEach boxes.items (triangles_of d.list)) × IfSome d.cells (λ cells. ListTriangles cells.value (triangles_of d.list)) };
 }
 
 impl Draw {
-    ghost use Rattle.fd_events.specs.Bounds.{HoldsTriangles, HoldsTriangle, HoldsGroup, IsGroupBox, bounds_of_triangles};
+    ghost use Rattle.fd_events.specs.Bounds.{HoldsTriangles, HoldsTriangle, HoldsGroup, IsGroupBox, CoverNone, bounds_of_triangles};
     ghost use Rattle.fd_events.specs.Limits.{group_size, most_triangles};
     ghost use Rattle.fd_events.specs.Draw.{made, triangles_of};
 
@@ -83,6 +87,7 @@ impl Draw {
             bounds,
             groups: None,
             boxes: None,
+            cells: None,
         })
     }
 
@@ -167,8 +172,29 @@ impl Draw {
         self.bounds
     }
 
-    /// Computes the boxes of the groups. On want of memory nothing changes.
-    pub(crate) fn box_groups(&mut self, alloc: Global) -> Result<(), AllocError>
+    /// The first triangle from this one on that may cover a pixel of a window, by what a table that was started with the draw keeps, or the
+    /// number of triangles. None of those that are passed over covers one.
+    pub fn next_listed(&self, triangle: u32, window: Bounds) -> u32
+        requires { triangle ≤ length (triangles_of self.now) }
+        ensures from { triangle ≤ result }
+        ensures last { result ≤ length (triangles_of self.now) }
+        ensures missed { CoverNone window (triangles_of self.now) triangle result }
+    {
+        let count = self.list.len();
+        match &self.cells {
+            Some(cells) => cells.next(triangle, count, window),
+            None => triangle,
+        }
+    }
+
+    /// Computes the boxes of the groups and of the triangles, and lists these in cells over a target of this size. On want of memory
+    /// nothing changes.
+    pub(crate) fn box_groups(
+        &mut self,
+        width: u32,
+        height: u32,
+        alloc: Global,
+    ) -> Result<(), AllocError>
         ensures { self.new ≡ self.old }
     {
         let count = self.group_count();
@@ -177,8 +203,10 @@ impl Draw {
             groups.push(self.list.group_bounds(group))?;
         }
         let boxes = self.list.boxes(alloc)?;
+        let cells = Cells::on_target(self.bounds, width, height, &boxes, alloc)?;
         self.groups = Some(groups);
         self.boxes = Some(boxes);
+        self.cells = cells;
         Ok(())
     }
 }

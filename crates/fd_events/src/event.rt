@@ -53,12 +53,18 @@ impl Event {
         }
     }
 
-    /// Computes the boxes of a draw's groups of triangles. On want of memory nothing changes.
-    pub(crate) fn box_groups(&mut self, alloc: Global) -> Result<(), AllocError>
+    /// Computes the boxes of a draw's triangles and of their groups, and lists these in cells over a target of this size. On want of memory
+    /// nothing changes.
+    pub(crate) fn box_groups(
+        &mut self,
+        width: u32,
+        height: u32,
+        alloc: Global,
+    ) -> Result<(), AllocError>
         ensures { self.new ≡ self.old }
     {
         match self {
-            Event::Draw(draw) => draw.box_groups(alloc),
+            Event::Draw(draw) => draw.box_groups(width, height, alloc),
             _ => Ok(()),
         }
     }

@@ -9,9 +9,11 @@ pub use table::{EventTable, MAX_EVENTS, TableFault};
 
 mod draw;
 mod event;
+mod grid;
 mod label;
 pub mod laws;
 mod list;
+mod numbers;
 mod pipeline;
 mod reach;
 mod table;

@@ -189,7 +189,7 @@ impl TriangleList {
 
     /// The boxes of all triangles, in their order.
     pub(crate) fn boxes(&self, alloc: Global) -> Result<Vec<Bounds>, AllocError>
-        ensures { IfOk result (λ boxes. HoldEach boxes.items (triangles_of self.now)) }
+        ensures { IfOk result (λ boxes. HoldEach boxes.items (triangles_of self.now) × (length boxes.items ≡ length (triangles_of self.now)) × (length boxes.items ≤ most_triangles)) }
     {
         let count = self.len();
         let mut boxes = Vec::with_capacity(alloc, count as usize)?;

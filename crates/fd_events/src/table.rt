@@ -60,12 +60,18 @@ fn recompute(events: &[Event], flags: &[bool], states: &mut [Pipeline], position
     }
 }
 
-/// Computes the boxes of all draws' groups of triangles. On want of memory no event has changed.
-fn box_groups(events: &mut [Event], alloc: Global) -> Result<(), AllocError>
+/// Computes the boxes of all draws' triangles and of their groups, and lists these in cells over a target of this size. On want of memory
+/// no event has changed.
+fn box_groups(
+    events: &mut [Event],
+    width: u32,
+    height: u32,
+    alloc: Global,
+) -> Result<(), AllocError>
     ensures { events.new ≡ events.old }
 {
     for event in events.iter_mut() {
-        event.box_groups(alloc)?;
+        event.box_groups(width, height, alloc)?;
     }
     Ok(())
 }
@@ -138,7 +144,7 @@ impl EventTable {
         if events.len() > MAX_EVENTS as usize {
             return Err(TableFault::TooMany);
         }
-        box_groups(&mut events, alloc)?;
+        box_groups(&mut events, width, height, alloc)?;
         Ok(EventTable::all_on(alloc, version, width, height, events)?)
     }
 

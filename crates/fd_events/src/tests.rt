@@ -252,6 +252,113 @@ fn each_group_has_a_box_once_a_table_starts(rt: HostRuntime) -> Result<(), Fail>
     Ok(())
 }
 
+/// A triangle in the cell of 32 pixels that is right of the first one and below it.
+const NEXT_CELL_CORNERS: [(i32, i32); 3] = [
+    (2_621_440, 2_621_440),
+    (2_752_512, 2_621_440),
+    (2_621_440, 2_752_512),
+];
+
+/// Its box is the target of 256 by 256 pixels.
+const LARGE_CORNERS: [(i32, i32); 3] = [(0, 0), (16_777_216, 0), (0, 16_777_216)];
+
+fn square(left: u32, top: u32, side: u32) -> Bounds {
+    Bounds {
+        left,
+        top,
+        right: left + side,
+        bottom: top + side,
+    }
+}
+
+/// A table with one draw.
+fn table_of(alloc: Global, side: u32, vertices: Vec<Vertex>) -> Result<EventTable, Fail> {
+    let mut events = Vec::new(alloc);
+    events.push(Event::Draw(Draw::new(vertices, None, Interp::Flat)?))?;
+    Ok(EventTable::start(alloc, 2, side, side, events)?)
+}
+
+/// So many triangles, in turn in the first cell and in the one right of it and below.
+fn in_two_cells(alloc: Global, count: u32) -> Result<Vec<Vertex>, Fail> {
+    let mut vertices = Vec::new(alloc);
+    for number in 0..count {
+        if number % 2 == 0 {
+            push_triangle(&mut vertices, NEAR_CORNERS)?;
+        } else {
+            push_triangle(&mut vertices, NEXT_CELL_CORNERS)?;
+        }
+    }
+    Ok(vertices)
+}
+
+#[test]
+fn a_window_is_shown_the_triangles_of_its_cell(rt: HostRuntime) -> Result<(), Fail> {
+    let alone = Draw::new(in_two_cells(rt.alloc(), 40)?, None, Interp::Flat)?;
+    assert_eq!(rt; alone.next_listed(0, square(32, 32, 32)), 0);
+    let table = table_of(rt.alloc(), 64, in_two_cells(rt.alloc(), 40)?)?;
+    assert!(rt; table.len() == 1);
+    let Event::Draw(draw) = table.event(1) else {
+        return Err("a draw".into());
+    };
+    assert!(rt; draw.triangles() == 40);
+    for (from, window, next) in [
+        (0, square(0, 0, 32), 0),
+        (1, square(0, 0, 32), 2),
+        (39, square(0, 0, 32), 40),
+        (0, square(32, 32, 32), 1),
+        (2, square(40, 40, 8), 3),
+        (39, square(32, 32, 32), 39),
+        (40, square(32, 32, 32), 40),
+        (0, square(32, 0, 32), 40),
+        (0, square(0, 0, 64), 0),
+    ] {
+        assert_eq!(rt;
+            draw.next_listed(from, window),
+            next,
+            "from {from} in {window:?}"
+        );
+    }
+    Ok(())
+}
+
+/// So many small triangles, with large ones behind the first one.
+fn with_large_ones(alloc: Global, small: u32, large: u32) -> Result<Vec<Vertex>, Fail> {
+    let mut vertices = Vec::new(alloc);
+    push_triangle(&mut vertices, NEAR_CORNERS)?;
+    for _ in 0..large {
+        push_triangle(&mut vertices, LARGE_CORNERS)?;
+    }
+    for _ in 1..small {
+        push_triangle(&mut vertices, NEAR_CORNERS)?;
+    }
+    Ok(vertices)
+}
+
+#[test]
+fn few_or_large_triangles_are_in_no_cells(rt: HostRuntime) -> Result<(), Fail> {
+    // 30 small ones meet a cell each and 10 large ones 16 each, which is less than 8 each on average; 20 and 20 meet more
+    for (side, vertices, next) in [
+        (64, in_two_cells(rt.alloc(), 32)?, 0),
+        (64, in_two_cells(rt.alloc(), 33)?, 1),
+        (256, with_large_ones(rt.alloc(), 30, 10)?, 1),
+        (256, with_large_ones(rt.alloc(), 20, 20)?, 0),
+    ] {
+        let table = table_of(rt.alloc(), side, vertices)?;
+        assert!(rt; table.len() == 1);
+        let Event::Draw(draw) = table.event(1) else {
+            return Err("a draw".into());
+        };
+        let last = square(side - 32, side - 32, 32);
+        assert_eq!(rt;
+            draw.next_listed(0, last),
+            next,
+            "{} triangles",
+            draw.triangles()
+        );
+    }
+    Ok(())
+}
+
 #[test]
 fn labels_and_their_faults(rt: HostRuntime) -> Result<(), Fail> {
     for (text, fault) in [

@@ -1,0 +1,64 @@
+-- Square cells of a grid, each with a list of numbers of triangles.
+use Rattle.std.specs.Prelude.{◌≡◌, ℕ, ◌+◌, ◌-◌, ◌*◌, ◌/◌, ◌^◌, ◌<◌, ◌≤◌, IsTrue, List, Some, slice_get}
+use Rattle.std.specs.List.{Contains}
+use Rattle.std.specs.List.Sorted.{IsNonDecreasing}
+use Rattle.fd_cover.specs.declared.bounds.Bounds.{Bounds}
+use Rattle.fd_cover.specs.Bounds.{is_within}
+use Rattle.fd_cover.specs.Covers.{covers}
+use Rattle.fd_events.specs.Draw.{Triangle}
+use Rattle.fd_events.specs.Numbers.{numbers_of, listed_at}
+use Rattle.fd_events.specs.declared.grid.Grid.{Grid}
+use Rattle.fd_events.specs.declared.grid.Cells.{Cells}
+
+-- the column of cells in which a column of pixels lies; the same for rows
+abbrev pub cell_over : Grid → ℕ → ℕ
+cell_over grid x = x / 2 ^ grid.shift
+
+-- the place of a cell among all, counted row by row
+abbrev pub place_of : Grid → ℕ → ℕ → ℕ
+place_of grid column row = (row - grid.area.top) * (grid.area.right - grid.area.left) + (column - grid.area.left)
+
+-- the place of the cell in which a pixel lies
+abbrev pub cell_at : Grid → ℕ → ℕ → ℕ
+cell_at grid x y = place_of grid (cell_over grid x) (cell_over grid y)
+
+-- the grid has a cell in which the pixel lies
+abbrev pub HasCell : Grid → ℕ → ℕ → Type 0
+HasCell grid x y = IsTrue (is_within grid.area (cell_over grid x) (cell_over grid y))
+
+-- the number of cells
+abbrev pub cell_count : Grid → ℕ
+cell_count grid = (grid.area.bottom - grid.area.top) * (grid.area.right - grid.area.left)
+
+pub record IsGrid (grid : Grid) : Type 0 where
+  pub sides : grid.shift < 32
+  pub columns : grid.area.left ≤ grid.area.right
+  pub rows : grid.area.top ≤ grid.area.bottom
+
+-- a part of the grid, in columns and rows of cells, has the cells of a box's pixels
+pub record IsPartUnder (grid : Grid) (part box : Bounds) : Type 0 where
+  pub left : grid.area.left ≤ part.left
+  pub right : part.right ≤ grid.area.right
+  pub top : grid.area.top ≤ part.top
+  pub bottom : part.bottom ≤ grid.area.bottom
+  pub under : (x y : ℕ) → IsTrue (is_within box x y) → HasCell grid x y → IsTrue (is_within part (cell_over grid x) (cell_over grid y))
+
+-- the cells of a box's pixels list a number
+abbrev pub ListBox : Grid → List (List ℕ) → ℕ → Bounds → Type 0
+ListBox grid lists number box = (x y : ℕ) → IsTrue (is_within box x y) → HasCell grid x y → Contains (listed_at lists (cell_at grid x y)) number
+
+-- so do those of each box
+abbrev pub ListBoxes : Grid → List (List ℕ) → List Bounds → Type 0
+ListBoxes grid lists boxes = (i : ℕ) (box : Bounds) → slice_get boxes i ≡ Some box → ListBox grid lists i box
+
+-- the lists rise, and the cell of a pixel lists every box that holds it
+pub record AreCells (cells : Cells) (boxes : List Bounds) : Type 0 where
+  pub grid : IsGrid cells.grid
+  pub rise : (cell : ℕ) → IsNonDecreasing (listed_at (numbers_of cells.lists.items) cell)
+  pub listed : ListBoxes cells.grid (numbers_of cells.lists.items) boxes
+
+-- the lists rise, and the cell of a pixel lists every triangle that covers it
+pub record ListTriangles (cells : Cells) (ts : List Triangle) : Type 0 where
+  pub grid : IsGrid cells.grid
+  pub rise : (cell : ℕ) → IsNonDecreasing (listed_at (numbers_of cells.lists.items) cell)
+  pub listed : (i : ℕ) (t : Triangle) (x y : ℕ) → slice_get ts i ≡ Some t → IsTrue (covers t.corners x y) → HasCell cells.grid x y → Contains (listed_at (numbers_of cells.lists.items) (cell_at cells.grid x y)) i
