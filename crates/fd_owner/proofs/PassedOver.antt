@@ -1,12 +1,15 @@
 -- An event whose reach misses a place writes nothing there.
-use Rattle.std.proofs.Common.{◌≡◌, ℕ, suc, ◌+◌, ◌<◌, ◌≤◌, Bool, true, false, cond, not, ◌&&◌, List, [], Option, Some, None, option_map, slice_get, refl, sym, ap, ◌∙◌, subst, arith}
+use Rattle.std.proofs.Common.{◌≡◌, ℕ, suc, ◌+◌, ◌<◌, ◌≤◌, Bool, true, false, cond, not, ◌&&◌, List, [], ◌++◌, Option, Some, None, option_map, slice_get, refl, sym, ap, ◌∙◌, subst, arith}
+use Rattle.std.proofs.lemmas.List.{append-nil}
 use Rattle.std.specs.Prelude.{IfSome}
 use Rattle.fd_cover.specs.declared.bounds.Bounds.{Bounds}
 use Rattle.fd_cover.specs.Verdict.{is_culled, holds}
 use Rattle.fd_cover.proofs.BoundsLemmas.{uncovered_outside}
 use Rattle.fd_tile.specs.declared.place.Place.{Place}
 use Rattle.fd_tile.specs.Place.{Holds, IsTilePlace}
-use Rattle.fd_tile.specs.Tile.{Pixel}
+use Rattle.fd_tile.specs.Tile.{Pixel, TileImage, IsTileImage, pixel_of}
+use Rattle.fd_undo.specs.Frame.{kept_at, top}
+use Rattle.fd_undo.specs.Undo.{Undo}
 use Rattle.fd_events.specs.declared.event.Event.{Event}
 use Rattle.fd_events.specs.declared.event.Event.TheVariants.{Clear, DepthClear, Draw, SetRaster, SetScissor, SetBlend, SetFactor, SetDepth, Marker}
 use Rattle.fd_events.specs.declared.pipeline.Pipeline.{Pipeline}
@@ -19,7 +22,9 @@ use Rattle.fd_events.proofs.BoundsLemmas.{bounds_of_triangles-holds}
 use Rattle.fd_events.proofs.ReachLemmas.{outside_clipped, in_whole, reach-holds}
 use Rattle.fd_events.proofs.Images.{at_number-next}
 use Rattle.fd_draw.specs.Demand.{event_spans, event_pixels}
+use Rattle.fd_draw.specs.Paints.{Paints}
 use Rattle.fd_draw.proofs.Triangles.{IsUndrawn, no_pixels, no_spans}
+use Rattle.fd_owner.specs.History.{pixel_past, kept_past}
 use Rattle.fd_owner.specs.Untouched.{Misses, IsUntouched}
 use Rattle.fd_owner.specs.Shown.{IsInside}
 use Rattle.fd_owner.specs.Step.{spans_of, pixels_of}
@@ -106,3 +111,17 @@ untouched_far table k place reach placed inside is misses =
     let there : option_map (reach_of table.width table.height) (slice_get table.events k) ≡ Some reach =
     ap (option_map (reach_of table.width table.height)) (sym (at_number-next table.events k)) ∙ is in
     untouched table k place placed inside (missed (is_set table.flags (suc k)) (slice_get table.events k) table.width table.height reach place there misses)
+
+-- drawing nothing is drawing it
+pub Paints-untouched : (table : Table) (k : ℕ) (t : TileImage) (u : Undo) → IsTileImage t → u.frame_left ≡ false → IsUntouched table k t.place
+    → Paints (pixel_past table k) (kept_past table k) t u t u
+Paints-untouched table k t u filled begun far = record {
+  placed = refl;
+  filled = filled;
+  below = refl;
+  begun = begun;
+  some = λ before. before;
+  pixels = λ x y held. sym (far.stays x y (pixel_of t x y) held);
+  kept = λ x y held. sym (append-nil (kept_at (top u.frames) x y)) ∙ ap (λ ks. kept_at (top u.frames) x y ++ ks) (sym (far.kept x y (pixel_of t x y) held));
+  inside = λ before. before;
+}
