@@ -1,25 +1,29 @@
 -- An event whose reach misses a place writes nothing there.
-use Rattle.std.proofs.Common.{◌≡◌, ℕ, suc, ◌+◌, ◌<◌, ◌≤◌, Bool, true, false, cond, not, ◌&&◌, List, [], Option, Some, None, option_map, slice_get, refl, sym, ap, ◌∙◌, subst, arith}
+use Rattle.std.proofs.Common.{◌≡◌, ℕ, suc, ◌+◌, ◌<◌, ◌≤◌, Bool, true, false, cond, not, ◌&&◌, List, [], ◌++◌, Option, Some, None, unwrap_or, refl, sym, ap, ◌∙◌, subst, arith}
+use Rattle.std.proofs.lemmas.List.{append-nil}
 use Rattle.std.specs.Prelude.{IfSome}
 use Rattle.fd_cover.specs.declared.bounds.Bounds.{Bounds}
 use Rattle.fd_cover.specs.Verdict.{is_culled, holds}
 use Rattle.fd_cover.proofs.BoundsLemmas.{uncovered_outside}
 use Rattle.fd_tile.specs.declared.place.Place.{Place}
 use Rattle.fd_tile.specs.Place.{Holds, IsTilePlace}
-use Rattle.fd_tile.specs.Tile.{Pixel}
+use Rattle.fd_tile.specs.Tile.{Pixel, TileImage, IsTileImage, pixel_of}
+use Rattle.fd_undo.specs.Frame.{kept_at, top}
+use Rattle.fd_undo.specs.Undo.{Undo}
 use Rattle.fd_events.specs.declared.event.Event.{Event}
 use Rattle.fd_events.specs.declared.event.Event.TheVariants.{Clear, DepthClear, Draw, SetRaster, SetScissor, SetBlend, SetFactor, SetDepth, Marker}
 use Rattle.fd_events.specs.declared.pipeline.Pipeline.{Pipeline}
 use Rattle.fd_events.specs.Bounds.{bounds_of_triangles}
 use Rattle.fd_events.specs.Draw.{Triangle, triangles_of}
 use Rattle.fd_events.specs.Image.{pixel_after_event, kept_by_event}
-use Rattle.fd_events.specs.Reach.{clipped, reach_of}
-use Rattle.fd_events.specs.Table.{Table, is_set, event_at, active_event, state_at}
+use Rattle.fd_events.specs.Reach.{clipped, reach_of, reach_of_active}
+use Rattle.fd_events.specs.Table.{Table, active_event, state_at}
 use Rattle.fd_events.proofs.BoundsLemmas.{bounds_of_triangles-holds}
 use Rattle.fd_events.proofs.ReachLemmas.{outside_clipped, in_whole, reach-holds}
-use Rattle.fd_events.proofs.Images.{at_number-next}
 use Rattle.fd_draw.specs.Demand.{event_spans, event_pixels}
+use Rattle.fd_draw.specs.Paints.{Paints}
 use Rattle.fd_draw.proofs.Triangles.{IsUndrawn, no_pixels, no_spans}
+use Rattle.fd_owner.specs.History.{pixel_past, kept_past}
 use Rattle.fd_owner.specs.Untouched.{Misses, IsUntouched}
 use Rattle.fd_owner.specs.Shown.{IsInside}
 use Rattle.fd_owner.specs.Step.{spans_of, pixels_of}
@@ -83,12 +87,18 @@ module _ (place : Place) (width height : ℕ) (placed : IsTilePlace place) (righ
       let on = in_target x y held in
       reach-holds width height event s x y before on.0 on.1 (misses x y held)
 
--- what is there misses the place, also where the event is switched off
-missed : (on : Bool) (event : Option Event) (width height : ℕ) (reach : Bounds) (place : Place) → option_map (reach_of width height) event ≡ Some reach → Misses reach place
-    → IfSome (cond on event None) (λ event. Misses (reach_of width height event) place)
-missed false event width height reach place is misses = tt
-missed true None width height reach place is misses = tt
-missed true (Some event) width height reach place is misses = let same : reach_of width height event ≡ reach = cc in subst (λ (b : Bounds). Misses b place) (sym same) misses
+-- what is switched on misses the place
+missed : (event : Option Event) (width height : ℕ) (reach : Bounds) (place : Place) → reach ≡ reach_of_active width height event → Misses reach place
+    → IfSome event (λ event. Misses (reach_of width height event) place)
+missed None width height reach place is misses = tt
+missed (Some event) width height reach place is misses = subst (λ (b : Bounds). Misses b place) is misses
+
+-- what writes anywhere is switched on
+pub near_is_on : (on : Option Bool) (event : Option Event) (width height : ℕ) (reach : Bounds) → reach ≡ reach_of_active width height (cond (unwrap_or on false) event None) → 0 < reach.right
+    → on ≡ Some true
+near_is_on None event width height reach is some = absurd (omega (arith, some, ap (λ (b : Bounds). b.right) is))
+near_is_on (Some false) event width height reach is some = absurd (omega (arith, some, ap (λ (b : Bounds). b.right) is))
+near_is_on (Some true) event width height reach is some = refl
 
 untouched : (table : Table) (k : ℕ) (place : Place) → IsTilePlace place → IsInside place table → IfSome (active_event table (suc k)) (λ event. Misses (reach_of table.width table.height event) place)
     → IsUntouched table k place
@@ -101,8 +111,22 @@ untouched table k place placed inside misses = record {
 
 -- its reach misses the place
 pub untouched_far : (table : Table) (k : ℕ) (place : Place) (reach : Bounds) → IsTilePlace place → IsInside place table
-    → option_map (reach_of table.width table.height) (event_at table (k + 1)) ≡ Some reach → Misses reach place → IsUntouched table k place
+    → reach ≡ reach_of_active table.width table.height (active_event table (k + 1)) → Misses reach place → IsUntouched table k place
 untouched_far table k place reach placed inside is misses =
-    let there : option_map (reach_of table.width table.height) (slice_get table.events k) ≡ Some reach =
-    ap (option_map (reach_of table.width table.height)) (sym (at_number-next table.events k)) ∙ is in
-    untouched table k place placed inside (missed (is_set table.flags (suc k)) (slice_get table.events k) table.width table.height reach place there misses)
+    let next : k + 1 ≡ suc k = omega arith in
+    untouched table k place placed inside
+    (missed (active_event table (suc k)) table.width table.height reach place (is ∙ ap (λ (n : ℕ). reach_of_active table.width table.height (active_event table n)) next) misses)
+
+-- drawing nothing is drawing it
+pub Paints-untouched : (table : Table) (k : ℕ) (t : TileImage) (u : Undo) → IsTileImage t → u.frame_left ≡ false → IsUntouched table k t.place
+    → Paints (pixel_past table k) (kept_past table k) t u t u
+Paints-untouched table k t u filled begun far = record {
+  placed = refl;
+  filled = filled;
+  below = refl;
+  begun = begun;
+  some = λ before. before;
+  pixels = λ x y held. sym (far.stays x y (pixel_of t x y) held);
+  kept = λ x y held. sym (append-nil (kept_at (top u.frames) x y)) ∙ ap (λ ks. kept_at (top u.frames) x y ++ ks) (sym (far.kept x y (pixel_of t x y) held));
+  inside = λ before. before;
+}

@@ -149,18 +149,59 @@ impl Owner {
         ensures ok { OnOk result (self.new ≡ gone_forward table.now self.old) }
         ensures refused { OnErr result (self.new ≡ refused self.old) }
     {
+        let position = self.position();
+        let place = self.place();
+        if is_near(table, position, place) {
+            self.draw_next(table)
+        } else {
+            self.pass_over_next(table)
+        }
+    }
+
+    /// Goes through the next event, which writes nothing on the tile.
+    fn pass_over_next(&mut self, table: &EventTable) -> Result<(), Refused>
+        requires below { position self.old.history < length table.now.events }
+        requires far { IsUntouched table.now (position self.old.history) self.old.place }
+        ensures ok { OnOk result (self.new ≡ gone_forward table.now self.old) }
+        ensures refused { OnErr result (self.new ≡ refused self.old) }
+    {
+        let _len = table.len();
+        let _place = self.tile.place();
+        if self.undo.reserve(0, 0).is_err() {
+            return Err(self.refuse());
+        }
+        self.undo.begin();
+        Ok(())
+    }
+
+    /// Goes through the next event, which is switched on, and draws it.
+    #[inline(never)]
+    fn draw_next(&mut self, table: &EventTable) -> Result<(), Refused>
+        requires below { position self.old.history < length table.now.events }
+        requires on { flag_at table.now (position self.old.history + 1) ≡ Some true }
+        ensures ok { OnOk result (self.new ≡ gone_forward table.now self.old) }
+        ensures refused { OnErr result (self.new ≡ refused self.old) }
+    {
         let position = self.undo.frames() as u32;
         let len = table.len();
         prove!(position < len);
         let room = demand_past(table, position, self.tile.place());
         if self.undo.reserve(room.spans, room.pixels).is_err() {
-            self.refusals = self.refusals.saturating_add(1);
-            self.refused_at = Some(position);
-            return Err(Refused);
+            return Err(self.refuse());
         }
         self.undo.begin();
         draw_past(table, position, &mut self.tile, &mut self.undo);
         Ok(())
+    }
+
+    /// Tells of a step that was refused.
+    #[cold]
+    fn refuse(&mut self) -> Refused
+        ensures { self.new ≡ refused self.old }
+    {
+        self.refusals = self.refusals.saturating_add(1);
+        self.refused_at = Some(self.position());
+        Refused
     }
 
     /// Goes back over the last event: its frame is put back, and no event is read.
@@ -175,12 +216,14 @@ impl Owner {
 /// Whether a box holds a pixel of a place.
 fn meets(reach: Bounds, place: Place) -> bool
     requires { IsTilePlace place }
-    ensures { IsTrue (not result) → Misses reach place }
+    ensures some { IsTrue result → 0 < reach.right }
+    ensures misses { IsTrue (not result) → Misses reach place }
 {
-    reach.left < place.left + place.width
-        && place.left < reach.right
-        && reach.top < place.top + place.height
+    // a box of no pixel ends this at its first line
+    place.left < reach.right
         && place.top < reach.bottom
+        && reach.left < place.left + place.width
+        && reach.top < place.top + place.height
 }
 
 /// Whether the event after a position is switched on and can write pixels of a place. The event itself is not looked at.
@@ -192,45 +235,34 @@ fn is_near(table: &EventTable, position: u32, place: Place) -> bool
     ensures far { IsTrue (not result) → IsUntouched table.now position place }
 {
     let _len = table.len();
-    let number = position + 1;
-    table.is_on(number) && meets(table.reach(number), place)
+    meets(table.reach_if_on(position + 1), place)
 }
 
-/// What the event after a position writes on a place, which is nothing where it is switched off.
+/// What the event after a position, which is switched on, writes on a place.
 fn demand_past(table: &EventTable, position: u32, place: Place) -> Demand
     requires below { position < length table.now.events }
+    requires on { flag_at table.now (position + 1) ≡ Some true }
     requires placed { IsTilePlace place }
-    requires inside { IsInside place table.now }
     ensures spans { result.spans ≡ spans_past table.now position place }
     ensures pixels { result.pixels ≡ pixels_past table.now position place }
 {
     let _len = table.len();
     let number = position + 1;
-    if is_near(table, position, place) {
-        fd_draw::demand(table.event(number), table.state_before(number), place)
-    } else {
-        Demand {
-            spans: 0,
-            pixels: 0,
-        }
-    }
+    fd_draw::demand(table.event(number), table.state_before(number), place)
 }
 
-/// Draws the event after a position, where it is switched on, and keeps what it overwrites.
+/// Draws the event after a position, which is switched on, and keeps what it overwrites.
 fn draw_past(table: &EventTable, position: u32, tile: &mut Tile, undo: &mut UndoStack)
     requires below { position < length table.now.events }
+    requires on { flag_at table.now (position + 1) ≡ Some true }
     requires begun { undo.old.frame_left ≡ false }
     requires spans { spans_past table.now position tile.old.place ≤ undo.old.spans_left }
     requires pixels { pixels_past table.now position tile.old.place ≤ undo.old.pixels_left }
-    requires placed { IsTilePlace tile.old.place }
-    requires inside { IsInside tile.old.place table.now }
     ensures { Paints (pixel_past table.now position) (kept_past table.now position) tile.old undo.old tile.new undo.new }
 {
     let _len = table.len();
     let number = position + 1;
-    if is_near(table, position, tile.place()) {
-        fd_draw::draw(table.event(number), table.state_before(number), tile, undo);
-    }
+    fd_draw::draw(table.event(number), table.state_before(number), tile, undo);
 }
 
 #[cfg(test)]

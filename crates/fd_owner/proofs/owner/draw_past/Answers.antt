@@ -1,12 +1,11 @@
-use Rattle.std.proofs.Common.{◌≡◌, ◌∙◌, ◌+◌, true, Some, ap, arith}
-use Rattle.fd_events.specs.Table.{flag_at, state_at}
+use Rattle.std.proofs.Common.{◌≡◌, ◌∙◌, ap, arith}
+use Rattle.fd_events.specs.Table.{state_at}
 use Rattle.fd_owner.proofs.Forward.{Paints-past}
 use Rattle.fd_owner.proofs.owner.draw_past.Goals as goal
 
-pub returns-then-is_near : goal.returns-then-is_near
-returns-then-is_near c =
+pub returns : goal.returns
+returns c =
     let table = c.args.table.now in
     let k = c.args.position in
-    let on : flag_at table (k + 1) ≡ Some true = c.is_near.ensures.near c.if-is_near.true in
     let before : c.state_before.result.now ≡ state_at table k = c.state_before.ensures ∙ ap (state_at table) (omega arith) in
-    Paints-past table k c.event.result.now c.state_before.result.now c.args.tile.now c.draw.new.tile c.args.undo.now c.draw.new.undo c.event.ensures on before c.draw.ensures
+    Paints-past table k c.event.result.now c.state_before.result.now c.args.tile.now c.draw.new.tile c.args.undo.now c.draw.new.undo c.event.ensures c.requires.on before c.draw.ensures
