@@ -1,6 +1,7 @@
 pub mod Zips
 pub mod Pixels
 pub mod FrameLemmas
+pub mod PieceLemmas
 pub mod Depths
 pub mod KeptAt
 pub mod Numbers
