@@ -7,3 +7,8 @@ pub mod KeptAt
 pub mod Numbers
 pub mod Restored
 pub mod Search
+pub mod Spanned
+pub mod Stacks
+pub mod Begins
+pub mod Keeps
+pub mod Undone

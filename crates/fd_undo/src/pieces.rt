@@ -93,7 +93,8 @@ impl<T: Copy> Pieces<T> {
     /// Adds an item.
     pub(crate) fn push(&mut self, item: T)
         requires { 0 < self.old.room }
-        ensures { self.new ≡ record { items = self.old.items ++ item ∷ []; starts = self.old.starts; room = self.old.room - 1 } }
+        ensures value { self.new ≡ record { items = self.old.items ++ item ∷ []; starts = self.old.starts; room = self.old.room - 1 } }
+        ensures countable { length self.new.items < 2 ^ 64 }
     {
         let last = self.pieces.len() - 1;
         self.pieces[last].items.push_reserved(item);

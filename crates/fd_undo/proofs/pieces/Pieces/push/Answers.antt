@@ -33,8 +33,8 @@ invariant_of-self g c =
       ap length (grown-items ps (c.len-last.result - 1) f c.self.invariant.chain at c.index_mut.ensures.value q (c.args.item ∷ []) refl c.push_reserved.ensures.items));
     }
 
-pub returns : goal.returns
-returns g c =
+pub returns-clause-value : goal.returns-clause-value
+returns-clause-value g c =
     let ps = c.self.inside.pieces.items in
     let f = c.index_mut.result.now in
     let q : Piece g.row.T.Denot = record { start = c.index_mut.result.now.start; items = c.push_reserved.new.self } in
@@ -45,3 +45,14 @@ returns g c =
     (Parts-same _ _
     (grown-items ps (c.len-last.result - 1) f c.self.invariant.chain at c.index_mut.ensures.value q (c.args.item ∷ []) refl c.push_reserved.ensures.items)
     (grown-starts ps (c.len-last.result - 1) f c.self.invariant.chain at c.index_mut.ensures.value q (c.args.item ∷ []) refl c.push_reserved.ensures.items) refl)
+
+pub returns-clause-countable : goal.returns-clause-countable
+returns-clause-countable g c =
+    let ps = c.self.inside.pieces.items in
+    let f = c.index_mut.result.now in
+    let q : Piece g.row.T.Denot = record { start = c.index_mut.result.now.start; items = c.push_reserved.new.self } in
+    let more : 0 < c.self.inside.room = omega (arith, ap (λ p. p.room) c.self.view_is, c.requires) in
+    let some : 0 < length c.self.inside.pieces.items = HasRoom-some c.self.inside.pieces.items c.self.inside.room c.self.invariant.has_room more in
+    let at : c.len-last.result - 1 + 1 ≡ length c.self.inside.pieces.items = omega (arith, c.len-last.ensures, c.self.inside.pieces.ok.0) in
+    omega (arith, more, c.self.invariant.countable, length_push (items_of c.self.inside.pieces.items) c.args.item,
+    ap length (grown-items ps (c.len-last.result - 1) f c.self.invariant.chain at c.index_mut.ensures.value q (c.args.item ∷ []) refl c.push_reserved.ensures.items))
