@@ -1,8 +1,14 @@
 pub mod Zips
 pub mod Pixels
 pub mod FrameLemmas
+pub mod PieceLemmas
 pub mod Depths
 pub mod KeptAt
 pub mod Numbers
 pub mod Restored
 pub mod Search
+pub mod Spanned
+pub mod Stacks
+pub mod Begins
+pub mod Keeps
+pub mod Undone

@@ -1,13 +1,13 @@
--- How an undo stack stores its frames: the spans of those that keep something, the colours of all in one list, and in another the depths
--- of those spans whose pixels are not all equally deep.
-use Rattle.std.specs.Prelude.{◌≡◌, ℕ, ◌+◌, ◌-◌, ◌^◌, ◌<◌, ◌≤◌, ◌==◌, ◌&&◌, nat_le, nat_lt, Bool, true, false, List, [], ◌∷◌, ◌++◌, length, map, take, drop, slice_index_or, if◌then◌else◌, replicate, Option, Some, None}
+-- How an undo stack stores its frames: the spans of those that keep something in one list, the colours of all in another, and in a third the
+-- depths of those spans whose pixels are not all equally deep. Each list is in pieces, and what a frame has of it stands in one piece.
+use Rattle.std.specs.Prelude.{◌≡◌, ℕ, ◌+◌, ◌-◌, ◌^◌, ◌<◌, ◌≤◌, ◌==◌, ◌&&◌, nat_le, nat_lt, Bool, true, false, All, List, [], ◌∷◌, ◌++◌, length, map, take, drop, slice_index_or, if◌then◌else◌, replicate, Option, Some, None}
 use Rattle.std.specs.List.{sum_by, range_with_len, zip}
-use Rattle.smallvec.specs.SmallVec.{SmallVec, HasRoomFor}
 use Rattle.fd_blend.specs.declared.channel.Colour.{Colour}
 use Rattle.fd_tile.specs.Tile.{Pixel}
 use Rattle.fd_undo.specs.declared.span.Span.{Span}
 use Rattle.fd_undo.specs.declared.stored.StoredFrame.{StoredFrame}
 use Rattle.fd_undo.specs.Frame.{KeptPixel, kept_row}
+use Rattle.fd_undo.specs.Parts.{Parts, IsWhole}
 
 -- whether pixel (x, y) is one of a span's
 abbrev pub span_holds : Span → ℕ → ℕ → Bool
@@ -43,12 +43,25 @@ depths_of (s ∷ spans) depths = depths_in s.same_depth s.len depths ++ depths_o
 abbrev pub last_pixels : List Span → List Colour → List ℕ → List Pixel
 last_pixels spans colours depths = zip (drop (length colours - pixel_count spans) colours) (depths_of spans (drop (length depths - depth_count spans) depths))
 
--- the spans of all stored frames, and their pixels
-abbrev pub spans_of : List StoredFrame → List Span
-spans_of [] = []
-spans_of (f ∷ stored) = f.spans.items ++ spans_of stored
+-- a stored frame and its spans
+pub record SpannedFrame : Type 0 where
+  pub number : ℕ
+  pub first : ℕ
+  pub first_depth : ℕ
+  pub spans : List Span
 
-abbrev pub pixels_in : List StoredFrame → List Colour → List ℕ → List Pixel
+abbrev pub spanned : List Span → StoredFrame → SpannedFrame
+spanned spans f = record { number = f.number; first = f.first; first_depth = f.first_depth; spans = take f.spans (drop f.first_span spans) }
+
+abbrev pub spanned_frames : List Span → List StoredFrame → List SpannedFrame
+spanned_frames spans stored = map (λ f. spanned spans f) stored
+
+-- the spans of all stored frames, and their pixels
+abbrev pub spans_of : List SpannedFrame → List Span
+spans_of [] = []
+spans_of (f ∷ stored) = f.spans ++ spans_of stored
+
+abbrev pub pixels_in : List SpannedFrame → List Colour → List ℕ → List Pixel
 pixels_in stored colours depths = zip colours (depths_of (spans_of stored) depths)
 
 -- what a frame keeps: its spans take their pixels in turn
@@ -57,53 +70,73 @@ kept_of [] pixels = []
 kept_of (s ∷ spans) pixels = kept_row s.x s.y (take s.len pixels) ++ kept_of spans (drop s.len pixels)
 
 -- frame number i, which is empty where none is stored under that number
-abbrev pub frame_of : List StoredFrame → List Pixel → ℕ → List KeptPixel
+abbrev pub frame_of : List SpannedFrame → List Pixel → ℕ → List KeptPixel
 frame_of [] pixels i = []
-frame_of (f ∷ stored) pixels i = if f.number == i then kept_of f.spans.items (drop f.first pixels) else frame_of stored pixels i
+frame_of (f ∷ stored) pixels i = if f.number == i then kept_of f.spans (drop f.first pixels) else frame_of stored pixels i
 
 -- so many frames, oldest first
-abbrev pub frames_of : ℕ → List StoredFrame → List Pixel → List (List KeptPixel)
+abbrev pub frames_of : ℕ → List SpannedFrame → List Pixel → List (List KeptPixel)
 frames_of count stored pixels = map (frame_of stored pixels) (range_with_len 0 count)
 
 -- from frame i and pixel k on up to frame j and pixel l: the numbers rise, and each frame's pixels follow those of the one before
-abbrev pub Follow : ℕ → ℕ → List StoredFrame → ℕ → ℕ → Type 0
+abbrev pub Follow : ℕ → ℕ → List SpannedFrame → ℕ → ℕ → Type 0
 Follow i k [] j l = (i ≤ j) × (k ≡ l)
-Follow i k (f ∷ stored) j l = (i ≤ f.number) × (f.first ≡ k) × Follow (f.number + 1) (k + pixel_count f.spans.items) stored j l
+Follow i k (f ∷ stored) j l = (i ≤ f.number) × (f.first ≡ k) × Follow (f.number + 1) (k + pixel_count f.spans) stored j l
 
 -- from depth k of the list on up to depth l: each frame's depths follow those of the one before
-abbrev pub DepthsFollow : ℕ → List StoredFrame → ℕ → Type 0
+abbrev pub DepthsFollow : ℕ → List SpannedFrame → ℕ → Type 0
 DepthsFollow k [] l = k ≡ l
-DepthsFollow k (f ∷ stored) l = (f.first_depth ≡ k) × DepthsFollow (k + depth_count f.spans.items) stored l
+DepthsFollow k (f ∷ stored) l = (f.first_depth ≡ k) × DepthsFollow (k + depth_count f.spans) stored l
+
+-- from span k of the list on up to span l: each frame's spans follow those of the one before
+abbrev pub SpansFollow : ℕ → List StoredFrame → ℕ → Type 0
+SpansFollow k [] l = k ≡ l
+SpansFollow k (f ∷ stored) l = (f.first_span ≡ k) × SpansFollow (k + f.spans) stored l
 
 -- a stored frame that nothing rests on
-abbrev pub no_frame : StoredFrame
-no_frame = record { number = 0; first = 0; first_depth = 0; spans = record { items = []; capacity = 0 } }
+abbrev pub no_stored : StoredFrame
+no_stored = record { number = 0; first = 0; first_depth = 0; first_span = 0; spans = 0 }
+
+abbrev pub no_frame : SpannedFrame
+no_frame = record { number = 0; first = 0; first_depth = 0; spans = [] }
 
 -- the number of the frame that is stored at this place, and that the numbers rise
 abbrev pub number_at : List StoredFrame → ℕ → ℕ
-number_at stored place = (slice_index_or stored place no_frame).number
+number_at stored place = (slice_index_or stored place no_stored).number
 
 abbrev pub NumbersRise : List StoredFrame → Type 0
 NumbersRise stored = (a b : ℕ) → a < b → b < length stored → number_at stored a < number_at stored b
 
 -- the youngest frame that is stored
-abbrev pub top_stored : List StoredFrame → StoredFrame
+abbrev pub top_stored : List SpannedFrame → SpannedFrame
 top_stored stored = slice_index_or stored (length stored - 1) no_frame
 
--- the youngest of so many frames is stored, with room for so many more spans
-pub record HasOpenFrame (count : ℕ) (stored : List StoredFrame) (spans_left : ℕ) : Type 0 where
-  pub some : 0 < length stored
-  pub youngest : (top_stored stored).number + 1 ≡ count
-  pub room : HasRoomFor (top_stored stored).spans spans_left
+abbrev pub newest : List StoredFrame → StoredFrame
+newest stored = slice_index_or stored (length stored - 1) no_stored
 
--- what holds of the fields: all colours and all listed depths belong to the stored frames in turn, and the room that is told is there
-pub record IsUndoStack (count : ℕ) (stored : List StoredFrame) (next : SmallVec Span) (stored_capacity colours_len colours_capacity depths_len depths_capacity : ℕ) (frame_left : Bool) (spans_left pixels_left : ℕ) : Type 0 where
-  pub follow : Follow 0 0 stored count colours_len
-  pub next_empty : next.items ≡ []
-  pub next_room : frame_left ≡ true → spans_left ≤ next.capacity
+-- what a frame has of each list stands in one piece
+pub record IsWholeFrame (spans : Parts Span) (colours : Parts Colour) (depths : Parts ℕ) (f : StoredFrame) : Type 0 where
+  pub spans_whole : IsWhole spans f.first_span f.spans
+  pub colours_whole : IsWhole colours f.first (pixel_count (spanned spans.items f).spans)
+  pub depths_whole : IsWhole depths f.first_depth (depth_count (spanned spans.items f).spans)
+
+-- the youngest of so many frames is stored, and the last pieces begin where it does or before
+pub record HasOpenFrame (count : ℕ) (stored : List StoredFrame) (spans : Parts Span) (colours : Parts Colour) (depths : Parts ℕ) : Type 0 where
+  pub some : 0 < length stored
+  pub youngest : (newest stored).number + 1 ≡ count
+  pub spans_open : All (λ s. s ≤ (newest stored).first_span) spans.starts
+  pub colours_open : All (λ s. s ≤ (newest stored).first) colours.starts
+  pub depths_open : All (λ s. s ≤ (newest stored).first_depth) depths.starts
+
+-- what holds of the fields: all spans, colours and listed depths belong to the stored frames in turn, and the room that is told is there
+pub record IsUndoStack (count : ℕ) (stored : List StoredFrame) (spans : Parts Span) (colours : Parts Colour) (depths : Parts ℕ) (stored_capacity : ℕ) (frame_left : Bool) (spans_left pixels_left : ℕ) : Type 0 where
+  pub follow : Follow 0 0 (spanned_frames spans.items stored) count (length colours.items)
+  pub spans_follow : SpansFollow 0 stored (length spans.items)
+  pub depths_follow : DepthsFollow 0 (spanned_frames spans.items stored) (length depths.items)
+  pub whole : All (λ f. IsWholeFrame spans colours depths f) stored
   pub frame_room : frame_left ≡ true → count + 1 < 2 ^ 64
   pub stored_room : frame_left ≡ true → 0 < spans_left → length stored < stored_capacity
-  pub begun : frame_left ≡ false → 0 < spans_left → HasOpenFrame count stored spans_left
-  pub pixel_room : colours_len + pixels_left ≤ colours_capacity
-  pub depths_follow : DepthsFollow 0 stored depths_len
-  pub depth_room : depths_len + pixels_left ≤ depths_capacity
+  pub begun : frame_left ≡ false → 0 < spans_left → HasOpenFrame count stored spans colours depths
+  pub span_room : spans_left ≤ spans.room
+  pub pixel_room : pixels_left ≤ colours.room
+  pub depth_room : pixels_left ≤ depths.room

@@ -4,6 +4,7 @@
 pub use stack::{Full, UndoStack};
 
 mod kept;
+mod pieces;
 mod restore;
 mod span;
 mod stack;

@@ -1,37 +1,35 @@
-ghost use Rattle.std.specs.Prelude.{◌≡◌, ◌-◌, ◌≤◌, length, take, All, vec_capacity};
+ghost use Rattle.std.specs.Prelude.{◌≡◌, length, All};
 ghost use Rattle.std.specs.List.{zip};
 ghost use Rattle.fd_tile.specs.Place.{Holds};
 ghost use Rattle.fd_undo.specs.Frame.{kept_row, restored};
-ghost use Rattle.fd_undo.specs.Stored.{pixel_count, depth_count, listed, depths_in, last_pixels, kept_of};
+ghost use Rattle.fd_undo.specs.Stored.{pixel_count, depth_count, depths_of, listed, depths_in, kept_of};
 
 use crate::span::Span;
-use crate::stored::INLINE_SPANS;
 use fd_blend::Colour;
 use fd_tile::Tile;
-use smallvec::SmallVec;
 
-/// Writes the colours and depths of some spans, which stand last in the lists, back, the last span first, and takes them off the lists.
-pub(crate) fn put_back(
-    mut spans: SmallVec<Span, INLINE_SPANS>,
-    colours: &mut Vec<Colour>,
-    depths: &mut Vec<u16>,
-    tile: &mut Tile,
-)
-    requires counted { pixel_count spans.items ≤ length colours.old.items }
-    requires depths_counted { depth_count spans.items ≤ length depths.old.items }
-    requires inside { All (λ k. Holds tile.old.place k.x k.y) (kept_of spans.items (last_pixels spans.items colours.old.items depths.old.items)) }
-    ensures tile { tile.new ≡ restored (kept_of spans.items (last_pixels spans.items colours.old.items depths.old.items)) tile.old }
-    ensures colours { colours.new.items ≡ take (length colours.old.items - pixel_count spans.items) colours.old.items }
-    ensures depths { depths.new.items ≡ take (length depths.old.items - depth_count spans.items) depths.old.items }
-    ensures capacity { vec_capacity colours.new ≡ vec_capacity colours.old }
-    ensures depth_capacity { vec_capacity depths.new ≡ vec_capacity depths.old }
+/// Writes the colours and depths of some spans back, the last span first.
+pub(crate) fn put_back(spans: &[Span], colours: &[Colour], depths: &[u16], tile: &mut Tile)
+    requires counted { pixel_count spans.now ≡ length colours.now }
+    requires depths_counted { depth_count spans.now ≡ length depths.now }
+    requires inside { All (λ k. Holds tile.old.place k.x k.y) (kept_of spans.now (zip colours.now (depths_of spans.now depths.now))) }
+    ensures { tile.new ≡ restored (kept_of spans.now (zip colours.now (depths_of spans.now depths.now))) tile.old }
 {
-    while let Some(span) = spans.pop() {
-        let start = colours.len() - span.len as usize;
-        let first_depth = depths.len() - span.listed();
-        put_back_row(tile, &span, &colours[start..], &depths[first_depth..]);
-        colours.truncate(start);
-        depths.truncate(first_depth);
+    let mut left = spans.len();
+    let (mut end, mut depths_end) = (colours.len(), depths.len());
+    while left > 0 {
+        left -= 1;
+        let span = spans[left];
+        let start = end - span.len as usize;
+        let first_depth = depths_end - span.listed();
+        put_back_row(
+            tile,
+            &span,
+            &colours[start..end],
+            &depths[first_depth..depths_end],
+        );
+        end = start;
+        depths_end = first_depth;
     }
 }
 

@@ -1,20 +1,20 @@
-ghost use Rattle.std.specs.Prelude.{◌≡◌, ◌+◌, ◌<◌, ◌≤◌, true, false, [], ◌∷◌, ◌++◌, length, take, slice_get, slice_index_or, All, OnOk, OnErr};
+ghost use Rattle.std.specs.Prelude.{◌≡◌, ◌+◌, ◌<◌, ◌≤◌, true, false, [], ◌∷◌, ◌++◌, length, take, slice_get, slice_index_or, All, None, IfSome, OnOk, OnErr};
 ghost use Rattle.std.specs.List.{zip};
 ghost use Rattle.fd_snap.specs.Limits.{most_pixels};
 ghost use Rattle.fd_tile.specs.Place.{Holds};
 ghost use Rattle.fd_undo.specs.Frame.{kept_row, kept_at, restored, top, older};
+ghost use Rattle.fd_undo.specs.Stored.{pixel_count, depth_count, depths_of, kept_of};
 ghost use Rattle.fd_undo.specs.Undo.{without_room, with_kept, recorded_in};
 
 use crate::kept::{add_kept_in, kept_in};
+use crate::pieces::Pieces;
 use crate::restore::put_back;
 use crate::span::{Span, same_depth};
-use crate::stored::{INLINE_SPANS, StoredFrame, place_of, take_numbered};
+use crate::stored::{StoredFrame, place_of, take_numbered};
 use fd_blend::Colour;
 use fd_tile::Tile;
-use smallvec::SmallVec;
 use std::alloc::{AllocError, Global};
 use std::marker::Model;
-use std::mem;
 use thiserror::Error;
 
 #[cfg(test)]
@@ -33,32 +33,32 @@ pub struct UndoStack {
     count: usize,
     // the frames for which spans were reserved, oldest first
     stored: Vec<StoredFrame>,
-    // the colours of all frames, oldest first
-    colours: Vec<Colour>,
+    // the spans of all frames, oldest first
+    spans: Pieces<Span>,
+    // their colours
+    colours: Pieces<Colour>,
     // the depths of the spans whose pixels are not all equally deep
-    depths: Vec<u16>,
-    // the reserved spans of the next frame
-    next: SmallVec<Span, INLINE_SPANS>,
+    depths: Pieces<u16>,
     frame_left: bool,
     spans_left: usize,
     pixels_left: usize,
 }
 
 impl Model for UndoStack {
-    ghost use Rattle.std.specs.Vec.{vec_len, vec_capacity};
+    ghost use Rattle.std.specs.Vec.{vec_capacity};
     ghost use Rattle.fd_undo.specs.Undo.{Undo};
-    ghost use Rattle.fd_undo.specs.Stored.{frames_of, pixels_in, IsUndoStack};
+    ghost use Rattle.fd_undo.specs.Stored.{frames_of, pixels_in, spanned_frames, IsUndoStack};
 
     ghost Value = { Undo };
 
     ghost view = { λ u. record {
-      frames = frames_of u.count u.stored.items (pixels_in u.stored.items u.colours.items u.depths.items);
+      frames = frames_of u.count (spanned_frames u.spans.items u.stored.items) (pixels_in (spanned_frames u.spans.items u.stored.items) u.colours.items u.depths.items);
       frame_left = u.frame_left;
       spans_left = u.spans_left;
       pixels_left = u.pixels_left;
     } };
 
-    ghost invariant = { λ u. IsUndoStack u.count u.stored.items u.next (vec_capacity u.stored) (vec_len u.colours) (vec_capacity u.colours) (vec_len u.depths) (vec_capacity u.depths) u.frame_left u.spans_left u.pixels_left };
+    ghost invariant = { λ u. IsUndoStack u.count u.stored.items u.spans u.colours u.depths (vec_capacity u.stored) u.frame_left u.spans_left u.pixels_left };
 }
 
 impl UndoStack {
@@ -70,9 +70,9 @@ impl UndoStack {
             alloc,
             count: 0,
             stored: Vec::new(alloc),
-            colours: Vec::new(alloc),
-            depths: Vec::new(alloc),
-            next: SmallVec::new(alloc),
+            spans: Pieces::new(alloc),
+            colours: Pieces::new(alloc),
+            depths: Pieces::new(alloc),
             frame_left: false,
             spans_left: 0,
             pixels_left: 0,
@@ -89,11 +89,15 @@ impl UndoStack {
             return Err(Full);
         }
         if spans > 0 {
-            self.next = SmallVec::with_capacity(self.alloc, spans).map_err(|_| Full)?;
             self.stored.reserve(1).map_err(|_| Full)?;
         }
-        self.colours.reserve(pixels).map_err(|_| Full)?;
-        self.depths.reserve(pixels).map_err(|_| Full)?;
+        self.spans.reserve(self.alloc, spans).map_err(|_| Full)?;
+        self.colours
+            .reserve(self.alloc, pixels)
+            .map_err(|_| Full)?;
+        self.depths
+            .reserve(self.alloc, pixels)
+            .map_err(|_| Full)?;
         self.frame_left = true;
         self.spans_left = spans;
         self.pixels_left = pixels;
@@ -136,12 +140,12 @@ impl UndoStack {
         ensures { self.new ≡ record self.old { frames = self.old.frames ++ [] ∷ []; frame_left = false } }
     {
         if self.spans_left > 0 {
-            let spans = mem::replace(&mut self.next, SmallVec::new(self.alloc));
             self.stored.push_reserved(StoredFrame {
                 number: self.count,
                 first: self.colours.len(),
                 first_depth: self.depths.len(),
-                spans,
+                first_span: self.spans.len(),
+                spans: 0,
             });
         }
         self.count += 1;
@@ -164,12 +168,11 @@ impl UndoStack {
             len: old.len() as u16,
             same_depth: same_depth(depths),
         };
-        self.colours.extend_from_slice(old).unwrap();
-        self.depths
-            .extend_from_slice(&depths[..span.listed()])
-            .unwrap();
+        self.colours.extend_from_slice(old);
+        self.depths.extend_from_slice(&depths[..span.listed()]);
+        self.spans.push(span);
         let top = self.stored.len() - 1;
-        self.stored[top].spans.push_reserved(span);
+        self.stored[top].spans += 1;
         self.spans_left -= 1;
         self.pixels_left -= old.len();
     }
@@ -186,7 +189,17 @@ impl UndoStack {
         self.pixels_left = 0;
         self.count -= 1;
         if let Some(top) = take_numbered(&mut self.stored, self.count) {
-            put_back(top.spans, &mut self.colours, &mut self.depths, tile);
+            let colours = self.colours.len() - top.first;
+            let depths = self.depths.len() - top.first_depth;
+            put_back(
+                &self.spans.piece_from(top.first_span)[..top.spans],
+                &self.colours.piece_from(top.first)[..colours],
+                &self.depths.piece_from(top.first_depth)[..depths],
+                tile,
+            );
+            self.spans.truncate(top.first_span);
+            self.colours.truncate(top.first);
+            self.depths.truncate(top.first_depth);
         }
     }
 
@@ -208,16 +221,8 @@ impl UndoStack {
     pub fn kept(&self, frame: usize, x: u32, y: u32, n: usize) -> Option<(Colour, u16)>
         ensures { result ≡ slice_get (kept_at (slice_index_or self.now.frames frame []) x y) n }
     {
-        let place = place_of(&self.stored, frame)?;
-        let stored = &self.stored[place];
-        kept_in(
-            &stored.spans,
-            &self.colours[stored.first..],
-            &self.depths[stored.first_depth..],
-            x,
-            y,
-            n,
-        )
+        let (spans, colours, depths) = self.stored_parts(frame)?;
+        kept_in(spans, colours, depths, x, y, n)
     }
 
     /// Adds the first colours and depths, at most so many, that a frame keeps of pixel (x, y) to a list, in the order in which they were kept.
@@ -234,18 +239,22 @@ impl UndoStack {
         if count == 0 {
             return Ok(());
         }
-        let Some(place) = place_of(&self.stored, frame) else {
+        let Some((spans, colours, depths)) = self.stored_parts(frame) else {
             return Ok(());
         };
-        let stored = &self.stored[place];
-        add_kept_in(
-            &stored.spans,
-            &self.colours[stored.first..],
-            &self.depths[stored.first_depth..],
-            x,
-            y,
-            count,
-            kept,
-        )
+        add_kept_in(spans, colours, depths, x, y, count, kept)
+    }
+
+    /// The spans of a stored frame, and colours and depths that begin with its own.
+    fn stored_parts(&self, frame: usize) -> Option<(&[Span], &[Colour], &[u16])>
+        ensures found { IfSome result (λ r. (pixel_count r.0.now ≤ length r.1.now) × (depth_count r.0.now ≤ length r.2.now) × (kept_of r.0.now (zip r.1.now (depths_of r.0.now r.2.now)) ≡ slice_index_or self.now.frames frame [])) }
+        ensures absent { result ≡ None → slice_index_or self.now.frames frame [] ≡ [] }
+    {
+        let stored = self.stored[place_of(&self.stored, frame)?];
+        Some((
+            &self.spans.piece_from(stored.first_span)[..stored.spans],
+            self.colours.piece_from(stored.first),
+            self.depths.piece_from(stored.first_depth),
+        ))
     }
 }

@@ -1,25 +1,20 @@
 ghost use Rattle.std.specs.Prelude.{◌≡◌, ◌≢◌, ℕ, ◌<◌, [], ◌∷◌, ◌++◌, length, None, IfSome, vec_capacity};
-ghost use Rattle.fd_undo.specs.Stored.{NumbersRise, number_at, top_stored};
+ghost use Rattle.fd_undo.specs.Stored.{NumbersRise, number_at, newest};
 
-use crate::span::Span;
-use smallvec::SmallVec;
-
-/// So many spans of a frame need no memory of their own.
-pub(crate) const INLINE_SPANS: usize = 4;
-
-/// The spans of one frame, the frame's number from 0, and where its colours and its depths begin in the stack's lists.
-#[derive(Drop)]
+/// The number of one frame from 0, where its colours, its depths and its spans begin in the stack's lists, and how many spans it has.
+#[derive(Clone, Copy)]
 pub(crate) struct StoredFrame {
     pub(crate) number: usize,
     pub(crate) first: usize,
     pub(crate) first_depth: usize,
-    pub(crate) spans: SmallVec<Span, INLINE_SPANS>,
+    pub(crate) first_span: usize,
+    pub(crate) spans: usize,
 }
 
 /// Takes the youngest stored frame off, if it has this number.
 pub(crate) fn take_numbered(stored: &mut Vec<StoredFrame>, number: usize) -> Option<StoredFrame>
     ensures some { IfSome result (λ f. (stored.old.items ≡ stored.new.items ++ f ∷ []) × (f.number ≡ number)) }
-    ensures none { result ≡ None → (stored.new ≡ stored.old) × (0 < length stored.old.items → (top_stored stored.old.items).number ≢ number) }
+    ensures none { result ≡ None → (stored.new ≡ stored.old) × (0 < length stored.old.items → (newest stored.old.items).number ≢ number) }
     ensures capacity { vec_capacity stored.new ≡ vec_capacity stored.old }
 {
     let len = stored.len();

@@ -1,6 +1,6 @@
-use Rattle.std.proofs.Common.{◌≡◌, ℕ, ◌+◌, ◌-◌, ◌≤◌, ◌∙◌, sym, ap, subst, List, [], ◌∷◌, ◌++◌, length, take, drop, arith}
+use Rattle.std.proofs.Common.{◌≡◌, ℕ, ◌+◌, ◌-◌, ◌<◌, ◌≤◌, ◌∙◌, sym, ap, subst, List, [], ◌∷◌, ◌++◌, length, get_or, take, drop, None, arith}
 use Rattle.std.specs.List.{zip}
-use Rattle.std.proofs.lemmas.List.{take_rest, take-take, length-take}
+use Rattle.std.proofs.lemmas.List.{take_more, take-take, length-take, drop-take}
 use Rattle.fd_blend.specs.declared.channel.Colour.{Colour}
 use Rattle.fd_tile.specs.Tile.{Pixel}
 use Rattle.fd_undo.specs.declared.span.Span.{Span}
@@ -10,82 +10,84 @@ use Rattle.fd_undo.proofs.Depths.{popped_count, popped_depths, kept_of-popped}
 use Rattle.fd_undo.proofs.Restored.{Inside, Inside-front, Inside-back, restored-append, restored-place}
 use Rattle.fd_undo.proofs.restore.put_back.Goals as goal
 
+abbrev no_span : Span
+no_span = record { x = 0; y = 0; len = 0; same_depth = None }
+
+sliced : {X : Type 0} (start end : ℕ) (xs : List X) → start ≤ end → take (end - start) (drop start xs) ≡ drop start (take end xs)
+sliced start end xs before = sym (drop-take start (end - start) xs) ∙ ap (λ k. drop start (take k xs)) {x = start + (end - start)} {y = end} (omega arith)
+
 pub put_back_row-requires-clause-inside : goal.put_back_row-requires-clause-inside
 put_back_row-requires-clause-inside c =
-    let base : ℕ = length c.args.colours.now.items - pixel_count c.args.spans.items in
-    let deep : ℕ = length c.args.depths.now.items - depth_count c.args.spans.items in
-    let cs : List Colour = c.loop-span.colours.items in
-    let ds : List ℕ = c.loop-span.depths.items in
-    let s : Span = c.in-Some.span in
-    let rest : List Span = c.pop.new.self.items in
-    let start : ℕ = c.len.result - c.in-Some.span.len in
-    let at : ℕ = c.len-in-Some.result - c.listed.result in
-    let start_is : c.len.result - c.in-Some.span.len ≡ length c.loop-span.colours.items - c.in-Some.span.len = ap (λ k. k - c.in-Some.span.len) (c.len.ensures ∙ c.loop-span.colours.ok.0) in
-    let at_is : c.len-in-Some.result - c.listed.result ≡ length c.loop-span.depths.items - listed c.in-Some.span =
-    ap (λ k. k - c.listed.result) (c.len-in-Some.ensures ∙ c.loop-span.depths.ok.0) ∙ ap (λ k. length c.loop-span.depths.items - k) c.listed.ensures in
-    let counted : pixel_count (rest ++ s ∷ []) + base ≡ length cs = ap (λ l. pixel_count l + base) (sym c.in-Some.ensures.items) ∙ c.loop-span.invariant.counted in
-    let deep_counted : depth_count (rest ++ s ∷ []) + deep ≡ length ds = ap (λ l. depth_count l + deep) (sym c.in-Some.ensures.items) ∙ c.loop-span.invariant.deep_counted in
+    let spans : List Span = c.args.spans.now in
+    let cs : List Colour = take c.loop-left.end c.args.colours.now in
+    let ds : List ℕ = take c.loop-left.depths_end c.args.depths.now in
+    let s : Span = get_or c.args.spans.now (c.loop-left.left - 1) no_span in
+    let rest : List Span = take (c.loop-left.left - 1) c.args.spans.now in
+    let start : ℕ = c.loop-left.end - s.len in
+    let at : ℕ = c.loop-left.depths_end - c.listed.result in
+    let here : c.loop-left.left - 1 < length c.args.spans.now = omega (arith, c.loop-left-test.true, c.loop-left.invariant.within) in
+    let parts : take c.loop-left.left c.args.spans.now ≡ take (c.loop-left.left - 1) c.args.spans.now ++ s ∷ [] =
+    ap (λ k. take k c.args.spans.now) {x = c.loop-left.left} {y = c.loop-left.left - 1 + 1} (omega (arith, c.loop-left-test.true)) ∙ take_more c.args.spans.now (c.loop-left.left - 1) no_span here in
+    let size : length (take c.loop-left.end c.args.colours.now) ≡ c.loop-left.end = omega (arith, length-take c.loop-left.end c.args.colours.now, c.loop-left.invariant.fits) in
+    let deep_size : length (take c.loop-left.depths_end c.args.depths.now) ≡ c.loop-left.depths_end = omega (arith, length-take c.loop-left.depths_end c.args.depths.now, c.loop-left.invariant.deep_fits) in
+    let counted : pixel_count (rest ++ s ∷ []) ≡ length cs = ap pixel_count (sym parts) ∙ c.loop-left.invariant.counted ∙ sym size in
+    let deep_counted : depth_count (rest ++ s ∷ []) ≡ length ds = ap depth_count (sym parts) ∙ c.loop-left.invariant.deep_counted ∙ sym deep_size in
+    let start_is : start ≡ length cs - s.len = ap (λ k. k - s.len) (sym size) in
+    let at_is : at ≡ length ds - listed s = ap (λ k. k - c.listed.result) (sym deep_size) ∙ ap (λ k. length ds - k) c.listed.ensures in
     let last : List Pixel = zip (drop start cs) (depths_in s.same_depth s.len (drop at ds)) in
-    let whole : kept_of c.loop-span.spans.items (zip (drop base cs) (depths_of c.loop-span.spans.items (drop deep ds)))
-    ≡ kept_of rest (zip (drop base (take start cs)) (depths_of rest (drop deep (take at ds)))) ++ kept_row s.x s.y last =
-    ap (λ l. kept_of l (zip (drop base cs) (depths_of l (drop deep ds)))) c.in-Some.ensures.items ∙ kept_of-popped rest s cs ds base deep start at counted deep_counted start_is at_is in
-    let all : Inside c.loop-span.tile.place (kept_of rest (zip (drop base (take start cs)) (depths_of rest (drop deep (take at ds)))) ++ kept_row s.x s.y last) =
-    subst (λ ks. Inside c.loop-span.tile.place ks) whole c.loop-span.invariant.inside in
-    let read : zip (take (length c.deref.result.now - start) (drop start c.deref.result.now)) (depths_in s.same_depth s.len (take (length c.deref-in-Some.result.now - at) (drop at c.deref-in-Some.result.now))) ≡ last =
-    ap (λ l. zip l (depths_in s.same_depth s.len (take (length c.deref-in-Some.result.now - at) (drop at c.deref-in-Some.result.now)))) (take_rest c.deref.result.now start ∙ ap (λ l. drop start l) c.deref.ensures.value)
-    ∙ ap (λ l. zip (drop start cs) (depths_in s.same_depth s.len l)) (take_rest c.deref-in-Some.result.now at ∙ ap (λ l. drop at l) c.deref-in-Some.ensures.value) in
-    subst (λ l. Inside c.loop-span.tile.place (kept_row s.x s.y l)) (sym read) (Inside-back _ _ _ all)
+    let whole : kept_of (take c.loop-left.left c.args.spans.now) (zip cs (depths_of (take c.loop-left.left c.args.spans.now) ds)) ≡ kept_of rest (zip (take start cs) (depths_of rest (take at ds))) ++ kept_row s.x s.y last =
+    ap (λ l. kept_of l (zip cs (depths_of l ds))) parts ∙ kept_of-popped rest s cs ds start at counted deep_counted start_is at_is in
+    let all : Inside c.loop-left.tile.place (kept_of rest (zip (take start cs) (depths_of rest (take at ds))) ++ kept_row s.x s.y last) =
+    subst (λ ks. Inside c.loop-left.tile.place ks) whole c.loop-left.invariant.inside in
+    let read : zip (take (c.loop-left.end - start) (drop start c.args.colours.now)) (depths_in s.same_depth s.len (take (c.loop-left.depths_end - at) (drop at c.args.depths.now))) ≡ last =
+    ap (λ l. zip l (depths_in s.same_depth s.len (take (c.loop-left.depths_end - at) (drop at c.args.depths.now)))) (sliced start c.loop-left.end c.args.colours.now (omega arith))
+    ∙ ap (λ l. zip (drop start cs) (depths_in s.same_depth s.len l)) (sliced at c.loop-left.depths_end c.args.depths.now (omega arith)) in
+    subst (λ l. Inside c.loop-left.tile.place (kept_row s.x s.y l)) (sym read) (Inside-back _ _ _ all)
 
-pub loop-span-preserved : goal.loop-span-preserved
-loop-span-preserved c =
-    let base : ℕ = length c.args.colours.now.items - pixel_count c.args.spans.items in
-    let deep : ℕ = length c.args.depths.now.items - depth_count c.args.spans.items in
-    let cs : List Colour = c.loop-span.colours.items in
-    let ds : List ℕ = c.loop-span.depths.items in
-    let s : Span = c.in-Some.span in
-    let rest : List Span = c.pop.new.self.items in
-    let start : ℕ = c.len.result - c.in-Some.span.len in
-    let at : ℕ = c.len-in-Some.result - c.listed.result in
-    let start_is : c.len.result - c.in-Some.span.len ≡ length c.loop-span.colours.items - c.in-Some.span.len = ap (λ k. k - c.in-Some.span.len) (c.len.ensures ∙ c.loop-span.colours.ok.0) in
-    let at_is : c.len-in-Some.result - c.listed.result ≡ length c.loop-span.depths.items - listed c.in-Some.span =
-    ap (λ k. k - c.listed.result) (c.len-in-Some.ensures ∙ c.loop-span.depths.ok.0) ∙ ap (λ k. length c.loop-span.depths.items - k) c.listed.ensures in
-    let counted : pixel_count (rest ++ s ∷ []) + base ≡ length cs = ap (λ l. pixel_count l + base) (sym c.in-Some.ensures.items) ∙ c.loop-span.invariant.counted in
-    let deep_counted : depth_count (rest ++ s ∷ []) + deep ≡ length ds = ap (λ l. depth_count l + deep) (sym c.in-Some.ensures.items) ∙ c.loop-span.invariant.deep_counted in
+pub loop-left-preserved : goal.loop-left-preserved
+loop-left-preserved c =
+    let spans : List Span = c.args.spans.now in
+    let cs : List Colour = take c.loop-left.end c.args.colours.now in
+    let ds : List ℕ = take c.loop-left.depths_end c.args.depths.now in
+    let s : Span = get_or c.args.spans.now (c.loop-left.left - 1) no_span in
+    let rest : List Span = take (c.loop-left.left - 1) c.args.spans.now in
+    let start : ℕ = c.loop-left.end - s.len in
+    let at : ℕ = c.loop-left.depths_end - c.listed.result in
+    let here : c.loop-left.left - 1 < length c.args.spans.now = omega (arith, c.loop-left-test.true, c.loop-left.invariant.within) in
+    let parts : take c.loop-left.left c.args.spans.now ≡ take (c.loop-left.left - 1) c.args.spans.now ++ s ∷ [] =
+    ap (λ k. take k c.args.spans.now) {x = c.loop-left.left} {y = c.loop-left.left - 1 + 1} (omega (arith, c.loop-left-test.true)) ∙ take_more c.args.spans.now (c.loop-left.left - 1) no_span here in
+    let size : length (take c.loop-left.end c.args.colours.now) ≡ c.loop-left.end = omega (arith, length-take c.loop-left.end c.args.colours.now, c.loop-left.invariant.fits) in
+    let deep_size : length (take c.loop-left.depths_end c.args.depths.now) ≡ c.loop-left.depths_end = omega (arith, length-take c.loop-left.depths_end c.args.depths.now, c.loop-left.invariant.deep_fits) in
+    let counted : pixel_count (rest ++ s ∷ []) ≡ length cs = ap pixel_count (sym parts) ∙ c.loop-left.invariant.counted ∙ sym size in
+    let deep_counted : depth_count (rest ++ s ∷ []) ≡ length ds = ap depth_count (sym parts) ∙ c.loop-left.invariant.deep_counted ∙ sym deep_size in
+    let start_is : start ≡ length cs - s.len = ap (λ k. k - s.len) (sym size) in
+    let at_is : at ≡ length ds - listed s = ap (λ k. k - c.listed.result) (sym deep_size) ∙ ap (λ k. length ds - k) c.listed.ensures in
     let last : List Pixel = zip (drop start cs) (depths_in s.same_depth s.len (drop at ds)) in
-    let whole : kept_of c.loop-span.spans.items (zip (drop base cs) (depths_of c.loop-span.spans.items (drop deep ds)))
-    ≡ kept_of rest (zip (drop base (take start cs)) (depths_of rest (drop deep (take at ds)))) ++ kept_row s.x s.y last =
-    ap (λ l. kept_of l (zip (drop base cs) (depths_of l (drop deep ds)))) c.in-Some.ensures.items ∙ kept_of-popped rest s cs ds base deep start at counted deep_counted start_is at_is in
-    let all : Inside c.loop-span.tile.place (kept_of rest (zip (drop base (take start cs)) (depths_of rest (drop deep (take at ds)))) ++ kept_row s.x s.y last) =
-    subst (λ ks. Inside c.loop-span.tile.place ks) whole c.loop-span.invariant.inside in
-    let read : zip (take (length c.deref.result.now - start) (drop start c.deref.result.now)) (depths_in s.same_depth s.len (take (length c.deref-in-Some.result.now - at) (drop at c.deref-in-Some.result.now))) ≡ last =
-    ap (λ l. zip l (depths_in s.same_depth s.len (take (length c.deref-in-Some.result.now - at) (drop at c.deref-in-Some.result.now)))) (take_rest c.deref.result.now start ∙ ap (λ l. drop start l) c.deref.ensures.value)
-    ∙ ap (λ l. zip (drop start cs) (depths_in s.same_depth s.len l)) (take_rest c.deref-in-Some.result.now at ∙ ap (λ l. drop at l) c.deref-in-Some.ensures.value) in
-    let written : c.put_back_row.new.tile ≡ restored (kept_row s.x s.y last) c.loop-span.tile =
-    c.put_back_row.ensures ∙ ap (λ l. restored (kept_row s.x s.y l) c.loop-span.tile) read in
-    let placed : c.loop-span.tile.place ≡ c.put_back_row.new.tile.place =
-    sym (restored-place (kept_row s.x s.y last) c.loop-span.tile) ∙ ap (λ t. t.place) (sym written) in
-    let cut : c.truncate.new.self.items ≡ take start cs = c.truncate.ensures.items in
-    let deep_cut : c.truncate-in-Some.new.self.items ≡ take at ds = c.truncate-in-Some.ensures.items in
-    let left : kept_of rest (zip (drop base c.truncate.new.self.items) (depths_of rest (drop deep c.truncate-in-Some.new.self.items)))
-    ≡ kept_of rest (zip (drop base (take start cs)) (depths_of rest (drop deep (take at ds)))) =
-    ap (λ l. kept_of rest (zip (drop base l) (depths_of rest (drop deep c.truncate-in-Some.new.self.items)))) cut
-    ∙ ap (λ l. kept_of rest (zip (drop base (take start cs)) (depths_of rest (drop deep l)))) deep_cut in
-    let count : pixel_count rest + base ≡ length (take start cs) = popped_count rest s cs ds base deep start at counted deep_counted start_is at_is in
-    let deep_count : depth_count rest + deep ≡ length (take at ds) = popped_depths rest s cs ds base deep start at counted deep_counted start_is at_is in
-    let base_below : base ≤ start = omega (arith, count, length-take start cs) in
-    let deep_below : deep ≤ at = omega (arith, deep_count, length-take at ds) in
+    let whole : kept_of (take c.loop-left.left c.args.spans.now) (zip cs (depths_of (take c.loop-left.left c.args.spans.now) ds)) ≡ kept_of rest (zip (take start cs) (depths_of rest (take at ds))) ++ kept_row s.x s.y last =
+    ap (λ l. kept_of l (zip cs (depths_of l ds))) parts ∙ kept_of-popped rest s cs ds start at counted deep_counted start_is at_is in
+    let all : Inside c.loop-left.tile.place (kept_of rest (zip (take start cs) (depths_of rest (take at ds))) ++ kept_row s.x s.y last) =
+    subst (λ ks. Inside c.loop-left.tile.place ks) whole c.loop-left.invariant.inside in
+    let read : zip (take (c.loop-left.end - start) (drop start c.args.colours.now)) (depths_in s.same_depth s.len (take (c.loop-left.depths_end - at) (drop at c.args.depths.now))) ≡ last =
+    ap (λ l. zip l (depths_in s.same_depth s.len (take (c.loop-left.depths_end - at) (drop at c.args.depths.now)))) (sliced start c.loop-left.end c.args.colours.now (omega arith))
+    ∙ ap (λ l. zip (drop start cs) (depths_in s.same_depth s.len l)) (sliced at c.loop-left.depths_end c.args.depths.now (omega arith)) in
+    let counts : (pixel_count rest ≡ start) × (start ≡ length (take start cs)) × (start ≤ length cs) = popped_count rest s cs ds start at counted deep_counted start_is at_is in
+    let deep_counts : (depth_count rest ≡ at) × (at ≡ length (take at ds)) × (at ≤ length ds) = popped_depths rest s cs ds start at counted deep_counted start_is at_is in
+    let left : kept_of rest (zip (take start c.args.colours.now) (depths_of rest (take at c.args.depths.now))) ≡ kept_of rest (zip (take start cs) (depths_of rest (take at ds))) =
+    sym (ap (λ l. kept_of rest (zip l (depths_of rest (take at ds)))) (take-take start c.loop-left.end c.args.colours.now (omega arith))
+    ∙ ap (λ l. kept_of rest (zip (take start c.args.colours.now) (depths_of rest l))) (take-take at c.loop-left.depths_end c.args.depths.now (omega arith))) in
+    let written : c.put_back_row.new.tile ≡ restored (kept_row s.x s.y last) c.loop-left.tile = c.put_back_row.ensures ∙ ap (λ l. restored (kept_row s.x s.y l) c.loop-left.tile) read in
+    let placed : c.loop-left.tile.place ≡ c.put_back_row.new.tile.place = sym (restored-place (kept_row s.x s.y last) c.loop-left.tile) ∙ ap (λ t. t.place) (sym written) in
     record {
-      counted = count ∙ ap length (sym cut);
-      deep_counted = deep_count ∙ ap length (sym deep_cut);
-      below = ap (λ l. take base l) cut ∙ take-take base start cs base_below ∙ c.loop-span.invariant.below;
-      deep_below = ap (λ l. take deep l) deep_cut ∙ take-take deep at ds deep_below ∙ c.loop-span.invariant.deep_below;
-      inside = subst (λ p. Inside p (kept_of rest (zip (drop base c.truncate.new.self.items) (depths_of rest (drop deep c.truncate-in-Some.new.self.items))))) placed
-          (subst (λ ks. Inside c.loop-span.tile.place ks) (sym left) (Inside-front _ _ _ all));
-      left = ap (λ ks. restored ks c.put_back_row.new.tile) left
-          ∙ ap (λ t. restored (kept_of rest (zip (drop base (take start cs)) (depths_of rest (drop deep (take at ds))))) t) written
-          ∙ sym (restored-append (kept_of rest (zip (drop base (take start cs)) (depths_of rest (drop deep (take at ds))))) (kept_row s.x s.y last) c.loop-span.tile)
-          ∙ ap (λ ks. restored ks c.loop-span.tile) (sym whole)
-          ∙ c.loop-span.invariant.left;
-      capacity = c.truncate.ensures.capacity ∙ c.loop-span.invariant.capacity;
-      depth_capacity = c.truncate-in-Some.ensures.capacity ∙ c.loop-span.invariant.depth_capacity;
+      within = omega (arith, c.loop-left.invariant.within);
+      counted = counts.0;
+      fits = omega (arith, c.loop-left.invariant.fits);
+      deep_counted = deep_counts.0;
+      deep_fits = omega (arith, c.loop-left.invariant.deep_fits);
+      inside = subst (λ p. Inside p (kept_of rest (zip (take start c.args.colours.now) (depths_of rest (take at c.args.depths.now))))) placed
+          (subst (λ ks. Inside c.loop-left.tile.place ks) (sym left) (Inside-front _ _ _ all));
+      rest = ap (λ ks. restored ks c.put_back_row.new.tile) left
+          ∙ ap (λ t. restored (kept_of rest (zip (take start cs) (depths_of rest (take at ds)))) t) written
+          ∙ sym (restored-append (kept_of rest (zip (take start cs) (depths_of rest (take at ds)))) (kept_row s.x s.y last) c.loop-left.tile)
+          ∙ ap (λ ks. restored ks c.loop-left.tile) (sym whole)
+          ∙ c.loop-left.invariant.rest;
     }
