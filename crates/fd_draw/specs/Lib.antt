@@ -1,6 +1,5 @@
 pub mod Area
 pub mod Demand
-pub mod Layer
 pub mod Near
 pub mod Paints
 pub mod Primitive
@@ -8,3 +7,4 @@ pub mod Row
 pub mod Span
 pub mod Triangles
 pub mod Writing
+pub mod Written

@@ -7,14 +7,13 @@ ghost use Rattle.fd_tile.specs.Place.{HasRow};
 ghost use Rattle.fd_tile.specs.Tile.{IsTileImage, depth_of};
 ghost use Rattle.fd_draw.specs.Area.{IsInside, IsWrittenIn};
 ghost use Rattle.fd_draw.specs.Demand.{is_reached, pixels_in};
-ghost use Rattle.fd_draw.specs.Layer.{kept_by_triangle};
+ghost use Rattle.fd_draw.specs.Written.{kept_by_triangle};
 ghost use Rattle.fd_draw.specs.Primitive.{triangle_of};
 ghost use Rattle.fd_draw.specs.Writing.{HasRoom, StoresDepths, Writes, between, in_row};
 
-use crate::layer::{Layer, WIDEST};
 use crate::primitive::Primitive;
 use crate::span::covered_span;
-use crate::write::write_span;
+use crate::write::{WIDEST, write_span};
 use fd_cover::{Bounds, Depth, Rows, depth_row};
 use fd_events::Pipeline;
 use fd_tile::Tile;
@@ -80,8 +79,7 @@ fn draw_run(
     requires room { HasRoom 1 (length depths.now) undo.old }
     ensures { Writes 1 (length depths.now) (in_row (between x (x + length depths.now)) y) (pixel_after_triangle (triangle_of primitive.now) primitive.now.interp state.now) (kept_by_triangle (triangle_of primitive.now) state.now) tile.old undo.old tile.new undo.new }
 {
-    let layer = Layer::Triangle(*primitive);
-    write_span(&layer, state, x, x + depths.len() as u32, y, tile, undo);
+    write_span(primitive, state, x, x + depths.len() as u32, y, tile, undo);
     if state.depth.enable && state.depth.write {
         store_depths(depths, x, y, tile);
     }

@@ -11,7 +11,7 @@ use Rattle.fd_tile.specs.declared.place.Place.{Place}
 use Rattle.fd_tile.specs.Place.{HasRow}
 use Rattle.fd_tile.proofs.Pixels.{length-depth_row_of}
 use Rattle.fd_draw.specs.Demand.{is_reached}
-use Rattle.fd_draw.specs.Layer.{kept_by_triangle}
+use Rattle.fd_draw.specs.Written.{kept_by_triangle}
 use Rattle.fd_draw.specs.Paints.{Paints}
 use Rattle.fd_draw.specs.Primitive.{triangle_of}
 use Rattle.fd_draw.specs.Writing.{after_where, kept_where, between, in_row}

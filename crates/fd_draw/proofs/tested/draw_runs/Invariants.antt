@@ -1,6 +1,6 @@
 use Rattle.std.proofs.Common.{◌≤◌, ◌+◌, ◌-◌, length}
 use Rattle.fd_events.specs.Image.{pixel_after_triangle}
-use Rattle.fd_draw.specs.Layer.{kept_by_triangle}
+use Rattle.fd_draw.specs.Written.{kept_by_triangle}
 use Rattle.fd_draw.specs.Paints.{Paints}
 use Rattle.fd_draw.specs.Primitive.{triangle_of}
 use Rattle.fd_draw.specs.Writing.{after_where, kept_where, between, in_row}

@@ -1,7 +1,7 @@
 use Rattle.std.proofs.Common.{◌∙◌, ap, rules}
 use Rattle.fd_blend.specs.Row.{blended_row}
 use Rattle.fd_draw.proofs.Rows.{blended_columns}
-use Rattle.fd_draw.proofs.layer.blend_triangle.Goals as goal
+use Rattle.fd_draw.proofs.write.blend_triangle.Goals as goal
 
 pub returns : goal.returns
 returns c =
