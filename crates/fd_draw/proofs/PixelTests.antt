@@ -1,5 +1,5 @@
 -- A triangle with the depth test on: of each row the pixels that pass, in runs.
-use Rattle.std.proofs.Common.{◌≡◌, ℕ, ◌+◌, ◌-◌, ◌<◌, ◌≤◌, Bool, true, false, ◌||◌, cond, eqb, List, [], length, get_or, take, drop, map, replicate, refl, sym, ap, ◌∙◌, subst, arith, inl, inr, ◌⊎◌}
+use Rattle.std.proofs.Common.{◌≡◌, ℕ, ◌+◌, ◌-◌, ◌<◌, ◌≤◌, Bool, true, false, ◌||◌, cond, eqb, List, [], length, get_or, map, replicate, refl, sym, ap, ◌∙◌, subst, arith, inl, inr, ◌⊎◌, ◌/◌, ◌%◌, ◌^◌}
 use Rattle.std.specs.List.{zip, range_with_len}
 use Rattle.std.proofs.lemmas.List.FromFn.{get_or-map-range_with_len, length-map-range_with_len}
 use Rattle.std.proofs.lemmas.Slice.Zip.{get_or-zip}
@@ -8,7 +8,9 @@ use Rattle.fd_blend.specs.Blend.{blend}
 use Rattle.std.specs.Prelude.{◌&&◌, Some, nat_le, nat_lt}
 use Rattle.std.proofs.lemmas.Bool.{eq-eqb, ne_eqb, cases_eq, cases_lt}
 use Rattle.std.proofs.lemmas.Bool.Decides.{nat_tests}
-use Rattle.std.proofs.lemmas.List.{length-replicate, get_or-replicate, get_or-take, get_or-drop}
+use Rattle.std.proofs.lemmas.Nat.{pow-add}
+use Rattle.std.proofs.Math.Nat.{div-div-eq-div-mul}
+use Rattle.std.proofs.lemmas.List.{length-replicate, get_or-replicate}
 use Rattle.fd_blend.specs.declared.channel.Colour.{Colour}
 use Rattle.fd_blend.specs.Channel.{fresh}
 use Rattle.fd_cover.specs.declared.shading.Interp.{Interp}
@@ -28,12 +30,13 @@ use Rattle.fd_draw.specs.Demand.{is_reached, pixels_in, spans_in}
 use Rattle.fd_draw.proofs.Counts.{pixels_in-row, spans_in-row, row_pixels-span, in_span-inside, in_span-after, and_false, and_true}
 use Rattle.fd_draw.specs.declared.clear.Clear.TheVariants.{Colours, Depths}
 use Rattle.fd_draw.specs.Written.{cleared, kept_by_triangle}
+use Rattle.fd_draw.specs.Mask.{is_set}
 use Rattle.fd_draw.specs.Paints.{Paints}
 use Rattle.fd_draw.specs.Span.{IsRowSpan}
 use Rattle.fd_draw.specs.Writing.{StoresDepths, after_where, kept_where, keep_each, between, in_row}
 use Rattle.fd_draw.proofs.Areas.{drawn_reached}
 use Rattle.fd_draw.proofs.Rows.{length-put_mid, before_part, in_part, past_part}
-use Rattle.fd_draw.proofs.Painting.{with_rows, pair_at, Paints-span, Paints-same-here, Paints-nothing, Paints-both, Paints-as, Paints-unwritten}
+use Rattle.fd_draw.proofs.Painting.{with_rows, pair_at, Paints-span, Paints-same-here, Paints-nothing, Paints-both, Paints-as}
 
 cond_at : {X : Type 0} (b : Bool) (p q other : X) → (b ≡ true → p ≡ q) → cond b p other ≡ cond b q other
 cond_at true p q other same = same refl
@@ -141,28 +144,30 @@ pub drawn_as_tested : (tri : Triangle) (s : Pipeline) (x y source stored : ℕ) 
 drawn_as_tested tri s x y source stored passed is same reached =
     is ∙ ap (λ d. passes s.depth d stored) same ∙ sym (drawn_reached tri s x y stored ∙ rw reached refl)
 
+shifted_twice : (n a k : ℕ) → n / 2 ^ a / 2 ^ k ≡ n / 2 ^ (a + k)
+shifted_twice n a k = div-div-eq-div-mul n (2 ^ a) (2 ^ k) ∙ ap (λ m. n / m) (sym (pow-add 2 a k))
+
 -- behind the pixels that are done the depths are as they were, and some in turn are drawn or not as the first of them
-module _ (tri : Triangle) (interp : Interp) (s : Pipeline) (x y done count rest : ℕ) (passed : List Bool) (t t' : TileImage) (u u' : Undo)
+module _ (tri : Triangle) (interp : Interp) (s : Pipeline) (x y done count passed : ℕ) (t t' : TileImage) (u u' : Undo)
     (painted : Paints (after_where (in_row (between x (x + done)) y) (pixel_after_triangle tri interp s)) (kept_where (in_row (between x (x + done)) y) (kept_by_triangle tri s)) t u t' u')
     (crossed : HasRow t.place y) (from_left : t.place.left ≤ x) (to_right : x + (done + count) ≤ t.place.left + t.place.width)
-    (tests : (column : ℕ) → x ≤ column → column < x + (done + count) → get_or passed (column - x) false ≡ is_drawn tri s column y (depth_of t column y))
-    (few : count ≤ rest) (alike : (k : ℕ) → k < count → get_or (take rest (drop done passed)) k false ≡ get_or (take rest (drop done passed)) 0 false) where
+    (tests : (column : ℕ) → x ≤ column → column < x + (done + count) → is_set passed (column - x) ≡ is_drawn tri s column y (depth_of t column y))
+    (alike : (k : ℕ) → k < count → is_set (passed / 2 ^ done) k ≡ is_set (passed / 2 ^ done) 0) where
   behind : (column : ℕ) → x + done ≤ column → column < x + (done + count) → depth_of t' column y ≡ depth_of t column y
   behind column low high =
       let held : Holds t.place column y = record { from_left = omega arith; to_right = omega arith; from_top = crossed.from_top; to_bottom = crossed.to_bottom } in
       let none : in_row (between x (x + done)) y column y ≡ false = and_true (eqb y y) (between x (x + done) column y) (eq-eqb y y refl) ∙ in_span-after x (x + done) column low in
       ap (λ (p : Pixel). p.1) (painted.pixels column y held ∙ ap (λ b. cond b (pixel_after_triangle tri interp s column y (pixel_of t column y)) (pixel_of t column y)) none)
 
-  rest_at : (k : ℕ) → k < rest → get_or (take rest (drop done passed)) k false ≡ get_or passed (done + k) false
-  rest_at k below = get_or-take rest (drop done passed) k false below ∙ get_or-drop done passed k false
+  rest_at : (k : ℕ) → is_set (passed / 2 ^ done) k ≡ is_set passed (done + k)
+  rest_at k = ap (λ n. eqb (n % 2) 1) (shifted_twice passed done k)
 
-  pub drawn_alike : (column : ℕ) → x + done ≤ column → column < x + (done + count) → is_drawn tri s column y (depth_of t' column y) ≡ get_or passed done false
+  pub drawn_alike : (column : ℕ) → x + done ≤ column → column < x + (done + count) → is_drawn tri s column y (depth_of t' column y) ≡ is_set (passed / 2 ^ done) 0
   drawn_alike column low high =
       let place : done + (column - (x + done)) ≡ column - x = omega arith in
-      let first : done + 0 ≡ done = omega arith in
       ap (λ d. is_drawn tri s column y d) (behind column low high) ∙ sym (tests column (omega arith) high)
-      ∙ ap (λ k. get_or passed k false) (sym place) ∙ sym (rest_at (column - (x + done)) (omega arith))
-      ∙ alike (column - (x + done)) (omega arith) ∙ rest_at 0 (omega arith) ∙ ap (λ k. get_or passed k false) first
+      ∙ ap (λ k. is_set passed k) (sym place) ∙ sym (rest_at (column - (x + done)))
+      ∙ alike (column - (x + done)) (omega arith)
 
 -- ---- run after run of a row
 
@@ -189,16 +194,6 @@ module _ (paint : ℕ → ℕ → Pixel → Pixel) (keep : ℕ → ℕ → Pixel
       Paints-both paint keep (in_row (between first middle) y) (in_row (between middle last) y) (in_row (between first last) y) t t' t'' u u' u''
       (λ c r. apart_columns (eqb r y) (nat_le first c && nat_lt c middle) (nat_le middle c && nat_lt c last) (not_yet c))
       (λ c r. joined_columns (eqb r y) (nat_le first c && nat_lt c middle) (nat_le middle c && nat_lt c last) (nat_le first c && nat_lt c last) (both_runs c))
-
--- no column is before the first
-pub Paints-begin : (paint : ℕ → ℕ → Pixel → Pixel) (keep : ℕ → ℕ → Pixel → List Pixel) (first y : ℕ) (t : TileImage) (u : Undo) → IsTileImage t → u.frame_left ≡ false
-    → Paints (after_where (in_row (between first first) y) paint) (kept_where (in_row (between first first) y) keep) t u t u
-Paints-begin paint keep first y t u filled begun =
-    Paints-unwritten paint keep (in_row (between first first) y) t u filled begun (λ c r held. none c (eqb r y))
-  where
-    none : (c : ℕ) (e : Bool) → (e && (nat_le first c && nat_lt c first)) ≡ false
-    none c true = grind (arith, nat_tests)
-    none c false = refl
 
 -- the columns of a row's span
 module _ (written : ℕ → ℕ → Bool) (p : Place) (y first last : ℕ) (crossed : HasRow p y) (span : IsRowSpan (λ x. written x y) p.left (p.left + p.width) (Some (first, last))) where

@@ -1,5 +1,5 @@
 -- Rows that are changed pixel by pixel.
-use Rattle.std.proofs.Common.{◌≡◌, ℕ, ◌+◌, ◌-◌, ◌<◌, ◌≤◌, List, [], ◌∷◌, ◌++◌, length, take, drop, get_or, map, refl, ap, ◌∙◌, arith, length-append, length-drop}
+use Rattle.std.proofs.Common.{◌≡◌, ℕ, ◌+◌, ◌-◌, ◌<◌, ◌≤◌, List, [], ◌∷◌, ◌++◌, length, take, drop, get_or, map, refl, ap, ◌∙◌, arith, length-append, length-drop, sym}
 use Rattle.std.specs.List.{enumerate_from, range_with_len}
 use Rattle.std.proofs.lemmas.List.{length-map, get_or-map, length-take, get_or-take, get_or-drop, get_or_append_left, get_or-append_right}
 use borrow.Rule.Slice.PartMut.{put_mid, post_of}
@@ -54,3 +54,11 @@ module _ {X : Type 0} (a k : ℕ) (xs ys : List X) (inside : a + k ≤ length xs
       ∙ get_or-drop k (drop a xs) (i - a - k) d
       ∙ get_or-drop a xs (k + (i - a - k)) d
       ∙ ap (λ j. get_or xs j d) place
+
+-- what stands before something
+pub take_front : {X : Type 0} (n : ℕ) (xs ys : List X) → length xs ≡ n → take n (xs ++ ys) ≡ xs
+take_front {X = X} n xs ys size = ap (λ k. take k (xs ++ ys)) (sym size) ∙ whole xs
+  where
+    whole : (xs : List X) → take (length xs) (xs ++ ys) ≡ xs
+    whole [] = refl
+    whole (x ∷ xs) = ap (λ l. x ∷ l) (whole xs)

@@ -1,5 +1,6 @@
 pub mod Area
 pub mod Demand
+pub mod Mask
 pub mod Near
 pub mod Paints
 pub mod Primitive

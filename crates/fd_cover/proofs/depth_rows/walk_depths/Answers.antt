@@ -1,10 +1,10 @@
-use Rattle.std.proofs.Common.{◌≡◌, ℕ, ◌+◌, ◌*◌, ◌<◌, ◌≤◌, ◌^◌, ◌/◌, ◌∙◌, sym, inl, inr, refl, length, arith}
+use Rattle.std.proofs.Common.{◌≡◌, ℕ, ◌+◌, ◌<◌, ◌^◌, ◌∙◌, inl, inr, refl, length, arith}
 use Rattle.std.proofs.lemmas.Bool.{cases_lt}
 use Rattle.std.proofs.lemmas.List.{get_or-set_other}
 use Rattle.std.proofs.lemmas.Grind.{get_or-set_at}
 use Rattle.fd_cover.specs.Depth.{depth_at, vertex_depth}
 use Rattle.fd_cover.proofs.WalkLemmas.{IsAlong, walk_value, walk_on, walk_from, numerator_at, columns_from}
-use Rattle.fd_cover.proofs.depth.walk_depths.Goals as goal
+use Rattle.fd_cover.proofs.depth_rows.walk_depths.Goals as goal
 
 pub loop-i-init : goal.loop-i-init
 loop-i-init c =
@@ -15,10 +15,11 @@ loop-i-init c =
     let zb = vertex_depth c.args.depths.now 1 in
     let zc = vertex_depth c.args.depths.now 2 in
     let one = c.at.ensures in
-    let two = c.at-2.ensures in record {
+    let two = c.at-2.ensures in
+    record {
       depths = λ k d low. absurd (omega arith);
-      walk = λ some. walk_from (2 ^ 48) t x y za zb zc _ _ _ _ (numerator_at (2 ^ 48) t x y za zb zc _ _ _ _ _ _ one.a one.b one.c one.area (rw one.area refl) refl c.depth_quotient-first.ensures.near)
-          (numerator_at (2 ^ 48) t (x + 1) y za zb zc _ _ _ _ _ _ two.a two.b two.c two.area (rw two.area refl) refl c.depth_quotient-second.ensures.near) (omega (arith, c.depth_quotient-first.ensures.bound)) c.between-place.ensures.place c.between-place.ensures.step;
+      walk = λ some. walk_from (2 ^ 48) t x y za zb zc _ _ _ _ (numerator_at (2 ^ 48) t x y za zb zc _ _ _ _ _ _ one.a one.b one.c one.area c.requires.divisor c.depth_numerator-first.ensures.value c.depth_quotient-first.ensures.near)
+          (numerator_at (2 ^ 48) t (x + 1) y za zb zc _ _ _ _ _ _ two.a two.b two.c two.area c.requires.divisor c.depth_numerator-second.ensures.value c.depth_quotient-second.ensures.near) (omega (arith, c.depth_quotient-first.ensures.bound)) c.between-place.ensures.place c.between-place.ensures.step;
     }
 
 pub loop-i-preserved : goal.loop-i-preserved
@@ -42,7 +43,7 @@ loop-i-preserved c =
     let before = c.loop-i.invariant in
     let walk = before.walk c.loop-i-test.true in
     let depth = walk_value (2 ^ 48) t x y za zb zc i _ _ here walk in
-    let small = c.depth_quotient-first.ensures.depths in
+    let small = c.depth_numerator-first.ensures.depths in
     record {
       depths = λ k d low. elim (cases_lt k i) [
         | inl less ↦ get_or-set_other c.loop-i.out i k _ d (λ same. omega (arith, same, less)) ∙ before.depths k d less

@@ -1,6 +1,6 @@
 use Rattle.std.proofs.Common.{◌≡◌, ℕ, ◌+◌, ◌<◌, get_or}
 use Rattle.fd_cover.specs.Depth.{depth_at}
-use Rattle.fd_cover.proofs.depth.divide_depths.Given as goal
+use Rattle.fd_cover.proofs.depth_rows.divide_depths.Given as goal
 
 -- the depths so far
 abbrev pub invariant-loop-i : goal.invariant-loop-i

@@ -2,7 +2,7 @@ use Rattle.std.proofs.Common.{◌≡◌, ◌^◌, ℕ, ◌+◌, ◌<◌, get_or,
 use Rattle.fd_cover.specs.declared.triangle.Tri.{Tri}
 use Rattle.fd_cover.specs.Depth.{depth_at, vertex_depth}
 use Rattle.fd_cover.proofs.WalkLemmas.{IsWalk}
-use Rattle.fd_cover.proofs.depth.walk_depths.Given as goal
+use Rattle.fd_cover.proofs.depth_rows.walk_depths.Given as goal
 
 -- the depths so far, and the walk stands at the next pixel
 abbrev pub invariant-loop-i : goal.invariant-loop-i
