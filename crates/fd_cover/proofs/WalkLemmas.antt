@@ -1,9 +1,9 @@
 -- A rounded quotient along a row of covered pixels is the whole part of a place that grows by equal steps.
-use Rattle.std.proofs.Common.{List, length, map, get_or, ◌≡◌, ◌≢◌, ℕ, zero, suc, ◌+◌, ◌-◌, ◌*◌, ◌/◌, ◌%◌, ◌^◌, ◌<◌, ◌≤◌, ℤ, pos, negsuc, ◌+ℤ◌, ◌-ℤ◌, ◌*ℤ◌, inl, inr, true, refl, sym, ap, ◌∙◌, arith, unsigned_abs}
+use Rattle.std.proofs.Common.{List, length, map, replicate, get_or, ◌≡◌, ◌≢◌, ℕ, zero, suc, ◌+◌, ◌-◌, ◌*◌, ◌/◌, ◌%◌, ◌^◌, ◌<◌, ◌≤◌, ℤ, pos, negsuc, ◌+ℤ◌, ◌-ℤ◌, ◌*ℤ◌, inl, inr, true, refl, sym, ap, ◌∙◌, arith, unsigned_abs}
 use Rattle.std.proofs.lemmas.Int.{ints}
 use Rattle.std.proofs.lemmas.Bool.{cases_lt}
 use Rattle.std.proofs.lemmas.Nat.{le-div}
-use Rattle.std.proofs.lemmas.List.{ext_get_or}
+use Rattle.std.proofs.lemmas.List.{ext_get_or, length-replicate, get_or-replicate}
 use Rattle.std.proofs.lemmas.List.FromFn.{get_or-map-range_with_len, length-map-range_with_len}
 use Rattle.std.specs.List.{range_with_len}
 use Rattle.fd_blend.specs.declared.channel.Colour.{Colour}
@@ -14,6 +14,7 @@ use Rattle.fd_cover.specs.Cross.{cross, centre}
 use Rattle.fd_cover.specs.Covers.{covers}
 use Rattle.fd_cover.specs.declared.shading.Interp.TheVariants.{Linear}
 use Rattle.fd_cover.specs.Shade.{area_of, weight_a, weight_b, weight_c, interpolated, shaded}
+use Rattle.fd_cover.specs.Depth.{depth_at, vertex_depth}
 use Rattle.fd_cover.specs.Walk.{numerator, IsNear, place_at}
 use Rattle.fd_cover.proofs.CrossLemmas.{cross-row, cross-turn}
 use Rattle.fd_cover.proofs.CoverLemmas.{IsPositive, IsNegative, covered_from}
@@ -167,6 +168,12 @@ module _ (unit n0 n1 n m v0 v1 i : ℕ) (some : 0 < m) (fine : 192 * m ≤ unit)
           ap_le : (n % m + 1) * unit ≤ m * unit
           ap_le = let grown : unit * (n % m + 1) ≤ unit * m = mul-le-mul_left unit (omega arith) in omega arith
 
+-- the mean of equal numbers
+pub level_mean : (wa wb wc z area : ℕ) → wa + wb + wc ≡ area → 0 < area → (2 * (wa * z + wb * z + wc * z) + area) / (2 * area) ≡ z
+level_mean wa wb wc z area sum some =
+    let whole : (wa + wb + wc) * z ≡ area * z = ap (λ k. k * z) sum in
+    quotient_is (2 * (wa * z + wb * z + wc * z) + area) (2 * area) z (omega arith) (omega (arith, whole)) (omega (arith, whole))
+
 -- ---- a number's walk, below top, with so many units to a whole one
 
 -- the walk stands at column i of the row: its place is that of the quotients at the columns 0 and 1
@@ -287,3 +294,17 @@ columns_from d source x n sources size each =
     ext_get_or d sources (map source (range_with_len x n)) (size ∙ sym (length-map-range_with_len source x n))
     (λ i within. let inside : i < n = omega (arith, size, within) in
     each i d inside ∙ sym (get_or-map-range_with_len source x n i (x + i) d inside refl))
+
+-- a triangle whose vertices are equally deep has that depth in every column
+module _ (t : Tri) (depths : List ℕ) (z x y n : ℕ) (level : (vertex_depth depths 0 ≡ z) × (vertex_depth depths 1 ≡ z) × (vertex_depth depths 2 ≡ z))
+    (covered : (column : ℕ) → x ≤ column → column < x + n → covers t column y ≡ true) where
+  level_at : (column : ℕ) → x ≤ column → column < x + n → depth_at t depths column y ≡ z
+  unfolding depth_at
+  level_at column low high =
+      let total = weights_add t column y (covered column low high) in
+      rw (level.0, level.1, level.2) (level_mean (weight_a t column y) (weight_b t column y) (weight_c t column y) z (area_of t) total.0 total.1)
+
+  pub level_columns : replicate n z ≡ map (λ column. depth_at t depths column y) (range_with_len x n)
+  level_columns =
+      columns_from 0 (λ column. depth_at t depths column y) x n (replicate n z) (length-replicate n z)
+      (λ i d low. get_or-replicate n i z d low ∙ sym (level_at (x + i) (omega arith) (omega (arith, low))))

@@ -5,6 +5,7 @@ pub mod Depth
 pub mod Rows
 pub mod Shade
 pub mod SharedEdge
+pub mod Slope
 pub mod Span
 pub mod Verdict
 pub mod VersionOne

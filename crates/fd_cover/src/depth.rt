@@ -1,13 +1,10 @@
-ghost use Rattle.std.specs.Prelude.{◌≡◌, ℕ, ◌<◌, ◌≤◌, ◌+◌, IsTrue, length, map};
-ghost use Rattle.std.specs.List.{range_with_len};
+ghost use Rattle.std.specs.Prelude.{◌≡◌, ◌<◌, IsTrue};
 ghost use Rattle.fd_cover.specs.Covers.{covers};
 ghost use Rattle.fd_cover.specs.Depth.{depth_at, vertex_depth, holds_of, passes, stored_past};
 ghost use Rattle.fd_cover.specs.Shade.{area_of, weighted_sum, IsNearestLarger};
 ghost use Rattle.fd_snap.specs.Limits.{most_pixels};
-ghost use Rattle.fd_cover.specs.declared.shading.TheConstants.{SHADED_ROW};
-ghost use Rattle.fd_cover.specs.declared.depth.TheConstants.{WALKED};
 
-use crate::shading::{Walk, Weights};
+use crate::shading::Weights;
 use crate::triangle::Tri;
 
 /// How a source depth is compared with the stored one: `source` Func `stored`.
@@ -83,55 +80,4 @@ pub fn depth_at(triangle: &Tri, depths: &[u16; 3], x: u32, y: u32) -> u16
 {
     let [a, b, c] = *depths;
     Weights::at(triangle, x, y).mean_depth(a, b, c)
-}
-
-/// The largest double area of a triangle whose depths are walked along a row: 192 times twice that is at most the 2^48 units of one depth.
-const WALKED: u64 = (1 << 48) / 384;
-
-/// The depths of a triangle at neighbouring covered pixels, each by its own division.
-fn divide_depths(triangle: &Tri, depths: &[u16; 3], x: u32, y: u32, out: &mut [u16])
-    requires few { length out.old ≤ SHADED_ROW }
-    requires row { y < most_pixels }
-    requires columns { x + length out.old ≤ most_pixels }
-    requires covered { (column : ℕ) → x ≤ column → column < x + length out.old → IsTrue (covers triangle.now column y) }
-    ensures { out.new ≡ map (λ column. depth_at triangle.now depths.now column y) (range_with_len x (length out.old)) }
-{
-    for i in 0..out.len() {
-        out[i] = depth_at(triangle, depths, x + i as u32, y);
-    }
-}
-
-/// The depths of a triangle at two or more neighbouring covered pixels, from those of the first two.
-fn walk_depths(triangle: &Tri, depths: &[u16; 3], x: u32, y: u32, out: &mut [u16])
-    requires some { 2 ≤ length out.old }
-    requires few { length out.old ≤ SHADED_ROW }
-    requires row { y < most_pixels }
-    requires columns { x + length out.old ≤ most_pixels }
-    requires covered { (column : ℕ) → x ≤ column → column < x + length out.old → IsTrue (covers triangle.now column y) }
-    requires small { area_of triangle.now ≤ WALKED }
-    ensures { out.new ≡ map (λ column. depth_at triangle.now depths.now column y) (range_with_len x (length out.old)) }
-{
-    let [a, b, c] = *depths;
-    let first = Weights::at(triangle, x, y).depth_quotient(a, b, c);
-    let second = Weights::at(triangle, x + 1, y).depth_quotient(a, b, c);
-    let Walk { mut place, step } = Walk::between(first, second);
-    for i in 0..out.len() {
-        out[i] = (place >> 48) as u16;
-        place = place.wrapping_add(step);
-    }
-}
-
-/// The depths of a triangle at neighbouring covered pixels of row y from column x on, from the depths of its vertices. Each is what `depth_at` says.
-pub fn depth_row(triangle: &Tri, depths: &[u16; 3], x: u32, y: u32, out: &mut [u16])
-    requires few { length out.old ≤ SHADED_ROW }
-    requires row { y < most_pixels }
-    requires columns { x + length out.old ≤ most_pixels }
-    requires covered { (column : ℕ) → x ≤ column → column < x + length out.old → IsTrue (covers triangle.now column y) }
-    ensures { out.new ≡ map (λ column. depth_at triangle.now depths.now column y) (range_with_len x (length out.old)) }
-{
-    if 2 <= out.len() && triangle.area().unsigned_abs() <= WALKED {
-        walk_depths(triangle, depths, x, y, out);
-    } else {
-        divide_depths(triangle, depths, x, y, out);
-    }
 }

@@ -3,7 +3,8 @@
 
 pub use bounds::Bounds;
 pub use coverage::covers;
-pub use depth::{Depth, Func, depth_at, depth_row};
+pub use depth::{Depth, Func, depth_at};
+pub use depth_rows::{DepthRows, depth_row};
 pub use rows::{Rows, row_span};
 pub use shading::{Interp, SHADED_ROW, shade, shade_row};
 pub use triangle::Tri;
@@ -12,6 +13,7 @@ pub use verdict::{Cull, Raster, Rect, Verdict, verdict_at};
 mod bounds;
 mod coverage;
 mod depth;
+mod depth_rows;
 mod edge;
 mod lanes;
 /// Laws of the definitions.

@@ -2,7 +2,6 @@ ghost use Rattle.std.specs.Prelude.{◌≡◌, ℕ, ◌<◌, ◌≤◌, ◌+◌,
 ghost use Rattle.std.specs.List.{range_with_len};
 ghost use Rattle.fd_cover.specs.Covers.{covers};
 ghost use Rattle.fd_cover.specs.Shade.{area_of, weight_a, weight_b, weight_c, IsNearestLarger, IsNearestMean, rounded_quotient, colour_of, shaded};
-ghost use Rattle.fd_cover.specs.Walk.{IsNear};
 ghost use Rattle.fd_snap.specs.Limits.{most_pixels};
 ghost use Rattle.fd_cover.specs.declared.shading.TheConstants.{SHADED_ROW};
 
@@ -15,9 +14,6 @@ use std::simd::prelude::*;
 
 /// The most pixels of a row that are shaded in one call.
 pub const SHADED_ROW: usize = 32;
-
-/// The units of a depth's fraction on a walk along a row.
-const DEPTH_UNITS: u128 = 1 << 48;
 
 /// How a triangle's colour comes from those of its vertices: the first one's, or between the three.
 #[derive(Clone, Copy, Debug, PartialEq, Eq)]
@@ -83,15 +79,15 @@ impl Weights {
         ((2 * total + area) / (2 * area)) as u8
     }
 
-    /// The rounded mean of three depths before its fraction is dropped, in units of 2^-48.
-    pub(crate) fn depth_quotient(self, a: u16, b: u16, c: u16) -> u64
-        ensures near { IsNear (2 ^ 48) (2 * (self.a * a + self.b * b + self.c * c) + (self.a + self.b + self.c)) (2 * (self.a + self.b + self.c)) result }
-        ensures bound { result + 96 < 2 ^ 64 }
+    /// What is divided by twice the area to round the weighted mean of three depths.
+    pub(crate) fn depth_numerator(self, a: u16, b: u16, c: u16) -> u64
+        ensures value { result ≡ 2 * (self.a * a + self.b * b + self.c * c) + (self.a + self.b + self.c) }
+        ensures bound { result ≤ 131071 * (self.a + self.b + self.c) }
         ensures depths { (a < 2 ^ 16) × ((b < 2 ^ 16) × (c < 2 ^ 16)) }
     {
         let area = self.a + self.b + self.c;
         let total = self.a * u64::from(a) + self.b * u64::from(b) + self.c * u64::from(c);
-        (u128::from(2 * total + area) * DEPTH_UNITS / u128::from(2 * area)) as u64
+        2 * total + area
     }
 
     /// What is divided by twice the area to round the weighted mean of three channels.

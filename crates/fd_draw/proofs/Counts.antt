@@ -146,16 +146,6 @@ part_of_box part box columns rows is = record {
   to_bottom = omega (arith, is.to_bottom);
 }
 
-pub part_inside : (part box : Bounds) (p : Place) → IsInside box p → IsPart part box → IsInside part p
-part_inside part box p inside is = record {
-  from_left = omega (arith, inside.from_left, is.from_left);
-  columns = omega (arith, is.columns);
-  to_right = omega (arith, inside.to_right, is.to_right);
-  from_top = omega (arith, inside.from_top, is.from_top);
-  rows = omega (arith, is.rows);
-  to_bottom = omega (arith, inside.to_bottom, is.to_bottom);
-}
-
 -- no pixel is written in rows outside the box
 module _ (written covered : ℕ → ℕ → Bool) (p : Place) (box : Bounds) (inside : IsInside box p) (is : IsWrittenIn written covered p box) where
   pub row_pixels-outside : (y : ℕ) → p.top ≤ y → y < p.top + p.height → (y < box.top) ⊎ (box.bottom ≤ y) → row_pixels written p y ≡ 0

@@ -1,7 +1,7 @@
 -- Drawing, pixel by pixel.
-use Rattle.std.proofs.Common.{◌≡◌, ◌≢◌, ℕ, ◌+◌, ◌-◌, ◌<◌, ◌≤◌, Bool, true, false, ◌||◌, cond, eqb, List, [], ◌∷◌, ◌++◌, length, get_or, take, drop, replicate, refl, sym, ap, ◌∙◌, subst, arith, append_assoc, length-drop, inl, inr, ◌⊎◌}
+use Rattle.std.proofs.Common.{◌≡◌, ◌≢◌, ℕ, ◌+◌, ◌-◌, ◌<◌, ◌≤◌, Bool, true, false, ◌||◌, cond, eqb, List, [], ◌∷◌, ◌++◌, length, get_or, take, drop, refl, sym, ap, ◌∙◌, subst, arith, append_assoc, length-drop, inl, inr, ◌⊎◌}
 use Rattle.std.specs.Prelude.{◌&&◌, All, Option, Some, None, IfSome, nat_lt}
-use Rattle.std.specs.List.{zip, refill}
+use Rattle.std.specs.List.{zip}
 use Rattle.std.proofs.lemmas.Bool.{eq-eqb, ne_eqb, cases_lt, cases_eq}
 use Rattle.std.proofs.lemmas.Bool.Decides.{nat_tests}
 use Rattle.std.proofs.lemmas.List.{append-nil, length_push, length-take, get_or-take, get_or-drop}
@@ -14,7 +14,7 @@ use Rattle.fd_cover.specs.declared.bounds.Bounds.{Bounds}
 use Rattle.fd_cover.specs.Bounds.{is_within}
 use Rattle.fd_tile.specs.declared.place.Place.{Place}
 use Rattle.fd_tile.specs.Place.{Holds, HasRow}
-use Rattle.fd_tile.specs.Tile.{Pixel, fresh_pixel, TileImage, FillsPlace, IsTileImage, row_in, with_row_in, value_in, row_of, depth_row_of, colour_of, depth_of, pixel_of, with_row, with_row_left, with_depth_row_left}
+use Rattle.fd_tile.specs.Tile.{Pixel, fresh_pixel, TileImage, IsTileImage, with_row_in, row_of, depth_row_of, colour_of, depth_of, pixel_of, with_row_left}
 use Rattle.fd_tile.proofs.Pixels.{length-row_in, row_in-same, row_in-other, left_row_is, with_row_in-as_it_is, FillsPlace-with_row_in}
 use Rattle.fd_undo.specs.Frame.{KeptPixel, kept_at, kept_row, top, older}
 use Rattle.fd_undo.specs.Undo.{Undo, with_kept}
@@ -23,13 +23,12 @@ use Rattle.fd_undo.proofs.Restored.{Inside}
 use Rattle.fd_undo.proofs.FrameLemmas.{top-push, older-push}
 use Rattle.fd_undo.proofs.Zips.{length-zip_equal}
 use Rattle.fd_draw.specs.Area.{IsInside, IsWrittenIn}
-use Rattle.fd_draw.specs.Demand.{pixels_in, spans_in}
 use Rattle.fd_draw.specs.Writing.{Writes, after_where, kept_where, keep_each, between, in_row}
 use Rattle.fd_draw.specs.Paints.{Paints}
 use Rattle.fd_draw.specs.Row.{changed_row}
 use Rattle.fd_draw.specs.Span.{IsRowSpan, in_span}
 use Rattle.fd_draw.proofs.Areas.{outside_row, outside_column, within_from}
-use Rattle.fd_draw.proofs.Counts.{in_span-inside, in_span-before, in_span-after, and_false, and_true, row_pixels-span, pixels_in-row, spans_in-row, pixels_in-nothing, spans_in-nothing}
+use Rattle.fd_draw.proofs.Counts.{in_span-inside, in_span-before, in_span-after, and_false, and_true}
 use Rattle.fd_draw.proofs.Rows.{length-changed_row, get_or-changed_row, length-put_mid, before_part, in_part, past_part}
 
 -- ---- one after another

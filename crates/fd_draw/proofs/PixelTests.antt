@@ -1,16 +1,16 @@
 -- A triangle with the depth test on: of each row the pixels that pass, in runs.
-use Rattle.std.proofs.Common.{◌≡◌, ◌≢◌, ℕ, ◌+◌, ◌-◌, ◌<◌, ◌≤◌, Bool, true, false, ◌||◌, cond, eqb, List, [], ◌∷◌, ◌++◌, length, get_or, take, drop, map, replicate, refl, sym, ap, ◌∙◌, subst, arith, inl, inr, ◌⊎◌}
+use Rattle.std.proofs.Common.{◌≡◌, ℕ, ◌+◌, ◌-◌, ◌<◌, ◌≤◌, Bool, true, false, ◌||◌, cond, eqb, List, [], length, get_or, map, replicate, refl, sym, ap, ◌∙◌, subst, arith, inl, inr, ◌⊎◌, ◌/◌, ◌%◌, ◌^◌}
 use Rattle.std.specs.List.{zip, range_with_len}
 use Rattle.std.proofs.lemmas.List.FromFn.{get_or-map-range_with_len, length-map-range_with_len}
 use Rattle.std.proofs.lemmas.Slice.Zip.{get_or-zip}
 use Rattle.fd_undo.proofs.Zips.{length-zip_equal}
 use Rattle.fd_blend.specs.Blend.{blend}
-use Rattle.fd_draw.specs.Area.{IsWrittenIn}
-use Rattle.fd_draw.proofs.Areas.{within_from}
 use Rattle.std.specs.Prelude.{◌&&◌, Some, nat_le, nat_lt}
 use Rattle.std.proofs.lemmas.Bool.{eq-eqb, ne_eqb, cases_eq, cases_lt}
 use Rattle.std.proofs.lemmas.Bool.Decides.{nat_tests}
-use Rattle.std.proofs.lemmas.List.{length-replicate, get_or-replicate, get_or-take, get_or-drop}
+use Rattle.std.proofs.lemmas.Nat.{pow-add}
+use Rattle.std.proofs.Math.Nat.{div-div-eq-div-mul}
+use Rattle.std.proofs.lemmas.List.{length-replicate, get_or-replicate}
 use Rattle.fd_blend.specs.declared.channel.Colour.{Colour}
 use Rattle.fd_blend.specs.Channel.{fresh}
 use Rattle.fd_cover.specs.declared.shading.Interp.{Interp}
@@ -18,23 +18,25 @@ use Rattle.fd_cover.specs.declared.triangle.Tri.{Tri}
 use Rattle.fd_cover.specs.Depth.{depth_at, passes, stored_past}
 use Rattle.fd_events.specs.declared.pipeline.Pipeline.{Pipeline}
 use Rattle.fd_events.specs.Draw.{Triangle}
-use Rattle.fd_events.specs.Image.{is_drawn, depth_of as source_depth, pixel_drawn, pixel_after_triangle, source_of}
+use Rattle.fd_events.specs.Image.{is_drawn, depth_of as source_depth, pixel_after_triangle, source_of}
 use Rattle.fd_tile.specs.Place.{Holds, HasRow}
-use Rattle.fd_tile.specs.Tile.{Pixel, fresh_pixel, TileImage, IsTileImage, with_row_in, with_depth_row, with_depth_row_left, row_of, depth_row_of, colour_of, depth_of, pixel_of}
+use Rattle.fd_tile.specs.Tile.{Pixel, fresh_pixel, TileImage, IsTileImage, with_row_in, with_row_left, with_depth_row, with_depth_row_left, row_of, depth_row_of, colour_of, depth_of, pixel_of}
 use Rattle.fd_tile.proofs.Pixels.{length-row_in, row_in-same, row_in-other, left_row_is, with_row_in-as_it_is, with_depth_row_left_is, IsTileImage-with_depth_row}
 use borrow.Rule.Slice.PartMut.{put_mid}
-use Rattle.fd_undo.specs.Frame.{kept_row, kept_at, top}
+use Rattle.fd_undo.specs.Frame.{kept_row}
 use Rattle.fd_undo.specs.Undo.{Undo, with_kept}
 use Rattle.fd_tile.specs.declared.place.Place.{Place}
 use Rattle.fd_draw.specs.Demand.{is_reached, pixels_in, spans_in}
 use Rattle.fd_draw.proofs.Counts.{pixels_in-row, spans_in-row, row_pixels-span, in_span-inside, in_span-after, and_false, and_true}
-use Rattle.fd_draw.specs.Layer.{kept_by_triangle}
+use Rattle.fd_draw.specs.declared.clear.Clear.TheVariants.{Colours, Depths}
+use Rattle.fd_draw.specs.Written.{cleared, kept_by_triangle}
+use Rattle.fd_draw.specs.Mask.{is_set}
 use Rattle.fd_draw.specs.Paints.{Paints}
-use Rattle.fd_draw.specs.Span.{IsRowSpan, in_span}
-use Rattle.fd_draw.specs.Writing.{Writes, StoresDepths, after_where, kept_where, keep_each, between, in_row}
+use Rattle.fd_draw.specs.Span.{IsRowSpan}
+use Rattle.fd_draw.specs.Writing.{StoresDepths, after_where, kept_where, keep_each, between, in_row}
 use Rattle.fd_draw.proofs.Areas.{drawn_reached}
 use Rattle.fd_draw.proofs.Rows.{length-put_mid, before_part, in_part, past_part}
-use Rattle.fd_draw.proofs.Painting.{with_rows, pair_at, Paints-span, Paints-same-here, Paints-nothing, Paints-both, Paints-as, Paints-unwritten}
+use Rattle.fd_draw.proofs.Painting.{with_rows, pair_at, Paints-span, Paints-same-here, Paints-nothing, Paints-both, Paints-as}
 
 cond_at : {X : Type 0} (b : Bool) (p q other : X) → (b ≡ true → p ≡ q) → cond b p other ≡ cond b q other
 cond_at true p q other same = same refl
@@ -49,39 +51,9 @@ cond_to false p other same = refl
 run_columns : (first last y c r : ℕ) → in_row (between first last) y c r ≡ true → (first ≤ c) × (c < last) × (r ≡ y)
 run_columns first last y c r is = grind (arith, nat_tests)
 
--- a pixel is written, and then given a depth
-run_pixel : (b : Bool) (p p' p'' : Pixel) (write store paint : Pixel → Pixel) → p' ≡ cond b (write p) p → p'' ≡ cond b (store p') p' → (b ≡ true → store (write p) ≡ paint p) → p'' ≡ cond b (paint p) p
-run_pixel true p p' p'' write store paint first then is = then ∙ ap store first ∙ is refl
-run_pixel false p p' p'' write store paint first then is = then ∙ first
-
 module _ (tri : Triangle) (interp : Interp) (s : Pipeline) (first last y : ℕ) (t : TileImage) (u : Undo) where
   abbrev Run : ℕ → ℕ → Bool
   Run = in_row (between first last) y
-
-  -- they all pass: their colours are written, and then their depths
-  pub Paints-passed : (t' t'' : TileImage) (u' : Undo)
-      → ((c : ℕ) → first ≤ c → c < last → is_drawn tri s c y (depth_of t c y) ≡ true)
-      → Paints (after_where (in_row (between first last) y) (λ x z before. (blend s.blend s.factor (source_of tri interp x z) before.0, before.1))) (kept_where (in_row (between first last) y) keep_each) t u t' u'
-      → t''.place ≡ t'.place → IsTileImage t''
-      → ((c r : ℕ) → Holds t'.place c r → pixel_of t'' c r ≡ cond (in_row (between first last) y c r) ((pixel_of t' c r).0, stored_past s.depth (source_depth tri c r) (pixel_of t' c r).1) (pixel_of t' c r))
-      → Paints (after_where (in_row (between first last) y) (pixel_after_triangle tri interp s)) (kept_where (in_row (between first last) y) (kept_by_triangle tri s)) t u t'' u'
-  Paints-passed t' t'' u' drawn painted placed filled stored =
-      let is_drawn_at : (c r : ℕ) → Run c r ≡ true → is_drawn tri s c r (depth_of t c r) ≡ true =
-      λ c r here. let at = run_columns first last y c r here in rw at.2 (drawn c at.0 at.1) in
-      record {
-        placed = placed ∙ painted.placed;
-        filled = filled;
-        below = painted.below;
-        begun = painted.begun;
-        some = painted.some;
-        pixels = λ c r held.
-            run_pixel (Run c r) (pixel_of t c r) (pixel_of t' c r) (pixel_of t'' c r) (λ p. (blend s.blend s.factor (source_of tri interp c r) p.0, p.1))
-            (λ p. (p.0, stored_past s.depth (source_depth tri c r) p.1)) (pixel_after_triangle tri interp s c r) (painted.pixels c r held)
-            (stored c r (subst (λ (q : Place). Holds q c r) (sym painted.placed) held)) (λ here. rw (is_drawn_at c r here) refl);
-        kept = λ c r held. painted.kept c r held
-            ∙ ap (λ l. kept_at (top u.frames) c r ++ l) (cond_at (Run c r) _ _ [] (λ here. rw (is_drawn_at c r here) refl));
-        inside = painted.inside;
-      }
 
   -- they all fail
   pub Paints-failed : IsTileImage t → u.frame_left ≡ false → ((c : ℕ) → first ≤ c → c < last → is_drawn tri s c y (depth_of t c y) ≡ false)
@@ -93,11 +65,6 @@ module _ (tri : Triangle) (interp : Interp) (s : Pipeline) (first last y : ℕ) 
       (λ c r inside. cond_to (Run c r) _ _ (λ here. rw (undrawn c r here) refl))
       (λ c r inside. cond_to (Run c r) _ _ (λ here. rw (undrawn c r here) refl))
       (Paints-nothing t u filled begun)
-
--- where nothing is stored, the depth stays
-pub nothing_stored : (b : Bool) (p : Pixel) (d : ℕ) → d ≡ p.1 → p ≡ cond b (p.0, d) p
-nothing_stored true p d same = ap (λ e. (p.0, e)) (sym same)
-nothing_stored false p d same = refl
 
 -- ---- depths that are stored in a row
 
@@ -177,28 +144,30 @@ pub drawn_as_tested : (tri : Triangle) (s : Pipeline) (x y source stored : ℕ) 
 drawn_as_tested tri s x y source stored passed is same reached =
     is ∙ ap (λ d. passes s.depth d stored) same ∙ sym (drawn_reached tri s x y stored ∙ rw reached refl)
 
+shifted_twice : (n a k : ℕ) → n / 2 ^ a / 2 ^ k ≡ n / 2 ^ (a + k)
+shifted_twice n a k = div-div-eq-div-mul n (2 ^ a) (2 ^ k) ∙ ap (λ m. n / m) (sym (pow-add 2 a k))
+
 -- behind the pixels that are done the depths are as they were, and some in turn are drawn or not as the first of them
-module _ (tri : Triangle) (interp : Interp) (s : Pipeline) (x y done count rest : ℕ) (passed : List Bool) (t t' : TileImage) (u u' : Undo)
+module _ (tri : Triangle) (interp : Interp) (s : Pipeline) (x y done count passed : ℕ) (t t' : TileImage) (u u' : Undo)
     (painted : Paints (after_where (in_row (between x (x + done)) y) (pixel_after_triangle tri interp s)) (kept_where (in_row (between x (x + done)) y) (kept_by_triangle tri s)) t u t' u')
     (crossed : HasRow t.place y) (from_left : t.place.left ≤ x) (to_right : x + (done + count) ≤ t.place.left + t.place.width)
-    (tests : (column : ℕ) → x ≤ column → column < x + (done + count) → get_or passed (column - x) false ≡ is_drawn tri s column y (depth_of t column y))
-    (few : count ≤ rest) (alike : (k : ℕ) → k < count → get_or (take rest (drop done passed)) k false ≡ get_or (take rest (drop done passed)) 0 false) where
+    (tests : (column : ℕ) → x ≤ column → column < x + (done + count) → is_set passed (column - x) ≡ is_drawn tri s column y (depth_of t column y))
+    (alike : (k : ℕ) → k < count → is_set (passed / 2 ^ done) k ≡ is_set (passed / 2 ^ done) 0) where
   behind : (column : ℕ) → x + done ≤ column → column < x + (done + count) → depth_of t' column y ≡ depth_of t column y
   behind column low high =
       let held : Holds t.place column y = record { from_left = omega arith; to_right = omega arith; from_top = crossed.from_top; to_bottom = crossed.to_bottom } in
       let none : in_row (between x (x + done)) y column y ≡ false = and_true (eqb y y) (between x (x + done) column y) (eq-eqb y y refl) ∙ in_span-after x (x + done) column low in
       ap (λ (p : Pixel). p.1) (painted.pixels column y held ∙ ap (λ b. cond b (pixel_after_triangle tri interp s column y (pixel_of t column y)) (pixel_of t column y)) none)
 
-  rest_at : (k : ℕ) → k < rest → get_or (take rest (drop done passed)) k false ≡ get_or passed (done + k) false
-  rest_at k below = get_or-take rest (drop done passed) k false below ∙ get_or-drop done passed k false
+  rest_at : (k : ℕ) → is_set (passed / 2 ^ done) k ≡ is_set passed (done + k)
+  rest_at k = ap (λ n. eqb (n % 2) 1) (shifted_twice passed done k)
 
-  pub drawn_alike : (column : ℕ) → x + done ≤ column → column < x + (done + count) → is_drawn tri s column y (depth_of t' column y) ≡ get_or passed done false
+  pub drawn_alike : (column : ℕ) → x + done ≤ column → column < x + (done + count) → is_drawn tri s column y (depth_of t' column y) ≡ is_set (passed / 2 ^ done) 0
   drawn_alike column low high =
       let place : done + (column - (x + done)) ≡ column - x = omega arith in
-      let first : done + 0 ≡ done = omega arith in
       ap (λ d. is_drawn tri s column y d) (behind column low high) ∙ sym (tests column (omega arith) high)
-      ∙ ap (λ k. get_or passed k false) (sym place) ∙ sym (rest_at (column - (x + done)) (omega arith))
-      ∙ alike (column - (x + done)) (omega arith) ∙ rest_at 0 (omega arith) ∙ ap (λ k. get_or passed k false) first
+      ∙ ap (λ k. is_set passed k) (sym place) ∙ sym (rest_at (column - (x + done)))
+      ∙ alike (column - (x + done)) (omega arith)
 
 -- ---- run after run of a row
 
@@ -225,16 +194,6 @@ module _ (paint : ℕ → ℕ → Pixel → Pixel) (keep : ℕ → ℕ → Pixel
       Paints-both paint keep (in_row (between first middle) y) (in_row (between middle last) y) (in_row (between first last) y) t t' t'' u u' u''
       (λ c r. apart_columns (eqb r y) (nat_le first c && nat_lt c middle) (nat_le middle c && nat_lt c last) (not_yet c))
       (λ c r. joined_columns (eqb r y) (nat_le first c && nat_lt c middle) (nat_le middle c && nat_lt c last) (nat_le first c && nat_lt c last) (both_runs c))
-
--- no column is before the first
-pub Paints-begin : (paint : ℕ → ℕ → Pixel → Pixel) (keep : ℕ → ℕ → Pixel → List Pixel) (first y : ℕ) (t : TileImage) (u : Undo) → IsTileImage t → u.frame_left ≡ false
-    → Paints (after_where (in_row (between first first) y) paint) (kept_where (in_row (between first first) y) keep) t u t u
-Paints-begin paint keep first y t u filled begun =
-    Paints-unwritten paint keep (in_row (between first first) y) t u filled begun (λ c r held. none c (eqb r y))
-  where
-    none : (c : ℕ) (e : Bool) → (e && (nat_le first c && nat_lt c first)) ≡ false
-    none c true = grind (arith, nat_tests)
-    none c false = refl
 
 -- the columns of a row's span
 module _ (written : ℕ → ℕ → Bool) (p : Place) (y first last : ℕ) (crossed : HasRow p y) (span : IsRowSpan (λ x. written x y) p.left (p.left + p.width) (Some (first, last))) where
@@ -274,9 +233,9 @@ Paints-untested tri interp s t t' u u' off painted =
     (λ x y held. cond_at (is_reached tri s x y) _ _ _ (λ reached. rw (drawn_off tri s x y (pixel_of t x y).1 off reached) refl))
     painted
 
--- ---- a row whose depths are cleared
+-- ---- a row that is cleared
 
-module _ (t : TileImage) (u : Undo) (y depth : ℕ) (filled : IsTileImage t) (crossed : HasRow t.place y) (begun : u.frame_left ≡ false) where
+module _ (t : TileImage) (u : Undo) (y : ℕ) (filled : IsTileImage t) (crossed : HasRow t.place y) (begun : u.frame_left ≡ false) where
   whole_row : IsRowSpan (λ _. true) t.place.left (t.place.left + t.place.width) (Some (t.place.left, t.place.left + t.place.width))
   whole_row = record {
     bounds = (omega arith, omega (arith, filled.colours.placed.wide), omega arith);
@@ -297,31 +256,46 @@ module _ (t : TileImage) (u : Undo) (y depth : ℕ) (filled : IsTileImage t) (cr
   deep_row : length (depth_row_of t y) ≡ t.place.width
   deep_row = length-row_in t.place t.depths y filled.depths crossed
 
-  pub Paints-clear_depths : (row : List Colour) (deep lent left : List ℕ) (u' : Undo) (column : ℕ) → row ≡ row_of t y → deep ≡ depth_row_of t y → lent ≡ depth_row_of t y → left ≡ replicate (length lent) depth
-      → column ≡ t.place.left → u' ≡ with_kept u (kept_row column y (zip row deep))
-      → Paints (after_where (in_row (λ _ _. true) y) (λ _ _ before. (before.0, depth))) (kept_where (in_row (λ _ _. true) y) keep_each) t u (with_depth_row_left t y left) u'
-  Paints-clear_depths row deep lent left u' column same same_deep same_lent is_left at is_kept =
-      let new : List ℕ = replicate t.place.width depth in
-      let size : length (replicate t.place.width depth) ≡ t.place.width = length-replicate t.place.width depth in
-      let filled_left : left ≡ replicate t.place.width depth = is_left ∙ ap (λ l. replicate (length l) depth) same_lent ∙ ap (λ n. replicate n depth) deep_row in
-      let whole : with_depth_row_left t y left ≡ with_rows t y (row_of t y) (replicate t.place.width depth) =
-      ap (λ l. with_depth_row_left t y l) filled_left
-      ∙ ap (λ depths. record { place = t.place; rows = t.rows; depths = depths }) (left_row_is t.place t.depths y filled.depths crossed (replicate t.place.width depth) size)
-      ∙ ap (λ rows. record { place = t.place; rows = rows; depths = with_row_in t.place t.depths y (replicate t.place.width depth) }) (sym (with_row_in-as_it_is t.place t.rows y)) in
-      let old : List Pixel = zip (row_of t y) (depth_row_of t y) in
-      let stack : u' ≡ with_kept u (kept_row t.place.left y (zip (row_of t y) (depth_row_of t y))) =
-      is_kept ∙ ap (λ r. with_kept u (kept_row column y (zip r deep))) same ∙ ap (λ d. with_kept u (kept_row column y (zip (row_of t y) d))) same_deep
-      ∙ ap (λ k. with_kept u (kept_row k y (zip (row_of t y) (depth_row_of t y)))) at in
-      let step : ℕ → ℕ → Pixel → Pixel = λ _ _ before. (before.0, depth) in
-      subst (λ v. Paints (after_where (in_row (λ _ _. true) y) step) (kept_where (in_row (λ _ _. true) y) keep_each) t u v u') (sym whole)
-      (subst (λ v. Paints (after_where (in_row (λ _ _. true) y) step) (kept_where (in_row (λ _ _. true) y) keep_each) t u (with_rows t y (row_of t y) (replicate t.place.width depth)) v) (sym stack)
-      (Paints-span (λ _ _. true) step y t.place.left (t.place.left + t.place.width) t u filled crossed begun whole_row (row_of t y) new old wide_row size
-      (length-zip_equal (row_of t y) (depth_row_of t y) (deep_row ∙ sym wide_row) ∙ wide_row ∙ omega arith)
-      (λ x low high. get_or-zip (row_of t y) (depth_row_of t y) (x - t.place.left) fresh_pixel (omega (arith, wide_row)) (omega (arith, deep_row)))
-      (λ x held apart. absurd (omega (arith, apart, held.from_left, held.to_right)))
-      (λ x held low high. ap (λ d. (colour_of t x y, d)) (get_or-replicate t.place.width (x - t.place.left) depth 65535 (omega (arith, held.from_left, held.to_right))))))
+  -- the row was kept, and has new colours and depths
+  module _ (row : List Colour) (deep : List ℕ) (column : ℕ) (u' : Undo) (same : row ≡ row_of t y) (same_deep : deep ≡ depth_row_of t y) (at : column ≡ t.place.left)
+      (is_kept : u' ≡ with_kept u (kept_row column y (zip row deep))) where
+    Paints-whole_row : (step : Pixel → Pixel) (cs : List Colour) (ds : List ℕ) → length cs ≡ t.place.width → length ds ≡ t.place.width
+        → ((x : ℕ) → Holds t.place x y → pair_at t cs ds x ≡ step (pixel_of t x y))
+        → Paints (after_where (in_row (λ _ _. true) y) (λ _ _. step)) (kept_where (in_row (λ _ _. true) y) keep_each) t u (with_rows t y cs ds) u'
+    Paints-whole_row step cs ds wide long is =
+        let old : List Pixel = zip (row_of t y) (depth_row_of t y) in
+        let stack : u' ≡ with_kept u (kept_row t.place.left y (zip (row_of t y) (depth_row_of t y))) =
+        is_kept ∙ ap (λ r. with_kept u (kept_row column y (zip r deep))) same ∙ ap (λ d. with_kept u (kept_row column y (zip (row_of t y) d))) same_deep
+        ∙ ap (λ k. with_kept u (kept_row k y (zip (row_of t y) (depth_row_of t y)))) at in
+        subst (λ v. Paints (after_where (in_row (λ _ _. true) y) (λ _ _. step)) (kept_where (in_row (λ _ _. true) y) keep_each) t u (with_rows t y cs ds) v) (sym stack)
+        (Paints-span (λ _ _. true) (λ _ _. step) y t.place.left (t.place.left + t.place.width) t u filled crossed begun whole_row cs ds old wide long
+        (length-zip_equal (row_of t y) (depth_row_of t y) (deep_row ∙ sym wide_row) ∙ wide_row ∙ omega arith)
+        (λ x low high. get_or-zip (row_of t y) (depth_row_of t y) (x - t.place.left) fresh_pixel (omega (arith, wide_row)) (omega (arith, deep_row)))
+        (λ x held apart. absurd (omega (arith, apart, held.from_left, held.to_right)))
+        (λ x held low high. is x held))
 
--- all pixels of a place
-pub whole_written : (p : Place) → IsWrittenIn (λ _ _. true) (λ _ _. true) p (record { left = p.left; top = p.top; right = p.left + p.width; bottom = p.top + p.height })
-whole_written p x y held =
-    rw (within_from (record { left = p.left; top = p.top; right = p.left + p.width; bottom = p.top + p.height }) x y held.from_left held.to_right held.from_top held.to_bottom) refl
+    pub Paints-clear_colours : (colour : Colour) (lent left : List Colour) → lent ≡ row_of t y → left ≡ replicate (length lent) colour
+        → Paints (after_where (in_row (λ _ _. true) y) (λ _ _. cleared (Colours colour))) (kept_where (in_row (λ _ _. true) y) keep_each) t u (with_row_left t y left) u'
+    Paints-clear_colours colour lent left same_lent is_left =
+        let size : length (replicate t.place.width colour) ≡ t.place.width = length-replicate t.place.width colour in
+        let filled_left : left ≡ replicate t.place.width colour = is_left ∙ ap (λ l. replicate (length l) colour) same_lent ∙ ap (λ n. replicate n colour) wide_row in
+        let whole : with_row_left t y left ≡ with_rows t y (replicate t.place.width colour) (depth_row_of t y) =
+        ap (λ l. with_row_left t y l) filled_left
+        ∙ ap (λ rows. record { place = t.place; rows = rows; depths = t.depths }) (left_row_is t.place t.rows y filled.colours crossed (replicate t.place.width colour) size)
+        ∙ ap (λ depths. record { place = t.place; rows = with_row_in t.place t.rows y (replicate t.place.width colour); depths = depths }) (sym (with_row_in-as_it_is t.place t.depths y)) in
+        subst (λ v. Paints (after_where (in_row (λ _ _. true) y) (λ _ _. cleared (Colours colour))) (kept_where (in_row (λ _ _. true) y) keep_each) t u v u') (sym whole)
+        (Paints-whole_row (cleared (Colours colour)) (replicate t.place.width colour) (depth_row_of t y) size deep_row
+        (λ x held. ap (λ c. (c, depth_of t x y)) (get_or-replicate t.place.width (x - t.place.left) colour fresh (omega (arith, held.from_left, held.to_right)))))
+
+    pub Paints-clear_depths : (depth : ℕ) (lent left : List ℕ) → lent ≡ depth_row_of t y → left ≡ replicate (length lent) depth
+        → Paints (after_where (in_row (λ _ _. true) y) (λ _ _. cleared (Depths depth))) (kept_where (in_row (λ _ _. true) y) keep_each) t u (with_depth_row_left t y left) u'
+    Paints-clear_depths depth lent left same_lent is_left =
+        let size : length (replicate t.place.width depth) ≡ t.place.width = length-replicate t.place.width depth in
+        let filled_left : left ≡ replicate t.place.width depth = is_left ∙ ap (λ l. replicate (length l) depth) same_lent ∙ ap (λ n. replicate n depth) deep_row in
+        let whole : with_depth_row_left t y left ≡ with_rows t y (row_of t y) (replicate t.place.width depth) =
+        ap (λ l. with_depth_row_left t y l) filled_left
+        ∙ ap (λ depths. record { place = t.place; rows = t.rows; depths = depths }) (left_row_is t.place t.depths y filled.depths crossed (replicate t.place.width depth) size)
+        ∙ ap (λ rows. record { place = t.place; rows = rows; depths = with_row_in t.place t.depths y (replicate t.place.width depth) }) (sym (with_row_in-as_it_is t.place t.rows y)) in
+        subst (λ v. Paints (after_where (in_row (λ _ _. true) y) (λ _ _. cleared (Depths depth))) (kept_where (in_row (λ _ _. true) y) keep_each) t u v u') (sym whole)
+        (Paints-whole_row (cleared (Depths depth)) (row_of t y) (replicate t.place.width depth) wide_row size
+        (λ x held. ap (λ d. (colour_of t x y, d)) (get_or-replicate t.place.width (x - t.place.left) depth 65535 (omega (arith, held.from_left, held.to_right)))))

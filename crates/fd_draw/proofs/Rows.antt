@@ -1,14 +1,12 @@
 -- Rows that are changed pixel by pixel.
-use Rattle.std.proofs.Common.{◌≡◌, ℕ, ◌+◌, ◌-◌, ◌<◌, ◌≤◌, List, [], ◌∷◌, ◌++◌, length, take, drop, get_or, map, refl, sym, ap, ◌∙◌, arith, length-append, length-drop}
+use Rattle.std.proofs.Common.{◌≡◌, ℕ, ◌+◌, ◌-◌, ◌<◌, ◌≤◌, List, [], ◌∷◌, ◌++◌, length, take, drop, get_or, map, refl, ap, ◌∙◌, arith, length-append, length-drop, sym}
 use Rattle.std.specs.List.{enumerate_from, range_with_len}
-use Rattle.std.specs.Prelude.{replicate}
-use Rattle.std.proofs.lemmas.List.{length-map, get_or-map, ext_get_or, length-take, get_or-take, get_or-drop, get_or_append_left, get_or-append_right}
+use Rattle.std.proofs.lemmas.List.{length-map, get_or-map, length-take, get_or-take, get_or-drop, get_or_append_left, get_or-append_right}
 use borrow.Rule.Slice.PartMut.{put_mid, post_of}
-use Rattle.std.proofs.lemmas.List.FromFn.{length-enumerate_from, get_or-enumerate_from, get_or-map-range_with_len, length-map-range_with_len}
+use Rattle.std.proofs.lemmas.List.FromFn.{length-enumerate_from, get_or-enumerate_from}
 use Rattle.fd_blend.specs.declared.channel.Colour.{Colour}
 use Rattle.fd_blend.specs.Blending.{Blending}
 use Rattle.fd_blend.specs.Blend.{blend}
-use Rattle.fd_blend.specs.Channel.{fresh}
 use Rattle.fd_blend.specs.Row.{blended_row}
 use Rattle.fd_draw.specs.Row.{changed_row}
 
@@ -27,14 +25,6 @@ pub blended_columns : (state : Blending) (factor : Colour) (source : ℕ → Col
     → blended_row state factor (map source (range_with_len x (length row))) row ≡ changed_row (λ column before. blend state factor (source column) before) x row
 blended_columns state factor source x [] = refl
 blended_columns state factor source x (c ∷ row) = ap (λ cs. blend state factor (source x) c ∷ cs) (blended_columns state factor source (x + 1) row)
-
--- the colours that a function of the column gives
-pub columns_from : (source : ℕ → Colour) (x n : ℕ) (sources : List Colour) → length sources ≡ n → ((i : ℕ) (d : Colour) → i < n → get_or sources i d ≡ source (x + i)) → sources ≡ map source (range_with_len x n)
-columns_from source x n sources size each =
-    let d : Colour = fresh in
-    ext_get_or d sources (map source (range_with_len x n)) (size ∙ sym (length-map-range_with_len source x n))
-    (λ i within. let inside : i < n = omega (arith, size, within) in
-    each i d inside ∙ sym (get_or-map-range_with_len source x n i (x + i) d inside refl))
 
 -- ---- a part of a list that is written
 
@@ -65,19 +55,10 @@ module _ {X : Type 0} (a k : ℕ) (xs ys : List X) (inside : a + k ≤ length xs
       ∙ get_or-drop a xs (k + (i - a - k)) d
       ∙ ap (λ j. get_or xs j d) place
 
--- a colour in a changed part of a row
-pub part_changed : (change : ℕ → Colour → Colour) (x a k i : ℕ) (row : List Colour) (d : Colour) → a + k ≤ length row → i < k
-    → get_or (changed_row change (x + a) (take k (drop a row))) i d ≡ change (x + (a + i)) (get_or row (a + i) d)
-part_changed change x a k i row d inside low =
-    let size : length (take k (drop a row)) ≡ k = length-take k (drop a row) ∙ omega (arith, length-drop a row) in
-    let column : x + a + i ≡ x + (a + i) = omega arith in
-    get_or-changed_row change (x + a) (take k (drop a row)) i d (omega (arith, size))
-    ∙ rw column (ap (change (x + (a + i))) (get_or-take k (drop a row) i d low ∙ get_or-drop a row i d))
-
-pub length-part : (change : ℕ → Colour → Colour) (x a k : ℕ) (row : List Colour) → a + k ≤ length row → length (changed_row change x (take k (drop a row))) ≡ k
-length-part change x a k row inside = length-changed_row change x (take k (drop a row)) ∙ length-take k (drop a row) ∙ omega (arith, length-drop a row)
-
--- every pixel gets one colour
-pub changed_row-filled : (colour : Colour) (x : ℕ) (row : List Colour) → changed_row (λ _ _. colour) x row ≡ replicate (length row) colour
-changed_row-filled colour x [] = refl
-changed_row-filled colour x (c ∷ row) = ap (λ cs. colour ∷ cs) (changed_row-filled colour (x + 1) row)
+-- what stands before something
+pub take_front : {X : Type 0} (n : ℕ) (xs ys : List X) → length xs ≡ n → take n (xs ++ ys) ≡ xs
+take_front {X = X} n xs ys size = ap (λ k. take k (xs ++ ys)) (sym size) ∙ whole xs
+  where
+    whole : (xs : List X) → take (length xs) (xs ++ ys) ≡ xs
+    whole [] = refl
+    whole (x ∷ xs) = ap (λ l. x ∷ l) (whole xs)

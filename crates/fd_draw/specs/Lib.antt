@@ -1,6 +1,6 @@
 pub mod Area
 pub mod Demand
-pub mod Layer
+pub mod Mask
 pub mod Near
 pub mod Paints
 pub mod Primitive
@@ -8,3 +8,4 @@ pub mod Row
 pub mod Span
 pub mod Triangles
 pub mod Writing
+pub mod Written

@@ -1,49 +1,24 @@
 //! A triangle with the depth test on: of each row the pixels that pass, in runs.
-ghost use Rattle.std.specs.Prelude.{◌≡◌, ℕ, ◌+◌, ◌-◌, ◌<◌, ◌≤◌, true, false, length, slice_index, slice_index_or};
+ghost use Rattle.std.specs.Prelude.{◌≡◌, ℕ, ◌+◌, ◌-◌, ◌<◌, ◌≤◌, ◌^◌, true, length, slice_index_or};
 ghost use Rattle.fd_cover.specs.Covers.{covers};
-ghost use Rattle.fd_cover.specs.Depth.{passes};
 ghost use Rattle.fd_events.specs.Image.{depth_of as source_depth, is_drawn, pixel_after_triangle};
 ghost use Rattle.fd_tile.specs.Place.{HasRow};
 ghost use Rattle.fd_tile.specs.Tile.{IsTileImage, depth_of};
 ghost use Rattle.fd_draw.specs.Area.{IsInside, IsWrittenIn};
 ghost use Rattle.fd_draw.specs.Demand.{is_reached, pixels_in};
-ghost use Rattle.fd_draw.specs.Layer.{kept_by_triangle};
+ghost use Rattle.fd_draw.specs.Written.{kept_by_triangle};
+ghost use Rattle.fd_draw.specs.Mask.{is_set};
 ghost use Rattle.fd_draw.specs.Primitive.{triangle_of};
 ghost use Rattle.fd_draw.specs.Writing.{HasRoom, StoresDepths, Writes, between, in_row};
 
-use crate::layer::{Layer, WIDEST};
+use crate::lanes::{alike, test_row};
 use crate::primitive::Primitive;
 use crate::span::covered_span;
-use crate::write::write_span;
-use fd_cover::{Bounds, Depth, Rows, depth_row};
+use crate::write::{WIDEST, write_span};
+use fd_cover::{Bounds, DepthRows, Rows};
 use fd_events::Pipeline;
 use fd_tile::Tile;
 use fd_undo::UndoStack;
-
-/// Which of neighbouring pixels pass the depth test, by their source and their stored depths.
-fn test_row(depth: &Depth, sources: &[u16], stored: &[u16], passed: &mut [bool])
-    requires sources { length sources.now ≡ length passed.old }
-    requires stored { length stored.now ≡ length passed.old }
-    ensures { (k : ℕ) → k < length passed.old → slice_index_or passed.new k false ≡ passes depth.now (slice_index sources.now k) (slice_index stored.now k) }
-{
-    for i in 0..passed.len() {
-        passed[i] = depth.passes(sources[i], stored[i]);
-    }
-}
-
-/// How many pixels from the first on pass, or fail, as it does.
-fn alike(passed: &[bool]) -> usize
-    requires { 0 < length passed.now }
-    ensures least { 1 ≤ result }
-    ensures most { result ≤ length passed.now }
-    ensures same { (k : ℕ) → k < result → slice_index_or passed.now k false ≡ slice_index_or passed.now 0 false }
-{
-    let mut count = 1;
-    while count < passed.len() && passed[count] == passed[0] {
-        count += 1;
-    }
-    count
-}
 
 /// Stores depths in row y from column x on.
 fn store_depths(depths: &[u16], x: u32, y: u32, tile: &mut Tile)
@@ -80,8 +55,7 @@ fn draw_run(
     requires room { HasRoom 1 (length depths.now) undo.old }
     ensures { Writes 1 (length depths.now) (in_row (between x (x + length depths.now)) y) (pixel_after_triangle (triangle_of primitive.now) primitive.now.interp state.now) (kept_by_triangle (triangle_of primitive.now) state.now) tile.old undo.old tile.new undo.new }
 {
-    let layer = Layer::Triangle(*primitive);
-    write_span(&layer, state, x, x + depths.len() as u32, y, tile, undo);
+    write_span(primitive, state, x, x + depths.len() as u32, y, tile, undo);
     if state.depth.enable && state.depth.write {
         store_depths(depths, x, y, tile);
     }
@@ -92,7 +66,7 @@ fn draw_runs(
     primitive: &Primitive,
     state: &Pipeline,
     depths: &[u16],
-    passed: &[bool],
+    passed: u64,
     x: u32,
     y: u32,
     tile: &mut Tile,
@@ -102,17 +76,19 @@ fn draw_runs(
     requires crossed { HasRow tile.old.place y }
     requires from_left { tile.old.place.left ≤ x }
     requires to_right { x + length depths.now ≤ tile.old.place.left + tile.old.place.width }
-    requires equal { length passed.now ≡ length depths.now }
+    requires few { length depths.now ≤ 32 }
+    requires bound { passed < 2 ^ 32 }
     requires covered { (column : ℕ) → x ≤ column → column < x + length depths.now → covers primitive.now.corners column y ≡ true }
     requires depths { (column : ℕ) → x ≤ column → column < x + length depths.now → slice_index_or depths.now (column - x) 65535 ≡ source_depth (triangle_of primitive.now) column y }
-    requires passed { (column : ℕ) → x ≤ column → column < x + length depths.now → slice_index_or passed.now (column - x) false ≡ is_drawn (triangle_of primitive.now) state.now column y (depth_of tile.old column y) }
+    requires passed { (column : ℕ) → x ≤ column → column < x + length depths.now → is_set passed (column - x) ≡ is_drawn (triangle_of primitive.now) state.now column y (depth_of tile.old column y) }
     requires room { HasRoom (length depths.now) (length depths.now) undo.old }
     ensures { Writes (length depths.now) (length depths.now) (in_row (between x (x + length depths.now)) y) (pixel_after_triangle (triangle_of primitive.now) primitive.now.interp state.now) (kept_by_triangle (triangle_of primitive.now) state.now) tile.old undo.old tile.new undo.new }
 {
     let mut done = 0;
-    while done < passed.len() {
-        let count = alike(&passed[done..]);
-        if passed[done] {
+    while done < depths.len() {
+        let left = passed >> done;
+        let count = alike(left, depths.len() - done);
+        if left % 2 == 1 {
             let run = &depths[done..done + count];
             draw_run(primitive, state, run, x + done as u32, y, tile, undo);
         }
@@ -125,12 +101,15 @@ fn draw_row(
     primitive: &Primitive,
     state: &Pipeline,
     rows: &Rows,
+    depth_rows: &DepthRows,
     area: Bounds,
     y: u32,
+    buffer: &mut [u16; WIDEST],
     tile: &mut Tile,
     undo: &mut UndoStack,
 )
     requires rows { rows.now ≡ (primitive.now.corners, y) }
+    requires depth_rows { depth_rows.now ≡ (primitive.now.corners, primitive.now.depths) }
     requires filled { IsTileImage tile.old }
     requires inside { IsInside area tile.old.place }
     requires reached { IsWrittenIn (is_reached (triangle_of primitive.now) state.now) (covers primitive.now.corners) tile.old.place area }
@@ -144,12 +123,9 @@ fn draw_row(
     if let Some((left, right)) = covered_span(rows, area.left, area.right) {
         let start = (left - place.left) as usize;
         let end = (right - place.left) as usize;
-        let mut depths = [0u16; WIDEST];
-        let depths = &mut depths[..end - start];
-        depth_row(&primitive.corners, &primitive.depths, left, y, depths);
-        let mut passed = [false; WIDEST];
-        let passed = &mut passed[..end - start];
-        test_row(&state.depth, depths, &tile.depth_row(y)[start..end], passed);
+        depth_rows.row(left, y, &mut buffer[..end - start]);
+        let passed = test_row(&state.depth, buffer, &tile.depth_row(y)[start..end]);
+        let depths = &buffer[..end - start];
         draw_runs(primitive, state, depths, passed, left, y, tile, undo);
     }
 }
@@ -171,8 +147,20 @@ pub(crate) fn draw_tested(
         (pixel_after_triangle (triangle_of primitive.now) primitive.now.interp state.now) (kept_by_triangle (triangle_of primitive.now) state.now) tile.old undo.old tile.new undo.new }
 {
     let mut rows = Rows::of(&primitive.corners, area.top);
+    let depth_rows = DepthRows::of(&primitive.corners, &primitive.depths);
+    let mut buffer = [0; WIDEST];
     for y in area.top..area.bottom {
-        draw_row(primitive, state, &rows, area, y, tile, undo);
+        draw_row(
+            primitive,
+            state,
+            &rows,
+            &depth_rows,
+            area,
+            y,
+            &mut buffer,
+            tile,
+            undo,
+        );
         rows.down();
     }
 }

@@ -1,4 +1,4 @@
-ghost use Rattle.std.specs.Prelude.{◌≡◌, ℕ, ◌+◌, ◌-◌, ◌<◌, ◌≤◌, false, true, length};
+ghost use Rattle.std.specs.Prelude.{◌≡◌, ℕ, ◌+◌, ◌-◌, ◌<◌, ◌≤◌, false, true, IsTrue, length};
 ghost use Rattle.std.specs.List.{sum_by};
 ghost use Rattle.fd_events.specs.Draw.{triangles_of};
 ghost use Rattle.fd_events.specs.Image.{pixel_after, pixel_after_triangle, pixel_after_triangles, kept_by, kept_by_triangles};
@@ -6,26 +6,63 @@ ghost use Rattle.fd_tile.specs.Place.{HasRow};
 ghost use Rattle.fd_tile.specs.Tile.{IsTileImage};
 ghost use Rattle.fd_draw.specs.Area.{IsInside, IsOpen, IsWrittenIn};
 ghost use Rattle.fd_draw.specs.Demand.{is_reached, pixels_in, spans_in, triangle_pixels, triangle_spans, event_pixels, event_spans};
-ghost use Rattle.fd_draw.specs.Layer.{covers_at, writes_at, layer_written, kept_by_triangle};
+ghost use Rattle.fd_draw.specs.Written.{colour_blended, blended, kept_by_triangle};
 ghost use Rattle.fd_cover.specs.Covers.{covers};
+ghost use Rattle.fd_snap.specs.Limits.{most_pixels};
+ghost use Rattle.fd_tile.specs.declared.place.TheConstants.{TILE_SIDE};
+ghost use Rattle.fd_draw.specs.Row.{changed_row};
 ghost use Rattle.fd_draw.specs.Paints.{Paints};
 ghost use Rattle.fd_draw.specs.Primitive.{triangle_of};
 ghost use Rattle.fd_draw.specs.Triangles.{triangle_at};
 ghost use Rattle.fd_draw.specs.Writing.{HasRoom, Writes, between, in_row, keep_each};
 
 use crate::area::{drawn_area, open_area, shared, whole};
-use crate::layer::Layer;
+use crate::clear::{Clear, clear_rows};
 use crate::near::next_near;
 use crate::primitive::Primitive;
+use crate::span::covered_span;
 use crate::tested::draw_tested;
-use fd_cover::Bounds;
+use fd_blend::{Colour, blend_row};
+use fd_cover::{Bounds, Rows, shade_row};
 use fd_events::{Draw, Event, Pipeline};
-use fd_tile::Tile;
+use fd_tile::{TILE_SIDE, Tile};
 use fd_undo::UndoStack;
 
-/// Keeps and then writes the pixels of row y from column `left` up to `right`, all of which a layer covers.
+/// The most pixels that a row of a tile has.
+pub(crate) const WIDEST: usize = TILE_SIDE as usize;
+
+const NO_COLOUR: Colour = Colour {
+    r: 0,
+    g: 0,
+    b: 0,
+    a: 0,
+};
+
+/// Blends a triangle's sources with neighbouring pixels of row y from column x on, all of which it covers.
+fn blend_triangle(row: &mut [Colour], x: u32, y: u32, primitive: &Primitive, state: &Pipeline)
+    requires few { length row.old ≤ TILE_SIDE }
+    requires row { y < most_pixels }
+    requires columns { x + length row.old ≤ most_pixels }
+    requires covered { (column : ℕ) → x ≤ column → column < x + length row.old → IsTrue (covers primitive.now.corners column y) }
+    ensures { row.new ≡ changed_row (λ column before. colour_blended (triangle_of primitive.now) primitive.now.interp state.now column y before) x row.old }
+{
+    let Pipeline { blend, factor, .. } = *state;
+    let mut sources = [NO_COLOUR; WIDEST];
+    let sources = &mut sources[..row.len()];
+    shade_row(
+        &primitive.corners,
+        &primitive.colours,
+        primitive.interp,
+        x,
+        y,
+        sources,
+    );
+    blend_row(&blend, factor, sources, row);
+}
+
+/// Keeps and then blends the pixels of row y from column `left` up to `right`, all of which a triangle covers.
 pub(crate) fn write_span(
-    layer: &Layer,
+    primitive: &Primitive,
     state: &Pipeline,
     left: u32,
     right: u32,
@@ -38,9 +75,9 @@ pub(crate) fn write_span(
     requires from_left { tile.old.place.left ≤ left }
     requires some { left < right }
     requires to_right { right ≤ tile.old.place.left + tile.old.place.width }
-    requires covered { (column : ℕ) → left ≤ column → column < right → covers_at layer.now column y ≡ true }
+    requires covered { (column : ℕ) → left ≤ column → column < right → covers primitive.now.corners column y ≡ true }
     requires room { HasRoom 1 (right - left) undo.old }
-    ensures { Writes 1 (right - left) (in_row (between left right) y) (layer_written layer.now state.now) keep_each tile.old undo.old tile.new undo.new }
+    ensures { Writes 1 (right - left) (in_row (between left right) y) (blended (triangle_of primitive.now) primitive.now.interp state.now) keep_each tile.old undo.old tile.new undo.new }
 {
     let place = tile.place();
     let start = (left - place.left) as usize;
@@ -52,41 +89,54 @@ pub(crate) fn write_span(
         &tile.depth_row(y)[start..end],
     );
     let row = tile.row_mut(y);
-    layer.paint(&mut row[start..end], left, y, state);
+    blend_triangle(&mut row[start..end], left, y, primitive, state);
 }
 
-/// Keeps and then writes the pixels of row y that a layer covers in a box.
+/// Keeps and then blends the pixels of row y, at which the triangle's rows stand, that it covers in a box.
 fn write_row(
-    layer: &Layer,
+    primitive: &Primitive,
     state: &Pipeline,
+    rows: &Rows,
     area: Bounds,
     y: u32,
     tile: &mut Tile,
     undo: &mut UndoStack,
 )
+    requires rows { rows.now ≡ (primitive.now.corners, y) }
     requires inside { IsInside area tile.old.place }
-    requires written { IsWrittenIn (writes_at layer.now state.now) (covers_at layer.now) tile.old.place area }
+    requires reached { IsWrittenIn (is_reached (triangle_of primitive.now) state.now) (covers primitive.now.corners) tile.old.place area }
     requires from_top { area.top ≤ y }
     requires to_bottom { y < area.bottom }
-    requires room { HasRoom (spans_in (in_row (writes_at layer.now state.now) y) tile.old.place) (pixels_in (in_row (writes_at layer.now state.now) y) tile.old.place) undo.old }
-    ensures { Writes (spans_in (in_row (writes_at layer.now state.now) y) tile.old.place) (pixels_in (in_row (writes_at layer.now state.now) y) tile.old.place) (in_row (writes_at layer.now state.now) y) (layer_written layer.now state.now) keep_each tile.old undo.old tile.new undo.new }
+    requires room { HasRoom (spans_in (in_row (is_reached (triangle_of primitive.now) state.now) y) tile.old.place) (pixels_in (in_row (is_reached (triangle_of primitive.now) state.now) y) tile.old.place) undo.old }
+    ensures { Writes (spans_in (in_row (is_reached (triangle_of primitive.now) state.now) y) tile.old.place) (pixels_in (in_row (is_reached (triangle_of primitive.now) state.now) y) tile.old.place) (in_row (is_reached (triangle_of primitive.now) state.now) y)
+        (blended (triangle_of primitive.now) primitive.now.interp state.now) keep_each tile.old undo.old tile.new undo.new }
 {
     let _place = tile.place();
-    if let Some((left, right)) = layer.span(y, area.left, area.right) {
-        write_span(layer, state, left, right, y, tile, undo);
+    if let Some((left, right)) = covered_span(rows, area.left, area.right) {
+        write_span(primitive, state, left, right, y, tile, undo);
     }
 }
 
-/// Keeps and then writes the pixels that a layer covers in a box.
-fn write_layer(layer: &Layer, state: &Pipeline, area: Bounds, tile: &mut Tile, undo: &mut UndoStack)
+/// Keeps and then blends the pixels that a triangle covers in a box, row after row.
+fn write_rows(
+    primitive: &Primitive,
+    state: &Pipeline,
+    area: Bounds,
+    tile: &mut Tile,
+    undo: &mut UndoStack,
+)
     requires filled { IsTileImage tile.old }
     requires inside { IsInside area tile.old.place }
-    requires written { IsWrittenIn (writes_at layer.now state.now) (covers_at layer.now) tile.old.place area }
-    requires room { HasRoom (spans_in (writes_at layer.now state.now) tile.old.place) (pixels_in (writes_at layer.now state.now) tile.old.place) undo.old }
-    ensures { Writes (spans_in (writes_at layer.now state.now) tile.old.place) (pixels_in (writes_at layer.now state.now) tile.old.place) (writes_at layer.now state.now) (layer_written layer.now state.now) keep_each tile.old undo.old tile.new undo.new }
+    requires some { area.top < area.bottom }
+    requires reached { IsWrittenIn (is_reached (triangle_of primitive.now) state.now) (covers primitive.now.corners) tile.old.place area }
+    requires room { HasRoom (spans_in (is_reached (triangle_of primitive.now) state.now) tile.old.place) (pixels_in (is_reached (triangle_of primitive.now) state.now) tile.old.place) undo.old }
+    ensures { Writes (spans_in (is_reached (triangle_of primitive.now) state.now) tile.old.place) (pixels_in (is_reached (triangle_of primitive.now) state.now) tile.old.place) (is_reached (triangle_of primitive.now) state.now)
+        (blended (triangle_of primitive.now) primitive.now.interp state.now) keep_each tile.old undo.old tile.new undo.new }
 {
+    let mut rows = Rows::of(&primitive.corners, area.top);
     for y in area.top..area.bottom {
-        write_row(layer, state, area, y, tile, undo);
+        write_row(primitive, state, &rows, area, y, tile, undo);
+        rows.down();
     }
 }
 
@@ -110,7 +160,7 @@ fn draw_primitive(
     if state.depth.enable {
         draw_tested(primitive, state, area, tile, undo);
     } else {
-        write_layer(&Layer::Triangle(*primitive), state, area, tile, undo);
+        write_rows(primitive, state, area, tile, undo);
     }
 }
 
@@ -163,29 +213,6 @@ fn draw_triangles(draw: &Draw, state: &Pipeline, tile: &mut Tile, undo: &mut Und
     }
 }
 
-/// Keeps and then gives the pixels of row y a depth.
-fn clear_depth_row(depth: u16, y: u32, tile: &mut Tile, undo: &mut UndoStack)
-    requires filled { IsTileImage tile.old }
-    requires crossed { HasRow tile.old.place y }
-    requires room { HasRoom (spans_in (in_row (λ _ _. true) y) tile.old.place) (pixels_in (in_row (λ _ _. true) y) tile.old.place) undo.old }
-    ensures { Writes (spans_in (in_row (λ _ _. true) y) tile.old.place) (pixels_in (in_row (λ _ _. true) y) tile.old.place) (in_row (λ _ _. true) y) (λ _ _ before. (before.0, depth)) keep_each tile.old undo.old tile.new undo.new }
-{
-    let left = tile.place().left;
-    undo.keep(left, y, tile.row(y), tile.depth_row(y));
-    tile.depth_row_mut(y).fill(depth);
-}
-
-/// Keeps and then gives all pixels a depth.
-fn clear_depths(depth: u16, tile: &mut Tile, undo: &mut UndoStack)
-    requires room { HasRoom (spans_in (λ _ _. true) tile.old.place) (pixels_in (λ _ _. true) tile.old.place) undo.old }
-    ensures { Writes (spans_in (λ _ _. true) tile.old.place) (pixels_in (λ _ _. true) tile.old.place) (λ _ _. true) (λ _ _ before. (before.0, depth)) keep_each tile.old undo.old tile.new undo.new }
-{
-    let area = whole(tile.place());
-    for y in area.top..area.bottom {
-        clear_depth_row(depth, y, tile, undo);
-    }
-}
-
 /// Draws an event in a state on a tile, and keeps the pixels that it overwrites in the top frame, which has been begun with
 /// room for them.
 pub fn draw(event: &Event, state: &Pipeline, tile: &mut Tile, undo: &mut UndoStack)
@@ -196,10 +223,8 @@ pub fn draw(event: &Event, state: &Pipeline, tile: &mut Tile, undo: &mut UndoSta
 {
     let place = tile.place();
     match event {
-        Event::Clear(colour) => {
-            write_layer(&Layer::Clear(*colour), state, whole(place), tile, undo)
-        }
-        Event::DepthClear(depth) => clear_depths(*depth, tile, undo),
+        Event::Clear(colour) => clear_rows(Clear::Colours(*colour), whole(place), tile, undo),
+        Event::DepthClear(depth) => clear_rows(Clear::Depths(*depth), whole(place), tile, undo),
         Event::Draw(draw) => draw_triangles(draw, state, tile, undo),
         // State events and markers draw nothing.
         _ => {}

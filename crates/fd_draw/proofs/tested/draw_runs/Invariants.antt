@@ -1,6 +1,6 @@
 use Rattle.std.proofs.Common.{◌≤◌, ◌+◌, ◌-◌, length}
 use Rattle.fd_events.specs.Image.{pixel_after_triangle}
-use Rattle.fd_draw.specs.Layer.{kept_by_triangle}
+use Rattle.fd_draw.specs.Written.{kept_by_triangle}
 use Rattle.fd_draw.specs.Paints.{Paints}
 use Rattle.fd_draw.specs.Primitive.{triangle_of}
 use Rattle.fd_draw.specs.Writing.{after_where, kept_where, between, in_row}
@@ -11,10 +11,10 @@ abbrev pub invariant-loop-done : goal.invariant-loop-done
 invariant-loop-done l = record {
   painted : Paints (after_where (in_row (between l.x (l.x + l.done)) l.y) (pixel_after_triangle (triangle_of l.primitive) l.primitive.interp l.state)) (kept_where (in_row (between l.x (l.x + l.done)) l.y) (kept_by_triangle (triangle_of l.primitive) l.state))
       l.initial.tile l.initial.undo l.tile l.undo;
-  within : l.done ≤ length l.passed;
+  within : l.done ≤ length l.depths;
   spans : l.initial.undo.spans_left ≤ l.undo.spans_left + l.done;
   pixels : l.initial.undo.pixels_left ≤ l.undo.pixels_left + l.done;
 }
 
 abbrev pub decreases-loop-done : goal.decreases-loop-done
-decreases-loop-done l = length l.passed - l.done
+decreases-loop-done l = length l.depths - l.done

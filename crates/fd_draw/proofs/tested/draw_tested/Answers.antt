@@ -1,12 +1,9 @@
 use Rattle.std.proofs.Common.{ℕ, ◌+◌, ◌∙◌, ap, subst, sym, arith}
 use Rattle.fd_cover.specs.declared.triangle.Tri.{Tri}
 use Rattle.fd_cover.specs.Covers.{covers}
-use Rattle.fd_events.specs.Image.{pixel_after_triangle}
 use Rattle.fd_tile.specs.declared.place.Place.{Place}
 use Rattle.fd_tile.specs.Place.{HasRow}
-use Rattle.fd_draw.specs.Area.{IsInside, IsWrittenIn}
 use Rattle.fd_draw.specs.Demand.{is_reached, row_pixels, pixels_in}
-use Rattle.fd_draw.specs.Layer.{kept_by_triangle}
 use Rattle.fd_draw.specs.Primitive.{triangle_of}
 use Rattle.fd_draw.specs.Writing.{HasRoom, in_row}
 use Rattle.fd_draw.proofs.Counts.{total_more, total_none, pixels_in-rows, pixels_in-row}

@@ -1,7 +1,7 @@
 use Rattle.std.proofs.Common.{◌≡◌, ◌≤◌, ◌+◌, ◌-◌}
 use Rattle.fd_events.specs.Image.{pixel_after_triangle}
 use Rattle.fd_draw.specs.Demand.{total, row_pixels, is_reached, pixels_in}
-use Rattle.fd_draw.specs.Layer.{kept_by_triangle}
+use Rattle.fd_draw.specs.Written.{kept_by_triangle}
 use Rattle.fd_draw.specs.Primitive.{triangle_of}
 use Rattle.fd_draw.specs.Writing.{after_where, kept_where}
 use Rattle.fd_draw.specs.Paints.{Paints}

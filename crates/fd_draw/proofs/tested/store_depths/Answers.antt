@@ -1,4 +1,4 @@
-use Rattle.std.proofs.Common.{◌≡◌, ◌-◌, ap, arith}
+use Rattle.std.proofs.Common.{◌≡◌, ap, arith}
 use Rattle.fd_tile.specs.declared.place.Place.{Place}
 use Rattle.fd_draw.proofs.PixelTests.{Stores-code}
 use Rattle.fd_draw.proofs.tested.store_depths.Goals as goal

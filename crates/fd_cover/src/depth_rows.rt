@@ -1,0 +1,155 @@
+ghost use Rattle.std.specs.Prelude.{◌≡◌, ℕ, ◌<◌, ◌≤◌, ◌+◌, ◌*◌, IsTrue, length, map};
+ghost use Rattle.std.specs.List.{range_with_len};
+ghost use Rattle.fd_cover.specs.Covers.{covers};
+ghost use Rattle.fd_cover.specs.Depth.{depth_at};
+ghost use Rattle.fd_cover.specs.Shade.{area_of};
+ghost use Rattle.fd_cover.specs.Slope.{IsSlope};
+ghost use Rattle.fd_snap.specs.Limits.{most_pixels};
+ghost use Rattle.fd_cover.specs.declared.shading.TheConstants.{SHADED_ROW};
+ghost use Rattle.fd_cover.specs.declared.depth_rows.TheConstants.{WALKED};
+
+use crate::depth::depth_at;
+use crate::reciprocal::Reciprocal;
+use crate::shading::{Walk, Weights};
+use crate::triangle::Tri;
+use std::marker::Model;
+
+/// The largest double area of a triangle whose depths are walked along a row: 192 times twice that is at most the 2^48 units of one depth.
+const WALKED: u64 = (1 << 48) / 384;
+
+/// How the depths of a triangle are found along a row: all are equal, or they are walked with twice its double area as the divisor, or each
+/// is divided for itself.
+#[derive(Clone, Copy)]
+pub(crate) enum Slope {
+    Level(u16),
+    Walked(Reciprocal),
+    Divided,
+}
+
+impl Slope {
+    /// How the depths of a triangle may be found.
+    fn of(triangle: &Tri, depths: &[u16; 3]) -> Slope
+        ensures { IsSlope triangle.now depths.now result }
+    {
+        let [a, b, c] = *depths;
+        let area = triangle.area().unsigned_abs();
+        if a == b && a == c {
+            Slope::Level(a)
+        } else if 0 < area && area <= WALKED {
+            Slope::Walked(Reciprocal::of(2 * area))
+        } else {
+            Slope::Divided
+        }
+    }
+}
+
+/// The depths of a triangle at its covered pixels, row by row. Contracts see the triangle and the depths of its vertices.
+///
+/// All rows share one division.
+#[derive(Drop)]
+pub struct DepthRows {
+    triangle: Tri,
+    depths: [u16; 3],
+    slope: Slope,
+}
+
+impl Model for DepthRows {
+    ghost use Rattle.std.specs.Prelude.{ℕ, List};
+    ghost use Rattle.fd_cover.specs.declared.triangle.Tri.{Tri};
+
+    ghost Value = { Tri × List ℕ };
+
+    ghost use Rattle.fd_cover.specs.Slope.{IsSlope};
+
+    ghost view = { λ rows. (rows.triangle, rows.depths) };
+
+    ghost invariant = { λ rows. IsSlope rows.triangle rows.depths rows.slope };
+}
+
+impl DepthRows {
+    /// The depths of a triangle, from those of its vertices.
+    pub fn of(triangle: &Tri, depths: &[u16; 3]) -> DepthRows
+        ensures { result ≡ (triangle.now, depths.now) }
+    {
+        DepthRows {
+            triangle: *triangle,
+            depths: *depths,
+            slope: Slope::of(triangle, depths),
+        }
+    }
+
+    /// The depths at neighbouring covered pixels of row y from column x on. Each is what `depth_at` says.
+    pub fn row(&self, x: u32, y: u32, out: &mut [u16])
+        requires few { length out.old ≤ SHADED_ROW }
+        requires row { y < most_pixels }
+        requires columns { x + length out.old ≤ most_pixels }
+        requires covered { (column : ℕ) → x ≤ column → column < x + length out.old → IsTrue (covers self.now.0 column y) }
+        ensures { out.new ≡ map (λ column. depth_at self.now.0 self.now.1 column y) (range_with_len x (length out.old)) }
+    {
+        match self.slope {
+            Slope::Level(depth) => out.fill(depth),
+            Slope::Walked(divisor) => {
+                if 2 <= out.len() {
+                    walk_depths(&self.triangle, &self.depths, divisor, x, y, out);
+                } else {
+                    divide_depths(&self.triangle, &self.depths, x, y, out);
+                }
+            }
+            Slope::Divided => divide_depths(&self.triangle, &self.depths, x, y, out),
+        }
+    }
+}
+
+/// The depths of a triangle at neighbouring covered pixels, each by its own division.
+fn divide_depths(triangle: &Tri, depths: &[u16; 3], x: u32, y: u32, out: &mut [u16])
+    requires few { length out.old ≤ SHADED_ROW }
+    requires row { y < most_pixels }
+    requires columns { x + length out.old ≤ most_pixels }
+    requires covered { (column : ℕ) → x ≤ column → column < x + length out.old → IsTrue (covers triangle.now column y) }
+    ensures { out.new ≡ map (λ column. depth_at triangle.now depths.now column y) (range_with_len x (length out.old)) }
+{
+    for i in 0..out.len() {
+        out[i] = depth_at(triangle, depths, x + i as u32, y);
+    }
+}
+
+/// The depths of a triangle at two or more neighbouring covered pixels, from those of the first two.
+fn walk_depths(
+    triangle: &Tri,
+    depths: &[u16; 3],
+    divisor: Reciprocal,
+    x: u32,
+    y: u32,
+    out: &mut [u16],
+)
+    requires some { 2 ≤ length out.old }
+    requires few { length out.old ≤ SHADED_ROW }
+    requires row { y < most_pixels }
+    requires columns { x + length out.old ≤ most_pixels }
+    requires covered { (column : ℕ) → x ≤ column → column < x + length out.old → IsTrue (covers triangle.now column y) }
+    requires small { area_of triangle.now ≤ WALKED }
+    requires divisor { divisor.divisor ≡ 2 * area_of triangle.now }
+    ensures { out.new ≡ map (λ column. depth_at triangle.now depths.now column y) (range_with_len x (length out.old)) }
+{
+    let [a, b, c] = *depths;
+    let first = Weights::at(triangle, x, y).depth_numerator(a, b, c);
+    let second = Weights::at(triangle, x + 1, y).depth_numerator(a, b, c);
+    let first = divisor.depth_quotient(first);
+    let second = divisor.depth_quotient(second);
+    let Walk { mut place, step } = Walk::between(first, second);
+    for i in 0..out.len() {
+        out[i] = (place >> 48) as u16;
+        place = place.wrapping_add(step);
+    }
+}
+
+/// The depths of a triangle at neighbouring covered pixels of row y from column x on, from the depths of its vertices. Each is what `depth_at` says.
+pub fn depth_row(triangle: &Tri, depths: &[u16; 3], x: u32, y: u32, out: &mut [u16])
+    requires few { length out.old ≤ SHADED_ROW }
+    requires row { y < most_pixels }
+    requires columns { x + length out.old ≤ most_pixels }
+    requires covered { (column : ℕ) → x ≤ column → column < x + length out.old → IsTrue (covers triangle.now column y) }
+    ensures { out.new ≡ map (λ column. depth_at triangle.now depths.now column y) (range_with_len x (length out.old)) }
+{
+    DepthRows::of(triangle, depths).row(x, y, out);
+}
