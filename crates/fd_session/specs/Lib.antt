@@ -1,4 +1,5 @@
 pub mod Held
 pub mod Machine
 pub mod Moves
+pub mod Parts
 pub mod Reversing

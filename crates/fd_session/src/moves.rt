@@ -7,7 +7,7 @@ ghost use Rattle.fd_crew.specs.Lanes.{opening_position};
 ghost use Rattle.fd_session.specs.Held.{StandsAt};
 ghost use Rattle.fd_session.specs.Moves.{IsFresh, GoesOn, GoesAgain, IsLeftAt};
 
-use crate::worth::workers_worth;
+use crate::worth::{Area, Slice, next_slice};
 use fd_crew::{Free, Gate, Outcome, run_back, run_forward};
 use fd_events::EventTable;
 use fd_owner::Owner;
@@ -37,8 +37,35 @@ pub(crate) fn fresh_owners(alloc: Global, grid: &Grid) -> Result<Vec<Owner>, All
     Ok(owners)
 }
 
-/// Takes all owners on to a position, or to the one before the first event that one of them refuses.
-pub(crate) fn go_on<R: Threads + Sync, G: Gate>(
+/// How a move forward is handed to the crew.
+#[derive(Clone, Copy, Debug)]
+pub(crate) enum Pace {
+    /// All at once, by all workers.
+    Whole,
+    /// Slice by slice, each by as many workers as it is worth. Where memory runs out, all that earlier slices did stays.
+    Slices,
+}
+
+impl Pace {
+    /// The next events of a move from one position to another.
+    fn next(self, table: &EventTable, from: u32, to: u32, area: &Area, workers: u32) -> Slice
+        requires ahead { from < to }
+        requires within { to ≤ length table.now.events }
+        requires some { 1 ≤ workers }
+        ensures on { from < result.end }
+        ensures within { result.end ≤ to }
+        ensures some { 1 ≤ result.workers }
+        ensures most { result.workers ≤ workers }
+    {
+        match self {
+            Pace::Whole => Slice { end: to, workers },
+            Pace::Slices => next_slice(table, from, to, area, workers),
+        }
+    }
+}
+
+/// Takes all owners on to a position at once, or to the one before the first event that one of them refuses.
+fn run_on<R: Threads + Sync, G: Gate>(
     rt: &R,
     alloc: Global,
     owners: &mut [Owner],
@@ -53,6 +80,46 @@ pub(crate) fn go_on<R: Threads + Sync, G: Gate>(
     ensures { MatchResult result (λ outcome. GoesOn table.now to owners.old owners.new outcome) (λ _. owners.new ≡ owners.old) }
 {
     run_forward(rt, alloc, owners, table, to, workers, gate)
+}
+
+/// Takes all owners on to a position, or to the one before the first event that one of them refuses. It is refused itself only where no owner has moved.
+pub(crate) fn go_on<R: Threads + Sync, G: Gate>(
+    rt: &R,
+    alloc: Global,
+    owners: &mut [Owner],
+    table: &EventTable,
+    to: u32,
+    workers: u32,
+    pace: Pace,
+    gate: &G,
+) -> Result<Outcome, AllocError>
+    requires stand { All (StandsAt table.now (opening_position owners.old)) owners.old }
+    requires target { (opening_position owners.old ≤ to) × (to ≤ length table.now.events) }
+    requires workers { (1 ≤ workers) × (workers ≤ 64) }
+    ensures { MatchResult result (λ outcome. GoesOn table.now to owners.old owners.new outcome) (λ _. owners.new ≡ owners.old) }
+{
+    let area = Area::of(owners, table.width());
+    let from = common_position(owners);
+    let mut at = from;
+    while at < to {
+        let slice = pace.next(table, at, to, &area, workers);
+        let run = run_on(rt, alloc, owners, table, slice.end, slice.workers, gate);
+        match run {
+            Ok(outcome) => {
+                if let Outcome::Stopped { .. } = outcome {
+                    return Ok(outcome);
+                }
+            }
+            Err(refused) => {
+                if at == from {
+                    return Err(refused);
+                }
+                return Ok(Outcome::Stopped { at });
+            }
+        }
+        at = slice.end;
+    }
+    Ok(Outcome::Reached)
 }
 
 /// Takes all owners back to a position.
@@ -84,6 +151,14 @@ pub(crate) fn go_again<R: Threads + Sync>(
     let position = common_position(owners);
     go_back(owners, number - 1);
     table.set_on(number, on);
-    let workers = workers_worth(table, number - 1, position, owners.len(), workers);
-    go_on(rt, alloc, owners, table, position, workers, &Free)
+    go_on(
+        rt,
+        alloc,
+        owners,
+        table,
+        position,
+        workers,
+        Pace::Slices,
+        &Free,
+    )
 }
