@@ -2,4 +2,5 @@ pub mod Held
 pub mod Machine
 pub mod Moves
 pub mod Parts
+pub mod Redraw
 pub mod Reversing

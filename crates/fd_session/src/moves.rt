@@ -1,14 +1,14 @@
 //! Moves of all owners of a frame from one position to another.
-ghost use Rattle.std.specs.Prelude.{◌≡◌, ◌-◌, ◌<◌, ◌≤◌, length, All, IfOk, MatchResult};
+ghost use Rattle.std.specs.Prelude.{◌≡◌, ◌<◌, ◌≤◌, length, All, IfOk, MatchResult};
 ghost use Rattle.fd_tile.specs.Grid.{tile_count};
-ghost use Rattle.fd_events.specs.Table.{Table, with_flag};
+ghost use Rattle.fd_events.specs.Table.{Table};
 ghost use Rattle.fd_owner.specs.History.{position};
 ghost use Rattle.fd_crew.specs.Lanes.{opening_position};
 ghost use Rattle.fd_session.specs.Held.{StandsAt};
-ghost use Rattle.fd_session.specs.Moves.{IsFresh, GoesOn, GoesAgain, IsLeftAt};
+ghost use Rattle.fd_session.specs.Moves.{IsFresh, GoesOn, IsLeftAt};
 
 use crate::worth::{Area, Slice, next_slice};
-use fd_crew::{Free, Gate, Outcome, run_back, run_forward};
+use fd_crew::{Gate, Outcome, run_back, run_forward};
 use fd_events::EventTable;
 use fd_owner::Owner;
 use fd_tile::{Grid, Tile};
@@ -129,36 +129,4 @@ pub(crate) fn go_back(owners: &mut [Owner], to: u32)
     ensures { (table : Table) → All (StandsAt table (opening_position owners.old)) owners.old → IsLeftAt table to owners.old owners.new }
 {
     run_back(owners, to);
-}
-
-/// Switches an event that the owners have gone through, takes them back before it, and on again through it and the ones after it.
-pub(crate) fn go_again<R: Threads + Sync>(
-    rt: &R,
-    alloc: Global,
-    owners: &mut [Owner],
-    table: &mut EventTable,
-    number: u32,
-    on: bool,
-    workers: u32,
-) -> Result<Outcome, AllocError>
-    requires stand { All (StandsAt table.old (opening_position owners.old)) owners.old }
-    requires number { (1 ≤ number) × (number ≤ opening_position owners.old) }
-    requires reached { opening_position owners.old ≤ length table.old.events }
-    requires workers { (1 ≤ workers) × (workers ≤ 64) }
-    ensures table { table.new ≡ with_flag table.old number on }
-    ensures run { MatchResult result (λ outcome. GoesAgain (with_flag table.old number on) number owners.old owners.new outcome) (λ _. IsLeftAt (with_flag table.old number on) (number - 1) owners.old owners.new) }
-{
-    let position = common_position(owners);
-    go_back(owners, number - 1);
-    table.set_on(number, on);
-    go_on(
-        rt,
-        alloc,
-        owners,
-        table,
-        position,
-        workers,
-        Pace::Slices,
-        &Free,
-    )
 }

@@ -1,9 +1,11 @@
 ghost use Rattle.std.specs.Prelude.{◌≡◌, ◌≢◌, ◌<◌, ◌≤◌, ◌+◌, ◌-◌, Some, not, length, map, IfOk, IfErr};
 ghost use Rattle.std.specs.List.{range_with_len};
-ghost use Rattle.fd_session.specs.Moves.{jump_answer, switch_answer};
+ghost use Rattle.fd_session.specs.declared.answer.Answer.TheVariants.{Moved, Stopped};
+ghost use Rattle.fd_session.specs.Moves.{jump_answer};
 
 use crate::answer::{Answer, SessionFault};
-use crate::moves::{Pace, common_position, fresh_owners, go_again, go_back, go_on};
+use crate::moves::{Pace, common_position, fresh_owners, go_back, go_on};
+use crate::redraw::go_again;
 use crate::worth::{Area, next_slice};
 use fd_blend::Colour;
 use fd_crew::{Free, Gate, Outcome};
@@ -166,7 +168,7 @@ impl Session {
             self.table.set_on(number, on);
             return Answer::Moved { at: position };
         }
-        let run = go_again(
+        let at = go_again(
             rt,
             self.alloc,
             &mut self.owners,
@@ -175,7 +177,7 @@ impl Session {
             on,
             self.workers,
         );
-        answer_to_switch(number, position, run)
+        answer_to_switch(position, at)
     }
 
     /// Goes back over the last event, and gives the new position.
@@ -300,15 +302,15 @@ fn answer_to_jump(to: u32, run: Result<Outcome, AllocError>) -> Answer
     }
 }
 
-/// The answer to a switch for which the crew ran. Without memory for a run, the owners stand just before the event.
-fn answer_to_switch(number: u32, position: u32, run: Result<Outcome, AllocError>) -> Answer
-    requires { 1 ≤ number }
-    ensures { result ≡ switch_answer number position run }
+/// The answer to a switch that left the owners at a position, where they stood at another one before.
+fn answer_to_switch(position: u32, at: u32) -> Answer
+    ensures stopped { at < position → result ≡ Stopped at }
+    ensures moved { position ≤ at → result ≡ Moved at }
 {
-    match run {
-        Ok(Outcome::Reached) => Answer::Moved { at: position },
-        Ok(Outcome::Stopped { at }) => Answer::Stopped { at },
-        Err(_) => Answer::Stopped { at: number - 1 },
+    if at < position {
+        Answer::Stopped { at }
+    } else {
+        Answer::Moved { at }
     }
 }
 

@@ -134,5 +134,46 @@ pub(crate) fn next_slice(table: &EventTable, from: u32, to: u32, area: &Area, wo
     }
 }
 
+/// How many tiles are drawn anew together, up to a position, where an event is switched: a row of them where that is quicker by those workers
+/// that the reached tiles of a row are worth than all tiles are by all workers, or else all.
+pub(crate) fn tiles_together(
+    table: &EventTable,
+    number: u32,
+    to: u32,
+    tiles: usize,
+    workers: u32,
+) -> usize
+    requires first { 1 ≤ number }
+    requires last { number ≤ to }
+    requires within { to ≤ length table.now.events }
+    requires some { 1 ≤ workers }
+    ensures some { 1 ≤ result }
+{
+    let reach = table.reach(number);
+    let columns = table.width().div_ceil(TILE_SIDE);
+    let reached = reach
+        .right
+        .div_ceil(TILE_SIDE)
+        .saturating_sub(reach.left / TILE_SIDE);
+    if reach.is_empty() || reached >= columns {
+        return tiles.max(1);
+    }
+    let top = (reach.top / 2).saturating_add(reach.bottom / 2) / TILE_SIDE * TILE_SIDE;
+    let row = Area {
+        tiles: reached as usize,
+        bounds: Bounds {
+            top,
+            bottom: top.saturating_add(TILE_SIDE),
+            ..reach
+        },
+    };
+    let worth = next_slice(table, number - 1, to, &row, workers).workers;
+    if u64::from(reached) * u64::from(workers) < u64::from(columns) * u64::from(worth) {
+        columns as usize
+    } else {
+        tiles.max(1)
+    }
+}
+
 #[cfg(test)]
 mod tests;
