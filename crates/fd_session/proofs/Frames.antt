@@ -7,7 +7,7 @@ use Rattle.std.proofs.lemmas.List.Elements.{All-head, All-tail, All-cons, All-ni
 use Rattle.fd_blend.specs.declared.channel.Colour.{Colour}
 use Rattle.fd_blend.specs.Channel.{fresh}
 use Rattle.fd_tile.specs.declared.place.Place.{Place}
-use Rattle.fd_tile.specs.Place.{Holds, HasRow, over_place}
+use Rattle.fd_tile.specs.Place.{Holds, over_place}
 use Rattle.fd_tile.specs.Tile.{Pixel, TileImage, fresh_pixel, painted, pixel_of, pixel_in, pixels_of, row_in}
 use Rattle.fd_tile.specs.Grid.{TargetSize, tile_count, place_of}
 use Rattle.fd_tile.proofs.Pixels.{value_in-over_place, over_place_same, HasRow-from_Holds}
@@ -17,7 +17,7 @@ use Rattle.fd_owner.specs.History.{History, position, last_image, extend, extend
 use Rattle.fd_owner.specs.Shown.{Shown, IsInside}
 use Rattle.fd_owner.proofs.Drawn.{position_drawn, last_drawn, pixel_drawn}
 use Rattle.fd_owner.proofs.Pictures.{map_mapped, row_in-over_place}
-use Rattle.fd_owner.proofs.Histories.{position_extend_to, extend_more, extend_none, first_extend_to, last_extend}
+use Rattle.fd_owner.proofs.Histories.{extend_none, first_extend_to}
 use Rattle.std.proofs.Common.{take, drop}
 use Rattle.fd_session.specs.Machine.{State, at_position, Jumps}
 use Rattle.std.proofs.lemmas.List.{append-nil, drop_all, take_all, length-drop}
@@ -78,7 +78,7 @@ stands_further table k to o p at gone =
       inside = subst (λ (q : Place). IsInside q table) (sym gone.place) at.inside;
     }
 
-stands_less : (table : Table) (k to : ℕ) (o p : Shown) → to ≤ k → StandsAt table k o → p ≡ gone_back_to to o → StandsAt table to p
+pub stands_less : (table : Table) (k to : ℕ) (o p : Shown) → to ≤ k → StandsAt table k o → p ≡ gone_back_to to o → StandsAt table to p
 stands_less table k to o p le at gone =
     let placed : p.place ≡ o.place = ap (λ (s : Shown). s.place) gone in
     record {

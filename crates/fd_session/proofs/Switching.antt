@@ -1,6 +1,6 @@
 -- A switch of an event leaves all that stands before it.
-use Rattle.std.proofs.Common.{◌≡◌, ◌≢◌, ℕ, zero, suc, ◌+◌, ◌-◌, ◌<◌, ◌≤◌, Bool, not, List, [], ◌∷◌, ◌++◌, length, get_or, take, drop, refl, sym, ap, ◌∙◌, subst, arith, All, Option, Some}
-use Rattle.std.specs.Prelude.{Result, Ok, Err, MatchResult}
+use Rattle.std.proofs.Common.{◌≡◌, ◌≢◌, ℕ, zero, suc, ◌+◌, ◌<◌, ◌≤◌, Bool, not, List, [], ◌∷◌, ◌++◌, length, get_or, take, drop, refl, sym, ap, ◌∙◌, subst, arith, All, Option, Some, inl, inr}
+use Rattle.std.proofs.lemmas.Bool.{cases_lt}
 use Rattle.std.proofs.lemmas.List.{length-map, length-set, append-nil, drop_all, take_all}
 use Rattle.fd_tile.specs.declared.place.Place.{Place}
 use Rattle.fd_tile.specs.Place.{over_place}
@@ -12,14 +12,14 @@ use Rattle.fd_events.specs.Table.{Table, IsTable, with_flag, flag_at, active_eve
 use Rattle.fd_events.specs.Image.{pixel_after_event, kept_by_event}
 use Rattle.fd_events.proofs.States.{slice_get-set_other, state_of-set}
 use Rattle.fd_owner.specs.History.{Frame, History, position, last_image, frame_after, extend}
-use Rattle.fd_owner.specs.Shown.{Shown}
+use Rattle.fd_owner.specs.Shown.{Shown, IsInside}
 use Rattle.fd_owner.proofs.Histories.{extend_more, extend_none}
-use Rattle.fd_crew.specs.declared.crew.Outcome.{Outcome}
-use Rattle.fd_crew.specs.declared.crew.Outcome.TheVariants.{Reached, Stopped}
 use Rattle.fd_crew.specs.Lanes.{opening_position}
 use Rattle.fd_session.specs.Held.{StandsAt, places_of, HoldsFrame}
+use Rattle.fd_session.specs.declared.answer.Answer.{Answer}
+use Rattle.fd_session.specs.declared.answer.Answer.TheVariants.{Moved, Stopped}
 use Rattle.fd_session.specs.Machine.{State, with_flag_at, Switches}
-use Rattle.fd_session.specs.Moves.{IsLeftAt, GoesOn, GoesAgain, switch_answer}
+use Rattle.fd_session.specs.Moves.{IsLeftAt}
 use Rattle.fd_owner.specs.History.{fresh_history, drawn_history}
 use Rattle.fd_owner.proofs.Drawn.{position_drawn}
 use Rattle.fd_session.proofs.Frames.{opening_stands, some_held}
@@ -29,7 +29,7 @@ module _ (table : Table) (i : ℕ) (on : Bool) where
   abbrev switched : Table
   switched = with_flag table (suc i) on
 
-  active_other : (k : ℕ) → k ≢ i → active_event switched (suc k) ≡ active_event table (suc k)
+  pub active_other : (k : ℕ) → k ≢ i → active_event switched (suc k) ≡ active_event table (suc k)
   active_other k other = rw (slice_get-set_other table.flags i k on other) refl
 
   frame_other : (place : Place) (k : ℕ) (image : List (List Pixel)) → k < i → frame_after switched place k image ≡ frame_after table place k image
@@ -47,7 +47,7 @@ module _ (table : Table) (i : ℕ) (on : Bool) where
   extend_other place h below =
       ap (λ (f : Frame). let g : History = record { opening = h.opening; frames = h.frames ++ f ∷ [] } in g) (frame_other place (position h) (last_image h) below)
 
-  history_other : (place : Place) (k : ℕ) → k ≤ i → drawn_history switched place k ≡ drawn_history table place k
+  pub history_other : (place : Place) (k : ℕ) → k ≤ i → drawn_history switched place k ≡ drawn_history table place k
   history_other place zero within = extend_none switched place (fresh_history place) ∙ sym (extend_none table place (fresh_history place))
   history_other place (suc k) within =
       let next : k + 1 ≡ suc k = omega arith in
@@ -60,6 +60,9 @@ module _ (table : Table) (i : ℕ) (on : Bool) where
 
   stands_other : (k : ℕ) (o : Shown) → k ≤ i → StandsAt table k o → StandsAt switched k o
   stands_other k o within at = record { history = at.history ∙ sym (history_other o.place k within); inside = record { right = at.inside.right; bottom = at.inside.bottom } }
+
+  stands_again : (k : ℕ) (o : Shown) → k ≤ i → StandsAt switched k o → StandsAt table k o
+  stands_again k o within at = record { history = at.history ∙ history_other o.place k within; inside = record { right = at.inside.right; bottom = at.inside.bottom } }
 
   table_other : IsTable table → IsTable switched
   table_other valid = record {
@@ -77,8 +80,14 @@ pub all_other : (table : Table) (number : ℕ) (on : Bool) (k : ℕ) (owners : L
 all_other table zero on k owners below at n d within = absurd (omega (arith, below))
 all_other table (suc i) on k owners below at n d within = stands_other table i on k (get_or owners n d) (omega (arith, below)) (at n d within)
 
-pub left_other : (table : Table) (number : ℕ) (on : Bool) (k : ℕ) (old new : List Shown) → k < number → IsLeftAt table k old new → IsLeftAt (with_flag table number on) k old new
-left_other table number on k old new below left = record { places = left.places; stand = all_other table number on k new below left.stand }
+-- one that stood before the event that was switched
+pub stood_before : (table : Table) (number : ℕ) (on : Bool) (k : ℕ) (o : Shown) → k < number → StandsAt (with_flag table number on) k o → StandsAt table k o
+stood_before table zero on k o below at = at
+stood_before table (suc i) on k o below at = stands_again table i on k o (omega (arith, below)) at
+
+pub inside_with : (table : Table) (number : ℕ) (on : Bool) (place : Place) → IsInside place (with_flag table number on) → IsInside place table
+inside_with table zero on place inside = inside
+inside_with table (suc i) on place inside = record { right = inside.right; bottom = inside.bottom }
 
 pub events_with : (table : Table) (number : ℕ) (on : Bool) → (with_flag table number on).events ≡ table.events
 events_with table zero on = refl
@@ -107,42 +116,16 @@ some_there (o ∷ owners) some = omega arith
 pub opening_left : (table : Table) (k : ℕ) (old new : List Shown) → 0 < opening_position old → IsLeftAt table k old new → opening_position new ≡ k
 opening_left table k old new some left = opening_stands table k new (omega (arith, same_count table k old new left, some_there old some)) left.stand
 
--- a run from the position before the event
-pub run_again : {E : Type 0} (table : Table) (number to : ℕ) (old between new : List Shown) (r : Result Outcome E) → 1 ≤ number → to ≡ opening_position old → opening_position between ≡ number - 1
-    → IsLeftAt table (number - 1) old between → MatchResult r (λ outcome. GoesOn table to between new outcome) (λ _. new ≡ between)
-    → MatchResult r (λ outcome. GoesAgain table number old new outcome) (λ _. IsLeftAt table (number - 1) old new)
-run_again table number to old between new (Ok Reached) first is at left went =
-    record { places = went.places ∙ left.places; stand = subst (λ (k : ℕ). All (StandsAt table k) new) is went.stand }
-run_again table number to old between new (Ok (Stopped stop)) first is at left went =
-    (omega (arith, went.0, at, first), omega (arith, went.1, is), record { places = went.2.places ∙ left.places; stand = went.2.stand })
-run_again table number to old between new (Err e) first is at left went =
-    record { places = ap places_of went ∙ left.places; stand = subst (λ (l : List Shown). All (StandsAt table (number - 1)) l) (sym went) left.stand }
-
--- where a run from there left the owners
-abbrev pub again_position : {E : Type 0} → ℕ → ℕ → Result Outcome E → ℕ
-again_position number to (Ok Reached) = to
-again_position number to (Ok (Stopped at)) = at
-again_position number to (Err e) = number - 1
-
-pub again_left : {E : Type 0} (table : Table) (number : ℕ) (old new : List Shown) (r : Result Outcome E)
-    → MatchResult r (λ outcome. GoesAgain table number old new outcome) (λ _. IsLeftAt table (number - 1) old new) → IsLeftAt table (again_position number (opening_position old) r) old new
-again_left table number old new (Ok Reached) went = went
-again_left table number old new (Ok (Stopped stop)) went = went.2
-again_left table number old new (Err e) went = went
-
-pub again_within : {E : Type 0} (table : Table) (number n : ℕ) (old new : List Shown) (r : Result Outcome E) → number ≤ opening_position old → opening_position old ≤ n
-    → MatchResult r (λ outcome. GoesAgain table number old new outcome) (λ _. IsLeftAt table (number - 1) old new) → again_position number (opening_position old) r ≤ n
-again_within table number n old new (Ok Reached) low in' went = in'
-again_within table number n old new (Ok (Stopped stop)) low in' went = omega (arith, went.1, in')
-again_within table number n old new (Err e) low in' went = omega (arith, low, in')
-
-pub again_switches : {E : Type 0} (table : Table) (number : ℕ) (on : Bool) (owners new : List Shown) (r : Result Outcome E) (old : State) → old.position ≡ opening_position owners
-    → 1 ≤ number → number ≤ opening_position owners → flag_at old.table number ≡ Some (not on)
-    → MatchResult r (λ outcome. GoesAgain table number owners new outcome) (λ _. IsLeftAt table (number - 1) owners new)
-    → Switches old number on (switch_answer number (opening_position owners) r) (with_flag_at old number on (again_position number (opening_position owners) r))
-again_switches table number on owners new (Ok Reached) old is first low other went = (other, sym is, refl)
-again_switches table number on owners new (Ok (Stopped stop)) old is first low other went = (other, omega (arith, went.0), omega (arith, went.1, is), refl)
-again_switches table number on owners new (Err e) old is first low other went = (other, omega (arith, first), omega (arith, low, is, first), refl)
+-- what is answered
+pub switches : (old : State) (number : ℕ) (on : Bool) (at : ℕ) (answer : Answer) → flag_at old.table number ≡ Some (not on) → number ≤ at + 1 → at ≤ old.position
+    → (at < old.position → answer ≡ Stopped at) → (old.position ≤ at → answer ≡ Moved at) → Switches old number on answer (with_flag_at old number on at)
+switches old number on at answer other first last stopped moved =
+    elim (cases_lt at old.position) [
+      | inl below ↦ subst (λ (a : Answer). Switches old number on a (with_flag_at old number on at)) (sym (stopped below)) (other, first, below, refl)
+      | inr above ↦
+          let same : at ≡ old.position = omega (arith, last, above) in
+          subst (λ (a : Answer). Switches old number on a (with_flag_at old number on at)) (sym (moved (omega (arith, above)))) (other, same, refl)
+    ]
 
 -- the owners that were lent and left at a position under the switched table
 module _ (table : Table) (number : ℕ) (on : Bool) (size : TargetSize) (owners : List Shown) (workers : ℕ) (held : HoldsFrame table size owners workers)

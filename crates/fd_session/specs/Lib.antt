@@ -1,4 +1,6 @@
 pub mod Held
 pub mod Machine
 pub mod Moves
+pub mod Parts
+pub mod Redraw
 pub mod Reversing

@@ -7,6 +7,7 @@ pub use session::Session;
 mod answer;
 pub mod laws;
 mod moves;
+mod redraw;
 mod session;
 #[cfg(test)]
 mod tests;

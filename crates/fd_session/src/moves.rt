@@ -1,14 +1,14 @@
 //! Moves of all owners of a frame from one position to another.
-ghost use Rattle.std.specs.Prelude.{◌≡◌, ◌-◌, ◌<◌, ◌≤◌, length, All, IfOk, MatchResult};
+ghost use Rattle.std.specs.Prelude.{◌≡◌, ◌<◌, ◌≤◌, length, All, IfOk, MatchResult};
 ghost use Rattle.fd_tile.specs.Grid.{tile_count};
-ghost use Rattle.fd_events.specs.Table.{Table, with_flag};
+ghost use Rattle.fd_events.specs.Table.{Table};
 ghost use Rattle.fd_owner.specs.History.{position};
 ghost use Rattle.fd_crew.specs.Lanes.{opening_position};
 ghost use Rattle.fd_session.specs.Held.{StandsAt};
-ghost use Rattle.fd_session.specs.Moves.{IsFresh, GoesOn, GoesAgain, IsLeftAt};
+ghost use Rattle.fd_session.specs.Moves.{IsFresh, GoesOn, IsLeftAt};
 
-use crate::worth::workers_worth;
-use fd_crew::{Free, Gate, Outcome, run_back, run_forward};
+use crate::worth::{Area, Slice, next_slice};
+use fd_crew::{Gate, Outcome, run_back, run_forward};
 use fd_events::EventTable;
 use fd_owner::Owner;
 use fd_tile::{Grid, Tile};
@@ -37,8 +37,35 @@ pub(crate) fn fresh_owners(alloc: Global, grid: &Grid) -> Result<Vec<Owner>, All
     Ok(owners)
 }
 
-/// Takes all owners on to a position, or to the one before the first event that one of them refuses.
-pub(crate) fn go_on<R: Threads + Sync, G: Gate>(
+/// How a move forward is handed to the crew.
+#[derive(Clone, Copy, Debug)]
+pub(crate) enum Pace {
+    /// All at once, by all workers.
+    Whole,
+    /// Slice by slice, each by as many workers as it is worth. Where memory runs out, all that earlier slices did stays.
+    Slices,
+}
+
+impl Pace {
+    /// The next events of a move from one position to another.
+    fn next(self, table: &EventTable, from: u32, to: u32, area: &Area, workers: u32) -> Slice
+        requires ahead { from < to }
+        requires within { to ≤ length table.now.events }
+        requires some { 1 ≤ workers }
+        ensures on { from < result.end }
+        ensures within { result.end ≤ to }
+        ensures some { 1 ≤ result.workers }
+        ensures most { result.workers ≤ workers }
+    {
+        match self {
+            Pace::Whole => Slice { end: to, workers },
+            Pace::Slices => next_slice(table, from, to, area, workers),
+        }
+    }
+}
+
+/// Takes all owners on to a position at once, or to the one before the first event that one of them refuses.
+fn run_on<R: Threads + Sync, G: Gate>(
     rt: &R,
     alloc: Global,
     owners: &mut [Owner],
@@ -55,6 +82,46 @@ pub(crate) fn go_on<R: Threads + Sync, G: Gate>(
     run_forward(rt, alloc, owners, table, to, workers, gate)
 }
 
+/// Takes all owners on to a position, or to the one before the first event that one of them refuses. It is refused itself only where no owner has moved.
+pub(crate) fn go_on<R: Threads + Sync, G: Gate>(
+    rt: &R,
+    alloc: Global,
+    owners: &mut [Owner],
+    table: &EventTable,
+    to: u32,
+    workers: u32,
+    pace: Pace,
+    gate: &G,
+) -> Result<Outcome, AllocError>
+    requires stand { All (StandsAt table.now (opening_position owners.old)) owners.old }
+    requires target { (opening_position owners.old ≤ to) × (to ≤ length table.now.events) }
+    requires workers { (1 ≤ workers) × (workers ≤ 64) }
+    ensures { MatchResult result (λ outcome. GoesOn table.now to owners.old owners.new outcome) (λ _. owners.new ≡ owners.old) }
+{
+    let area = Area::of(owners, table.width());
+    let from = common_position(owners);
+    let mut at = from;
+    while at < to {
+        let slice = pace.next(table, at, to, &area, workers);
+        let run = run_on(rt, alloc, owners, table, slice.end, slice.workers, gate);
+        match run {
+            Ok(outcome) => {
+                if let Outcome::Stopped { .. } = outcome {
+                    return Ok(outcome);
+                }
+            }
+            Err(refused) => {
+                if at == from {
+                    return Err(refused);
+                }
+                return Ok(Outcome::Stopped { at });
+            }
+        }
+        at = slice.end;
+    }
+    Ok(Outcome::Reached)
+}
+
 /// Takes all owners back to a position.
 pub(crate) fn go_back(owners: &mut [Owner], to: u32)
     requires together { All (λ owner. position owner.history ≡ opening_position owners.old) owners.old }
@@ -62,28 +129,4 @@ pub(crate) fn go_back(owners: &mut [Owner], to: u32)
     ensures { (table : Table) → All (StandsAt table (opening_position owners.old)) owners.old → IsLeftAt table to owners.old owners.new }
 {
     run_back(owners, to);
-}
-
-/// Switches an event that the owners have gone through, takes them back before it, and on again through it and the ones after it.
-pub(crate) fn go_again<R: Threads + Sync>(
-    rt: &R,
-    alloc: Global,
-    owners: &mut [Owner],
-    table: &mut EventTable,
-    number: u32,
-    on: bool,
-    workers: u32,
-) -> Result<Outcome, AllocError>
-    requires stand { All (StandsAt table.old (opening_position owners.old)) owners.old }
-    requires number { (1 ≤ number) × (number ≤ opening_position owners.old) }
-    requires reached { opening_position owners.old ≤ length table.old.events }
-    requires workers { (1 ≤ workers) × (workers ≤ 64) }
-    ensures table { table.new ≡ with_flag table.old number on }
-    ensures run { MatchResult result (λ outcome. GoesAgain (with_flag table.old number on) number owners.old owners.new outcome) (λ _. IsLeftAt (with_flag table.old number on) (number - 1) owners.old owners.new) }
-{
-    let position = common_position(owners);
-    go_back(owners, number - 1);
-    table.set_on(number, on);
-    let workers = workers_worth(table, number - 1, position, owners.len(), workers);
-    go_on(rt, alloc, owners, table, position, workers, &Free)
 }

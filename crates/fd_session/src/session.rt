@@ -1,10 +1,12 @@
-ghost use Rattle.std.specs.Prelude.{◌≡◌, ◌<◌, ◌≤◌, ◌+◌, ◌-◌, Some, not, length, map, IfOk, IfErr};
+ghost use Rattle.std.specs.Prelude.{◌≡◌, ◌≢◌, ◌<◌, ◌≤◌, ◌+◌, ◌-◌, Some, not, length, map, IfOk, IfErr};
 ghost use Rattle.std.specs.List.{range_with_len};
-ghost use Rattle.fd_session.specs.Moves.{jump_answer, switch_answer};
+ghost use Rattle.fd_session.specs.declared.answer.Answer.TheVariants.{Moved, Stopped};
+ghost use Rattle.fd_session.specs.Moves.{jump_answer};
 
 use crate::answer::{Answer, SessionFault};
-use crate::moves::{common_position, fresh_owners, go_again, go_back, go_on};
-use crate::worth::workers_worth;
+use crate::moves::{Pace, common_position, fresh_owners, go_back, go_on};
+use crate::redraw::go_again;
+use crate::worth::{Area, next_slice};
 use fd_blend::Colour;
 use fd_crew::{Free, Gate, Outcome};
 use fd_events::{EventTable, Pipeline};
@@ -42,6 +44,7 @@ impl Model for Session {
 impl Session {
     ghost use Rattle.fd_events.specs.Image.{colour_at};
     ghost use Rattle.fd_events.specs.Table.{state_at, flag_at};
+    ghost use Rattle.fd_session.specs.Parts.{JumpsPart};
     ghost use Rattle.fd_session.specs.Machine.{State, opening, Steps, GoesBack, Jumps, RefusesSwitch, Switches, ShowsPixel, ShowsDepth, ShowsFlag, ShowsHistory, IsState};
 
     /// A session at position 0, whose moves have at most so many workers. On want of memory the table is handed back.
@@ -67,23 +70,8 @@ impl Session {
         }
     }
 
-    /// How many workers a jump to a position is worth.
-    fn workers_to(&self, to: u32) -> u32
-        ensures { (1 ≤ result) × (result ≤ 64) }
-    {
-        let from = common_position(&self.owners);
-        workers_worth(&self.table, from, to, self.owners.len(), self.workers)
-    }
-
-    /// Jumps to a position, by so many workers.
-    fn jump<R: Threads + Sync, G: Gate>(
-        &mut self,
-        rt: &R,
-        to: u32,
-        workers: u32,
-        gate: &G,
-    ) -> Answer
-        requires { (1 ≤ workers) × (workers ≤ 64) }
+    /// Jumps to a position, forward at this pace.
+    fn jump<R: Threads + Sync, G: Gate>(&mut self, rt: &R, to: u32, pace: Pace, gate: &G) -> Answer
         ensures { Jumps self.old to result self.new }
     {
         if to > self.table.len() {
@@ -99,7 +87,8 @@ impl Session {
             &mut self.owners,
             &self.table,
             to,
-            workers,
+            self.workers,
+            pace,
             gate,
         );
         answer_to_jump(to, run)
@@ -116,19 +105,44 @@ impl Session {
         self.goto(rt, position + 1)
     }
 
-    /// Jumps to a position. A jump forward may stop before it.
+    /// Jumps to a position. A jump forward may stop before it. It goes slice by slice, so that where memory runs out all earlier slices stay.
     pub fn goto<R: Threads + Sync>(&mut self, rt: &R, to: u32) -> Answer
         ensures { Jumps self.old to result self.new }
     {
-        let workers = self.workers_to(to);
-        self.jump(rt, to, workers, &Free)
+        self.jump(rt, to, Pace::Slices, &Free)
+    }
+
+    /// Where the next slice of a jump ends. A jump back, or to no position, has one slice.
+    fn part_end(&self, to: u32) -> u32
+        ensures { result ≢ to → (self.now.position < result) × (result < to) × (to ≤ length self.now.table.events) }
+    {
+        let from = self.position();
+        if to <= from || to > self.table.len() {
+            return to;
+        }
+        let area = Area::of(&self.owners, self.table.width());
+        next_slice(&self.table, from, to, &area, self.workers).end
+    }
+
+    /// Makes the next slice of a jump, and gives the answer to the jump where it has ended; else there is more to go.
+    pub fn goto_part<R: Threads + Sync>(&mut self, rt: &R, to: u32) -> Option<Answer>
+        ensures { JumpsPart self.old to result self.new }
+    {
+        let end = self.part_end(to);
+        let answer = self.jump(rt, end, Pace::Slices, &Free);
+        if let Answer::Moved { at } = answer {
+            if at != to {
+                return None;
+            }
+        }
+        Some(answer)
     }
 
     /// Jumps to a position, by all workers. On the way forward each tile passes the gate before each of its events.
     pub fn goto_gated<R: Threads + Sync, G: Gate>(&mut self, rt: &R, to: u32, gate: &G) -> Answer
         ensures { Jumps self.old to result self.new }
     {
-        self.jump(rt, to, self.workers, gate)
+        self.jump(rt, to, Pace::Whole, gate)
     }
 
     /// Why an event can't be switched on or off.
@@ -154,7 +168,7 @@ impl Session {
             self.table.set_on(number, on);
             return Answer::Moved { at: position };
         }
-        let run = go_again(
+        let at = go_again(
             rt,
             self.alloc,
             &mut self.owners,
@@ -163,7 +177,7 @@ impl Session {
             on,
             self.workers,
         );
-        answer_to_switch(number, position, run)
+        answer_to_switch(position, at)
     }
 
     /// Goes back over the last event, and gives the new position.
@@ -288,15 +302,15 @@ fn answer_to_jump(to: u32, run: Result<Outcome, AllocError>) -> Answer
     }
 }
 
-/// The answer to a switch for which the crew ran. Without memory for a run, the owners stand just before the event.
-fn answer_to_switch(number: u32, position: u32, run: Result<Outcome, AllocError>) -> Answer
-    requires { 1 ≤ number }
-    ensures { result ≡ switch_answer number position run }
+/// The answer to a switch that left the owners at a position, where they stood at another one before.
+fn answer_to_switch(position: u32, at: u32) -> Answer
+    ensures stopped { at < position → result ≡ Stopped at }
+    ensures moved { position ≤ at → result ≡ Moved at }
 {
-    match run {
-        Ok(Outcome::Reached) => Answer::Moved { at: position },
-        Ok(Outcome::Stopped { at }) => Answer::Stopped { at },
-        Err(_) => Answer::Stopped { at: number - 1 },
+    if at < position {
+        Answer::Stopped { at }
+    } else {
+        Answer::Moved { at }
     }
 }
 

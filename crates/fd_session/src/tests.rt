@@ -4,6 +4,7 @@ pub(crate) mod frames;
 mod histories;
 mod memory;
 mod moving;
+mod slices;
 mod stair;
 mod threads;
 mod workers;

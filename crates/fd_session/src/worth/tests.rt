@@ -1,8 +1,8 @@
 ghost use Rattle.std.specs.Prelude.{◌≡◌, length, IfOk};
 
 use crate::tests::frames::{colour, draw, flat};
-use crate::worth::workers_worth;
-use fd_cover::Interp;
+use crate::worth::{Area, next_slice};
+use fd_cover::{Bounds, Interp};
 use fd_events::{Event, EventTable};
 use std::alloc::Global;
 use std::test::Fail;
@@ -15,6 +15,17 @@ fn table(alloc: Global, first: Event, second: Event) -> Result<EventTable, Fail>
     events.push(first)?;
     events.push(second)?;
     Ok(EventTable::start(alloc, 2, 1024, 512, events)?)
+}
+
+/// So many tiles, and a box round the whole target.
+const fn area(tiles: usize) -> Area {
+    let bounds = Bounds {
+        left: 0,
+        top: 0,
+        right: 1024,
+        bottom: 512,
+    };
+    Area { tiles, bounds }
 }
 
 #[test]
@@ -30,17 +41,14 @@ fn work_decides_how_many_workers_start(rt: HostRuntime) -> Result<(), Fail> {
         (0, 1, 8, 8),
         (0, 1, 1, 1),
         (1, 2, 64, 1),
-        (2, 0, 64, 1),
     ] {
-        assert_eq!(rt;
-            workers_worth(&table, from, to, 512, workers),
-            worth,
-            "{from} to {to}"
-        );
+        let slice = next_slice(&table, from, to, &area(512), workers);
+        assert_eq!(rt; slice.workers, worth, "{from} to {to}");
+        assert_eq!(rt; slice.end, to, "{from} to {to}");
     }
-    assert_eq!(rt; workers_worth(&table, 0, 1, 3, 64), 3);
+    assert_eq!(rt; next_slice(&table, 0, 1, &area(3), 64).workers, 3);
     table.set_on(1, false);
-    assert_eq!(rt; workers_worth(&table, 0, 2, 512, 64), 1);
+    assert_eq!(rt; next_slice(&table, 0, 2, &area(512), 64).workers, 1);
     Ok(())
 }
 
@@ -52,7 +60,7 @@ fn triangles_over_one_another_are_worth_more(rt: HostRuntime) -> Result<(), Fail
     let one = draw(alloc, Interp::Flat, &triangles[..1])?;
     let all = draw(alloc, Interp::Flat, &triangles)?;
     let table = table(alloc, one, all)?;
-    assert_eq!(rt; workers_worth(&table, 0, 1, 512, 64), 1);
-    assert_eq!(rt; workers_worth(&table, 0, 2, 512, 64), 13);
+    assert_eq!(rt; next_slice(&table, 0, 1, &area(512), 64).workers, 1);
+    assert_eq!(rt; next_slice(&table, 0, 2, &area(512), 64).workers, 13);
     Ok(())
 }
