@@ -124,6 +124,16 @@ impl Session {
         self.jump(rt, to, workers, &Free)
     }
 
+    /// Where the first part of a long way forward ends: at its end, or before it.
+    pub fn part_end(&self, to: u32) -> u32
+        requires ahead { self.now.position < to }
+        requires within { to ≤ length self.now.table.events }
+        ensures on { self.now.position < result }
+        ensures within { result ≤ to }
+    {
+        to.min(self.position().saturating_add(65536))
+    }
+
     /// Jumps to a position, by all workers. On the way forward each tile passes the gate before each of its events.
     pub fn goto_gated<R: Threads + Sync, G: Gate>(&mut self, rt: &R, to: u32, gate: &G) -> Answer
         ensures { Jumps self.old to result self.new }

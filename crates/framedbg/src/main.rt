@@ -13,7 +13,9 @@ use std::process::ExitCode;
 use std::rt::Files;
 use std::thread::Threads;
 use std::{env, fs, io};
+use terminal::Terminal;
 
+mod terminal;
 mod words;
 
 /// The most bytes that are read of a capture: one more than a capture may have.
@@ -31,10 +33,6 @@ const CANNOT_READ: u8 = 3;
 /// What `run` says on standard error to somebody who types.
 const WAITING: &str =
     "framedbg: waiting for commands, as events, goto 3, pixel 0 0, quit; framedbg run --help has them all";
-
-/// What it adds where the replies go to a terminal too.
-const SPILLS: &str =
-    "framedbg: show writes the bytes of an image, here to this terminal; framedbg image writes them to a file";
 
 /// The number of workers that the words ask for. `clap` has refused any other; no clause of it says so.
 fn workers(matches: &ArgMatches) -> u32
@@ -55,9 +53,6 @@ fn read_capture(rt: &impl Files, alloc: Global, path: &str) -> Result<Vec<u8>, i
 /// Tells somebody who types what is waited for.
 fn greet(rt: &HostRuntime) {
     let _ = rt.eprintln(WAITING);
-    if rt.stdout().is_terminal() {
-        let _ = rt.eprintln(SPILLS);
-    }
 }
 
 /// Does what the words ask for with a capture's bytes. Threads are started by a handle of their own, which is `main`'s runtime.
@@ -69,7 +64,8 @@ fn perform<T: Threads + Sync>(
     capture: &[u8],
 ) -> Ending {
     let alloc = rt.alloc();
-    let mut sink = Device::new(io::writer(rt));
+    let to_terminal = rt.stdout().is_terminal();
+    let mut sink = Terminal::new(io::writer(rt), to_terminal, rt.stderr());
     match name {
         "image" => {
             let at = matches.get_one::<u32>("at");
