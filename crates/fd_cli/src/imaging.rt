@@ -6,6 +6,7 @@ ghost use Rattle.fd_cli.specs.Opening.{RefusesTooLong};
 ghost use Rattle.fd_cli.specs.Listing.{ShowsState, ImagesTable, WritesImage};
 
 use crate::ending::Ending;
+use crate::far::go;
 use crate::opening::open;
 use crate::show::target_size;
 use fd_events::EventTable;
@@ -48,7 +49,7 @@ fn write_table<T: Threads + Sync, W: Sink>(
     let Ok(mut session) = Session::start(alloc, table, workers) else {
         return Ending::Memory;
     };
-    match session.goto(rt, to) {
+    match go(rt, &mut session, to, sink) {
         Answer::Moved { .. } => write_shown(alloc, &session, sink),
         Answer::Refused(SessionFault::NoSuchPosition) => Ending::NoSuchPosition,
         Answer::Stopped { .. } | Answer::Refused(_) => Ending::Memory,

@@ -56,6 +56,13 @@ pub trait Sink {
     /// How many calls of `put` and `flush` failed.
     fn failures(&self) -> u64
         ensures { result ≡ failure_count self.now };
+
+    /// Is told, between the parts of a long move, at which position it is and to which it goes. It moves no byte, and can't fail.
+    fn on_the_way(&mut self, _at: u32, _to: u32)
+        ensures bytes { contents self.new ≡ contents self.old }
+        ensures failures { failure_count self.new ≡ failure_count self.old }
+    {
+    }
 }
 
 /// Puts all of the bytes, in as many calls as it takes, and counts those that were sent.

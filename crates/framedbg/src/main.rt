@@ -59,20 +59,22 @@ fn perform<T: Threads + Sync>(
     capture: &[u8],
 ) -> Ending {
     let alloc = rt.alloc();
-    let mut sink = Device::new(io::writer(rt));
+    let errors = rt.stderr();
+    let shows_moves = errors.is_terminal();
+    let output = Device::new(io::writer(rt));
+    let mut screen = Screen::new(output, errors, rt.stdout().is_terminal(), shows_moves);
     match name {
         "image" => {
             let at = matches.get_one::<u32>("at");
-            image(threads, alloc, capture, workers(matches), at, &mut sink)
+            image(threads, alloc, capture, workers(matches), at, &mut screen)
         }
-        "events" => list_events(alloc, capture, &mut sink),
+        "events" => list_events(alloc, capture, &mut screen),
         _ => {
             let reader = rt.reader();
             if reader.is_terminal() {
                 let _ = rt.eprintln(WAITING);
             }
             let mut source = Device::new(reader);
-            let mut screen = Screen::new(sink, Device::new(rt.stderr()), rt.stdout().is_terminal());
             serve(
                 threads,
                 alloc,

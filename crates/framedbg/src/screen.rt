@@ -1,46 +1,64 @@
-//! Replies that may go to a terminal.
+//! Replies that may go to a terminal, and what somebody there is told beside them.
 ghost use Rattle.std.specs.Prelude.{◌≡◌};
 
 use fd_pam::{Failed, Sink};
+use std::io::Write;
 
 /// What is said before the bytes of an image go to a terminal.
 const SPILLS: &[u8] =
-    b"framedbg: show writes the bytes of an image, here to this terminal; framedbg image writes them to a file\n";
+    b"framedbg: the bytes of an image go to this terminal; framedbg image CAPTURE > FILE writes them to a file\n";
 
 /// How the reply to `show` begins, and no other.
-const IMAGE: &[u8] = b"pam ";
+const SHOWN: &[u8] = b"pam ";
 
-/// A sink of replies that says, where they go to a terminal, before each image that its bytes follow.
+/// How an image file begins.
+const IMAGE: &[u8] = b"P7\n";
+
+/// Goes back to the left border and empties the line, as terminals have it.
+const ERASE_LINE: &[u8] = b"\r\x1b[K";
+
+/// A sink of replies. Where they go to a terminal, each image is announced before its bytes; where errors do, they show how far a long
+/// move has come, in one line that is taken away before the reply.
 #[derive(Drop)]
 pub(crate) struct Screen<S, E> {
     replies: S,
     errors: E,
-    is_terminal: bool,
+    announces_images: bool,
+    shows_moves: bool,
     reply_begins: bool,
+    // whether the line of a move stands there
+    moving: bool,
 }
 
-impl<S: Sink, E: Sink> Screen<S, E> {
+impl<S: Sink, E: Write> Screen<S, E> {
     /// Replies of which none has begun.
-    pub(crate) fn new(replies: S, errors: E, is_terminal: bool) -> Self
+    pub(crate) fn new(replies: S, errors: E, announces_images: bool, shows_moves: bool) -> Self
         ensures { result.replies ≡ replies }
     {
         Screen {
             replies,
             errors,
-            is_terminal,
+            announces_images,
+            shows_moves,
             reply_begins: true,
+            moving: false,
         }
     }
 }
 
-impl<S: Sink, E: Sink> Sink for Screen<S, E> {
+impl<S: Sink, E: Write> Sink for Screen<S, E> {
     ghost contents = { λ s. S.contents s.replies };
 
     ghost failure_count = { λ s. S.failure_count s.replies };
 
     fn put(&mut self, bytes: &[u8]) -> Result<usize, Failed> {
-        if self.is_terminal && self.reply_begins && bytes.starts_with(IMAGE) {
-            let _ = self.errors.put(SPILLS);
+        if self.moving {
+            let _ = self.errors.write_all(ERASE_LINE);
+            self.moving = false;
+        }
+        let is_image = bytes.starts_with(SHOWN) || bytes.starts_with(IMAGE);
+        if self.announces_images && self.reply_begins && is_image {
+            let _ = self.errors.write_all(SPILLS);
         }
         self.reply_begins = false;
         self.replies.put(bytes)
@@ -53,5 +71,12 @@ impl<S: Sink, E: Sink> Sink for Screen<S, E> {
 
     fn failures(&self) -> u64 {
         self.replies.failures()
+    }
+
+    fn on_the_way(&mut self, at: u32, to: u32) {
+        if self.shows_moves {
+            let _ = write!(self.errors, "\rframedbg: at {at} of {to}");
+            self.moving = true;
+        }
     }
 }
