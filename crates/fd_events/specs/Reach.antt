@@ -1,5 +1,5 @@
 -- The box of the pixels that an event can write.
-use Rattle.std.specs.Prelude.{◌≡◌, ℕ, suc, ◌<◌, min, Bool, false, List, [], length, Option, Some, None, option_map, slice_get}
+use Rattle.std.specs.Prelude.{◌≡◌, ℕ, ◌<◌, min, false, List, [], map}
 use Rattle.fd_cover.specs.declared.bounds.Bounds.{Bounds}
 use Rattle.fd_cover.specs.Bounds.{is_within}
 use Rattle.fd_events.specs.declared.event.Event.{Event}
@@ -9,7 +9,6 @@ use Rattle.fd_events.specs.declared.reach.Reach.{Reach}
 use Rattle.fd_events.specs.Bounds.{bounds_of_triangles}
 use Rattle.fd_events.specs.Draw.{triangles_of}
 use Rattle.fd_events.specs.Image.{Pixel, pixel_after, kept_by}
-use Rattle.fd_events.specs.Table.{active}
 
 -- the part of a box that lies on a target of this size
 abbrev pub clipped : ℕ → ℕ → Bounds → Bounds
@@ -31,12 +30,6 @@ HoldsWritten box width height event = (state : Pipeline) (x y : ℕ) (before : P
 abbrev pub box_of : Reach → Bounds
 box_of reach = record { left = reach.left; top = reach.top; right = reach.right; bottom = reach.bottom }
 
--- what is switched on writes in its reach, and what is switched off nowhere
-abbrev pub reach_of_active : ℕ → ℕ → Option Event → Bounds
-reach_of_active width height None = record { left = 0; top = 0; right = 0; bottom = 0 }
-reach_of_active width height (Some event) = reach_of width height event
-
--- one is kept for each event, as it is switched
-pub record AreReaches (width height : ℕ) (events : List Event) (flags : List Bool) (reaches : List Reach) : Type 0 where
-  pub number : length reaches ≡ length events
-  pub each : (k : ℕ) → k < length events → option_map box_of (slice_get reaches k) ≡ Some (reach_of_active width height (active events flags (suc k)))
+-- one is kept for each event
+abbrev pub AreReaches : ℕ → ℕ → List Event → List Reach → Type 0
+AreReaches width height events reaches = map box_of reaches ≡ map (reach_of width height) events

@@ -56,8 +56,8 @@ impl Reach {
     }
 
     /// The same box with sides of 32 bits.
-    pub(crate) fn bounds(&self) -> Bounds
-        ensures { result ≡ box_of self.now }
+    pub(crate) fn bounds(self) -> Bounds
+        ensures { result ≡ box_of self }
     {
         Bounds {
             left: self.left as u32,

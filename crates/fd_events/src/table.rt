@@ -1,9 +1,9 @@
-ghost use Rattle.std.specs.Prelude.{◌≡◌, ◌≤◌, ◌+◌, ◌-◌, length, ℕ, Some, None, slice_get, if◌then◌else◌};
+ghost use Rattle.std.specs.Prelude.{◌≡◌, ◌≤◌, ◌+◌, ◌-◌, length, ℕ, Some, slice_get, if◌then◌else◌};
 ghost use Rattle.fd_events.specs.Pipeline.{state_after};
 ghost use Rattle.std.specs.Prelude.{IfOk};
 ghost use Rattle.fd_events.specs.Table.{state_of};
 ghost use Rattle.fd_snap.specs.Limits.{most_pixels};
-ghost use Rattle.fd_events.specs.Reach.{AreReaches, box_of, reach_of_active};
+ghost use Rattle.fd_events.specs.Reach.{AreReaches};
 ghost use Rattle.fd_events.specs.declared.table.TableFault.TheVariants.{Memory};
 
 use crate::event::Event;
@@ -76,35 +76,20 @@ fn box_groups(
     Ok(())
 }
 
-/// The box of an event's pixels on a target of this size, as it is switched.
-fn reach_switched(event: &Event, on: bool, width: u32, height: u32) -> Reach
-    requires width { width ≤ most_pixels }
-    requires height { height ≤ most_pixels }
-    ensures { box_of result ≡ reach_of_active width height (if on then Some event.now else None) }
-{
-    if on {
-        event.reach(width, height)
-    } else {
-        Reach::nowhere()
-    }
-}
-
-/// The box of each event's pixels on a target of this size, as it is switched.
+/// The box of each event's pixels on a target of this size.
 fn reaches_of(
     events: &[Event],
-    flags: &[bool],
     width: u32,
     height: u32,
     alloc: Global,
 ) -> Result<Vec<Reach>, AllocError>
-    requires flags { length flags.now ≡ length events.now }
     requires width { width ≤ most_pixels }
     requires height { height ≤ most_pixels }
-    ensures { IfOk result (λ reaches. AreReaches width height events.now flags.now reaches.items) }
+    ensures { IfOk result (λ reaches. AreReaches width height events.now reaches.items) }
 {
     let mut reaches = Vec::with_capacity(alloc, events.len())?;
-    for index in 0..events.len() {
-        reaches.push(reach_switched(&events[index], flags[index], width, height))?;
+    for event in events {
+        reaches.push(event.reach(width, height))?;
     }
     Ok(reaches)
 }
@@ -119,8 +104,7 @@ pub struct EventTable {
     flags: Vec<bool>,
     // the state before each event, and the one after the last
     states: Vec<Pipeline>,
-    // the box of the pixels that each event can write, which is none where it is switched off: a tile asks this of every event, and the
-    // events themselves are large
+    // the box of the pixels that each event can write: a tile asks this of every event, and the events themselves are large
     reaches: Vec<Reach>,
 }
 
@@ -135,13 +119,13 @@ impl Model for EventTable {
     ghost invariant = { λ t.
         IsTable (table_of t.version t.width t.height t.events.items t.flags.items)
         × HasStates (table_of t.version t.width t.height t.events.items t.flags.items) t.states.items
-        × AreReaches t.width t.height t.events.items t.flags.items t.reaches.items };
+        × AreReaches t.width t.height t.events.items t.reaches.items };
 }
 
 impl EventTable {
     ghost use Rattle.std.specs.Prelude.{◌≡◌, ◌≤◌, ◌+◌, ◌-◌, length, Some, IfSome, IfOk, option_map};
-    ghost use Rattle.fd_events.specs.Reach.{reach_of, reach_of_active, HoldsWritten};
-    ghost use Rattle.fd_events.specs.Table.{active_event, IsTable, IsVersion, all_on, started, UnlessMemory, event_at, flag_at, state_at, with_flag};
+    ghost use Rattle.fd_events.specs.Reach.{reach_of, HoldsWritten};
+    ghost use Rattle.fd_events.specs.Table.{IsTable, IsVersion, all_on, started, UnlessMemory, event_at, flag_at, state_at, with_flag};
 
     /// A table of these events, all switched on. They are dropped on a refusal.
     pub fn start(
@@ -178,7 +162,7 @@ impl EventTable {
         let flags = vec![in alloc; true; events.len()]?;
         let mut states = vec![in alloc; Pipeline::default(); events.len() + 1]?;
         recompute(&events, &flags, &mut states, 0);
-        let reaches = reaches_of(&events, &flags, width, height, alloc)?;
+        let reaches = reaches_of(&events, width, height, alloc)?;
         Ok(EventTable {
             version,
             width,
@@ -248,17 +232,6 @@ impl EventTable {
         ensures value { option_map (reach_of self.now.width self.now.height) (event_at self.now number) ≡ Some result }
         ensures written { IfSome (event_at self.now number) (HoldsWritten result self.now.width self.now.height) }
     {
-        self.events[number as usize - 1]
-            .reach(self.width, self.height)
-            .bounds()
-    }
-
-    /// The box of the pixels that the event of this number can write as it is switched: as `reach`, and none where it is switched off.
-    pub fn reach_if_on(&self, number: u32) -> Bounds
-        requires first { 1 ≤ number }
-        requires last { number ≤ length self.now.events }
-        ensures { result ≡ reach_of_active self.now.width self.now.height (active_event self.now number) }
-    {
         self.reaches[number as usize - 1].bounds()
     }
 
@@ -279,7 +252,6 @@ impl EventTable {
     {
         let index = number as usize - 1;
         self.flags[index] = on;
-        self.reaches[index] = reach_switched(&self.events[index], on, self.width, self.height);
         recompute(&self.events, &self.flags, &mut self.states, index);
     }
 }

@@ -1,5 +1,5 @@
 -- An event whose reach misses a place writes nothing there.
-use Rattle.std.proofs.Common.{◌≡◌, ℕ, suc, ◌+◌, ◌<◌, ◌≤◌, Bool, true, false, cond, not, ◌&&◌, List, [], ◌++◌, Option, Some, None, unwrap_or, refl, sym, ap, ◌∙◌, subst, arith}
+use Rattle.std.proofs.Common.{◌≡◌, ℕ, suc, ◌+◌, ◌<◌, ◌≤◌, Bool, true, false, cond, not, ◌&&◌, List, [], ◌++◌, Option, Some, None, option_map, slice_get, refl, sym, ap, ◌∙◌, subst, arith}
 use Rattle.std.proofs.lemmas.List.{append-nil}
 use Rattle.std.specs.Prelude.{IfSome}
 use Rattle.fd_cover.specs.declared.bounds.Bounds.{Bounds}
@@ -16,10 +16,11 @@ use Rattle.fd_events.specs.declared.pipeline.Pipeline.{Pipeline}
 use Rattle.fd_events.specs.Bounds.{bounds_of_triangles}
 use Rattle.fd_events.specs.Draw.{Triangle, triangles_of}
 use Rattle.fd_events.specs.Image.{pixel_after_event, kept_by_event}
-use Rattle.fd_events.specs.Reach.{clipped, reach_of, reach_of_active}
-use Rattle.fd_events.specs.Table.{Table, active_event, state_at}
+use Rattle.fd_events.specs.Reach.{clipped, reach_of}
+use Rattle.fd_events.specs.Table.{Table, is_set, event_at, active_event, state_at}
 use Rattle.fd_events.proofs.BoundsLemmas.{bounds_of_triangles-holds}
 use Rattle.fd_events.proofs.ReachLemmas.{outside_clipped, in_whole, reach-holds}
+use Rattle.fd_events.proofs.Images.{at_number-next}
 use Rattle.fd_draw.specs.Demand.{event_spans, event_pixels}
 use Rattle.fd_draw.specs.Paints.{Paints}
 use Rattle.fd_draw.proofs.Triangles.{IsUndrawn, no_pixels, no_spans}
@@ -87,18 +88,12 @@ module _ (place : Place) (width height : ℕ) (placed : IsTilePlace place) (righ
       let on = in_target x y held in
       reach-holds width height event s x y before on.0 on.1 (misses x y held)
 
--- what is switched on misses the place
-missed : (event : Option Event) (width height : ℕ) (reach : Bounds) (place : Place) → reach ≡ reach_of_active width height event → Misses reach place
-    → IfSome event (λ event. Misses (reach_of width height event) place)
-missed None width height reach place is misses = tt
-missed (Some event) width height reach place is misses = subst (λ (b : Bounds). Misses b place) is misses
-
--- what writes anywhere is switched on
-pub near_is_on : (on : Option Bool) (event : Option Event) (width height : ℕ) (reach : Bounds) → reach ≡ reach_of_active width height (cond (unwrap_or on false) event None) → 0 < reach.right
-    → on ≡ Some true
-near_is_on None event width height reach is some = absurd (omega (arith, some, ap (λ (b : Bounds). b.right) is))
-near_is_on (Some false) event width height reach is some = absurd (omega (arith, some, ap (λ (b : Bounds). b.right) is))
-near_is_on (Some true) event width height reach is some = refl
+-- what is there misses the place, also where the event is switched off
+missed : (on : Bool) (event : Option Event) (width height : ℕ) (reach : Bounds) (place : Place) → option_map (reach_of width height) event ≡ Some reach → Misses reach place
+    → IfSome (cond on event None) (λ event. Misses (reach_of width height event) place)
+missed false event width height reach place is misses = tt
+missed true None width height reach place is misses = tt
+missed true (Some event) width height reach place is misses = let same : reach_of width height event ≡ reach = cc in subst (λ (b : Bounds). Misses b place) (sym same) misses
 
 untouched : (table : Table) (k : ℕ) (place : Place) → IsTilePlace place → IsInside place table → IfSome (active_event table (suc k)) (λ event. Misses (reach_of table.width table.height event) place)
     → IsUntouched table k place
@@ -111,11 +106,11 @@ untouched table k place placed inside misses = record {
 
 -- its reach misses the place
 pub untouched_far : (table : Table) (k : ℕ) (place : Place) (reach : Bounds) → IsTilePlace place → IsInside place table
-    → reach ≡ reach_of_active table.width table.height (active_event table (k + 1)) → Misses reach place → IsUntouched table k place
+    → option_map (reach_of table.width table.height) (event_at table (k + 1)) ≡ Some reach → Misses reach place → IsUntouched table k place
 untouched_far table k place reach placed inside is misses =
-    let next : k + 1 ≡ suc k = omega arith in
-    untouched table k place placed inside
-    (missed (active_event table (suc k)) table.width table.height reach place (is ∙ ap (λ (n : ℕ). reach_of_active table.width table.height (active_event table n)) next) misses)
+    let there : option_map (reach_of table.width table.height) (slice_get table.events k) ≡ Some reach =
+    ap (option_map (reach_of table.width table.height)) (sym (at_number-next table.events k)) ∙ is in
+    untouched table k place placed inside (missed (is_set table.flags (suc k)) (slice_get table.events k) table.width table.height reach place there misses)
 
 -- drawing nothing is drawing it
 pub Paints-untouched : (table : Table) (k : ℕ) (t : TileImage) (u : Undo) → IsTileImage t → u.frame_left ≡ false → IsUntouched table k t.place

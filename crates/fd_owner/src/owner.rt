@@ -216,8 +216,7 @@ impl Owner {
 /// Whether a box holds a pixel of a place.
 fn meets(reach: Bounds, place: Place) -> bool
     requires { IsTilePlace place }
-    ensures some { IsTrue result → 0 < reach.right }
-    ensures misses { IsTrue (not result) → Misses reach place }
+    ensures { IsTrue (not result) → Misses reach place }
 {
     // a box of no pixel ends this at its first line
     place.left < reach.right
@@ -235,7 +234,8 @@ fn is_near(table: &EventTable, position: u32, place: Place) -> bool
     ensures far { IsTrue (not result) → IsUntouched table.now position place }
 {
     let _len = table.len();
-    meets(table.reach_if_on(position + 1), place)
+    let number = position + 1;
+    table.is_on(number) && meets(table.reach(number), place)
 }
 
 /// What the event after a position, which is switched on, writes on a place.
