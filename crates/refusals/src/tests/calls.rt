@@ -1,4 +1,4 @@
-use crate::tests::captures::{FRESH, MASKED, TWO_TILES, colour, session};
+use crate::tests::captures::{FRESH, MASKED, TWO_CELLS, TWO_TILES, colour, session};
 use fd_capture::{CaptureFault, read};
 use fd_crew::{Free, Outcome, run_forward};
 use fd_events::{Event, EventTable, Label, TableFault};
@@ -53,6 +53,25 @@ fn capture_read(rt: HostRuntime) -> Result<(), Fail> {
             assert_eq!(rt; fault, CaptureFault::Memory);
             let again = read(rt.alloc(), MASKED);
             assert!(rt; again.is_ok_and(|table| table.len() == 5));
+        }
+    }
+    Ok(())
+}
+
+/// A draw whose triangles are listed in cells.
+#[test]
+fn capture_read_into_cells(rt: HostRuntime) -> Result<(), Fail> {
+    println!(rt; "ready")?;
+    match read(rt.alloc(), TWO_CELLS) {
+        Ok(table) => {
+            println!(rt; "told Ok")?;
+            assert_eq!(rt; table.len(), 1);
+        }
+        Err(fault) => {
+            println!(rt; "told {fault:?}")?;
+            assert_eq!(rt; fault, CaptureFault::Memory);
+            let again = read(rt.alloc(), TWO_CELLS);
+            assert!(rt; again.is_ok_and(|table| table.len() == 1));
         }
     }
     Ok(())

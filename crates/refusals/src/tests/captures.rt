@@ -12,6 +12,15 @@ pub(crate) const TWO_TILES: &[u8] =
     br#"{"format":"framedbg","version":1,"width":33,"height":1,"events":[
 {"kind":"clear","color":[1,2,3,4]}]}"#;
 
+/// 33 triangles, in turn in the first and in the last of the four cells of 32 pixels.
+pub(crate) const TWO_CELLS: &[u8] =
+    br#"{"format":"framedbg","version":1,"width":64,"height":64,"events":[
+{"kind":"draw","interp":"flat","vertices":[{"x":0,"y":0,"color":[7,7,7,7]},{"x":262144,"y":0,"color":[7,7,7,7]},
+{"x":0,"y":262144,"color":[7,7,7,7]},{"x":2621440,"y":2621440,"color":[7,7,7,7]},
+{"x":2883584,"y":2621440,"color":[7,7,7,7]},{"x":2621440,"y":2883584,"color":[7,7,7,7]}],"indices":[
+0,1,2,3,4,5,0,1,2,3,4,5,0,1,2,3,4,5,0,1,2,3,4,5,0,1,2,3,4,5,0,1,2,3,4,5,0,1,2,3,4,5,0,1,2,3,4,5,
+0,1,2,3,4,5,0,1,2,3,4,5,0,1,2,3,4,5,0,1,2,3,4,5,0,1,2,3,4,5,0,1,2,3,4,5,0,1,2,3,4,5,0,1,2,3,4,5,0,1,2]}]}"#;
+
 /// A scissor and a mask, a clear, and a draw on two by two pixels.
 pub(crate) const MASKED: &[u8] =
     br#"{"format":"framedbg","version":1,"width":2,"height":2,"events":[
