@@ -62,6 +62,8 @@ test:
 	rt ci
 	tools/check_help
 	tools/check_captures $(PROGRAM)
+	tools/test_fuzz_captures.py
+	tools/fuzz_captures --seed 1
 	tools/check_recipes
 	$(MAKE) --no-print-directory test-viewer
 	$(MAKE) --no-print-directory test-page

@@ -40,10 +40,10 @@ def no_json(*_):
 
 
 def number_of(text):
-    """A number of JSON as serde_json reads it: whole where it has neither point nor exponent, but for -0, and none at all where no double holds its size."""
+    """A number of JSON: whole where it has neither point nor exponent and isn't -0, and none at all where no double holds its size."""
     if math.isinf(float(text)):
         raise ValueError
-    return int(text) if text.lstrip("-").isdigit() and text != "-0" and len(text) < 25 else float(text)
+    return int(text) if text.lstrip("-").isdigit() and len(text) < 25 and text != "-0" else float(text)
 
 
 def unpaired(text):
@@ -78,7 +78,7 @@ def nesting(text):
 def json_of(data):
     text = data.decode("utf-8")
     value = json.loads(text, parse_constant=no_json, parse_int=number_of, parse_float=number_of, object_pairs_hook=object_of)
-    return value if nesting(text) <= 127 else no_json()
+    return check_texts(value) if nesting(text) <= 127 else no_json()
 
 
 def whole(value, least, most):

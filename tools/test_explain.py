@@ -10,7 +10,6 @@ import json
 import os
 import pathlib
 import random
-import re
 import subprocess
 import sys
 import tempfile
@@ -105,8 +104,6 @@ class Explained(unittest.TestCase):
     def test_never_otherwise_than_the_reference(self):
         accepted = 0
         for data in cases(CASES):
-            if re.search(rb"-0(?![0-9.eE])", data):
-                continue                                # a float to framedbg, and a whole number to the reference
             verdict = explained(data)[1]
             self.assertEqual(verdict, told_by_reference(data), data)
             accepted += verdict == "accepted"

@@ -1,0 +1,69 @@
+"""The captures of a run: each is the same whenever its seed and its number are, whatever was made before."""
+import json
+import pathlib
+import random
+
+from . import limits, texts, trees, values
+from .trees import Members, Written
+
+EXAMPLES = pathlib.Path(__file__).resolve().parent.parent.parent / "examples"
+LONG = 4000  # one case of so many is a long one
+CORNER = {"x": 65536, "y": -65536, "z": 9, "color": [1, 2, 3, 4]}
+EVERY_KIND = {"format": "framedbg", "version": 2, "width": 4, "height": 4, "events": [
+    {"kind": "clear", "color": [1, 2, 3, 4]}, {"kind": "raster", "cull": "none", "front_ccw": False, "scissor": True},
+    {"kind": "scissor", "rect": [0, -1, 2, 2147483647]},
+    {"kind": "blend", "enable": True, "rgb": ["ONE", "SRC_COLOR", "ADD"], "alpha": ["ONE", "ZERO", "MIN"], "mask": 15}, {"kind": "factor", "color": [0, 255, 0, 0]},
+    {"kind": "draw", "interp": "flat", "vertices": [CORNER] * 3, "indices": [0, 1, 2]}, {"kind": "draw", "interp": "linear", "vertices": []},
+    {"kind": "marker", "name": "a name"}, {"kind": "depth", "enable": True, "write": True, "func": "LESS"}, {"kind": "depth_clear", "depth": 65535}]}
+OF_VERSION_1 = EVERY_KIND | {"version": 1, "events": EVERY_KIND["events"][:8]}
+MOST_EVENTS, MOST_CORNERS = 10, 4
+
+
+def member(members, name):
+    return next((value for known, value in members if known == name), [])
+
+
+def thinned(tree):
+    """A capture with no more than a few events, vertices and indices."""
+    events = member(tree, "events")
+    del events[MOST_EVENTS:]
+    for event in events:
+        vertices, indices = member(event, "vertices"), member(event, "indices")
+        del vertices[MOST_CORNERS:]
+        indices[:] = [index for index in indices if int(index) < len(vertices)][:MOST_CORNERS]
+    return tree
+
+
+def seeds():
+    """Captures that are accepted, to be changed: the examples, and one of each version with every kind of event."""
+    plain = trees.Writer(random.Random(0))
+    plain.space = plain.escape = 0
+    examples = [plain.written(thinned(trees.read(path.read_text()))) for path in sorted(EXAMPLES.glob("**/*.json"))]
+    return list(dict.fromkeys(examples)) + [json.dumps(frame) for frame in (EVERY_KIND, OF_VERSION_1) for _ in range(16)]
+
+
+SEEDS = seeds()
+
+
+def event_of_another(root, dice):
+    """An event of another seed among the events."""
+    events = member(root[0], "events") if isinstance(root[0], Members) else None
+    others = member(trees.read(dice.choice(SEEDS)), "events")
+    if trees.is_array(events) and others:
+        events.insert(dice.randint(0, len(events)), dice.choice(others))
+
+
+CHANGES = [*values.CHANGES, event_of_another]
+
+
+def case(seed, number):
+    if number % LONG == LONG - 1:
+        return limits.case(number // LONG)
+    dice = random.Random(f"{seed} {number}")
+    root = [trees.read(dice.choice(SEEDS))]
+    for _ in range(dice.choice([0, 1, 1, 1, 1, 1, 2, 3])):
+        dice.choice(CHANGES)(root, dice)
+    data = trees.Writer(dice).written(root[0]).encode("utf-8", "surrogatepass")
+    for _ in range(dice.choice([0, 0, 0, 0, 0, 0, 0, 1, 2])):
+        data = dice.choice(texts.CHANGES)(data, dice)
+    return data
