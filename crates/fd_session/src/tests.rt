@@ -6,5 +6,6 @@ mod memory;
 mod moving;
 mod slices;
 mod stair;
+mod switches;
 mod threads;
 mod workers;

@@ -1,8 +1,9 @@
 //! Moves that meet want of memory. All memory is taken and given back bit by bit, so that a move gets a little further each time.
-use crate::tests::frames::{colour, one_clear};
+use crate::tests::frames::{colour, flat, one_clear, session};
 use crate::{Answer, Session, SessionFault};
 use fd_blend::Colour;
 use fd_crew::Free;
+use fd_events::Event;
 use std::alloc::{AllocError, Global};
 use std::process::Abort;
 use std::test::Fail;
@@ -114,5 +115,21 @@ fn a_step_with_hardly_any_memory(rt: HostRuntime) -> Result<(), Fail> {
         assert!(rt; refused && stopped && session.position() == 1);
         drop(pieces);
     }
+    Ok(())
+}
+
+/// The draw lies beside the target, so it reaches no tile, and no owner is asked to move.
+#[test]
+fn a_switch_that_reaches_nothing_wants_no_memory(rt: HostRuntime) -> Result<(), Fail> {
+    let mut events = Vec::new(rt.alloc());
+    events.push(Event::Clear(CLEARED))?;
+    events.push(flat(rt.alloc(), [(50, 0), (60, 0), (50, 10)], CLEARED)?)?;
+    let mut session = session(rt.alloc(), 33, 1, events, 2)?;
+    assert_eq!(rt; session.goto(&rt, 2), Answer::Moved { at: 2 });
+    let pieces = exhaust(rt.alloc())?;
+    assert_eq!(rt; session.switch(&rt, 2, false), Answer::Moved { at: 2 });
+    assert_eq!(rt; session.is_on(2), Ok(false));
+    assert_eq!(rt; session.switch(&rt, 1, false), Answer::Stopped { at: 0 });
+    drop(pieces);
     Ok(())
 }
