@@ -116,9 +116,9 @@ class Alone:
         self.plain()
         pairs = [line.split() for line in (EXAMPLES / "sessions.txt").read_text().splitlines()]
         asked = [runs.Run(["run", "CAPTURE"], (EXAMPLES / f"{capture}.json").read_bytes(), [(EXAMPLES / f"{session}.session").read_bytes()], 1 << 20)
-                 for session, capture in pairs if capture != "widest_target"]
-        expected = [(EXAMPLES / f"{session}.expected").read_bytes() for session, capture in pairs if capture != "widest_target"]
-        self.assertEqual([out for out, *_ in runs.in_page(self.browser, asked)], expected)
+                 for session, capture in pairs]
+        for (session, _), (out, *_) in zip(pairs, runs.in_page(self.browser, asked)):
+            self.assertEqual(out, (EXAMPLES / f"{session}.expected").read_bytes(), session)
 
     def test_runs_by_chance(self):
         self.plain()
