@@ -203,8 +203,8 @@ class Alone:
     def test_another_capture_while_it_answers(self):
         self.show(HOUSE)
         self.at(13)
-        asking = "ask(Array(4000).fill(['goto 13', 'show', 'goto 0']).flat()).catch(fault => { document.body.dataset.refused = fault.message; });"
-        self.browser.within(f"const {{ ask }} = await import('run.js'); {asking}")
+        asking = "const asking = async () => { for (;;) await ask(Array(99).fill(['goto 13', 'show', 'goto 0']).flat()); };"
+        self.browser.within(f"const {{ ask }} = await import('run.js'); {asking} asking().catch(fault => {{ document.body.dataset.refused = fault.message; }});")
         self.drop("depth.json", DEPTH.encode())
         self.at(6)
         self.reads("#capture", "depth.json")
