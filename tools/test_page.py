@@ -116,9 +116,9 @@ class Alone:
         self.plain()
         pairs = [line.split() for line in (EXAMPLES / "sessions.txt").read_text().splitlines()]
         asked = [runs.Run(["run", "CAPTURE"], (EXAMPLES / f"{capture}.json").read_bytes(), [(EXAMPLES / f"{session}.session").read_bytes()], 1 << 20)
-                 for session, capture in pairs if capture != "widest_target"]
-        expected = [(EXAMPLES / f"{session}.expected").read_bytes() for session, capture in pairs if capture != "widest_target"]
-        self.assertEqual([out for out, *_ in runs.in_page(self.browser, asked)], expected)
+                 for session, capture in pairs]
+        for (session, _), (out, *_) in zip(pairs, runs.in_page(self.browser, asked)):
+            self.assertEqual(out, (EXAMPLES / f"{session}.expected").read_bytes(), session)
 
     def test_runs_by_chance(self):
         self.plain()
@@ -203,11 +203,12 @@ class Alone:
     def test_another_capture_while_it_answers(self):
         self.show(HOUSE)
         self.at(13)
-        self.browser.within("import('run.js').then(({ ask }) => ask(Array(4000).fill(['goto 13', 'show', 'goto 0']).flat())).catch(fault => { window.refused = fault.message; });")
+        asking = "const asking = async () => { for (;;) await ask(Array(99).fill(['goto 13', 'show', 'goto 0']).flat()); };"
+        self.browser.within(f"const {{ ask }} = await import('run.js'); {asking} asking().catch(fault => {{ document.body.dataset.refused = fault.message; }});")
         self.drop("depth.json", DEPTH.encode())
         self.at(6)
         self.reads("#capture", "depth.json")
-        self.assertEqual(self.browser.within("return window.refused"), "depth.json is shown now")
+        self.assertEqual(self.browser.until("return document.body.dataset.refused"), "depth.json is shown now")
 
     def test_a_dropped_picture(self):
         """It is compared with, as in the viewer, and is no capture."""
@@ -317,7 +318,7 @@ class InChromium(Alone, test_viewer_page.Page):
         try:
             self.browser.open(self.page.as_uri())
             self.reads("body", "This browser can't run framedbg: its WebAssembly lacks 64-bit memory and JavaScript promise integration. "
-                       "Chromium 156 and Firefox 153 have both; so does tools/view, which wants neither.")
+                       "Chromium 156 and Firefox 153 have both, and tools/view needs neither.")
         finally:
             self.browser.call("/goog/cdp/execute", {"cmd": "Page.removeScriptToEvaluateOnNewDocument", "params": added})
 

@@ -41,7 +41,7 @@ function firstChoice(takeFile, takeOwn) {
   const [file, button] = dialog.querySelectorAll("input, button");
   button.textContent = inside.dataset.name;
   button.onclick = takeOwn;
-  file.onchange = () => { takeFile(file.files[0]); file.value = ""; };
+  file.onchange = () => { if (file.files.length) takeFile(file.files[0]); file.value = ""; };
   dialog.oncancel = event => event.preventDefault();
   return dialog;
 }

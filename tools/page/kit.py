@@ -7,6 +7,8 @@ import time
 
 TRIED = "rattle-kit-13b logic dac8208d650f15bf"     # the kit that the steps were tried with
 
+WORTH_TELLING = 5       # seconds that a step took
+
 
 class Failed(Exception):
     """A step that didn't work: with another kit there may be no such way."""
@@ -19,7 +21,7 @@ def step(name):
         yield
     except (OSError, ValueError, subprocess.CalledProcessError) as fault:
         raise Failed(f"the step '{name}' failed: {told(fault)}") from fault
-    if time.monotonic() - began >= 1:
+    if time.monotonic() - began >= WORTH_TELLING:
         print(f"{name}: {time.monotonic() - began:.0f} s", flush=True)
 
 

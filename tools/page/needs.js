@@ -8,7 +8,7 @@
   if (missing.length) {
     document.body.innerHTML = "<p id='missing' style='margin: 3em'></p>";
     document.getElementById("missing").textContent = "This browser can't run framedbg: its WebAssembly lacks " + missing.join(" and ")
-      + ". Chromium 156 and Firefox 153 have both; so does tools/view, which wants neither.";
+      + ". Chromium 156 and Firefox 153 have both, and tools/view needs neither.";
     return;
   }
   var begin = document.createElement("script");
