@@ -10,12 +10,11 @@ use fd_tile::TILE_SIDE;
 /// pixel, and keep the colour before, in 7 nanoseconds.
 const WORKER_WORK: usize = 32_768;
 
-/// The work of a slice for each of its workers, in pixels: some 30 milliseconds. To start the threads and to raise the fence takes
-/// less than a hundredth of that, and so does waiting for the last of them.
+/// The work of a slice for each of its workers, in pixels: some 30 milliseconds, where a thread takes 30 to 50 microseconds to start.
 const SLICE_WORK: usize = 4_194_304;
 
-/// The most work of a slice, in pixels, by however many workers. It writes no more pixels than that, but for its last event, so it keeps
-/// no more than some 200 MiB: that much of what was drawn is lost where memory runs out.
+/// The most work of a slice, in pixels, by however many workers. All but its last event write no more pixels than that together, whose
+/// colours take 128 MiB among the undo records: about so much is drawn in vain where memory runs out.
 const SLICE_MOST: usize = 33_554_432;
 
 /// The work of a step on one tile that draws nothing there, in pixels. It took 8 to 9 nanoseconds, with the way back.
