@@ -23,7 +23,9 @@ pub(crate) fn go<T: Threads + Sync, W: Sink>(
         match part {
             None => sink.on_the_way(at, to),
             // the parts before it stay
-            Some(Answer::Refused(SessionFault::Memory)) if at > from => return Answer::Stopped { at },
+            Some(Answer::Refused(SessionFault::Memory)) if at > from => {
+                return Answer::Stopped { at };
+            }
             Some(answer) => return answer,
         }
     }

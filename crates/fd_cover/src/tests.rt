@@ -418,6 +418,7 @@ fn a_row_has_the_colours_and_depths_of_its_pixels(rt: HostRuntime) -> Result<(),
             let colours = three_colours(&mut seed);
             let depths = three_depths(&mut seed);
             expect_equal_rows(&rt, &triangle, &colours, &depths, 0, 0);
+            expect_equal_rows(&rt, &triangle, &colours, &[depths[0]; 3], 0, 0);
         }
     }
     Ok(())

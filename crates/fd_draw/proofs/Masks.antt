@@ -1,6 +1,6 @@
 -- A row's pixels that pass, by the bits of a number.
 use Rattle.std.proofs.Common.{◌≡◌, ℕ, ◌%◌, ◌^◌, ◌<◌, ◌≤◌, Bool, true, false, cond, eqb, List, length, map, get_or, refl, sym, ap, ◌∙◌, subst, inl, inr, arith}
-use Rattle.std.proofs.lemmas.Nat.Bits.{bit_at_ones, bit_at-zero, bit_at_lowest, bit_at-trailing_zeros, bit_at-trailing_ones}
+use Rattle.std.proofs.lemmas.Nat.Bits.{bit_at_ones, bit_at_lowest, bit_at-trailing_zeros, bit_at-trailing_ones}
 use lib.Lanes.{zip2, top, mask_l}
 use mir.Syntax.{w16, w64}
 use Rattle.std.specs.Int.{trailing_zeros, trailing_ones, bit_at}
@@ -75,7 +75,3 @@ module _ (n : ℕ) (small : n < 2 ^ 32) where
   zeros_alike some even k low =
       let found = bit_at-trailing_zeros w64 n some (omega arith) in
       ap (λ m. eqb m 1) (found.2 k low ∙ sym (bit_at_lowest n ∙ even))
-
--- no bit of 0 is set
-pub none_alike : (n : ℕ) → n ≡ 0 → (k : ℕ) → is_set n k ≡ is_set n 0
-none_alike n none k = rw none (ap (λ m. eqb m 1) (bit_at-zero k ∙ sym (bit_at-zero 0)))

@@ -1,3 +1,5 @@
+ghost use Rattle.std.specs.Prelude.{◌≤◌};
+
 use crate::{Demand, demand, draw};
 use fd_blend::Colour;
 use fd_cover::{Cull, Depth, Func, Interp, Raster, Rect};
@@ -6,6 +8,7 @@ use fd_snap::Pos;
 use fd_tile::{Place, Tile};
 use fd_undo::UndoStack;
 use std::alloc::Global;
+use std::process::Abort;
 use std::test::Fail;
 
 fn grey(level: u8) -> Colour {
@@ -183,6 +186,72 @@ fn pixels_of_a_row_pass_in_runs(rt: HostRuntime) -> Result<(), Fail> {
         let pixel = if kept { (grey(8), 65535) } else { (grey(0), 7) };
         assert_eq!(rt; pixel_at(&tile, x, 0), Some(pixel));
         assert_eq!(rt; undo.kept(0, x, 0, 0).is_some(), kept);
+    }
+    Ok(())
+}
+
+/// Whether a depth of 7 passes against a stored 6, 7 and 8.
+const PASSING: [(Func, [bool; 3]); 8] = [
+    (Func::Never, [false, false, false]),
+    (Func::Less, [false, false, true]),
+    (Func::Equal, [false, true, false]),
+    (Func::LessEqual, [false, true, true]),
+    (Func::Greater, [true, false, false]),
+    (Func::NotEqual, [true, false, true]),
+    (Func::GreaterEqual, [true, true, false]),
+    (Func::Always, [true, true, true]),
+];
+
+/// In a row whose stored depths are 6, 7 and 8 in turn.
+fn expect_runs(
+    rt: &impl Abort,
+    alloc: Global,
+    width: u32,
+    func: Func,
+    passing: [bool; 3],
+) -> Result<(), Fail>
+    requires some { 1 ≤ width }
+    requires few { width ≤ 32 }
+{
+    let place = Place {
+        left: 0,
+        top: 0,
+        width,
+        height: 1,
+    };
+    let mut tile = Tile::fresh(alloc, place)?;
+    let mut undo = UndoStack::new(alloc);
+    for x in 0..width {
+        assert!(rt; tile.place().holds(x, 0));
+        tile.set_depth(x, 0, 6 + (x % 3) as u16);
+    }
+    let event = triangles(alloc, &[([(0, 0), (80, 0), (0, 80)], grey(8), 7)])?;
+    draw_with_room(&event, &tested(func, true), &mut tile, &mut undo)?;
+    for x in 0..width {
+        let before = 6 + (x % 3) as u16;
+        let passed = passing[(x % 3) as usize];
+        let pixel = if passed {
+            (grey(8), 7)
+        } else {
+            (grey(0), before)
+        };
+        let kept = if passed {
+            Some((grey(0), before))
+        } else {
+            None
+        };
+        assert_eq!(rt; pixel_at(&tile, x, 0), Some(pixel));
+        assert_eq!(rt; undo.kept(0, x, 0, 0), kept);
+    }
+    Ok(())
+}
+
+#[test]
+fn each_comparison_draws_what_passes(rt: HostRuntime) -> Result<(), Fail> {
+    for width in [1, 31, 32] {
+        for (func, passing) in PASSING {
+            expect_runs(&rt, rt.alloc(), width, func, passing)?;
+        }
     }
     Ok(())
 }

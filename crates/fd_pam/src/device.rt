@@ -61,8 +61,7 @@ pub trait Sink {
     fn on_the_way(&mut self, _at: u32, _to: u32)
         ensures bytes { contents self.new ≡ contents self.old }
         ensures failures { failure_count self.new ≡ failure_count self.old }
-    {
-    }
+    {}
 }
 
 /// Puts all of the bytes, in as many calls as it takes, and counts those that were sent.

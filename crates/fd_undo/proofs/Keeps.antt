@@ -107,8 +107,7 @@ module _ (count n : ℕ) (stored : List StoredFrame) (a a' : Parts Span) (b b' :
   ends : ((spanned a'.items g).first + pixel_count (spanned a'.items g).spans ≡ length b'.items) × ((spanned a'.items g).first_depth + depth_count (spanned a'.items g).spans ≡ length c'.items)
   ends =
       let low : List SpannedFrame = spanned_frames a'.items (take (n - 1) stored) in
-      let split : spanned_frames a'.items (slice_set stored (n - 1) g) ≡ low ++ spanned a'.items g ∷ [] = ap (spanned_frames a'.items) parts ∙ spanned_frames-push a'.items (take (n - 1) stored) g in
-      (
+      let split : spanned_frames a'.items (slice_set stored (n - 1) g) ≡ low ++ spanned a'.items g ∷ [] = ap (spanned_frames a'.items) parts ∙ spanned_frames-push a'.items (take (n - 1) stored) g in (
         (Follow-pop low (spanned a'.items g) 0 0 count (length b'.items) (subst (λ l. Follow 0 0 l count (length b'.items)) split follow')).2,
         (DepthsFollow-pop low (spanned a'.items g) 0 (length c'.items) (subst (λ l. DepthsFollow 0 l (length c'.items)) split deep_follow')).1,
       )

@@ -92,12 +92,8 @@ impl UndoStack {
             self.stored.reserve(1).map_err(|_| Full)?;
         }
         self.spans.reserve(self.alloc, spans).map_err(|_| Full)?;
-        self.colours
-            .reserve(self.alloc, pixels)
-            .map_err(|_| Full)?;
-        self.depths
-            .reserve(self.alloc, pixels)
-            .map_err(|_| Full)?;
+        self.colours.reserve(self.alloc, pixels).map_err(|_| Full)?;
+        self.depths.reserve(self.alloc, pixels).map_err(|_| Full)?;
         self.frame_left = true;
         self.spans_left = spans;
         self.pixels_left = pixels;

@@ -31,8 +31,13 @@ invariant_of-self g c =
       chain = grown-chain ps (c.len-count.result - 1) f c.self.invariant.chain at c.index_mut.ensures.value q c.args.items.now refl extended;
       has_room = grown-room ps (c.len-count.result - 1) f c.self.invariant.chain at c.index_mut.ensures.value q c.args.items.now refl extended (c.self.inside.room - length c.args.items.now)
           (omega (arith, room, enough, ap length extended, length-append c.index_mut.result.now.items.items c.args.items.now, c.extend_from_slice.ensures.capacity));
-      countable = omega (arith, enough, c.self.invariant.countable, length-append (items_of c.self.inside.pieces.items) c.args.items.now,
-      ap length (grown-items ps (c.len-count.result - 1) f c.self.invariant.chain at c.index_mut.ensures.value q c.args.items.now refl extended));
+      countable = omega (
+        arith,
+        enough,
+        c.self.invariant.countable,
+        length-append (items_of c.self.inside.pieces.items) c.args.items.now,
+        ap length (grown-items ps (c.len-count.result - 1) f c.self.invariant.chain at c.index_mut.ensures.value q c.args.items.now refl extended),
+      );
     }
 
 pub returns : goal.returns

@@ -29,8 +29,13 @@ invariant_of-self g c =
       chain = grown-chain ps (c.len-last.result - 1) f c.self.invariant.chain at c.index_mut.ensures.value q (c.args.item ∷ []) refl c.push_reserved.ensures.items;
       has_room = grown-room ps (c.len-last.result - 1) f c.self.invariant.chain at c.index_mut.ensures.value q (c.args.item ∷ []) refl c.push_reserved.ensures.items (c.self.inside.room - 1)
           (omega (arith, room, more, ap length c.push_reserved.ensures.items, length_push c.index_mut.result.now.items.items c.args.item, c.push_reserved.ensures.capacity));
-      countable = omega (arith, more, c.self.invariant.countable, length_push (items_of c.self.inside.pieces.items) c.args.item,
-      ap length (grown-items ps (c.len-last.result - 1) f c.self.invariant.chain at c.index_mut.ensures.value q (c.args.item ∷ []) refl c.push_reserved.ensures.items));
+      countable = omega (
+        arith,
+        more,
+        c.self.invariant.countable,
+        length_push (items_of c.self.inside.pieces.items) c.args.item,
+        ap length (grown-items ps (c.len-last.result - 1) f c.self.invariant.chain at c.index_mut.ensures.value q (c.args.item ∷ []) refl c.push_reserved.ensures.items),
+      );
     }
 
 pub returns-clause-value : goal.returns-clause-value
@@ -54,5 +59,10 @@ returns-clause-countable g c =
     let more : 0 < c.self.inside.room = omega (arith, ap (λ p. p.room) c.self.view_is, c.requires) in
     let some : 0 < length c.self.inside.pieces.items = HasRoom-some c.self.inside.pieces.items c.self.inside.room c.self.invariant.has_room more in
     let at : c.len-last.result - 1 + 1 ≡ length c.self.inside.pieces.items = omega (arith, c.len-last.ensures, c.self.inside.pieces.ok.0) in
-    omega (arith, more, c.self.invariant.countable, length_push (items_of c.self.inside.pieces.items) c.args.item,
-    ap length (grown-items ps (c.len-last.result - 1) f c.self.invariant.chain at c.index_mut.ensures.value q (c.args.item ∷ []) refl c.push_reserved.ensures.items))
+    omega (
+      arith,
+      more,
+      c.self.invariant.countable,
+      length_push (items_of c.self.inside.pieces.items) c.args.item,
+      ap length (grown-items ps (c.len-last.result - 1) f c.self.invariant.chain at c.index_mut.ensures.value q (c.args.item ∷ []) refl c.push_reserved.ensures.items),
+    )

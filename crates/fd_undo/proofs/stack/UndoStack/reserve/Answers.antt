@@ -19,7 +19,9 @@ record Ready (spans : ℕ) (s : Inside) : Type 0 where
 pub invariant_of-self-in_err-map_err-2 : goal.invariant_of-self-in_err-map_err-2
 invariant_of-self-in_err-map_err-2 c =
     let none : (c.self.inside.frame_left ≡ false) × (c.self.inside.spans_left ≡ 0) × (c.self.inside.pixels_left ≡ 0) = (
-      ap (λ u. u.frame_left) (c.self.view_is ∙ c.drop_room.ensures), ap (λ u. u.spans_left) (c.self.view_is ∙ c.drop_room.ensures), ap (λ u. u.pixels_left) (c.self.view_is ∙ c.drop_room.ensures),
+      ap (λ u. u.frame_left) (c.self.view_is ∙ c.drop_room.ensures),
+      ap (λ u. u.spans_left) (c.self.view_is ∙ c.drop_room.ensures),
+      ap (λ u. u.pixels_left) (c.self.view_is ∙ c.drop_room.ensures),
     ) in
     let ready : Ready c.args.spans c.if-spans-gt0.self-inside = elim c.if-spans-gt0.branch [
       | then-spans-gt0+in_ok-map_err w ↦ subst (Ready c.args.spans) (sym w.self-inside-is) record {
@@ -50,7 +52,9 @@ invariant_of-self-in_err-map_err-2 c =
 pub invariant_of-self-in_err-map_err-3 : goal.invariant_of-self-in_err-map_err-3
 invariant_of-self-in_err-map_err-3 c =
     let none : (c.self.inside.frame_left ≡ false) × (c.self.inside.spans_left ≡ 0) × (c.self.inside.pixels_left ≡ 0) = (
-      ap (λ u. u.frame_left) (c.self.view_is ∙ c.drop_room.ensures), ap (λ u. u.spans_left) (c.self.view_is ∙ c.drop_room.ensures), ap (λ u. u.pixels_left) (c.self.view_is ∙ c.drop_room.ensures),
+      ap (λ u. u.frame_left) (c.self.view_is ∙ c.drop_room.ensures),
+      ap (λ u. u.spans_left) (c.self.view_is ∙ c.drop_room.ensures),
+      ap (λ u. u.pixels_left) (c.self.view_is ∙ c.drop_room.ensures),
     ) in
     let ready : Ready c.args.spans c.if-spans-gt0.self-inside = elim c.if-spans-gt0.branch [
       | then-spans-gt0+in_ok-map_err w ↦ subst (Ready c.args.spans) (sym w.self-inside-is) record {
@@ -81,7 +85,9 @@ invariant_of-self-in_err-map_err-3 c =
 pub invariant_of-self-in_err-map_err-4 : goal.invariant_of-self-in_err-map_err-4
 invariant_of-self-in_err-map_err-4 c =
     let none : (c.self.inside.frame_left ≡ false) × (c.self.inside.spans_left ≡ 0) × (c.self.inside.pixels_left ≡ 0) = (
-      ap (λ u. u.frame_left) (c.self.view_is ∙ c.drop_room.ensures), ap (λ u. u.spans_left) (c.self.view_is ∙ c.drop_room.ensures), ap (λ u. u.pixels_left) (c.self.view_is ∙ c.drop_room.ensures),
+      ap (λ u. u.frame_left) (c.self.view_is ∙ c.drop_room.ensures),
+      ap (λ u. u.spans_left) (c.self.view_is ∙ c.drop_room.ensures),
+      ap (λ u. u.pixels_left) (c.self.view_is ∙ c.drop_room.ensures),
     ) in
     let ready : Ready c.args.spans c.if-spans-gt0.self-inside = elim c.if-spans-gt0.branch [
       | then-spans-gt0+in_ok-map_err w ↦ subst (Ready c.args.spans) (sym w.self-inside-is) record {
@@ -113,7 +119,9 @@ invariant_of-self-in_err-map_err-4 c =
 pub invariant_of-self-2 : goal.invariant_of-self-2
 invariant_of-self-2 c =
     let none : (c.self.inside.frame_left ≡ false) × (c.self.inside.spans_left ≡ 0) × (c.self.inside.pixels_left ≡ 0) = (
-      ap (λ u. u.frame_left) (c.self.view_is ∙ c.drop_room.ensures), ap (λ u. u.spans_left) (c.self.view_is ∙ c.drop_room.ensures), ap (λ u. u.pixels_left) (c.self.view_is ∙ c.drop_room.ensures),
+      ap (λ u. u.frame_left) (c.self.view_is ∙ c.drop_room.ensures),
+      ap (λ u. u.spans_left) (c.self.view_is ∙ c.drop_room.ensures),
+      ap (λ u. u.pixels_left) (c.self.view_is ∙ c.drop_room.ensures),
     ) in
     let ready : Ready c.args.spans c.if-spans-gt0.self-inside = elim c.if-spans-gt0.branch [
       | then-spans-gt0+in_ok-map_err w ↦ subst (Ready c.args.spans) (sym w.self-inside-is) record {

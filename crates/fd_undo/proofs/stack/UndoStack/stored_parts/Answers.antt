@@ -32,12 +32,11 @@ returns-clause-found c =
     let ds_read : take (depth_count (spanned ss f).spans) c.piece_from-3.result.now ≡ take (depth_count (spanned ss f).spans) (drop f.first_depth c.self.inside.depths.items) = c.piece_from-3.ensures (depth_count (spanned ss f).spans) whole.depths_whole in
     let fits : (pixel_count (spanned ss f).spans ≤ length c.piece_from-2.result.now) × (depth_count (spanned ss f).spans ≤ length c.piece_from-3.result.now) =
     frame_fits c.self.inside.stored.items ss c.self.inside.colours.items c.self.inside.depths.items c.self.inside.count a c.self.invariant.follow c.self.invariant.depths_follow found.0 f c.index-stored.ensures
-    c.piece_from-2.result.now c.piece_from-3.result.now cs_read ds_read in
-    (
+    c.piece_from-2.result.now c.piece_from-3.result.now cs_read ds_read in (
       omega (arith, fits.0, ap pixel_count own),
       omega (arith, fits.1, ap depth_count own),
       ap (λ l. kept_of l (zip c.piece_from-2.result.now (depths_of l c.piece_from-3.result.now))) own
-      ∙ frame_read c.self.inside.stored.items ss c.self.inside.colours.items c.self.inside.depths.items c.self.inside.count a c.self.invariant.follow c.self.invariant.depths_follow found.0 f c.index-stored.ensures
-      c.piece_from-2.result.now c.piece_from-3.result.now cs_read ds_read c.args.frame (number_in-stored ss c.self.inside.stored.items a found.0 ∙ found.1)
-      ∙ ap (λ u. get_or u.frames c.args.frame []) c.self.view_is,
+          ∙ frame_read c.self.inside.stored.items ss c.self.inside.colours.items c.self.inside.depths.items c.self.inside.count a c.self.invariant.follow c.self.invariant.depths_follow found.0 f c.index-stored.ensures
+          c.piece_from-2.result.now c.piece_from-3.result.now cs_read ds_read c.args.frame (number_in-stored ss c.self.inside.stored.items a found.0 ∙ found.1)
+          ∙ ap (λ u. get_or u.frames c.args.frame []) c.self.view_is,
     )
