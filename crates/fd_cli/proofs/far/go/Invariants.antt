@@ -2,8 +2,8 @@ use Rattle.std.proofs.Common.{◌-◌, ◌≡◌, ◌<◌, ◌≤◌, ◌⊎◌,
 use Rattle.fd_session.specs.Machine.{at_position}
 use Rattle.fd_cli.proofs.far.go.Given as goal
 
-abbrev pub invariant-loop-part : goal.invariant-loop-part
-invariant-loop-part g l =
+abbrev pub invariant-loop-sink : goal.invariant-loop-sink
+invariant-loop-sink g l =
     record {
       state : l.session ≡ at_position l.fn.session l.session.position;
       on : (l.session ≡ l.fn.session) ⊎ ((l.fn.session.position < l.session.position) × (l.session.position < l.to) × (l.to ≤ length l.fn.session.table.events));
@@ -13,5 +13,5 @@ invariant-loop-part g l =
       failures : g.W.Sink.failure_count l.sink ≡ g.W.Sink.failure_count l.fn.sink;
     }
 
-abbrev pub decreases-loop-part : goal.decreases-loop-part
-decreases-loop-part g l = l.to - l.session.position
+abbrev pub decreases-loop-sink : goal.decreases-loop-sink
+decreases-loop-sink g l = l.to - l.session.position
