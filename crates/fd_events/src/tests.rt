@@ -266,8 +266,8 @@ fn square(left: u32, top: u32, side: u32) -> Bounds {
     Bounds {
         left,
         top,
-        right: left + side,
-        bottom: top + side,
+        right: left.saturating_add(side),
+        bottom: top.saturating_add(side),
     }
 }
 
@@ -348,7 +348,8 @@ fn few_or_large_triangles_are_in_no_cells(rt: HostRuntime) -> Result<(), Fail> {
         let Event::Draw(draw) = table.event(1) else {
             return Err("a draw".into());
         };
-        let last = square(side - 32, side - 32, 32);
+        let corner = side.saturating_sub(32);
+        let last = square(corner, corner, 32);
         assert_eq!(rt;
             draw.next_listed(0, last),
             next,

@@ -84,6 +84,31 @@ impl UndoStack {
         ensures ok { OnOk result (self.new ≡ record { frames = self.old.frames; frame_left = true; spans_left = spans; pixels_left = pixels }) }
         ensures full { OnErr result (self.new ≡ without_room self.old.frames) }
     {
+        if spans == 0 && pixels == 0 {
+            self.reserve_nothing()
+        } else {
+            self.reserve_room(spans, pixels)
+        }
+    }
+
+    /// The same for a frame that keeps nothing, which takes no memory.
+    fn reserve_nothing(&mut self) -> Result<(), Full>
+        ensures ok { OnOk result (self.new ≡ record { frames = self.old.frames; frame_left = true; spans_left = 0; pixels_left = 0 }) }
+        ensures full { OnErr result (self.new ≡ without_room self.old.frames) }
+    {
+        self.drop_room();
+        if self.count == usize::MAX {
+            return Err(Full);
+        }
+        self.frame_left = true;
+        Ok(())
+    }
+
+    /// The same for any frame, in memory.
+    fn reserve_room(&mut self, spans: usize, pixels: usize) -> Result<(), Full>
+        ensures ok { OnOk result (self.new ≡ record { frames = self.old.frames; frame_left = true; spans_left = spans; pixels_left = pixels }) }
+        ensures full { OnErr result (self.new ≡ without_room self.old.frames) }
+    {
         self.drop_room();
         if self.count == usize::MAX {
             return Err(Full);

@@ -4,8 +4,8 @@ use Rattle.std.proofs.lemmas.Bool.Decides.{nat_tests}
 use Rattle.fd_undo.specs.declared.stack.UndoStack.TheInside.{Inside}
 use Rattle.fd_undo.specs.Stored.{IsUndoStack}
 use Rattle.fd_undo.proofs.Stacks.{unchanged, roomless, reserved}
-use Rattle.fd_undo.proofs.stack.UndoStack.reserve.Goals as goal
-use Rattle.fd_undo.proofs.stack.UndoStack.reserve.Goals.{then-spans-gt0+in_ok-map_err, else-spans-gt0}
+use Rattle.fd_undo.proofs.stack.UndoStack.reserve_room.Goals as goal
+use Rattle.fd_undo.proofs.stack.UndoStack.reserve_room.Goals.{then-spans-gt0+in_ok-map_err, else-spans-gt0}
 
 -- no room is left, but a frame can be stored
 record Ready (spans : ℕ) (s : Inside) : Type 0 where
