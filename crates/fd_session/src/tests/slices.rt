@@ -17,14 +17,14 @@ fn clears(alloc: Global, count: u8) -> Result<Session, Fail> {
 #[test]
 fn a_jump_has_parts(rt: HostRuntime) -> Result<(), Fail> {
     let mut session = clears(rt.alloc(), 150)?;
-    let mut parts = 0;
+    let mut parts: u32 = 0;
     let mut position = 0;
     for _ in 0..150 {
         if let Some(answer) = session.goto_part(&rt, 150) {
             assert_eq!(rt; answer, Answer::Moved { at: 150 });
             break;
         }
-        parts += 1;
+        parts = parts.saturating_add(1);
         assert!(rt; session.position() > position && session.position() < 150);
         position = session.position();
         assert_eq!(rt; session.pixel(255, 255), Ok(grey(position as u8)));
