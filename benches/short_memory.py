@@ -9,7 +9,9 @@ import captures
 from bench import MIB, PROGRAM, ROUNDS
 
 WORKERS = [1, 4, 64]
-ARENAS = {"": {}, ", one arena": {"MALLOC_ARENA_MAX": "1"}}
+ONE_ARENA = {"MALLOC_ARENA_MAX": "1"}
+SMALL_STACK = 256 * 1024  # bytes, what `ulimit -s 256` gives each thread
+FRUGAL = {"": ({}, None), ", one arena": (ONE_ARENA, None), ", one arena and small stacks": (ONE_ARENA, SMALL_STACK)}
 MOST = 1 << 15  # MiB of address space
 GOES_ON = 0.9   # of what is reached without a jump that stopped
 
@@ -17,14 +19,17 @@ GOES_ON = 0.9   # of what is reached without a jump that stopped
 class Limited:
     """Runs over one capture with so many workers, each under a limit on address space."""
 
-    def __init__(self, path, workers, environment):
+    def __init__(self, path, workers, environment, stack):
         self.words = [PROGRAM, "run", "--workers", str(workers), path]
         self.environment = {**os.environ, **environment}
+        self.stack = stack
 
     def run(self, lines, mib):
         """The position behind each reply, as far as the program answered; none where it didn't begin."""
         def limit():
             resource.setrlimit(resource.RLIMIT_AS, (mib * MIB, mib * MIB))
+            if self.stack:
+                resource.setrlimit(resource.RLIMIT_STACK, (self.stack, self.stack))
 
         text = "".join(f"{line}\n" for line in lines).encode()
         ran = subprocess.run(self.words, input=text, env=self.environment, capture_output=True, preexec_fn=limit, check=False)
@@ -60,9 +65,9 @@ def going_on(bench):
     path = bench.capture(captures.clears(side, side, count))
     steps, jump = ["step"] * count, [f"goto {count}"]
     for workers in WORKERS:
-        for arenas, environment in ARENAS.items():
-            limited = Limited(path, workers, environment)
-            name = f"{workers} {'worker' if workers == 1 else 'workers'}{arenas}"
+        for frugally, (environment, stack) in FRUGAL.items():
+            limited = Limited(path, workers, environment, stack)
+            name = f"{workers} {'worker' if workers == 1 else 'workers'}{frugally}"
             mib = limited.least(steps, count // 2)
             alone = limited.reached(steps, mib, max)
             bench.figure(f"{name}, {mib} MiB: reached by steps", alone, f"of {count}")

@@ -2,6 +2,7 @@
 import pathlib
 import random
 import tempfile
+import time
 import unittest
 from unittest import mock
 
@@ -37,6 +38,13 @@ class Page(unittest.TestCase):
 
     def reads(self, selector, text):
         self.browser.until("return document.querySelector(arguments[0])?.innerText.replace(/\\s+/g, ' ').trim() === arguments[1]", selector, text)
+
+    def comes(self, read, expected, seconds=10):
+        """What the page shows as soon as it has caught up with what was done to it."""
+        end = time.time() + seconds
+        while read() != expected and time.time() < end:
+            time.sleep(0.02)
+        self.assertEqual(read(), expected)
 
     def at(self, position):
         self.reads("#position b", str(position))
@@ -79,22 +87,22 @@ class Page(unittest.TestCase):
             self.at(13)
             self.assertEqual(self.browser.run("return document.querySelectorAll('#event-list .event').length"), 13)
             self.reads(self.row(11), "11 draw 2 triangles")
-            self.assertEqual(self.drawn(50, 50), [125, 95, 55, 255])
+            self.comes(lambda: self.drawn(50, 50), [125, 95, 55, 255])
             self.click_pixel(50, 50, 96)
             self.reads("#place", "50 50")
             self.reads("#value", "125 95 55 128")
             self.browser.until("return document.querySelectorAll('#history .entry').length === 4")
             expected = [line for line in (EXAMPLES / "house_find.expected").read_text().splitlines() if " drawn " in line]
-            self.assertEqual(self.history(), [line.replace(" - ", " – ") for line in expected])
+            self.comes(self.history, [line.replace(" - ", " – ") for line in expected])
             self.choose_entry(11)
             self.browser.until("return document.querySelector('#outline polygon').getAttribute('points') === '44,36 76,36 44,60'")
-            self.assertEqual(self.state()["blend"], "on")
-            self.assertEqual(self.state()["colour"], "src × src.a + dst × 1−src.a")
+            self.comes(lambda: self.state()["blend"], "on")
+            self.comes(lambda: self.state()["colour"], "src × src.a + dst × 1−src.a")
             self.browser.press("Escape", "Left")
             self.at(10)
             self.reads("#value", "60 130 60 255")
             self.browser.click("[data-state='next']")
-            self.assertEqual(self.state()["blend"], "on")
+            self.comes(lambda: self.state()["blend"], "on")
             self.browser.press("Left", "Left")
             self.at(8)
             self.reads("#state-table dd.changed", "on")
@@ -112,13 +120,13 @@ class Page(unittest.TestCase):
             self.at(11)
             self.reads("#difference", "768 px changed, 44 36 to 75 59")
             self.browser.press("c")
-            self.assertEqual(self.drawn(50, 50), [125, 95, 55, 255])
+            self.comes(lambda: self.drawn(50, 50), [125, 95, 55, 255])
             self.assertEqual(len(set(self.drawn(5, 5)[:3])), 1)
             self.browser.press("a")
             self.browser.click("[data-look='before']")
-            self.assertEqual(self.drawn(50, 50), [60, 130, 60, 255])
+            self.comes(lambda: self.drawn(50, 50), [60, 130, 60, 255])
             self.browser.press("a")
-            self.assertEqual(self.drawn(50, 50), [125, 95, 55, 255])
+            self.comes(lambda: self.drawn(50, 50), [125, 95, 55, 255])
 
     def test_events_off_and_on(self):
         with Viewer(HOUSE) as viewer:
@@ -132,8 +140,8 @@ class Page(unittest.TestCase):
             self.browser.click(self.row(8) + " input")
             self.reads("#value", "190 60 50 128")
             self.browser.until("return document.querySelectorAll('#history .outlined').length === 1")
-            self.assertEqual(self.drawn(50, 50), [190, 60, 50, 255])
-            self.assertEqual(self.history()[-1], "11 0 drawn 190 60 50 128 60 130 60 255 190 60 50 128")
+            self.comes(lambda: self.drawn(50, 50), [190, 60, 50, 255])
+            self.comes(lambda: self.history()[-1:], ["11 0 drawn 190 60 50 128 60 130 60 255 190 60 50 128"])
             self.browser.click(self.row(8) + " input")
             self.reads("#value", "125 95 55 128")
             self.browser.click(self.row(10) + " input")           # the group of a marker
@@ -208,7 +216,7 @@ class Page(unittest.TestCase):
                 themes.append(self.browser.run("return document.documentElement.dataset.theme"))
                 for shade in self.browser.run(shades)[:2]:
                     self.assertEqual(len(set(shade.strip("rgb()").split(", "))), 1, shade)      # a neutral grey
-                self.assertEqual(self.drawn(50, 50), [125, 95, 55, 255])
+                self.comes(lambda: self.drawn(50, 50), [125, 95, 55, 255])
                 self.browser.click("#theme")
             self.assertEqual(sorted(themes), ["dark", "light"])
             self.browser.click("#theme")
@@ -234,7 +242,7 @@ class Page(unittest.TestCase):
             self.browser.switch_to(first)
             self.reads("#value", "190 60 50 128")                       # told by the other page, and where this one stood
             self.at(13)
-            self.assertEqual(self.drawn(50, 50), [190, 60, 50, 255])
+            self.comes(lambda: self.drawn(50, 50), [190, 60, 50, 255])
             viewer.session.answer([b"goto 2"])                          # by a page of another browser
             self.click_pixel(10, 60, 96)
             self.reads("#place", "10 60")
@@ -245,7 +253,7 @@ class Page(unittest.TestCase):
             self.browser.press("Left")
             self.at(12)
             self.reads("#value", "125 95 55 128")
-            self.assertEqual(self.drawn(50, 50), [125, 95, 55, 255])
+            self.comes(lambda: self.drawn(50, 50), [125, 95, 55, 255])
             self.assertEqual(self.browser.run("return document.querySelectorAll('#event-list .event.off').length"), 0)
             self.browser.switch_to(second)
             self.browser.close_window()
@@ -268,7 +276,7 @@ class Page(unittest.TestCase):
                                         "6 – drawn 0 0 0 0 3000 255 0 0 255 1000 255 0 0 255 3000"])
                 self.choose_entry(4)
                 self.reads("#depth-here", "depth 1000")
-                self.assertEqual(self.state()["depth"], "on passes where src < stored written")
+                self.comes(lambda: self.state()["depth"], "on passes where src < stored written")
                 self.browser.click("[data-look='depth']")
                 self.reads("#difference", "depths 1000 to 2000: nearer is lighter, and 65535 is black")
                 self.assertEqual([self.drawn(x, y) for x, y in ((1, 1), (7, 7))], [[240, 240, 240, 255], [60, 60, 60, 255]])
@@ -278,9 +286,9 @@ class Page(unittest.TestCase):
                 self.browser.press("Right", "Right")
                 self.at(5)
                 self.browser.click("[data-state='next']")
-                self.assertEqual(self.state()["depth"], "on passes where src ≥ stored written")
+                self.comes(lambda: self.state()["depth"], "on passes where src ≥ stored written")
                 self.browser.press("a")
-                self.assertEqual(self.drawn(1, 1), [255, 0, 0, 255])
+                self.comes(lambda: self.drawn(1, 1), [255, 0, 0, 255])
                 self.reads(self.row(5), "5 depth src ≥ stored, not written")
 
     def test_depths_of_what_is_in_sight(self):
@@ -292,7 +300,7 @@ class Page(unittest.TestCase):
                 self.at(2)
                 self.browser.press("z")
                 self.reads("#difference", "the target has 19,200 pixels: depths are asked for one by one, and at most 16,384 are. Zoom in for those in sight")
-                self.assertEqual(self.drawn(5, 5), [255, 0, 0, 255])
+                self.comes(lambda: self.drawn(5, 5), [255, 0, 0, 255])
                 self.browser.press(*"+" * 6)
                 self.browser.until("return document.getElementById('difference').innerText.startsWith('depths ') && document.getElementById('image').width < 160")
                 (left, _, width, _), sheet, columns = self.box("#image"), self.box("#sheet"), self.browser.run("return document.getElementById('image').width")
@@ -325,7 +333,7 @@ class Page(unittest.TestCase):
             self.browser.press("a", "Left")
             self.at(10)
             r, g, b, _ = map(int, replies(HOUSE, ["goto 10", "pixel 50 40"])[1].split()[1:])
-            self.assertEqual(self.drawn(50 - across, 40 - down), [r, g, b, 255])
+            self.comes(lambda: self.drawn(50 - across, 40 - down), [r, g, b, 255])
             self.browser.press("0")
             self.browser.until("return document.getElementById('part').innerText.startsWith('Every 3rd')")
 
@@ -416,21 +424,21 @@ class Page(unittest.TestCase):
                 shown = {tuple(c): viewer.session.answer([b"goto 4", b"pixel %d %d" % c])[0][1]["text"] for c in ((10, 6), (50, 6), (20, 20))}
                 self.assertEqual(shown[50, 6], "pixel 30 60 90 255")
                 r, g, b, a = map(int, shown[10, 6].split()[1:])
-                self.assertEqual(self.drawn(10, 6), [r, g, b, 255])
+                self.comes(lambda: self.drawn(10, 6), [r, g, b, 255])
                 left, top, width, _ = self.box("#image")
                 scale = width / 64
                 self.assertEqual([round(v) for v in self.box("#scissor")], [round(v) for v in (left + 8 * scale, top + 4 * scale, 32 * scale, 26 * scale)])
                 self.browser.click("[data-channel='b']")
-                self.assertEqual(self.drawn(10, 6), [r, g, 0, 255])
+                self.comes(lambda: self.drawn(10, 6), [r, g, 0, 255])
                 self.browser.click("[data-channel='b']")
                 self.browser.click("[data-channel='a']")
-                self.assertEqual(self.drawn(10, 6)[3], a)
+                self.comes(lambda: self.drawn(10, 6)[3], a)
                 for channel in "rgb":
                     self.browser.click(f"[data-channel='{channel}']")
-                self.assertEqual(self.drawn(10, 6), [a, a, a, 255])
+                self.comes(lambda: self.drawn(10, 6), [a, a, a, 255])
                 self.browser.click("[data-channel='a']")
                 self.browser.click("[data-channel='g']")
-                self.assertEqual(self.drawn(10, 6), [g, g, g, 255])
+                self.comes(lambda: self.drawn(10, 6), [g, g, g, 255])
                 self.browser.click("#larger")
                 self.assertGreater(self.box("#image")[2], width)
                 self.click_pixel(20, 20, 64)

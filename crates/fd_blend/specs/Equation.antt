@@ -1,6 +1,6 @@
 -- The factors and operations of a blend equation.
 -- Direct3D 11.3 functional specification, section 17, output merger.
-use Rattle.std.specs.Prelude.{ℕ, ◌-◌, ◌*◌, min, max, Bool, true, false, ◌||◌, pos, ◌+ℤ◌, ◌-ℤ◌}
+use Rattle.std.specs.Prelude.{ℕ, ◌-◌, ◌*◌, min, max, Bool, true, false, not, ◌&&◌, ◌||◌, pos, ◌+ℤ◌, ◌-ℤ◌}
 use Rattle.fd_blend.specs.declared.channel.Colour.{Colour}
 use Rattle.fd_blend.specs.declared.channel.Channel.{Channel}
 use Rattle.fd_blend.specs.declared.equation.Factor.{Factor}
@@ -21,6 +21,22 @@ is_colour_factor _ = false
 
 abbrev pub has_colour_factor : Part → Bool
 has_colour_factor part = is_colour_factor part.src || is_colour_factor part.dst
+
+-- the factors whose values come from the destination
+abbrev pub looks_at_destination : Factor → Bool
+looks_at_destination DestAlpha = true
+looks_at_destination InvDestAlpha = true
+looks_at_destination DestColor = true
+looks_at_destination InvDestColor = true
+looks_at_destination _ = false
+
+abbrev pub is_add : BlendOp → Bool
+is_add Add = true
+is_add _ = false
+
+-- the part adds, and neither of its factors' values comes from the destination
+abbrev pub adds_unseen : Part → Bool
+adds_unseen part = is_add part.op && (not (looks_at_destination part.src) && not (looks_at_destination part.dst))
 
 -- a factor's value at a channel, in units of 1/255, for a blend factor, a source and a destination: a line for each factor, in the specification's order
 abbrev pub factor_value : Factor → Channel → Colour → Colour → Colour → ℕ

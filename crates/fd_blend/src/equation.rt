@@ -1,5 +1,5 @@
 ghost use Rattle.std.specs.Prelude.{◌≡◌, ◌<◌, ◌≤◌, ◌^◌, pos, IsTrue};
-ghost use Rattle.fd_blend.specs.Equation.{factor_value, combined, blended, is_colour_factor};
+ghost use Rattle.fd_blend.specs.Equation.{factor_value, combined, blended, is_colour_factor, looks_at_destination, adds_unseen};
 
 use crate::channel::{Channel, Colour};
 use crate::conversion::unorm;
@@ -34,8 +34,18 @@ impl Factor {
         )
     }
 
+    /// Whether the factor's value comes from the destination.
+    fn looks_at_destination(self) -> bool
+        ensures { result ≡ looks_at_destination self }
+    {
+        matches!(
+            self,
+            Factor::DestAlpha | Factor::InvDestAlpha | Factor::DestColor | Factor::InvDestColor
+        )
+    }
+
     /// The factor's value at a channel, in units of 1/255.
-    fn value(self, channel: Channel, factor: Colour, src: Colour, dst: Colour) -> u8
+    pub(crate) fn value(self, channel: Channel, factor: Colour, src: Colour, dst: Colour) -> u8
         ensures { result ≡ factor_value self channel factor src dst }
     {
         match self {
@@ -100,6 +110,15 @@ pub struct Part {
 }
 
 impl Part {
+    /// Whether the part adds, and neither factor looks at the destination.
+    pub(crate) fn adds_unseen(self) -> bool
+        ensures { result ≡ adds_unseen self }
+    {
+        self.op == BlendOp::Add
+            && !self.src.looks_at_destination()
+            && !self.dst.looks_at_destination()
+    }
+
     /// One channel after the equation.
     pub(crate) fn blend(self, channel: Channel, factor: Colour, src: Colour, dst: Colour) -> u8
         ensures { result ≡ blended self channel factor src dst }

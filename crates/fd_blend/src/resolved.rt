@@ -5,9 +5,10 @@ ghost use Rattle.fd_blend.specs.Resolved.{place_of, position_of, flip_of, weight
 
 use crate::channel::{Channel, Colour};
 use crate::equation::{BlendOp, Factor, Part};
-use crate::lanes::blended;
+use crate::lanes::{added, blended};
 use crate::mask::Mask;
-use crate::packing::{bytes_of, colours_of};
+use crate::packing::{bytes_of, colours_of, pair_bytes};
+use crate::settled::Settled;
 use crate::state::BlendState;
 use std::simd::prelude::*;
 
@@ -166,9 +167,11 @@ pub(crate) struct Equation {
 }
 
 impl Equation {
-    ghost use Rattle.std.specs.Prelude.{◌≡◌};
+    ghost use Rattle.std.specs.Prelude.{◌≡◌, IfSome};
+    ghost use Rattle.fd_blend.specs.declared.channel.Colour.{Colour};
     ghost use Rattle.fd_blend.specs.Blend.{blend};
     ghost use Rattle.fd_blend.specs.Blending.{Blending};
+    ghost use Rattle.fd_blend.specs.Brush.{AreWeights, IsSettled};
     ghost use Rattle.fd_blend.specs.Resolved.{IsOf, IsInLanes};
 
     /// The equation of a state and a blend factor.
@@ -214,5 +217,24 @@ impl Equation {
         ensures { (state : Blending) → IsOf state self.now.rgb self.now.alpha self.now.mask → result ≡ blend state self.now.factor s d }
     {
         self.pair(s, s, d, d).0
+    }
+
+    /// What is known of the equation for a source before any destination, unless it looks at destinations or does more than to add.
+    pub(crate) fn settled(&self, source: Colour) -> Option<Settled>
+        ensures { IfSome result (λ s. IsSettled self.now.rgb self.now.alpha self.now.factor source s.sources s.factors) }
+    {
+        Settled::of(self.rgb, self.alpha, self.factor, source)
+    }
+
+    /// The source that the lanes were settled for over two destinations.
+    pub(crate) fn over(&self, settled: Settled, d: Colour, e: Colour) -> (Colour, Colour)
+        requires lanes { IsInLanes self.now.rgb self.now.alpha self.now.mask self.now.factor self.now.positions self.now.flips self.now.written }
+        requires weights { AreWeights settled.sources settled.factors }
+        ensures first { (state : Blending) (source : Colour) → IsOf state self.now.rgb self.now.alpha self.now.mask → IsSettled self.now.rgb self.now.alpha self.now.factor source settled.sources settled.factors → result.0 ≡ blend state self.now.factor source d }
+        ensures second { (state : Blending) (source : Colour) → IsOf state self.now.rgb self.now.alpha self.now.mask → IsSettled self.now.rgb self.now.alpha self.now.factor source settled.sources settled.factors → result.1 ≡ blend state self.now.factor source e }
+    {
+        let bytes = pair_bytes(d, e);
+        let lanes = added(bytes, settled.sources, settled.factors, self.written);
+        colours_of(lanes)
     }
 }

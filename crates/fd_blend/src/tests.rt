@@ -1,4 +1,4 @@
-use crate::{BlendFault, BlendOp, BlendState, Colour, Factor, Mask, Part, blend, blend_row};
+use crate::{BlendFault, BlendOp, BlendState, Brush, Colour, Factor, Mask, Part, blend, blend_row};
 use std::process::Abort;
 use std::test::Fail;
 
@@ -187,6 +187,49 @@ fn blend_row_equals_blend(rt: HostRuntime) -> Result<(), Fail> {
             let mask = Mask::from_bits(mask).ok_or("no mask")?;
             let state = BlendState::new(enable, rgb, alpha, mask)?;
             expect_equal_row(&rt, &state, factor, &src, &before);
+        }
+    }
+    Ok(())
+}
+
+/// One source over rows of several lengths, against its blends with their pixels.
+fn expect_brushed_row(rt: &impl Abort, state: &BlendState, source: Colour, before: &[Colour; 33]) {
+    let factor = colour(128, 0, 255, 77);
+    let brush = Brush::of(state, factor, source);
+    for len in [0, 1, 2, 31, 32] {
+        let mut dst = *before;
+        brush.draw(&mut dst[..len]);
+        for place in 0..33 {
+            let expected = if place < len {
+                blend(state, factor, source, before[place])
+            } else {
+                before[place]
+            };
+            assert_eq!(rt; dst[place], expected, "at {place} of {len}");
+        }
+    }
+}
+
+#[test]
+fn a_brush_equals_blend(rt: HostRuntime) -> Result<(), Fail> {
+    let mut before = [WHITE; 33];
+    for place in 0..33 {
+        before[place] = colour(
+            byte(place, 59),
+            byte(place, 3),
+            byte(place, 91),
+            byte(place, 113),
+        );
+    }
+    let over = part(Factor::SrcAlpha, Factor::InvSrcAlpha, BlendOp::Add);
+    let added = part(Factor::One, Factor::One, BlendOp::Add);
+    let seen = part(Factor::DestAlpha, Factor::Zero, BlendOp::Add);
+    let less = part(Factor::BlendFactor, Factor::One, BlendOp::RevSubtract);
+    for (rgb, alpha) in [(over, added), (added, over), (over, seen), (less, added)] {
+        for (enable, mask) in [(true, 15), (true, 10), (false, 15), (false, 5)] {
+            let mask = Mask::from_bits(mask).ok_or("no mask")?;
+            let state = BlendState::new(enable, rgb, alpha, mask)?;
+            expect_brushed_row(&rt, &state, colour(200, 100, 255, 77), &before);
         }
     }
     Ok(())

@@ -267,6 +267,8 @@ fn index_items(
     if !well_formed {
         return Ok(None);
     }
+    // a list of small numbers has little text: many such draws would hold far more room than their capture has bytes
+    indices.shrink_to_fit();
     Ok(Some(indices))
 }
 

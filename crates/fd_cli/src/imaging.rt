@@ -4,25 +4,51 @@ ghost use Rattle.std.specs.Io.KnownBytes.{Appends};
 ghost use Rattle.fd_cli.specs.Counting.{CountsWriter};
 ghost use Rattle.fd_cli.specs.Opening.{RefusesTooLong};
 ghost use Rattle.fd_cli.specs.Listing.{ShowsState, ImagesTable, WritesImage};
+ghost use Rattle.fd_session.specs.Machine.{Jumps};
 
 use crate::ending::Ending;
-use crate::far::go;
 use crate::opening::open;
-use crate::show::target_size;
 use fd_events::EventTable;
 use fd_pam::{PamFault, Sink, pam_len, write};
-use fd_session::{Answer, Session, SessionFault};
+use fd_session::{Answer, Picture, SessionFault};
 use std::alloc::Global;
 use std::thread::Threads;
 
-/// Writes the image that the session shows, and flushes.
-fn write_shown<W: Sink>(alloc: Global, session: &Session, sink: &mut W) -> Ending
-    ensures writes { (written : List ℕ) × Appends (W.contents sink.old) (W.contents sink.new) written × ShowsState session.now written result }
+/// Draws a picture on to a position, part by part where the way is long. The sink is told after each part but the last.
+fn draw_to<T: Threads + Sync, W: Sink>(
+    rt: &T,
+    picture: &mut Picture,
+    to: u32,
+    sink: &mut W,
+) -> Answer
+    requires { picture.old.position ≤ to }
+    ensures jumps { Jumps picture.old to result picture.new }
+    ensures bytes { W.contents sink.new ≡ W.contents sink.old }
+    ensures failures { W.failure_count sink.new ≡ W.failure_count sink.old }
+{
+    let from = picture.position();
+    loop {
+        let part = picture.go_part(rt, to);
+        let at = picture.position();
+        match part {
+            None => sink.on_the_way(at, to),
+            // the parts before it stay
+            Some(Answer::Refused(SessionFault::Memory)) if at > from => {
+                return Answer::Stopped { at };
+            }
+            Some(answer) => return answer,
+        }
+    }
+}
+
+/// Writes a picture, and flushes.
+fn write_shown<W: Sink>(alloc: Global, picture: &Picture, sink: &mut W) -> Ending
+    ensures writes { (written : List ℕ) × Appends (W.contents sink.old) (W.contents sink.new) written × ShowsState picture.now written result }
     ensures failures { CountsWriter result (W.failure_count sink.old) (W.failure_count sink.new) }
 {
-    let (width, height) = target_size(session);
-    let sent = pam_len(width, height);
-    match write(alloc, sink, session) {
+    let table = picture.table();
+    let sent = pam_len(table.width(), table.height());
+    match write(alloc, sink, picture) {
         Err(PamFault::Memory) => Ending::Memory,
         Err(PamFault::Write { sent }) => Ending::Write { sent },
         Ok(()) => match sink.flush() {
@@ -46,11 +72,11 @@ fn write_table<T: Threads + Sync, W: Sink>(
     ensures failures { CountsWriter result (W.failure_count sink.old) (W.failure_count sink.new) }
 {
     let to = at.unwrap_or(table.len());
-    let Ok(mut session) = Session::start(alloc, table, workers) else {
+    let Ok(mut picture) = Picture::start(alloc, table, workers) else {
         return Ending::Memory;
     };
-    match go(rt, &mut session, to, sink) {
-        Answer::Moved { .. } => write_shown(alloc, &session, sink),
+    match draw_to(rt, &mut picture, to, sink) {
+        Answer::Moved { .. } => write_shown(alloc, &picture, sink),
         Answer::Refused(SessionFault::NoSuchPosition) => Ending::NoSuchPosition,
         Answer::Stopped { .. } | Answer::Refused(_) => Ending::Memory,
     }

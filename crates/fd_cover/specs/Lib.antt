@@ -2,6 +2,7 @@ pub mod Bounds
 pub mod Covers
 pub mod Cross
 pub mod Depth
+pub mod Limits
 pub mod Rows
 pub mod Shade
 pub mod SharedEdge

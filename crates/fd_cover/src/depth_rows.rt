@@ -1,12 +1,11 @@
-ghost use Rattle.std.specs.Prelude.{◌≡◌, ℕ, ◌<◌, ◌≤◌, ◌+◌, ◌*◌, IsTrue, length, map};
+ghost use Rattle.std.specs.Prelude.{◌≡◌, ℕ, ◌<◌, ◌≤◌, ◌+◌, ◌*◌, ◌^◌, IsTrue, length, map};
 ghost use Rattle.std.specs.List.{range_with_len};
 ghost use Rattle.fd_cover.specs.Covers.{covers};
 ghost use Rattle.fd_cover.specs.Depth.{depth_at};
+ghost use Rattle.fd_cover.specs.Limits.{most_in_row};
 ghost use Rattle.fd_cover.specs.Shade.{area_of};
 ghost use Rattle.fd_cover.specs.Slope.{IsSlope};
 ghost use Rattle.fd_snap.specs.Limits.{most_pixels};
-ghost use Rattle.fd_cover.specs.declared.shading.TheConstants.{SHADED_ROW};
-ghost use Rattle.fd_cover.specs.declared.depth_rows.TheConstants.{WALKED};
 
 use crate::depth::depth_at;
 use crate::reciprocal::Reciprocal;
@@ -80,7 +79,7 @@ impl DepthRows {
 
     /// The depths at neighbouring covered pixels of row y from column x on. Each is what `depth_at` says.
     pub fn row(&self, x: u32, y: u32, out: &mut [u16])
-        requires few { length out.old ≤ SHADED_ROW }
+        requires few { length out.old ≤ most_in_row }
         requires row { y < most_pixels }
         requires columns { x + length out.old ≤ most_pixels }
         requires covered { (column : ℕ) → x ≤ column → column < x + length out.old → IsTrue (covers self.now.0 column y) }
@@ -102,7 +101,7 @@ impl DepthRows {
 
 /// The depths of a triangle at neighbouring covered pixels, each by its own division.
 fn divide_depths(triangle: &Tri, depths: &[u16; 3], x: u32, y: u32, out: &mut [u16])
-    requires few { length out.old ≤ SHADED_ROW }
+    requires few { length out.old ≤ most_in_row }
     requires row { y < most_pixels }
     requires columns { x + length out.old ≤ most_pixels }
     requires covered { (column : ℕ) → x ≤ column → column < x + length out.old → IsTrue (covers triangle.now column y) }
@@ -123,11 +122,11 @@ fn walk_depths(
     out: &mut [u16],
 )
     requires some { 2 ≤ length out.old }
-    requires few { length out.old ≤ SHADED_ROW }
+    requires few { length out.old ≤ most_in_row }
     requires row { y < most_pixels }
     requires columns { x + length out.old ≤ most_pixels }
     requires covered { (column : ℕ) → x ≤ column → column < x + length out.old → IsTrue (covers triangle.now column y) }
-    requires small { area_of triangle.now ≤ WALKED }
+    requires small { 384 * area_of triangle.now ≤ 2 ^ 48 }
     requires divisor { divisor.divisor ≡ 2 * area_of triangle.now }
     ensures { out.new ≡ map (λ column. depth_at triangle.now depths.now column y) (range_with_len x (length out.old)) }
 {
@@ -145,7 +144,7 @@ fn walk_depths(
 
 /// The depths of a triangle at neighbouring covered pixels of row y from column x on, from the depths of its vertices. Each is what `depth_at` says.
 pub fn depth_row(triangle: &Tri, depths: &[u16; 3], x: u32, y: u32, out: &mut [u16])
-    requires few { length out.old ≤ SHADED_ROW }
+    requires few { length out.old ≤ most_in_row }
     requires row { y < most_pixels }
     requires columns { x + length out.old ≤ most_pixels }
     requires covered { (column : ℕ) → x ≤ column → column < x + length out.old → IsTrue (covers triangle.now column y) }

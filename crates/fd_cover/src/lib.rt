@@ -6,7 +6,7 @@ pub use coverage::covers;
 pub use depth::{Depth, Func, depth_at};
 pub use depth_rows::{DepthRows, depth_row};
 pub use rows::{Rows, row_span};
-pub use shading::{Interp, SHADED_ROW, shade, shade_row};
+pub use shading::{Interp, shade, shade_row};
 pub use triangle::Tri;
 pub use verdict::{Cull, Raster, Rect, Verdict, verdict_at};
 

@@ -1,9 +1,9 @@
 ghost use Rattle.std.specs.Prelude.{◌≡◌, ℕ, ◌<◌, ◌≤◌, ◌+◌, ◌-◌, ◌*◌, ◌/◌, ◌%◌, ◌^◌, IsTrue, length, map};
 ghost use Rattle.std.specs.List.{range_with_len};
 ghost use Rattle.fd_cover.specs.Covers.{covers};
+ghost use Rattle.fd_cover.specs.Limits.{most_in_row};
 ghost use Rattle.fd_cover.specs.Shade.{area_of, weight_a, weight_b, weight_c, IsNearestLarger, IsNearestMean, rounded_quotient, colour_of, shaded};
 ghost use Rattle.fd_snap.specs.Limits.{most_pixels};
-ghost use Rattle.fd_cover.specs.declared.shading.TheConstants.{SHADED_ROW};
 
 use crate::lanes::{colour_of, moved};
 use crate::point::{Point, doubled_area};
@@ -11,9 +11,6 @@ use crate::reciprocal::Reciprocal;
 use crate::triangle::Tri;
 use fd_blend::Colour;
 use std::simd::prelude::*;
-
-/// The most pixels of a row that are shaded in one call.
-pub const SHADED_ROW: usize = 32;
 
 /// How a triangle's colour comes from those of its vertices: the first one's, or between the three.
 #[derive(Clone, Copy, Debug, PartialEq, Eq)]
@@ -158,7 +155,7 @@ pub fn shade(triangle: &Tri, colours: &[Colour; 3], interp: Interp, x: u32, y: u
 /// The source colours of a linear triangle at two or more neighbouring covered pixels.
 fn shade_linear(triangle: &Tri, colours: &[Colour; 3], x: u32, y: u32, out: &mut [Colour])
     requires some { 2 ≤ length out.old }
-    requires few { length out.old ≤ SHADED_ROW }
+    requires few { length out.old ≤ most_in_row }
     requires row { y < most_pixels }
     requires columns { x + length out.old ≤ most_pixels }
     requires covered { (column : ℕ) → x ≤ column → column < x + length out.old → IsTrue (covers triangle.now column y) }
@@ -208,7 +205,7 @@ pub fn shade_row(
     y: u32,
     out: &mut [Colour],
 )
-    requires few { length out.old ≤ SHADED_ROW }
+    requires few { length out.old ≤ most_in_row }
     requires row { y < most_pixels }
     requires columns { x + length out.old ≤ most_pixels }
     requires covered { (column : ℕ) → x ≤ column → column < x + length out.old → IsTrue (covers triangle.now column y) }

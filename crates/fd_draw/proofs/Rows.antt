@@ -7,7 +7,12 @@ use Rattle.std.proofs.lemmas.List.FromFn.{length-enumerate_from, get_or-enumerat
 use Rattle.fd_blend.specs.declared.channel.Colour.{Colour}
 use Rattle.fd_blend.specs.Blending.{Blending}
 use Rattle.fd_blend.specs.Blend.{blend}
-use Rattle.fd_blend.specs.Row.{blended_row}
+use Rattle.fd_blend.specs.Row.{blended_row, drawn_row}
+use Rattle.fd_cover.specs.declared.shading.Interp.TheVariants.{Flat}
+use Rattle.fd_cover.specs.Shade.{colour_of, shaded}
+use Rattle.fd_events.specs.declared.pipeline.Pipeline.{Pipeline}
+use Rattle.fd_events.specs.Draw.{Triangle}
+use Rattle.fd_draw.specs.Written.{colour_blended}
 use Rattle.fd_draw.specs.Row.{changed_row}
 
 pub length-changed_row : (change : ℕ → Colour → Colour) (x : ℕ) (row : List Colour) → length (changed_row change x row) ≡ length row
@@ -25,6 +30,13 @@ pub blended_columns : (state : Blending) (factor : Colour) (source : ℕ → Col
     → blended_row state factor (map source (range_with_len x (length row))) row ≡ changed_row (λ column before. blend state factor (source column) before) x row
 blended_columns state factor source x [] = refl
 blended_columns state factor source x (c ∷ row) = ap (λ cs. blend state factor (source x) c ∷ cs) (blended_columns state factor source (x + 1) row)
+
+-- a flat triangle's colour, drawn over a row
+pub drawn_columns : (t : Triangle) (s : Pipeline) (x y : ℕ) (row : List Colour)
+    → drawn_row s.blend s.factor (colour_of t.colours 0) row ≡ changed_row (λ column before. colour_blended t Flat s column y before) x row
+unfolding shaded
+drawn_columns t s x y [] = refl
+drawn_columns t s x y (c ∷ row) = ap (λ cs. blend s.blend s.factor (colour_of t.colours 0) c ∷ cs) (drawn_columns t s (x + 1) y row)
 
 -- ---- a part of a list that is written
 

@@ -8,7 +8,7 @@ ghost use Rattle.fd_draw.specs.Area.{IsInside, IsWrittenIn};
 ghost use Rattle.fd_draw.specs.Demand.{is_reached, pixels_in};
 ghost use Rattle.fd_draw.specs.Written.{kept_by_triangle};
 ghost use Rattle.fd_draw.specs.Mask.{is_set};
-ghost use Rattle.fd_draw.specs.Primitive.{triangle_of};
+ghost use Rattle.fd_draw.specs.Primitive.{IsBrushed, triangle_of};
 ghost use Rattle.fd_draw.specs.Writing.{HasRoom, StoresDepths, Writes, between, in_row};
 
 use crate::lanes::{alike, test_row};
@@ -44,6 +44,7 @@ fn draw_run(
     tile: &mut Tile,
     undo: &mut UndoStack,
 )
+    requires brushed { IsBrushed primitive.now state.now }
     requires filled { IsTileImage tile.old }
     requires crossed { HasRow tile.old.place y }
     requires from_left { tile.old.place.left ≤ x }
@@ -72,6 +73,7 @@ fn draw_runs(
     tile: &mut Tile,
     undo: &mut UndoStack,
 )
+    requires brushed { IsBrushed primitive.now state.now }
     requires filled { IsTileImage tile.old }
     requires crossed { HasRow tile.old.place y }
     requires from_left { tile.old.place.left ≤ x }
@@ -108,6 +110,7 @@ fn draw_row(
     tile: &mut Tile,
     undo: &mut UndoStack,
 )
+    requires brushed { IsBrushed primitive.now state.now }
     requires rows { rows.now ≡ (primitive.now.corners, y) }
     requires depth_rows { depth_rows.now ≡ (primitive.now.corners, primitive.now.depths) }
     requires filled { IsTileImage tile.old }
@@ -138,6 +141,7 @@ pub(crate) fn draw_tested(
     tile: &mut Tile,
     undo: &mut UndoStack,
 )
+    requires brushed { IsBrushed primitive.now state.now }
     requires filled { IsTileImage tile.old }
     requires inside { IsInside area tile.old.place }
     requires some { area.top < area.bottom }

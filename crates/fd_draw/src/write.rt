@@ -12,14 +12,14 @@ ghost use Rattle.fd_snap.specs.Limits.{most_pixels};
 ghost use Rattle.fd_tile.specs.declared.place.TheConstants.{TILE_SIDE};
 ghost use Rattle.fd_draw.specs.Row.{changed_row};
 ghost use Rattle.fd_draw.specs.Paints.{Paints};
-ghost use Rattle.fd_draw.specs.Primitive.{triangle_of};
+ghost use Rattle.fd_draw.specs.Primitive.{IsBrushed, triangle_of};
 ghost use Rattle.fd_draw.specs.Triangles.{triangle_at};
 ghost use Rattle.fd_draw.specs.Writing.{HasRoom, Writes, between, in_row, keep_each};
 
 use crate::area::{drawn_area, open_area, shared, whole};
 use crate::clear::{Clear, clear_rows};
 use crate::near::next_near;
-use crate::primitive::Primitive;
+use crate::primitive::{Primitive, brush_of};
 use crate::span::covered_span;
 use crate::tested::draw_tested;
 use fd_blend::{Colour, blend_row};
@@ -40,6 +40,21 @@ const NO_COLOUR: Colour = Colour {
 
 /// Blends a triangle's sources with neighbouring pixels of row y from column x on, all of which it covers.
 fn blend_triangle(row: &mut [Colour], x: u32, y: u32, primitive: &Primitive, state: &Pipeline)
+    requires brushed { IsBrushed primitive.now state.now }
+    requires few { length row.old ≤ TILE_SIDE }
+    requires row { y < most_pixels }
+    requires columns { x + length row.old ≤ most_pixels }
+    requires covered { (column : ℕ) → x ≤ column → column < x + length row.old → IsTrue (covers primitive.now.corners column y) }
+    ensures { row.new ≡ changed_row (λ column before. colour_blended (triangle_of primitive.now) primitive.now.interp state.now column y before) x row.old }
+{
+    match &primitive.brush {
+        Some(brush) => brush.draw(row),
+        None => blend_shaded(row, x, y, primitive, state),
+    }
+}
+
+/// The same by the source of each pixel.
+fn blend_shaded(row: &mut [Colour], x: u32, y: u32, primitive: &Primitive, state: &Pipeline)
     requires few { length row.old ≤ TILE_SIDE }
     requires row { y < most_pixels }
     requires columns { x + length row.old ≤ most_pixels }
@@ -70,6 +85,7 @@ pub(crate) fn write_span(
     tile: &mut Tile,
     undo: &mut UndoStack,
 )
+    requires brushed { IsBrushed primitive.now state.now }
     requires filled { IsTileImage tile.old }
     requires crossed { HasRow tile.old.place y }
     requires from_left { tile.old.place.left ≤ left }
@@ -102,6 +118,7 @@ fn write_row(
     tile: &mut Tile,
     undo: &mut UndoStack,
 )
+    requires brushed { IsBrushed primitive.now state.now }
     requires rows { rows.now ≡ (primitive.now.corners, y) }
     requires inside { IsInside area tile.old.place }
     requires reached { IsWrittenIn (is_reached (triangle_of primitive.now) state.now) (covers primitive.now.corners) tile.old.place area }
@@ -125,6 +142,7 @@ fn write_rows(
     tile: &mut Tile,
     undo: &mut UndoStack,
 )
+    requires brushed { IsBrushed primitive.now state.now }
     requires filled { IsTileImage tile.old }
     requires inside { IsInside area tile.old.place }
     requires some { area.top < area.bottom }
@@ -149,6 +167,7 @@ fn draw_primitive(
     tile: &mut Tile,
     undo: &mut UndoStack,
 )
+    requires brushed { IsBrushed primitive.now state.now }
     requires filled { IsTileImage tile.old }
     requires inside { IsInside area tile.old.place }
     requires some { area.top < area.bottom }
@@ -183,11 +202,14 @@ fn draw_triangle(
 {
     let corners = draw.tri(triangle);
     if let Some(area) = drawn_area(&corners, &state.raster, window) {
+        let colours = draw.colours(triangle);
+        let interp = draw.interp();
         let primitive = Primitive {
             corners,
-            colours: draw.colours(triangle),
+            colours,
             depths: draw.depths(triangle),
-            interp: draw.interp(),
+            interp,
+            brush: brush_of(interp, state, colours[0]),
         };
         draw_primitive(&primitive, state, area, tile, undo);
     }

@@ -75,5 +75,5 @@ ListTriangles-from cells boxes ts are hold all = record {
       let nothing : Bounds = record { left = 0; top = 0; right = 0; bottom = 0 } in
       let box : Bounds = get_or boxes i nothing in
       let there : slice_get boxes i ≡ Some box = slice_get-get_or boxes i nothing within in
-      are.listed i box there x y (hold i box there t at x y covered) has;
+      are.listed i box x y there (hold i box there t at x y covered) has;
 }

@@ -8,3 +8,4 @@ pub mod ReachLemmas
 pub mod VersionOnes
 pub mod CellLemmas
 pub mod GridLemmas
+pub mod PackedLemmas

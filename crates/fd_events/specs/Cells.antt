@@ -6,7 +6,8 @@ use Rattle.fd_cover.specs.declared.bounds.Bounds.{Bounds}
 use Rattle.fd_cover.specs.Bounds.{is_within}
 use Rattle.fd_cover.specs.Covers.{covers}
 use Rattle.fd_events.specs.Draw.{Triangle}
-use Rattle.fd_events.specs.Numbers.{numbers_of, listed_at}
+use Rattle.fd_events.specs.Numbers.{listed_at}
+use Rattle.fd_events.specs.Packed.{listed_in}
 use Rattle.fd_events.specs.declared.grid.Grid.{Grid}
 use Rattle.fd_events.specs.declared.grid.Cells.{Cells}
 
@@ -54,11 +55,11 @@ ListBoxes grid lists boxes = (i : ℕ) (box : Bounds) → slice_get boxes i ≡ 
 -- the lists rise, and the cell of a pixel lists every box that holds it
 pub record AreCells (cells : Cells) (boxes : List Bounds) : Type 0 where
   pub grid : IsGrid cells.grid
-  pub rise : (cell : ℕ) → IsNonDecreasing (listed_at (numbers_of cells.lists.items) cell)
-  pub listed : ListBoxes cells.grid (numbers_of cells.lists.items) boxes
+  pub rise : (cell : ℕ) → IsNonDecreasing (listed_in cells.lists cell)
+  pub listed : (i : ℕ) (box : Bounds) (x y : ℕ) → slice_get boxes i ≡ Some box → IsTrue (is_within box x y) → HasCell cells.grid x y → Contains (listed_in cells.lists (cell_at cells.grid x y)) i
 
 -- the lists rise, and the cell of a pixel lists every triangle that covers it
 pub record ListTriangles (cells : Cells) (ts : List Triangle) : Type 0 where
   pub grid : IsGrid cells.grid
-  pub rise : (cell : ℕ) → IsNonDecreasing (listed_at (numbers_of cells.lists.items) cell)
-  pub listed : (i : ℕ) (t : Triangle) (x y : ℕ) → slice_get ts i ≡ Some t → IsTrue (covers t.corners x y) → HasCell cells.grid x y → Contains (listed_at (numbers_of cells.lists.items) (cell_at cells.grid x y)) i
+  pub rise : (cell : ℕ) → IsNonDecreasing (listed_in cells.lists cell)
+  pub listed : (i : ℕ) (t : Triangle) (x y : ℕ) → slice_get ts i ≡ Some t → IsTrue (covers t.corners x y) → HasCell cells.grid x y → Contains (listed_in cells.lists (cell_at cells.grid x y)) i

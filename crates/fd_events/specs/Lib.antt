@@ -11,5 +11,7 @@ pub mod Laws
 pub mod VersionOne
 pub mod Reach
 pub mod Numbers
+pub mod Packed
 pub mod Under
 pub mod Cells
+pub mod Finder

@@ -1,6 +1,6 @@
 ghost use Rattle.std.specs.Prelude.{◌≡◌, ◌+◌, ◌-◌, ◌*◌, ◌/◌, ◌<◌, ◌≤◌, length, Some, option_map, slice_get};
 
-use crate::grid::Cells;
+use crate::finder::Finder;
 use crate::list::TriangleList;
 use fd_blend::Colour;
 use fd_cover::{Bounds, Interp, Tri};
@@ -45,26 +45,20 @@ pub enum DrawFault {
 #[derive(Debug, Drop)]
 pub struct Draw {
     list: TriangleList,
-    bounds: Bounds,
-    // the box of each group, where they have been computed
-    groups: Option<Vec<Bounds>>,
-    // the box of each triangle, where they have been computed
-    boxes: Option<Vec<Bounds>>,
-    // for many triangles that are small: those that meet each cell of a grid
-    cells: Option<Box<Cells>>,
+    // behind a pointer, since an event has room for the largest kind, and most are no draws
+    finder: Option<Box<Finder>>,
 }
 
 impl Model for Draw {
     ghost use Rattle.std.specs.Prelude.{IfSome};
-    ghost use Rattle.fd_events.specs.Bounds.{IsRound, AreRoundGroups, HoldEach};
-    ghost use Rattle.fd_events.specs.Cells.{ListTriangles};
     ghost use Rattle.fd_events.specs.Draw.{DrawList, triangles_of};
+    ghost use Rattle.fd_events.specs.Finder.{Finds};
 
     ghost Value = { DrawList };
 
     ghost view = { λ d. d.list };
 
-    ghost invariant = { λ d. IsRound d.bounds (triangles_of d.list) × IfSome d.groups (λ boxes. AreRoundGroups boxes.items (triangles_of d.list)) × IfSome d.boxes (λ boxes. HoldEach boxes.items (triangles_of d.list)) × IfSome d.cells (λ cells. ListTriangles cells.value (triangles_of d.list)) };
+    ghost invariant = { λ d. IfSome d.finder (λ finder. Finds finder.value (triangles_of d.list)) };
 }
 
 impl Draw {
@@ -81,14 +75,7 @@ impl Draw {
         ensures { result ≡ made vertices.items (option_map (λ v. v.items) indices) interp }
     {
         let list = TriangleList::new(vertices, indices, interp)?;
-        let bounds = list.bounds(0, list.len());
-        Ok(Draw {
-            list,
-            bounds,
-            groups: None,
-            boxes: None,
-            cells: None,
-        })
+        Ok(Draw { list, finder: None })
     }
 
     /// The number of triangles.
@@ -135,14 +122,10 @@ impl Draw {
         ensures value { result ≡ bounds_of_triangles (triangles_of self.now) }
         ensures covered { HoldsTriangles result (triangles_of self.now) }
     {
-        self.bounds
-    }
-
-    /// The number of groups of triangles.
-    fn group_count(&self) -> u32
-        ensures { result ≡ (length (triangles_of self.now) + (group_size - 1)) / group_size }
-    {
-        self.list.len().div_ceil(GROUP_LEN)
+        match &self.finder {
+            Some(finder) => finder.bounds,
+            None => self.list.all_bounds(),
+        }
     }
 
     /// The box round a group of triangles, those from number `GROUP_LEN` times `group` on; or the one round all, as long as no table
@@ -151,25 +134,28 @@ impl Draw {
         ensures value { IsGroupBox result group (triangles_of self.now) }
         ensures covered { HoldsGroup result group (triangles_of self.now) }
     {
-        if let Some(groups) = &self.groups {
-            if let Some(bounds) = groups.get(group as usize) {
+        if let Some(finder) = &self.finder {
+            if let Some(bounds) = finder.groups.get(group as usize) {
                 return *bounds;
             }
         }
-        self.bounds
+        self.bounds()
     }
 
-    /// The box round a triangle; or the one round all, as long as no table was started with the draw. Either holds every pixel that
-    /// the triangle covers.
+    /// The box round a triangle, which holds every pixel that it covers.
     pub fn triangle_bounds(&self, triangle: u32) -> Bounds
         ensures { HoldsTriangle result triangle (triangles_of self.now) }
     {
-        if let Some(boxes) = &self.boxes {
-            if let Some(bounds) = boxes.get(triangle as usize) {
+        if let Some(finder) = &self.finder {
+            if let Some(bounds) = finder.boxes.get(triangle as usize) {
                 return *bounds;
             }
         }
-        self.bounds
+        if triangle < self.list.len() {
+            Bounds::of(&self.list.tri(triangle))
+        } else {
+            Bounds::empty()
+        }
     }
 
     /// The first triangle from this one on that may cover a pixel of a window, by what a table that was started with the draw keeps, or the
@@ -181,10 +167,12 @@ impl Draw {
         ensures missed { CoverNone window (triangles_of self.now) triangle result }
     {
         let count = self.list.len();
-        match &self.cells {
-            Some(cells) => cells.next(triangle, count, window),
-            None => triangle,
+        if let Some(finder) = &self.finder {
+            if let Some(cells) = &finder.cells {
+                return cells.next(triangle, count, window);
+            }
         }
+        triangle
     }
 
     /// Computes the boxes of the groups and of the triangles, and lists these in cells over a target of this size. On want of memory
@@ -197,16 +185,9 @@ impl Draw {
     ) -> Result<(), AllocError>
         ensures { self.new ≡ self.old }
     {
-        let count = self.group_count();
-        let mut groups = Vec::with_capacity(alloc, count as usize)?;
-        for group in 0..count {
-            groups.push(self.list.group_bounds(group))?;
+        if let Some(finder) = Finder::of(&self.list, width, height, alloc)? {
+            self.finder = Some(Box::new(alloc, finder)?);
         }
-        let boxes = self.list.boxes(alloc)?;
-        let cells = Cells::on_target(self.bounds, width, height, &boxes, alloc)?;
-        self.groups = Some(groups);
-        self.boxes = Some(boxes);
-        self.cells = cells;
         Ok(())
     }
 }

@@ -4,12 +4,14 @@ ghost use Rattle.std.specs.List.Sorted.{IsNonDecreasing};
 ghost use Rattle.fd_snap.specs.Limits.{most_pixels};
 ghost use Rattle.fd_cover.specs.Bounds.{is_within};
 ghost use Rattle.fd_events.specs.Limits.{most_triangles};
-ghost use Rattle.fd_events.specs.Numbers.{numbers_of, listed_at, AreOrdered, Grow};
+ghost use Rattle.fd_events.specs.Numbers.{numbers_of, AreOrdered, Grow};
+ghost use Rattle.fd_events.specs.Packed.{listed_in};
 ghost use Rattle.fd_events.specs.Under.{AreUnder};
 ghost use Rattle.fd_events.specs.Cells.{cell_count, cell_at, place_of, IsGrid, IsPartUnder, HasCell, ListBox, ListBoxes, AreCells};
 
 use crate::draw::GROUP_LEN;
 use crate::numbers::{add_row, no_numbers};
+use crate::packed::Packed;
 use fd_cover::Bounds;
 use std::alloc::{AllocError, Global};
 
@@ -19,7 +21,10 @@ const LEAST_SHIFT: u32 = 5;
 /// The side of the largest cells is this power of two, and no target is larger.
 const GREATEST_SHIFT: u32 = 14;
 
-/// How many cells each triangle of a draw meets at most, on average.
+/// How many cells there are at most for each triangle of a draw, or for each vertex if these are fewer.
+const MOST_CELLS: usize = 4;
+
+/// How many numbers the cells list at most for each of them.
 const MOST_MEETINGS: usize = 8;
 
 /// Square cells that lie side by side, aligned to the target's corner.
@@ -35,7 +40,7 @@ pub(crate) struct Grid {
 #[derive(Debug, Drop)]
 pub(crate) struct Cells {
     grid: Grid,
-    lists: Vec<Vec<u32>>,
+    lists: Packed,
 }
 
 /// The cells, of a side that is this power of two, that a box of pixels meets.
@@ -81,14 +86,20 @@ fn count_in(area: Bounds) -> usize {
 }
 
 impl Grid {
-    /// The finest grid over a box that has no more cells than this.
-    fn over(bounds: Bounds, most: usize) -> Option<Grid>
+    /// The finest grid over a box that has more than one cell and not too many, of which the triangles' boxes meet not too many.
+    fn over(bounds: Bounds, boxes: &[Bounds], vertices: usize) -> Option<Grid>
+        requires { length boxes.now ≤ most_triangles }
         ensures { IfSome result (λ grid. IsGrid grid) }
     {
+        let weight = boxes.len().min(vertices);
         for shift in LEAST_SHIFT..GREATEST_SHIFT + 1 {
             let area = cells_under(bounds, shift);
-            if count_in(area) <= most {
-                return Some(Grid { shift, area });
+            let grid = Grid { shift, area };
+            if grid.len() <= 1 {
+                return None;
+            }
+            if grid.len() <= MOST_CELLS * weight && grid.meetings(boxes) <= MOST_MEETINGS * weight {
+                return Some(grid);
             }
         }
         None
@@ -194,29 +205,35 @@ impl Grid {
 impl Cells {
     /// The cells of a grid over a box, with the numbers of the boxes that meet each. None where the boxes are few, or all in a cell,
     /// or meet too many cells.
-    fn over(bounds: Bounds, boxes: &[Bounds], alloc: Global) -> Result<Option<Cells>, AllocError>
+    fn over(
+        bounds: Bounds,
+        boxes: &[Bounds],
+        vertices: usize,
+        alloc: Global,
+    ) -> Result<Option<Cells>, AllocError>
         requires { length boxes.now ≤ most_triangles }
         ensures { IfOk result (λ cells. IfSome cells (λ cells. AreCells cells boxes.now)) }
     {
         if boxes.len() <= GROUP_LEN as usize {
             return Ok(None);
         }
-        let Some(grid) = Grid::over(bounds, boxes.len()) else {
+        let Some(grid) = Grid::over(bounds, boxes, vertices) else {
             return Ok(None);
         };
-        if grid.len() <= 1 || grid.meetings(boxes) > MOST_MEETINGS * boxes.len() {
-            return Ok(None);
-        }
         let lists = grid.lists(boxes, alloc)?;
-        Ok(Some(Cells { grid, lists }))
+        match Packed::of(&lists, grid.meetings(boxes), alloc)? {
+            Some(lists) => Ok(Some(Cells { grid, lists })),
+            None => Ok(None),
+        }
     }
 
-    /// Such cells over the part of a box that lies on a target of this size.
+    /// Such cells over the part of a box that lies on a target of this size. How many they are at most depends on the number of vertices.
     pub(crate) fn on_target(
         bounds: Bounds,
         width: u32,
         height: u32,
         boxes: &[Bounds],
+        vertices: usize,
         alloc: Global,
     ) -> Result<Option<Box<Cells>>, AllocError>
         requires { length boxes.now ≤ most_triangles }
@@ -228,7 +245,7 @@ impl Cells {
             right: bounds.right.min(width),
             bottom: bounds.bottom.min(height),
         };
-        match Cells::over(part, boxes, alloc)? {
+        match Cells::over(part, boxes, vertices, alloc)? {
             Some(cells) => Ok(Some(Box::new(alloc, cells)?)),
             None => Ok(None),
         }
@@ -237,13 +254,11 @@ impl Cells {
     /// The numbers that the cell lists in which a window lies, where it lies in one.
     fn listed(&self, window: Bounds) -> Option<&[u32]>
         requires grid { IsGrid self.now.grid }
-        requires rise { (cell : ℕ) → IsNonDecreasing (listed_at (numbers_of self.now.lists.items) cell) }
+        requires rise { (cell : ℕ) → IsNonDecreasing (listed_in self.now.lists cell) }
         ensures rise { IfSome result (λ numbers. IsNonDecreasing numbers.now) }
-        ensures there { IfSome result (λ numbers. (x y : ℕ) → IsTrue (is_within window x y) → HasCell self.now.grid x y × (listed_at (numbers_of self.now.lists.items) (cell_at self.now.grid x y) ≡ numbers.now)) }
+        ensures there { IfSome result (λ numbers. (x y : ℕ) → IsTrue (is_within window x y) → HasCell self.now.grid x y × (listed_in self.now.lists (cell_at self.now.grid x y) ≡ numbers.now)) }
     {
-        let place = self.grid.place_under(window)?;
-        let numbers = self.lists.get(place)?;
-        Some(numbers)
+        self.lists.get(self.grid.place_under(window)?)
     }
 
     /// The first number from this one on that the cell lists in which a window lies, or else `end`; where it lies in no cell, this
@@ -251,10 +266,10 @@ impl Cells {
     pub(crate) fn next(&self, number: u32, end: u32, window: Bounds) -> u32
         requires order { number ≤ end }
         requires grid { IsGrid self.now.grid }
-        requires rise { (cell : ℕ) → IsNonDecreasing (listed_at (numbers_of self.now.lists.items) cell) }
+        requires rise { (cell : ℕ) → IsNonDecreasing (listed_in self.now.lists cell) }
         ensures from { number ≤ result }
         ensures last { result ≤ end }
-        ensures missed { (i x y : ℕ) → number ≤ i → i < result → IsTrue (is_within window x y) → HasCell self.now.grid x y × (Contains (listed_at (numbers_of self.now.lists.items) (cell_at self.now.grid x y)) i → ⊥) }
+        ensures missed { (i x y : ℕ) → number ≤ i → i < result → IsTrue (is_within window x y) → HasCell self.now.grid x y × (Contains (listed_in self.now.lists (cell_at self.now.grid x y)) i → ⊥) }
     {
         match self.listed(window) {
             Some(numbers) => first_from(numbers, number, end),

@@ -9,11 +9,13 @@ pub use table::{EventTable, MAX_EVENTS, TableFault};
 
 mod draw;
 mod event;
+mod finder;
 mod grid;
 mod label;
 pub mod laws;
 mod list;
 mod numbers;
+mod packed;
 mod pipeline;
 mod reach;
 mod table;

@@ -1,4 +1,4 @@
-ghost use Rattle.std.specs.Prelude.{◌≡◌, ◌*◌, ◌≤◌, ◌<◌, length, Some, option_map, slice_get, nat_lt};
+ghost use Rattle.std.specs.Prelude.{◌≡◌, ◌+◌, ◌-◌, ◌*◌, ◌/◌, ◌≤◌, ◌<◌, length, Some, option_map, slice_get, nat_lt};
 ghost use Rattle.std.specs.List.{list_all};
 ghost use Rattle.fd_events.specs.Indices.{has_too_many, are_in_range};
 
@@ -56,7 +56,7 @@ impl Model for TriangleList {
 
 impl TriangleList {
     ghost use Rattle.std.specs.Prelude.{IfOk};
-    ghost use Rattle.fd_events.specs.Bounds.{IsRound, IsRoundGroup, HoldEach, between};
+    ghost use Rattle.fd_events.specs.Bounds.{IsRound, IsRoundGroup, AreRoundGroups, HoldEach, between};
     ghost use Rattle.fd_events.specs.Draw.{made, listed, triangle_of, triangles_of};
     ghost use Rattle.fd_events.specs.Limits.{group_size, most_triangles, most_vertices};
 
@@ -93,6 +93,11 @@ impl TriangleList {
             None => self.vertices.len(),
             Some(indices) => indices.len(),
         }
+    }
+
+    /// The number of vertices.
+    pub(crate) fn vertex_count(&self) -> usize {
+        self.vertices.len()
     }
 
     /// The vertex at a corner.
@@ -177,6 +182,13 @@ impl TriangleList {
         bounds
     }
 
+    /// The box round all triangles, which holds every pixel that one of them covers.
+    pub(crate) fn all_bounds(&self) -> Bounds
+        ensures { IsRound result (triangles_of self.now) }
+    {
+        self.bounds(0, self.len())
+    }
+
     /// The box round a group of triangles, which holds every pixel that one of them covers.
     pub(crate) fn group_bounds(&self, group: u32) -> Bounds
         requires { group_size * group < length (triangles_of self.now) }
@@ -185,6 +197,25 @@ impl TriangleList {
         let len = self.len();
         let first = GROUP_LEN * group;
         self.bounds(first, (first + GROUP_LEN).min(len))
+    }
+
+    /// The number of groups of triangles.
+    fn group_count(&self) -> u32
+        ensures { result ≡ (length (triangles_of self.now) + (group_size - 1)) / group_size }
+    {
+        self.len().div_ceil(GROUP_LEN)
+    }
+
+    /// The boxes of all groups, in their order.
+    pub(crate) fn groups(&self, alloc: Global) -> Result<Vec<Bounds>, AllocError>
+        ensures { IfOk result (λ groups. AreRoundGroups groups.items (triangles_of self.now)) }
+    {
+        let count = self.group_count();
+        let mut groups = Vec::with_capacity(alloc, count as usize)?;
+        for group in 0..count {
+            groups.push(self.group_bounds(group))?;
+        }
+        Ok(groups)
     }
 
     /// The boxes of all triangles, in their order.

@@ -236,7 +236,7 @@ fn each_group_has_a_box_once_a_table_starts(rt: HostRuntime) -> Result<(), Fail>
     push_triangle(&mut vertices, FAR_CORNERS)?;
     let draw = Draw::new(vertices, None, Interp::Flat)?;
     assert_eq!(rt; (draw.group_bounds(0), draw.group_bounds(1)), (BOTH, BOTH));
-    assert_eq!(rt; draw.triangle_bounds(32), BOTH);
+    assert_eq!(rt; draw.triangle_bounds(32), FAR);
     let mut events = Vec::new(rt.alloc());
     events.push(Event::Draw(draw))?;
     let table = EventTable::start(rt.alloc(), 2, 8, 8, events)?;
@@ -335,27 +335,59 @@ fn with_large_ones(alloc: Global, small: u32, large: u32) -> Result<Vec<Vertex>,
 }
 
 #[test]
-fn few_or_large_triangles_are_in_no_cells(rt: HostRuntime) -> Result<(), Fail> {
-    // 30 small ones meet a cell each and 10 large ones 16 each, which is less than 8 each on average; 20 and 20 meet more
-    for (side, vertices, next) in [
-        (64, in_two_cells(rt.alloc(), 32)?, 0),
-        (64, in_two_cells(rt.alloc(), 33)?, 1),
-        (256, with_large_ones(rt.alloc(), 30, 10)?, 1),
-        (256, with_large_ones(rt.alloc(), 20, 20)?, 0),
+fn few_triangles_are_in_no_cells_and_large_ones_in_large_cells(
+    rt: HostRuntime,
+) -> Result<(), Fail> {
+    // 10 large ones meet 64 cells of 32 pixels each or 16 of 64, and 20 of them meet too many of these as well
+    for (side, vertices, corner, next) in [
+        (64, in_two_cells(rt.alloc(), 32)?, 32, 0),
+        (64, in_two_cells(rt.alloc(), 33)?, 32, 1),
+        (256, with_large_ones(rt.alloc(), 30, 10)?, 32, 0),
+        (256, with_large_ones(rt.alloc(), 30, 10)?, 64, 1),
+        (256, with_large_ones(rt.alloc(), 20, 20)?, 64, 0),
+        (256, with_large_ones(rt.alloc(), 20, 20)?, 128, 1),
     ] {
         let table = table_of(rt.alloc(), side, vertices)?;
         assert!(rt; table.len() == 1);
         let Event::Draw(draw) = table.event(1) else {
             return Err("a draw".into());
         };
-        let corner = side.saturating_sub(32);
-        let last = square(corner, corner, 32);
         assert_eq!(rt;
-            draw.next_listed(0, last),
+            draw.next_listed(0, square(corner, corner, 32)),
             next,
-            "{} triangles",
+            "{} triangles, from {corner} on",
             draw.triangles()
         );
+    }
+    Ok(())
+}
+
+#[test]
+fn triangles_of_few_vertices_are_in_no_cells(rt: HostRuntime) -> Result<(), Fail> {
+    for (vertices, next) in [(26, 1), (28, 2)] {
+        let mut corners = in_two_cells(rt.alloc(), 10)?;
+        corners.truncate(vertices);
+        let mut indices = vec![in rt.alloc(); 0; 0]?;
+        for number in 0..81 {
+            let corner: u32 = if number % 2 == 0 { 0 } else { 3 };
+            for index in [corner, corner.saturating_add(1), corner.saturating_add(2)] {
+                indices.push(index)?;
+            }
+        }
+        let mut events = Vec::new(rt.alloc());
+        events.push(Event::Draw(Draw::new(corners, Some(indices), Interp::Flat)?))?;
+        let table = EventTable::start(rt.alloc(), 2, 64, 64, events)?;
+        assert!(rt; table.len() == 1);
+        let Event::Draw(draw) = table.event(1) else {
+            return Err("a draw".into());
+        };
+        assert!(rt; draw.triangles() == 81);
+        assert_eq!(rt;
+            draw.next_listed(1, square(0, 0, 32)),
+            next,
+            "{vertices} vertices"
+        );
+        assert_eq!(rt; draw.triangle_bounds(80), NEAR);
     }
     Ok(())
 }

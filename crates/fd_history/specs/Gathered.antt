@@ -1,6 +1,5 @@
 -- Entries whose colours before and after are not known yet: their sources stand for both. Their depths are known.
 use Rattle.std.specs.Prelude.{◌≡◌, ℕ, ◌+◌, List, [], ◌∷◌, ◌++◌, Option, Some, None, if◌then◌else◌}
-use Rattle.fd_blend.specs.declared.channel.Colour.{Colour}
 use Rattle.fd_blend.specs.Channel.{fresh}
 use Rattle.fd_cover.specs.declared.shading.Interp.{Interp}
 use Rattle.fd_cover.specs.declared.verdict.Verdict.TheVariants.{Drawn}

@@ -4,3 +4,4 @@ pub mod Forward
 pub mod PassedOver
 pub mod Records
 pub mod Drawn
+pub mod Forgets

@@ -98,3 +98,16 @@ pixels_kept place history i x y =
 -- how many pixels all events overwrote
 abbrev pub pixels_recorded : History → ℕ
 pixels_recorded history = sum_by (λ rows. sum_by (λ row. sum_by length row) rows) (records history)
+
+-- ---- what is forgotten
+
+-- the frame of an event that kept nothing, with this image
+abbrev pub frame_without_kept : Place → List (List Pixel) → Frame
+frame_without_kept place image = record { image = image; kept = over_place place (λ _ _. []) }
+
+-- as many events have been gone through, and of all images the last alone is known
+abbrev pub without_past : Place → History → History
+without_past place history = record {
+  opening = last_image history;
+  frames = map (λ _. frame_without_kept place (last_image history)) history.frames;
+}

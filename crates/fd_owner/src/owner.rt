@@ -3,7 +3,7 @@ ghost use Rattle.fd_tile.specs.Place.{Holds, HasRow, IsTilePlace};
 ghost use Rattle.fd_tile.specs.Tile.{FillsPlace, pixels_of, row_in, pixel_in};
 ghost use Rattle.fd_draw.specs.Paints.{Paints};
 ghost use Rattle.fd_owner.specs.History.{position, last_image, pixels_kept, pixels_recorded, pixel_past, kept_past};
-ghost use Rattle.fd_owner.specs.Shown.{gone_forward, gone_back, refused, IsInside};
+ghost use Rattle.fd_owner.specs.Shown.{gone_forward, gone_back, refused, forgotten, IsInside};
 ghost use Rattle.fd_owner.specs.Step.{spans_past, pixels_past};
 ghost use Rattle.fd_owner.specs.Untouched.{Misses, IsUntouched};
 ghost use Rattle.fd_events.specs.Table.{flag_at};
@@ -210,6 +210,13 @@ impl Owner {
         ensures { self.new ≡ gone_back self.old }
     {
         self.undo.undo_top(&mut self.tile);
+    }
+
+    /// Forgets what all events overwrote, and gives its memory back. The position and the image that is shown stay, and the way back shows that image alone.
+    pub fn forget(&mut self)
+        ensures { self.new ≡ forgotten self.old }
+    {
+        self.undo.forget();
     }
 }
 

@@ -9,7 +9,7 @@ ghost use Rattle.fd_pam.specs.Transfer.{Puts, Writes, CountsFailure, CountsWrite
 use crate::device::{Failed, Sink, send};
 use arrayvec::ArrayVec;
 use fd_blend::Colour;
-use fd_session::Session;
+use fd_session::Shows;
 use itoa::Buffer;
 use std::alloc::{AllocError, Global};
 use thiserror::Error;
@@ -96,21 +96,21 @@ fn add_tuples(chunk: &mut ArrayVec<u8, CHUNK_LEN>, colours: &[Colour])
     }
 }
 
-/// Sends the tuples of the image that the session shows, a piece of a row at a time.
-fn send_tuples<W: Sink>(session: &Session, sink: &mut W, sent: &mut u64) -> Result<(), Failed>
+/// Sends the tuples of the image that the frame shows, a piece of a row at a time.
+fn send_tuples<F: Shows, W: Sink>(frame: &F, sink: &mut W, sent: &mut u64) -> Result<(), Failed>
     requires { sent.old + most_tuple_bytes < 2 ^ 64 }
-    ensures puts { Puts (W.contents sink.old) (W.contents sink.new) sent.old sent.new (tuples session.now) (is_ok result) }
-    ensures cut { OnErr result (sent.new < sent.old + length (tuples session.now)) }
+    ensures puts { Puts (W.contents sink.old) (W.contents sink.new) sent.old sent.new (tuples (F.state frame.now)) (is_ok result) }
+    ensures cut { OnErr result (sent.new < sent.old + length (tuples (F.state frame.now))) }
     ensures failures { CountsFailure (W.failure_count sink.old) (W.failure_count sink.new) (is_ok result) }
 {
-    let width = session.table().width();
-    let height = session.table().height();
+    let width = frame.table().width();
+    let height = frame.table().height();
     let mut chunk = ArrayVec::new();
     for y in 0..height {
         let mut x = 0;
         while x < width {
             make_room(&mut chunk, sink, sent)?;
-            let piece = session.row_from(x, y);
+            let piece = frame.row_from(x, y);
             add_tuples(&mut chunk, piece);
             x += piece.len() as u32;
         }
@@ -119,45 +119,45 @@ fn send_tuples<W: Sink>(session: &Session, sink: &mut W, sent: &mut u64) -> Resu
 }
 
 /// Sends the header and then the tuples.
-fn send_pam<W: Sink>(
+fn send_pam<F: Shows, W: Sink>(
     header: &str,
-    session: &Session,
+    frame: &F,
     sink: &mut W,
     sent: &mut u64,
 ) -> Result<(), Failed>
     requires { sent.old + length header.now + most_tuple_bytes < 2 ^ 64 }
-    ensures puts { Puts (W.contents sink.old) (W.contents sink.new) sent.old sent.new (header.now ++ tuples session.now) (is_ok result) }
-    ensures cut { OnErr result (sent.new < sent.old + length (header.now ++ tuples session.now)) }
+    ensures puts { Puts (W.contents sink.old) (W.contents sink.new) sent.old sent.new (header.now ++ tuples (F.state frame.now)) (is_ok result) }
+    ensures cut { OnErr result (sent.new < sent.old + length (header.now ++ tuples (F.state frame.now))) }
     ensures failures { CountsFailure (W.failure_count sink.old) (W.failure_count sink.new) (is_ok result) }
 {
     send(sink, sent, header.as_bytes())?;
-    send_tuples(session, sink, sent)
+    send_tuples(frame, sink, sent)
 }
 
-/// Writes the tuples of the image that the session shows, without the header.
-pub fn write_body<W: Sink>(sink: &mut W, session: &Session) -> Result<(), PamFault>
-    ensures bytes { Writes (W.contents sink.old) (W.contents sink.new) (tuples session.now) result }
+/// Writes the tuples of the image that the frame shows, without the header.
+pub fn write_body<F: Shows, W: Sink>(sink: &mut W, frame: &F) -> Result<(), PamFault>
+    ensures bytes { Writes (W.contents sink.old) (W.contents sink.new) (tuples (F.state frame.now)) result }
     ensures failures { CountsWrite (W.failure_count sink.old) (W.failure_count sink.new) result }
     ensures no_memory { result ≢ Err PamFault.Memory }
 {
     let mut sent = 0;
-    match send_tuples(session, sink, &mut sent) {
+    match send_tuples(frame, sink, &mut sent) {
         Ok(()) => Ok(()),
         Err(Failed) => Err(PamFault::Write { sent }),
     }
 }
 
-/// Writes the image that the session shows, with its header.
-pub fn write<W: Sink>(alloc: Global, sink: &mut W, session: &Session) -> Result<(), PamFault>
-    ensures bytes { Writes (W.contents sink.old) (W.contents sink.new) (pam session.now) result }
+/// Writes the image that the frame shows, with its header.
+pub fn write<F: Shows, W: Sink>(alloc: Global, sink: &mut W, frame: &F) -> Result<(), PamFault>
+    ensures bytes { Writes (W.contents sink.old) (W.contents sink.new) (pam (F.state frame.now)) result }
     ensures failures { CountsWrite (W.failure_count sink.old) (W.failure_count sink.new) result }
 {
-    let table = session.table();
+    let table = frame.table();
     let Ok(header) = header(alloc, table.width(), table.height()) else {
         return Err(PamFault::Memory);
     };
     let mut sent = 0;
-    match send_pam(&header, session, sink, &mut sent) {
+    match send_pam(&header, frame, sink, &mut sent) {
         Ok(()) => Ok(()),
         Err(Failed) => Err(PamFault::Write { sent }),
     }

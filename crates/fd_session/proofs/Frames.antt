@@ -191,7 +191,7 @@ held_start table size owners workers valid sized fresh crewed =
       },
     )
 
-some_tiles : (a b : ℕ) → 1 ≤ a → 1 ≤ b → 0 < (a + 31) / 32 * ((b + 31) / 32)
+pub some_tiles : (a b : ℕ) → 1 ≤ a → 1 ≤ b → 0 < (a + 31) / 32 * ((b + 31) / 32)
 some_tiles a b wide high =
     let across : 1 ≤ (a + 31) / 32 = omega arith in
     let down : 1 ≤ (b + 31) / 32 = omega arith in

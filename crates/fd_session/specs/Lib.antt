@@ -1,3 +1,4 @@
+pub mod Drawing
 pub mod Held
 pub mod Machine
 pub mod Moves

@@ -2,13 +2,17 @@
 #![tactic(auto)]
 
 pub use answer::{Answer, SessionFault};
+pub use picture::Picture;
 pub use session::Session;
+pub use shows::Shows;
 
 mod answer;
 pub mod laws;
 mod moves;
+mod picture;
 mod redraw;
 mod session;
+mod shows;
 #[cfg(test)]
 mod tests;
 mod worth;

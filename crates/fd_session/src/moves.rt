@@ -40,7 +40,7 @@ pub(crate) fn fresh_owners(alloc: Global, grid: &Grid) -> Result<Vec<Owner>, All
 /// How a move forward is handed to the crew.
 #[derive(Clone, Copy, Debug)]
 pub(crate) enum Pace {
-    /// All at once, by all workers.
+    /// All at once, by all these workers.
     Whole,
     /// Slice by slice, each by as many workers as it is worth. Where memory runs out, all that earlier slices did stays.
     Slices,

@@ -6,7 +6,7 @@ ghost use Rattle.fd_session.specs.Moves.{jump_answer};
 use crate::answer::{Answer, SessionFault};
 use crate::moves::{Pace, common_position, fresh_owners, go_back, go_on};
 use crate::redraw::go_again;
-use crate::worth::{Area, next_slice};
+use crate::worth::{Area, Slice, next_slice};
 use fd_blend::Colour;
 use fd_crew::{Free, Gate, Outcome};
 use fd_events::{EventTable, Pipeline};
@@ -70,8 +70,16 @@ impl Session {
         }
     }
 
-    /// Jumps to a position, forward at this pace.
-    fn jump<R: Threads + Sync, G: Gate>(&mut self, rt: &R, to: u32, pace: Pace, gate: &G) -> Answer
+    /// Jumps to a position, forward at this pace by at most so many workers.
+    fn jump<R: Threads + Sync, G: Gate>(
+        &mut self,
+        rt: &R,
+        to: u32,
+        workers: u32,
+        pace: Pace,
+        gate: &G,
+    ) -> Answer
+        requires { (1 ≤ workers) × (workers ≤ 64) }
         ensures { Jumps self.old to result self.new }
     {
         if to > self.table.len() {
@@ -87,7 +95,7 @@ impl Session {
             &mut self.owners,
             &self.table,
             to,
-            self.workers,
+            workers,
             pace,
             gate,
         );
@@ -109,27 +117,29 @@ impl Session {
     pub fn goto<R: Threads + Sync>(&mut self, rt: &R, to: u32) -> Answer
         ensures { Jumps self.old to result self.new }
     {
-        self.jump(rt, to, Pace::Slices, &Free)
+        self.jump(rt, to, self.workers, Pace::Slices, &Free)
     }
 
-    /// Where the next slice of a jump ends. A jump back, or to no position, has one slice.
-    fn part_end(&self, to: u32) -> u32
-        ensures { result ≢ to → (self.now.position < result) × (result < to) × (to ≤ length self.now.table.events) }
+    /// The next slice of a jump. A jump back, or to no position, has one slice.
+    fn next_part(&self, to: u32) -> Slice
+        ensures end { result.end ≢ to → (self.now.position < result.end) × (result.end < to) × (to ≤ length self.now.table.events) }
+        ensures workers { (1 ≤ result.workers) × (result.workers ≤ 64) }
     {
         let from = self.position();
+        let workers = self.workers;
         if to <= from || to > self.table.len() {
-            return to;
+            return Slice { end: to, workers };
         }
         let area = Area::of(&self.owners, self.table.width());
-        next_slice(&self.table, from, to, &area, self.workers).end
+        next_slice(&self.table, from, to, &area, workers)
     }
 
     /// Makes the next slice of a jump, and gives the answer to the jump where it has ended; else there is more to go.
     pub fn goto_part<R: Threads + Sync>(&mut self, rt: &R, to: u32) -> Option<Answer>
         ensures { JumpsPart self.old to result self.new }
     {
-        let end = self.part_end(to);
-        let answer = self.jump(rt, end, Pace::Slices, &Free);
+        let part = self.next_part(to);
+        let answer = self.jump(rt, part.end, part.workers, Pace::Whole, &Free);
         if let Answer::Moved { at } = answer {
             if at != to {
                 return None;
@@ -142,7 +152,7 @@ impl Session {
     pub fn goto_gated<R: Threads + Sync, G: Gate>(&mut self, rt: &R, to: u32, gate: &G) -> Answer
         ensures { Jumps self.old to result self.new }
     {
-        self.jump(rt, to, Pace::Whole, gate)
+        self.jump(rt, to, self.workers, Pace::Whole, gate)
     }
 
     /// Why an event can't be switched on or off.
@@ -292,7 +302,7 @@ impl Session {
 }
 
 /// The answer to a jump for which the crew ran.
-fn answer_to_jump(to: u32, run: Result<Outcome, AllocError>) -> Answer
+pub(crate) fn answer_to_jump(to: u32, run: Result<Outcome, AllocError>) -> Answer
     ensures { result ≡ jump_answer to run }
 {
     match run {

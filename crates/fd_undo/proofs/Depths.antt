@@ -8,7 +8,7 @@ use Rattle.std.proofs.lemmas.List.Sums.{sum_by-cons, sum_by-append, sum_by_push}
 use Rattle.fd_blend.specs.declared.channel.Colour.{Colour}
 use Rattle.fd_blend.specs.Channel.{fresh}
 use Rattle.fd_tile.specs.Tile.{Pixel, fresh_pixel}
-use Rattle.fd_undo.specs.declared.span.Span.{Span}
+use Rattle.fd_undo.specs.Span.{Span}
 use Rattle.fd_undo.specs.Frame.{kept_row}
 use Rattle.fd_undo.specs.Stored.{SpannedFrame, pixel_count, depth_count, listed, listed_in, depths_in, depths_of, last_pixels, spans_of, pixels_in, kept_of, Follow, DepthsFollow, no_frame}
 use Rattle.fd_undo.proofs.Zips.{length-zip_equal, zip-append, zip-take, zip-drop}

@@ -4,7 +4,7 @@ use Rattle.std.specs.Prelude.{slice_set}
 use Rattle.std.proofs.lemmas.List.{take_at, get_or_at, set_at, take_all, take-append-le, drop-append-le, length-take, append-nil, length_push, take_more}
 use Rattle.std.proofs.lemmas.List.Sums.{sum_by-cons}
 use Rattle.fd_tile.specs.Tile.{Pixel}
-use Rattle.fd_undo.specs.declared.span.Span.{Span}
+use Rattle.fd_undo.specs.Span.{Span}
 use Rattle.fd_undo.specs.Frame.{KeptPixel, kept_row, top, older}
 use Rattle.fd_undo.specs.Undo.{recorded_in}
 use Rattle.fd_undo.specs.Stored.{pixel_count, kept_of}

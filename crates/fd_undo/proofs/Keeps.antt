@@ -1,17 +1,17 @@
 -- A stack whose youngest frame keeps one span more.
-use Rattle.std.proofs.Common.{◌≡◌, ℕ, ◌+◌, ◌-◌, ◌<◌, ◌≤◌, Bool, true, false, List, [], ◌∷◌, ◌++◌, length, get_or, take, drop, refl, sym, ap, ◌∙◌, subst, arith, length-append}
+use Rattle.std.proofs.Common.{◌≡◌, ℕ, ◌+◌, ◌-◌, ◌<◌, ◌≤◌, Bool, false, List, [], ◌∷◌, ◌++◌, length, get_or, take, sym, ap, ◌∙◌, subst, arith, length-append}
 use Rattle.std.specs.Prelude.{All, slice_set}
 use Rattle.std.specs.List.{zip}
 use Rattle.std.proofs.lemmas.Bool.{false≢true}
-use Rattle.std.proofs.lemmas.List.{length_push, length-set, length-take, take_more}
+use Rattle.std.proofs.lemmas.List.{length_push, length-set}
 use Rattle.std.proofs.lemmas.List.Elements.{All-push, All-take}
 use Rattle.fd_blend.specs.declared.channel.Colour.{Colour}
 use Rattle.fd_tile.specs.Tile.{Pixel}
-use Rattle.fd_undo.specs.declared.span.Span.{Span}
+use Rattle.fd_undo.specs.Span.{Span}
 use Rattle.fd_undo.specs.declared.stored.StoredFrame.{StoredFrame}
 use Rattle.fd_undo.specs.Frame.{kept_row, top, older}
 use Rattle.fd_undo.specs.Parts.{Parts}
-use Rattle.fd_undo.specs.Stored.{SpannedFrame, spanned, spanned_frames, spans_of, pixels_in, frames_of, pixel_count, depth_count, listed, depths_in, Follow, SpansFollow, DepthsFollow, IsWholeFrame, HasOpenFrame, IsUndoStack, newest, top_stored}
+use Rattle.fd_undo.specs.Stored.{SpannedFrame, spanned, spanned_frames, pixels_in, frames_of, pixel_count, depth_count, listed, depths_in, Follow, SpansFollow, DepthsFollow, IsWholeFrame, HasOpenFrame, IsUndoStack, newest, top_stored}
 use Rattle.fd_undo.proofs.Zips.{length-zip_equal}
 use Rattle.fd_undo.proofs.Depths.{DepthsFollow-count, DepthsFollow-pop, pixels_in-kept}
 use Rattle.fd_undo.proofs.Pixels.{pixels_len, follow_pixels, depth_each}

@@ -12,3 +12,5 @@ pub mod Stacks
 pub mod Begins
 pub mod Keeps
 pub mod Undone
+pub mod Forgets
+pub mod PutBack

@@ -1,6 +1,6 @@
 -- A list in pieces: what changes at its end, and the piece of a place.
 use Rattle.std.proofs.Common.{◌≡◌, ℕ, zero, suc, ◌+◌, ◌-◌, ◌<◌, ◌≤◌, true, false, List, [], ◌∷◌, ◌++◌, length, get_or, take, drop, refl, sym, ap, ◌∙◌, subst, arith, append_assoc, length-append, length-drop, inl, inr, ◌⊎◌}
-use Rattle.std.specs.Prelude.{map, slice_set, All, vec_capacity}
+use Rattle.std.specs.Prelude.{slice_set, All, vec_capacity}
 use Rattle.std.proofs.lemmas.Bool.{cases_lt, leb-true, leb-false}
 use Rattle.std.proofs.Math.Dec.{leb}
 use Rattle.std.proofs.lemmas.List.{take_all, take_more, take-take, take-append-drop, take-append-le, drop-append-le, get_or-map, length-take, append-nil, set_at, get_or_default}
@@ -200,12 +200,6 @@ module _ {T : Type 0} where
   whole-cut a b len m items starts first n whole fits = record {
     within = omega (arith, ap length items, length-take len a.items, whole.within);
     apart = subst (λ l. All (λ s. (s ≤ first) ⊎ (first + n ≤ s)) l) (sym starts) (All-take (λ s. (s ≤ first) ⊎ (first + n ≤ s)) m a.starts whole.apart);
-  }
-
-  pub whole-same : (a b : Parts T) → b.items ≡ a.items → b.starts ≡ a.starts → (first n : ℕ) → IsWhole a first n → IsWhole b first n
-  whole-same a b items starts first n whole = record {
-    within = omega (arith, ap length items, whole.within);
-    apart = subst (λ l. All (λ s. (s ≤ first) ⊎ (first + n ≤ s)) l) (sym starts) whole.apart;
   }
 
   pub whole-grown : (a b : Parts T) → b.items ≡ a.items → b.starts ≡ a.starts ++ length a.items ∷ [] → (first n : ℕ) → IsWhole a first n → IsWhole b first n

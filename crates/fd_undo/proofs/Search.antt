@@ -1,5 +1,5 @@
 -- A stored frame that is looked for by its number.
-use Rattle.std.proofs.Common.{◌≡◌, ◌≢◌, ℕ, zero, suc, ◌+◌, ◌<◌, ◌≤◌, List, [], ◌∷◌, length, get_or, take, drop, Result, Ok, Err, None, IfSome, refl, sym, ap, ◌∙◌, subst, arith, length-drop, inl, inr, ◌⊎◌}
+use Rattle.std.proofs.Common.{◌≡◌, ◌≢◌, ℕ, zero, suc, ◌+◌, ◌<◌, ◌≤◌, List, [], ◌∷◌, length, get_or, take, drop, Result, Ok, Err, None, IfSome, refl, sym, ap, ◌∙◌, subst, arith, inl, inr, ◌⊎◌}
 use Rattle.std.proofs.lemmas.Bool.{cases_lt}
 use Rattle.std.proofs.lemmas.List.{get_or_past, length-take}
 use Rattle.std.specs.Result.{result_ok}
@@ -12,12 +12,12 @@ use Rattle.std.proofs.lemmas.Bool.Decides.{nat_tests}
 use Rattle.fd_tile.specs.Tile.{Pixel}
 use Rattle.std.specs.List.{zip}
 use Rattle.fd_blend.specs.declared.channel.Colour.{Colour}
-use Rattle.fd_undo.specs.declared.span.Span.{Span}
+use Rattle.fd_undo.specs.Span.{Span}
 use Rattle.fd_undo.proofs.Spanned.{length-spanned_frames, get_or-spanned, piece_long}
 use Rattle.fd_undo.proofs.Depths.{DepthsFollow-at, frame_pixels, depths_of-front, kept_of-front, length-depths_of}
 use Rattle.fd_undo.specs.declared.stored.StoredFrame.{StoredFrame}
 use Rattle.fd_undo.specs.Stored.{SpannedFrame, spanned, spanned_frames, pixels_in, no_stored, pixel_count, depth_count, depths_of, kept_of, frame_of, frames_of, Follow, DepthsFollow, NumbersRise, number_at, no_frame}
-use Rattle.fd_undo.proofs.Numbers.{Follow-order, Follow-at, this_number, other_number, get_or-frames_of, length-frames_of}
+use Rattle.fd_undo.proofs.Numbers.{Follow-at, this_number, other_number, get_or-frames_of, length-frames_of}
 
 -- the number of the frame at a place
 abbrev pub number_in : List SpannedFrame → ℕ → ℕ

@@ -3,10 +3,10 @@ use Rattle.std.proofs.Common.{◌≡◌, ℕ, zero, suc, ◌+◌, ◌-◌, ◌<�
 use Rattle.std.specs.Prelude.{All, slice_set}
 use Rattle.std.proofs.lemmas.List.{take_all, take_more, take-append-le, drop-append-le, take-append-drop, length-take, get_or-map, set_at, get_or_at, get_or_default, length_push}
 use Rattle.fd_blend.specs.declared.channel.Colour.{Colour}
-use Rattle.fd_undo.specs.declared.span.Span.{Span}
+use Rattle.fd_undo.specs.Span.{Span}
 use Rattle.fd_undo.specs.declared.stored.StoredFrame.{StoredFrame}
 use Rattle.fd_undo.specs.Parts.{Parts, IsWhole}
-use Rattle.fd_undo.specs.Stored.{SpannedFrame, spanned, spanned_frames, pixel_count, depth_count, Follow, DepthsFollow, SpansFollow, IsWholeFrame, no_stored, no_frame, newest, top_stored, number_at}
+use Rattle.fd_undo.specs.Stored.{SpannedFrame, spanned, spanned_frames, pixel_count, depth_count, Follow, DepthsFollow, SpansFollow, IsWholeFrame, no_stored, no_frame, newest, top_stored}
 use Rattle.fd_undo.proofs.Numbers.{Follow-at}
 use Rattle.fd_undo.proofs.Depths.{DepthsFollow-at}
 

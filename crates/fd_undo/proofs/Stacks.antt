@@ -1,9 +1,9 @@
 -- What holds of a stack's fields, after room was made for a frame.
-use Rattle.std.proofs.Common.{◌≡◌, ℕ, ◌+◌, ◌<◌, ◌≤◌, ◌^◌, Bool, true, false, List, length, refl, sym, ap, ◌∙◌, subst, arith}
+use Rattle.std.proofs.Common.{◌≡◌, ℕ, ◌+◌, ◌<◌, ◌≤◌, ◌^◌, Bool, true, false, List, length, refl, sym, ◌∙◌, subst, arith}
 use Rattle.std.specs.Prelude.{All}
 use Rattle.std.proofs.lemmas.Bool.{false≢true}
 use Rattle.fd_blend.specs.declared.channel.Colour.{Colour}
-use Rattle.fd_undo.specs.declared.span.Span.{Span}
+use Rattle.fd_undo.specs.Span.{Span}
 use Rattle.fd_undo.specs.declared.stored.StoredFrame.{StoredFrame}
 use Rattle.fd_undo.specs.Parts.{Parts, IsWhole}
 use Rattle.fd_undo.specs.Stored.{spanned_frames, Follow, SpansFollow, DepthsFollow, IsWholeFrame, IsUndoStack}

@@ -1,5 +1,5 @@
 -- A stack whose youngest frame is dropped.
-use Rattle.std.proofs.Common.{◌≡◌, ◌≢◌, ℕ, ◌+◌, ◌-◌, ◌<◌, ◌≤◌, Bool, true, false, List, [], ◌∷◌, ◌++◌, length, get_or, take, drop, refl, sym, ap, ◌∙◌, subst, arith, length-drop}
+use Rattle.std.proofs.Common.{◌≡◌, ◌≢◌, ℕ, ◌+◌, ◌-◌, ◌<◌, ◌≤◌, Bool, false, List, [], ◌∷◌, ◌++◌, length, take, drop, refl, sym, ap, ◌∙◌, subst, arith, length-drop}
 use Rattle.std.specs.Prelude.{All}
 use Rattle.std.specs.List.{zip}
 use Rattle.std.proofs.lemmas.Bool.{false≢true}
@@ -7,11 +7,11 @@ use Rattle.std.proofs.lemmas.List.{length_push, length-take, take_all, take_at, 
 use Rattle.std.proofs.lemmas.List.Elements.{All-take}
 use Rattle.fd_blend.specs.declared.channel.Colour.{Colour}
 use Rattle.fd_tile.specs.Tile.{Pixel}
-use Rattle.fd_undo.specs.declared.span.Span.{Span}
+use Rattle.fd_undo.specs.Span.{Span}
 use Rattle.fd_undo.specs.declared.stored.StoredFrame.{StoredFrame}
-use Rattle.fd_undo.specs.Frame.{KeptPixel, top, older}
+use Rattle.fd_undo.specs.Frame.{top, older}
 use Rattle.fd_undo.specs.Parts.{Parts, IsWhole}
-use Rattle.fd_undo.specs.Stored.{SpannedFrame, spanned, spanned_frames, pixels_in, last_pixels, frames_of, kept_of, pixel_count, depth_count, depths_of, Follow, SpansFollow, DepthsFollow, IsWholeFrame, IsUndoStack, newest, top_stored, no_stored}
+use Rattle.fd_undo.specs.Stored.{SpannedFrame, spanned, spanned_frames, pixels_in, last_pixels, frames_of, kept_of, pixel_count, depth_count, depths_of, Follow, SpansFollow, DepthsFollow, IsWholeFrame, IsUndoStack, newest}
 use Rattle.fd_undo.proofs.Depths.{DepthsFollow-pop}
 use Rattle.fd_undo.proofs.Pixels.{pixels_len, follow_pixels, popped_follow_pixels, popped_pixels, pixels_below}
 use Rattle.fd_undo.proofs.Numbers.{Follow-pop, Follow-less, popped_top, popped_older}

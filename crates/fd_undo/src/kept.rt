@@ -25,13 +25,13 @@ pub(crate) fn kept_in(
     for span in spans {
         if span.holds(x, y) {
             if left == 0 {
-                let column = (x - span.x as u32) as usize;
+                let column = (x - span.x()) as usize;
                 let depth = span.depth(depths, first_depth, column);
                 return Some((colours[first + column], depth));
             }
             left -= 1;
         }
-        first += span.len as usize;
+        first += span.len();
         first_depth += span.listed();
     }
     None
@@ -58,12 +58,12 @@ pub(crate) fn add_kept_in(
             return Ok(());
         }
         if span.holds(x, y) {
-            let column = (x - span.x as u32) as usize;
+            let column = (x - span.x()) as usize;
             let depth = span.depth(depths, first_depth, column);
             kept.push((colours[first + column], depth))?;
             left -= 1;
         }
-        first += span.len as usize;
+        first += span.len();
         first_depth += span.listed();
     }
     Ok(())

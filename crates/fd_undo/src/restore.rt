@@ -1,4 +1,4 @@
-ghost use Rattle.std.specs.Prelude.{◌≡◌, length, All};
+ghost use Rattle.std.specs.Prelude.{◌≡◌, length, All, replicate};
 ghost use Rattle.std.specs.List.{zip};
 ghost use Rattle.fd_tile.specs.Place.{Holds};
 ghost use Rattle.fd_undo.specs.Frame.{kept_row, restored};
@@ -20,7 +20,7 @@ pub(crate) fn put_back(spans: &[Span], colours: &[Colour], depths: &[u16], tile:
     while left > 0 {
         left -= 1;
         let span = spans[left];
-        let start = end - span.len as usize;
+        let start = end - span.len();
         let first_depth = depths_end - span.listed();
         put_back_row(
             tile,
@@ -43,10 +43,11 @@ fn put_back_row(tile: &mut Tile, span: &Span, old: &[Colour], depths: &[u16])
     if old.is_empty() {
         return;
     }
-    let start = (span.x as u32 - tile.place().left) as usize;
-    let row = tile.row_mut(span.y as u32);
+    let y = span.y();
+    let start = (span.x() - tile.place().left) as usize;
+    let row = tile.row_mut(y);
     row[start..start + old.len()].copy_from_slice(old);
-    let row = tile.depth_row_mut(span.y as u32);
+    let row = tile.depth_row_mut(y);
     write_depths(&mut row[start..start + old.len()], span, depths);
 }
 
@@ -56,8 +57,17 @@ fn write_depths(row: &mut [u16], span: &Span, depths: &[u16])
     requires depths_counted { length depths.now ≡ listed span.now }
     ensures { row.new ≡ depths_in span.now.same_depth span.now.len depths.now }
 {
-    match span.same_depth {
-        Some(depth) => row.fill(depth),
+    match span.same_depth() {
+        Some(depth) => fill(row, depth),
         None => row.copy_from_slice(depths),
+    }
+}
+
+/// Writes one depth over all of these. Each is written alike, the last one too, so that many are written at once.
+fn fill(row: &mut [u16], depth: u16)
+    ensures { row.new ≡ replicate (length row.old) depth }
+{
+    for each in row.iter_mut() {
+        *each = depth;
     }
 }

@@ -1,4 +1,4 @@
-ghost use Rattle.std.specs.Prelude.{◌≡◌, ◌+◌, ◌<◌, ◌≤◌, true, false, [], ◌∷◌, ◌++◌, length, take, slice_get, slice_index_or, All, None, IfSome, OnOk, OnErr};
+ghost use Rattle.std.specs.Prelude.{◌≡◌, ◌+◌, ◌<◌, ◌≤◌, true, false, [], ◌∷◌, ◌++◌, length, map, take, slice_get, slice_index_or, All, None, IfSome, OnOk, OnErr};
 ghost use Rattle.std.specs.List.{zip};
 ghost use Rattle.fd_snap.specs.Limits.{most_pixels};
 ghost use Rattle.fd_tile.specs.Place.{Holds};
@@ -183,12 +183,7 @@ impl UndoStack {
         requires bottom { y ≤ most_pixels }
         ensures { self.new ≡ with_kept self.old (kept_row x y (zip old.now depths.now)) }
     {
-        let span = Span {
-            x: x as u16,
-            y: y as u16,
-            len: old.len() as u16,
-            same_depth: same_depth(depths),
-        };
+        let span = Span::new(x, y, old.len(), same_depth(depths));
         self.colours.extend_from_slice(old);
         self.depths.extend_from_slice(&depths[..span.listed()]);
         self.spans.push(span);
@@ -222,6 +217,19 @@ impl UndoStack {
             self.colours.truncate(top.first);
             self.depths.truncate(top.first_depth);
         }
+    }
+
+    /// Empties all frames, and gives their memory back. No room is left.
+    pub fn forget(&mut self)
+        ensures { self.new ≡ without_room (map (λ _. []) self.old.frames) }
+    {
+        self.frame_left = false;
+        self.spans_left = 0;
+        self.pixels_left = 0;
+        self.stored = Vec::new(self.alloc);
+        self.spans.truncate(0);
+        self.colours.truncate(0);
+        self.depths.truncate(0);
     }
 
     /// How many frames there are.

@@ -67,6 +67,27 @@ fn a_frame_without_pixels_stores_nothing(rt: HostRuntime) -> Result<(), Fail> {
 }
 
 #[test]
+fn frames_that_are_forgotten_keep_nothing(rt: HostRuntime) -> Result<(), Fail> {
+    let mut undo = UndoStack::new(rt.alloc());
+    undo.reserve(0, 0)?;
+    undo.begin();
+    undo.reserve(2, 3)?;
+    undo.begin();
+    undo.keep(0, 0, &[RED, RED], &[DEEP, 7]);
+    undo.forget();
+    assert_eq!(rt; undo.frames(), 2);
+    assert_eq!(rt; undo.recorded(), 0);
+    assert!(rt; undo.stored.capacity() == 0);
+    assert!(rt; undo.depths.len() == 0);
+    undo.reserve(1, 1)?;
+    undo.begin();
+    undo.keep(1, 1, &[FRESH], &[DEEP]);
+    assert_eq!(rt; undo.kept(1, 0, 0, 0), None);
+    assert_eq!(rt; undo.kept(2, 1, 1, 0), Some((FRESH, DEEP)));
+    Ok(())
+}
+
+#[test]
 fn what_is_kept_of_a_pixel(rt: HostRuntime) -> Result<(), Fail> {
     let mut undo = UndoStack::new(rt.alloc());
     undo.reserve(0, 0)?;

@@ -1,8 +1,23 @@
-use Rattle.std.proofs.Common.{◌∙◌, ap, rules}
-use Rattle.fd_blend.specs.Row.{blended_row}
-use Rattle.fd_draw.proofs.Rows.{blended_columns}
+use Rattle.std.proofs.Common.{◌≡◌, ◌∙◌, ap, sym, subst, Option, IfSome}
+use Rattle.fd_blend.specs.Brush.{Stroke}
+use Rattle.fd_blend.specs.Row.{drawn_row}
+use Rattle.fd_cover.specs.declared.shading.Interp.{Interp}
+use Rattle.fd_cover.specs.declared.shading.Interp.TheVariants.{Flat}
+use Rattle.fd_cover.specs.Shade.{colour_of}
+use Rattle.fd_draw.specs.Primitive.{stroke_of, triangle_of}
+use Rattle.fd_draw.specs.Row.{changed_row}
+use Rattle.fd_draw.specs.Written.{colour_blended}
+use Rattle.fd_draw.proofs.Rows.{drawn_columns}
 use Rattle.fd_draw.proofs.write.blend_triangle.Goals as goal
 
-pub returns : goal.returns
-returns c =
-    c.blend_row.ensures ∙ ap (λ cs. blended_row c.args.state.now.blend c.args.state.now.factor cs c.args.row.now) (search rules) ∙ blended_columns c.args.state.now.blend c.args.state.now.factor _ c.args.x c.args.row.now
+pub returns-in-Some : goal.returns-in-Some
+returns-in-Some c =
+    let p = c.args.primitive.now in
+    let t = triangle_of p in
+    let s = c.args.state.now in
+    let row = c.args.row.now in
+    let brushed = subst (λ (o : Option Stroke). IfSome o (λ b. (p.interp ≡ Flat) × (b ≡ stroke_of s (colour_of p.colours 0)))) c.in-Some.is c.requires.brushed in
+    c.draw.ensures
+    ∙ ap (λ (b : Stroke). drawn_row b.state b.factor b.source row) brushed.1
+    ∙ drawn_columns t s c.args.x c.args.y row
+    ∙ ap (λ (interp : Interp). changed_row (λ column before. colour_blended t interp s column c.args.y before) c.args.x row) (sym brushed.0)

@@ -1,12 +1,11 @@
-use Rattle.std.proofs.Common.{refl, ◌≡◌, ◌<◌, ◌≤◌, ◌+◌, ◌-◌, ◌*◌, ◌∙◌, ◌++◌, [], ◌∷◌, length, sym, ap, arith}
+use Rattle.std.proofs.Common.{refl, ◌≡◌, ◌+◌, ◌-◌, ◌∙◌, ◌++◌, [], ◌∷◌, ap, arith}
 use Rattle.fd_events.specs.Image.{Pixel, pixel_at, stored_at}
-use Rattle.fd_owner.specs.History.{History, position, last_image, drawn_history}
+use Rattle.fd_owner.specs.History.{History, position, last_image}
 use Rattle.fd_owner.proofs.Drawn.{pixel_drawn}
 use Rattle.fd_tile.specs.Tile.{pixel_in}
 use Rattle.fd_history.specs.Gathered.{Gathering}
-use Rattle.fd_history.specs.History.{history_at}
-use Rattle.fd_history.specs.Settled.{gathered_at, overwritten, drawn_count, settled}
-use Rattle.fd_history.proofs.Settles.{enough, history_settles, given_back, gathering_at, next_event, next_kept}
+use Rattle.fd_history.specs.Settled.{gathered_at, overwritten, settled}
+use Rattle.fd_history.proofs.Settles.{enough, history_settles, given_back, next_event, next_kept}
 use Rattle.fd_history.proofs.passes.history.Goals as goal
 
 pub invariant_of-gather : goal.invariant_of-gather

@@ -1,8 +1,7 @@
-use Rattle.std.proofs.Common.{◌≡◌, ◌+◌, ◌-◌, ◌<◌, ◌∙◌, ◌++◌, true, Some, List, sym, ap, subst, arith, length, take, drop, length-append}
+use Rattle.std.proofs.Common.{◌≡◌, ◌+◌, ◌-◌, ◌∙◌, ◌++◌, true, Some, List, sym, ap, subst, arith, length, take, drop, length-append}
 use Rattle.std.proofs.lemmas.List.{drop_at, take_all}
 use Rattle.std.specs.Prelude.{OnOk}
-use Rattle.fd_tile.specs.Place.{Holds}
-use Rattle.fd_events.specs.Image.{Pixel, stored_at, kept_at}
+use Rattle.fd_events.specs.Image.{Pixel, kept_at}
 use Rattle.fd_events.specs.Table.{flag_at, state_at}
 use Rattle.fd_owner.specs.History.{position, pixels_kept, drawn_history}
 use Rattle.fd_owner.proofs.Drawn.{kept_drawn}

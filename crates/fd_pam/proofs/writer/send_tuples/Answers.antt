@@ -9,7 +9,7 @@ use Rattle.fd_pam.proofs.writer.send_tuples.Goals as goal
 
 pub make_room-requires : goal.make_room-requires
 make_room-requires g c =
-    let state = c.args.session.now in
+    let state = g.F.Shows.state c.args.frame.now in
     let inv = c.loop-x.invariant in
     let width : c.width-width.result ≡ state.table.width = c.width-width.ensures.value ∙ ap (λ (t : Table). t.width) c.table.ensures in
     let height : c.height-height.result ≡ state.table.height = c.height-height.ensures.value ∙ ap (λ (t : Table). t.height) c.table-2.ensures in
@@ -23,7 +23,7 @@ returns-in_err-make_room-clause-puts g c =
     let p = err_from_is_err_and c.from_residual.result c.from_residual.ensures.1 in
     let inv = c.loop-x.invariant in
     rw p.1
-    (body_broken c.args.session.now _ (g.W.Sink.contents c.loop-x.sink) _ _ c.loop-x.sent _ inv.text c.loop-x.chunk.items (c.loop-y.y * c.args.session.now.table.width + c.loop-x.x)
+    (body_broken (g.F.Shows.state c.args.frame.now) _ (g.W.Sink.contents c.loop-x.sink) _ _ c.loop-x.sent _ inv.text c.loop-x.chunk.items (c.loop-y.y * (g.F.Shows.state c.args.frame.now).table.width + c.loop-x.x)
     inv.appended inv.counted c.in_err-make_room.ensures.err inv.so_far)
 
 pub returns-in_err-make_room-clause-cut : goal.returns-in_err-make_room-clause-cut
@@ -31,12 +31,12 @@ returns-in_err-make_room-clause-cut g c =
     let p = err_from_is_err_and c.from_residual.result c.from_residual.ensures.1 in
     let inv = c.loop-x.invariant in
     rw p.1
-    (body_cut c.args.session.now _ c.loop-x.sent _ inv.text c.loop-x.chunk.items (c.loop-y.y * c.args.session.now.table.width + c.loop-x.x)
+    (body_cut (g.F.Shows.state c.args.frame.now) _ c.loop-x.sent _ inv.text c.loop-x.chunk.items (c.loop-y.y * (g.F.Shows.state c.args.frame.now).table.width + c.loop-x.x)
     inv.counted c.in_err-make_room.ensures.cut inv.so_far)
 
 pub loop-x-preserved : goal.loop-x-preserved
 loop-x-preserved g c =
-    let state = c.args.session.now in
+    let state = g.F.Shows.state c.args.frame.now in
     let inv = c.loop-x.invariant in
     let y = c.loop-y.y in
     let x = c.loop-x.x in
@@ -61,7 +61,7 @@ loop-x-preserved g c =
 
 pub send-requires : goal.send-requires
 send-requires g c =
-    let state = c.args.session.now in
+    let state = g.F.Shows.state c.args.frame.now in
     let inv = c.loop-y.invariant in
     let sent = so_far_short state (c.loop-y.y * state.table.width) inv.text c.loop-y.chunk.items
     (omega (arith, ap (λ (t : Table). t.width) c.table.ensures, c.width-width.ensures.table.max_width))
@@ -70,7 +70,7 @@ send-requires g c =
 
 pub returns-clause-puts : goal.returns-clause-puts
 returns-clause-puts g c =
-    let state = c.args.session.now in
+    let state = g.F.Shows.state c.args.frame.now in
     let inv = c.loop-y.invariant in
     let height : c.height-height.result ≡ state.table.height = c.height-height.ensures.value ∙ ap (λ (t : Table). t.height) c.table-2.ensures in
     let all : c.loop-y.y ≡ state.table.height = omega (arith, height, c.loop-y-test.false, c.loop-y.auto.y-end) in
@@ -80,7 +80,7 @@ returns-clause-puts g c =
 
 pub returns-clause-cut : goal.returns-clause-cut
 returns-clause-cut g c =
-    let state = c.args.session.now in
+    let state = g.F.Shows.state c.args.frame.now in
     let inv = c.loop-y.invariant in
     let cut = rw c.as_slice.ensures.value at c.send.ensures.cut in
-    cut_after c.send.result _ c.loop-y.sent _ inv.text c.loop-y.chunk.items c.args.session.now (c.loop-y.y * state.table.width) inv.counted inv.so_far cut
+    cut_after c.send.result _ c.loop-y.sent _ inv.text c.loop-y.chunk.items (g.F.Shows.state c.args.frame.now) (c.loop-y.y * state.table.width) inv.counted inv.so_far cut

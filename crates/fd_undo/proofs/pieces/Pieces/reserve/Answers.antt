@@ -1,7 +1,7 @@
-use Rattle.std.proofs.Common.{◌≡◌, ◌+◌, ◌-◌, ◌<◌, ◌≤◌, ℕ, List, [], ◌∷◌, ◌++◌, length, refl, sym, ap, ◌∙◌, subst, arith}
+use Rattle.std.proofs.Common.{◌≡◌, List, [], ◌∷◌, ◌++◌, length, sym, ap, ◌∙◌, subst, arith}
 use Rattle.std.proofs.lemmas.List.{take_all}
-use Rattle.fd_undo.specs.Parts.{Parts, IsWhole}
-use Rattle.fd_undo.specs.Pieces.{items_of, starts_of, Chain, HasRoom, IsPieces}
+use Rattle.fd_undo.specs.Parts.{IsWhole}
+use Rattle.fd_undo.specs.Pieces.{items_of, starts_of, IsPieces}
 use Rattle.fd_undo.specs.declared.pieces.Piece.{Piece}
 use Rattle.fd_undo.proofs.PieceLemmas.{added-items, added-starts, added-chain, added-room, whole-grown}
 use Rattle.fd_undo.proofs.pieces.Pieces.reserve.Goals as goal

@@ -1,8 +1,7 @@
-use Rattle.std.proofs.Common.{◌≡◌, ◌+◌, ◌-◌, ◌<◌, ◌≤◌, ℕ, List, length, get_or, take, refl, sym, ap, ◌∙◌, subst, arith}
-use Rattle.std.specs.Prelude.{slice_set, vec_capacity}
+use Rattle.std.proofs.Common.{◌≡◌, ◌+◌, ◌-◌, ◌<◌, ◌≤◌, length, get_or, refl, sym, ap, ◌∙◌, subst, arith}
+use Rattle.std.specs.Prelude.{slice_set}
 use Rattle.std.proofs.lemmas.Bool.Decides.{nat_tests}
 use Rattle.std.proofs.lemmas.List.{get_or-take, length-take, take-map}
-use Rattle.fd_undo.specs.Parts.{IsWhole}
 use Rattle.fd_undo.specs.Pieces.{items_of, starts_of, IsFound, Chain, HasRoom}
 use Rattle.fd_undo.specs.declared.pieces.Piece.{Piece}
 use Rattle.fd_undo.proofs.PieceLemmas.{start-at, ends-within, cut-items, cut-starts, cut-chain, cut-room, whole-cut}

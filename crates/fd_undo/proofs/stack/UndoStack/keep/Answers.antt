@@ -1,11 +1,10 @@
-use Rattle.std.proofs.Common.{false, ℕ, ◌≡◌, ◌+◌, ◌-◌, ◌<◌, ◌≤◌, ◌∙◌, refl, sym, ap, subst, List, ◌++◌, length, take, arith}
+use Rattle.std.proofs.Common.{false, ℕ, ◌≡◌, ◌+◌, ◌-◌, ◌<◌, ◌≤◌, ◌∙◌, refl, sym, ap, subst, List, [], ◌∷◌, ◌++◌, length, take, arith}
 use Rattle.std.specs.Prelude.{vec_capacity}
 use Rattle.std.specs.List.{zip}
 use Rattle.std.proofs.lemmas.List.{length-take, length_push}
-use Rattle.fd_undo.specs.declared.span.Span.{Span}
+use Rattle.fd_undo.specs.Span.{Span}
 use Rattle.fd_undo.specs.declared.stored.StoredFrame.{StoredFrame}
 use Rattle.fd_undo.specs.Frame.{KeptPixel}
-use Rattle.fd_undo.specs.Parts.{Parts}
 use Rattle.fd_undo.specs.Stored.{listed, depths_in, IsWholeFrame, HasOpenFrame}
 use Rattle.fd_undo.proofs.Zips.{length-zip_equal}
 use Rattle.fd_undo.proofs.Depths.{listed_at_most, depths_in-listed}
@@ -22,8 +21,7 @@ overflow_add-index_mut c =
     let f : StoredFrame = c.index_mut.result.now in
     let whole : IsWholeFrame c.self.inside.spans c.self.inside.colours c.self.inside.depths f =
     subst (λ g. IsWholeFrame c.self.inside.spans c.self.inside.colours c.self.inside.depths g) (sym c.index_mut.ensures.value) (c.self.invariant.whole (c.len-top.result - 1) f (omega (arith, at, opened.some))) in
-    let s : Span = record { x = c.args.x; y = c.args.y; len = length c.args.old.now; same_depth = c.same_depth.result } in
-    omega (arith, whole.spans_whole.within, c.push.ensures.countable, ap (λ p. length p.items) c.push.ensures.value, length_push c.self.inside.spans.items s)
+    omega (arith, whole.spans_whole.within, c.push.ensures.countable, ap (λ p. length p.items) c.push.ensures.value, length_push c.self.inside.spans.items c.new-span.result)
 
 pub invariant_of-self : goal.invariant_of-self
 invariant_of-self c =
@@ -45,12 +43,14 @@ invariant_of-self c =
     let few : listed s ≤ length c.args.old.now = listed_at_most c.same_depth.result (length c.args.old.now) in
     let own : length (take (listed s) c.args.depths.now) ≡ listed s = omega (arith, length-take (listed s) c.args.depths.now, few, c.requires.equal) in
     let all_deep : depths_in s.same_depth s.len (take (listed s) c.args.depths.now) ≡ c.args.depths.now = depths_in-listed c.same_depth.result (length c.args.old.now) c.args.depths.now c.same_depth.ensures.alike (sym c.requires.equal) in
+    let a_is : c.push.new.self ≡ record { items = c.self.inside.spans.items ++ s ∷ []; starts = c.self.inside.spans.starts; room = c.self.inside.spans.room - 1 } =
+    c.push.ensures.value ∙ ap (λ (t : Span). record { items = c.self.inside.spans.items ++ t ∷ []; starts = c.self.inside.spans.starts; room = c.self.inside.spans.room - 1 }) c.new-span.ensures in
     let c_is : c.extend_from_slice-2.new.self
     ≡ record { items = c.self.inside.depths.items ++ take (listed s) c.args.depths.now; starts = c.self.inside.depths.starts; room = c.self.inside.depths.room - length (take (listed s) c.args.depths.now) } =
     c.extend_from_slice-2.ensures
-    ∙ ap (λ (k : ℕ). record { items = c.self.inside.depths.items ++ take k c.args.depths.now; starts = c.self.inside.depths.starts; room = c.self.inside.depths.room - length (take k c.args.depths.now) }) c.listed.ensures in
+    ∙ ap (λ (k : ℕ). record { items = c.self.inside.depths.items ++ take k c.args.depths.now; starts = c.self.inside.depths.starts; room = c.self.inside.depths.room - length (take k c.args.depths.now) }) (c.listed.ensures ∙ ap listed c.new-span.ensures) in
     kept_stack c.self.inside.count n c.self.inside.stored.items c.self.inside.spans c.push.new.self c.self.inside.colours c.extend_from_slice.new.self c.self.inside.depths c.extend_from_slice-2.new.self (vec_capacity c.self.inside.stored) c.self.inside.frame_left c.self.inside.spans_left c.self.inside.pixels_left
-    c.self.invariant begun opened f g at c.index_mut.ensures.value refl s c.args.old.now c.args.depths.now refl c.requires.equal all_deep own c.push.ensures.value c.extend_from_slice.ensures c_is
+    c.self.invariant begun opened f g at c.index_mut.ensures.value refl s c.args.old.now c.args.depths.now refl c.requires.equal all_deep own a_is c.extend_from_slice.ensures c_is
     span pixels few
 
 pub returns : goal.returns
@@ -73,13 +73,15 @@ returns c =
     let few : listed s ≤ length c.args.old.now = listed_at_most c.same_depth.result (length c.args.old.now) in
     let own : length (take (listed s) c.args.depths.now) ≡ listed s = omega (arith, length-take (listed s) c.args.depths.now, few, c.requires.equal) in
     let all_deep : depths_in s.same_depth s.len (take (listed s) c.args.depths.now) ≡ c.args.depths.now = depths_in-listed c.same_depth.result (length c.args.old.now) c.args.depths.now c.same_depth.ensures.alike (sym c.requires.equal) in
+    let a_is : c.push.new.self ≡ record { items = c.self.inside.spans.items ++ s ∷ []; starts = c.self.inside.spans.starts; room = c.self.inside.spans.room - 1 } =
+    c.push.ensures.value ∙ ap (λ (t : Span). record { items = c.self.inside.spans.items ++ t ∷ []; starts = c.self.inside.spans.starts; room = c.self.inside.spans.room - 1 }) c.new-span.ensures in
     let c_is : c.extend_from_slice-2.new.self
     ≡ record { items = c.self.inside.depths.items ++ take (listed s) c.args.depths.now; starts = c.self.inside.depths.starts; room = c.self.inside.depths.room - length (take (listed s) c.args.depths.now) } =
     c.extend_from_slice-2.ensures
-    ∙ ap (λ (k : ℕ). record { items = c.self.inside.depths.items ++ take k c.args.depths.now; starts = c.self.inside.depths.starts; room = c.self.inside.depths.room - length (take k c.args.depths.now) }) c.listed.ensures in
+    ∙ ap (λ (k : ℕ). record { items = c.self.inside.depths.items ++ take k c.args.depths.now; starts = c.self.inside.depths.starts; room = c.self.inside.depths.room - length (take k c.args.depths.now) }) (c.listed.ensures ∙ ap listed c.new-span.ensures) in
     let count : length c.args.old.now ≡ length (zip c.args.old.now c.args.depths.now) = sym (length-zip_equal c.args.old.now c.args.depths.now c.requires.equal) in
     rw (← c.self.view_is)
     (rw (length-kept_row c.args.x c.args.y (zip c.args.old.now c.args.depths.now), ← count)
     (ap (λ (fs : List (List KeptPixel)). record { frames = fs; frame_left = c.self.inside.frame_left; spans_left = c.self.inside.spans_left - 1; pixels_left = c.self.inside.pixels_left - length c.args.old.now })
     (kept_now c.self.inside.count n c.self.inside.stored.items c.self.inside.spans c.push.new.self c.self.inside.colours c.extend_from_slice.new.self c.self.inside.depths c.extend_from_slice-2.new.self (vec_capacity c.self.inside.stored) c.self.inside.frame_left c.self.inside.spans_left c.self.inside.pixels_left
-    c.self.invariant begun opened f g at c.index_mut.ensures.value refl s c.args.old.now c.args.depths.now refl c.requires.equal all_deep own c.push.ensures.value c.extend_from_slice.ensures c_is)))
+    c.self.invariant begun opened f g at c.index_mut.ensures.value refl s c.args.old.now c.args.depths.now refl c.requires.equal all_deep own a_is c.extend_from_slice.ensures c_is)))

@@ -1,9 +1,9 @@
-use Rattle.std.proofs.Common.{◌≡◌, ◌≢◌, ◌+◌, ◌-◌, ◌<◌, ◌≤◌, ℕ, [], List, length, take, drop, get_or, None, refl, sym, subst, ap, ◌∙◌, arith}
+use Rattle.std.proofs.Common.{◌≡◌, ◌≢◌, ◌<◌, ◌≤◌, ℕ, [], List, length, take, drop, get_or, refl, sym, subst, ap, ◌∙◌, arith}
 use Rattle.std.specs.List.{zip}
-use Rattle.fd_undo.specs.declared.span.Span.{Span}
+use Rattle.fd_undo.specs.Span.{Span}
 use Rattle.fd_undo.specs.declared.stored.StoredFrame.{StoredFrame}
 use Rattle.fd_undo.specs.Stored.{SpannedFrame, spanned, spanned_frames, pixels_in, pixel_count, depth_count, depths_of, kept_of, IsWholeFrame, number_at, NumbersRise}
-use Rattle.fd_undo.proofs.Search.{numbers_rise, number_in, number_in-stored, frame_not_stored, frame_fits, frame_read}
+use Rattle.fd_undo.proofs.Search.{numbers_rise, number_in-stored, frame_not_stored, frame_fits, frame_read}
 use Rattle.fd_undo.proofs.Spanned.{length-spanned_frames}
 use Rattle.fd_undo.proofs.stack.UndoStack.stored_parts.Goals as goal
 

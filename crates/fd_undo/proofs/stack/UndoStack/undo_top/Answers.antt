@@ -1,7 +1,6 @@
-use Rattle.std.proofs.Common.{false, ◌≡◌, ◌+◌, ◌-◌, ◌<◌, ◌≤◌, ◌∙◌, refl, sym, ap, subst, List, ◌++◌, length, take, drop, arith}
+use Rattle.std.proofs.Common.{false, ◌-◌, ◌<◌, ◌∙◌, refl, sym, ap, subst, List, length, arith}
 use Rattle.std.specs.Prelude.{vec_capacity}
-use Rattle.std.proofs.lemmas.List.{length-take}
-use Rattle.fd_undo.specs.Frame.{KeptPixel, restored, top, older}
+use Rattle.fd_undo.specs.Frame.{KeptPixel, restored, top}
 use Rattle.fd_undo.specs.Stored.{SpannedFrame, spanned_frames, pixels_in, frames_of, IsUndoStack}
 use Rattle.fd_undo.proofs.Numbers.{length-frames_of, empty_top, older-frames_of}
 use Rattle.fd_undo.proofs.Restored.{Inside}

@@ -1,0 +1,29 @@
+use Rattle.std.proofs.Common.{◌≡◌, ℕ, ◌+◌, ◌<◌, ◌++◌, ◌∷◌, [], List, length, length-append, Vec, sym, ap, subst, arith, ◌∙◌}
+use Rattle.std.proofs.lemmas.List.{length-map, get_or-map}
+use Rattle.std.specs.declared.alloc.Global.{Global}
+use Rattle.fd_events.specs.Numbers.{numbers_of, listed_at}
+use Rattle.fd_events.proofs.PackedLemmas.{ArePacked, ArePacked-next, ArePacked-all}
+use Rattle.fd_events.proofs.packed.Packed.of.Goals as goal
+
+pub loop-cell-preserved : goal.loop-cell-preserved
+loop-cell-preserved c =
+    let items = λ (list : Vec ℕ Global). list.items in
+    let all = c.args.lists.now in
+    let cell = c.loop-cell.cell in
+    let numbers = c.loop-cell.numbers.items in
+    let starts = c.loop-cell.starts.items in
+    let list = c.deref.result.now in
+    let within : cell < length all = omega (arith, c.loop-cell-test.true) in
+    let its : list ≡ listed_at (numbers_of all) cell = c.deref.ensures.value ∙ ap items c.index-lists-cell.is ∙ sym (get_or-map items all cell _ [] within) in
+    let longer = c.in_ok-extend_from_slice.ensures.items in
+    let end : c.in-Ok.end ≡ length (numbers ++ list) = omega (arith, c.in-Ok.ensures, c.len.ensures, c.in_ok-extend_from_slice.ensures.len, c.loop-cell.numbers.ok.0, length-append numbers list) in
+    let more = c.in_ok-push-2.ensures.items in
+    rw (longer, more) (ArePacked-next numbers starts list (numbers_of all) cell c.in-Ok.end c.loop-cell.invariant its end)
+
+pub returns : goal.returns
+returns c =
+    let items = λ (list : Vec ℕ Global). list.items in
+    let all = c.args.lists.now in
+    let cell = c.loop-cell.cell in
+    let last : cell ≡ length (numbers_of all) = omega (arith, c.loop-cell-test.false, c.loop-cell.auto.cell-end, length-map all items) in
+    λ at. ArePacked-all c.loop-cell.numbers.items c.loop-cell.starts.items (numbers_of all) (rw (← last) c.loop-cell.invariant) at

@@ -1,0 +1,62 @@
+ghost use Rattle.std.specs.Prelude.{IfOk, IfSome};
+ghost use Rattle.fd_events.specs.Draw.{triangles_of};
+ghost use Rattle.fd_events.specs.Finder.{Finds};
+
+use crate::grid::Cells;
+use crate::list::TriangleList;
+use fd_cover::Bounds;
+use std::alloc::{AllocError, Global};
+
+/// So few triangles are looked at one by one.
+const FEW_TRIANGLES: u32 = 3;
+
+/// Of a draw with more triangles for each vertex no box of a triangle is kept, since its text is short beside what would be.
+const MOST_OF_A_VERTEX: usize = 3;
+
+/// What is kept of a draw's triangles, to find those of a window.
+#[derive(Debug, Drop)]
+pub(crate) struct Finder {
+    pub(crate) bounds: Bounds,
+    // the box of each group
+    pub(crate) groups: Vec<Bounds>,
+    // the box of each triangle, or nothing
+    pub(crate) boxes: Vec<Bounds>,
+    // for many triangles that are small: those that meet each cell of a grid
+    pub(crate) cells: Option<Box<Cells>>,
+}
+
+impl Finder {
+    /// What is kept of these triangles for a target of this size. None where they are few.
+    pub(crate) fn of(
+        list: &TriangleList,
+        width: u32,
+        height: u32,
+        alloc: Global,
+    ) -> Result<Option<Finder>, AllocError>
+        ensures { IfOk result (λ finder. IfSome finder (λ finder. Finds finder (triangles_of list.now))) }
+    {
+        let count = list.len();
+        let vertices = list.vertex_count();
+        if count <= FEW_TRIANGLES {
+            return Ok(None);
+        }
+        let bounds = list.all_bounds();
+        let groups = list.groups(alloc)?;
+        if count as usize / MOST_OF_A_VERTEX > vertices {
+            return Ok(Some(Finder {
+                bounds,
+                groups,
+                boxes: Vec::new(alloc),
+                cells: None,
+            }));
+        }
+        let boxes = list.boxes(alloc)?;
+        let cells = Cells::on_target(bounds, width, height, &boxes, vertices, alloc)?;
+        Ok(Some(Finder {
+            bounds,
+            groups,
+            boxes,
+            cells,
+        }))
+    }
+}

@@ -1,0 +1,89 @@
+-- An owner that forgets what its events overwrote, and how its history goes on.
+use Rattle.std.proofs.Common.{◌≡◌, ℕ, zero, suc, ◌+◌, List, [], ◌∷◌, length, refl, sym, ap, ◌∙◌, subst, arith}
+use Rattle.std.specs.Prelude.{map, All}
+use Rattle.std.specs.List.{fold, sum_by, range_with_len}
+use Rattle.std.proofs.lemmas.List.{length-map}
+use Rattle.std.proofs.lemmas.List.Elements.{All-nil, All-cons}
+use Rattle.fd_tile.specs.declared.place.Place.{Place}
+use Rattle.fd_tile.specs.Place.{Holds, over_place}
+use Rattle.fd_tile.specs.Tile.{Pixel, TileImage, pixel_in, pixels_of}
+use Rattle.fd_undo.specs.Frame.{KeptPixel}
+use Rattle.fd_undo.specs.Undo.{Undo}
+use Rattle.fd_undo.proofs.Restored.{Inside}
+use Rattle.fd_events.specs.Table.{Table}
+use Rattle.fd_owner.specs.History.{Frame, History, position, last_or, last_image, pixel_past, extend_by, pixels_recorded, frame_without_kept, without_past}
+use Rattle.fd_owner.specs.Owner.{all_restored, frames_seen, history_of, IsOwner}
+use Rattle.fd_owner.proofs.Histories.{position_extend_by, last_extend}
+use Rattle.fd_owner.proofs.Pictures.{opened, last-frames_seen, map_mapped}
+
+-- ---- empty frames
+
+abbrev emptied : List (List KeptPixel) → List (List KeptPixel)
+emptied frames = map (λ _. []) frames
+
+all_restored-emptied : (frames : List (List KeptPixel)) (t : TileImage) → all_restored (emptied frames) t ≡ t
+all_restored-emptied [] t = refl
+all_restored-emptied (f ∷ frames) t = all_restored-emptied frames t
+
+frames_seen-emptied : (t : TileImage) (frames : List (List KeptPixel)) → frames_seen t (emptied frames) ≡ map (λ _. frame_without_kept t.place (pixels_of t)) (frames_seen t frames)
+frames_seen-emptied t [] = refl
+frames_seen-emptied t (f ∷ frames) =
+    ap (λ (u : TileImage). frame_without_kept t.place (pixels_of u) ∷ frames_seen t (emptied frames)) (all_restored-emptied frames t)
+    ∙ ap (λ (fs : List Frame). frame_without_kept t.place (pixels_of t) ∷ fs) (frames_seen-emptied t frames)
+
+pub history_of-emptied : (t : TileImage) (u u' : Undo) → u'.frames ≡ emptied u.frames → history_of t u' ≡ without_past t.place (history_of t u)
+history_of-emptied t u u' is =
+    ap (λ fs. opened (pixels_of (all_restored fs t)) (frames_seen t fs)) is
+    ∙ ap (λ (v : TileImage). opened (pixels_of v) (frames_seen t (emptied u.frames))) (all_restored-emptied u.frames t)
+    ∙ ap (opened (pixels_of t)) (frames_seen-emptied t u.frames)
+    ∙ ap (λ (rows : List (List Pixel)). opened rows (map (λ _. frame_without_kept t.place rows) (frames_seen t u.frames))) (sym (last-frames_seen t u.frames))
+
+inside-emptied : (p : Place) (frames : List (List KeptPixel)) → All (λ frame. Inside p frame) (emptied frames)
+inside-emptied p [] = All-nil (λ frame. Inside p frame)
+inside-emptied p (f ∷ frames) = All-cons (λ frame. Inside p frame) [] (emptied frames) (All-nil (λ (k : KeptPixel). Holds p k.x k.y)) (inside-emptied p frames)
+
+pub IsOwner-emptied : (t : TileImage) (u u' : Undo) → u'.frames ≡ emptied u.frames → IsOwner t u → IsOwner t u'
+IsOwner-emptied t u u' is owner = record {
+  inside = subst (λ fs. All (λ frame. Inside t.place frame) fs) (sym is) (inside-emptied t.place u.frames);
+  fits = omega (arith, ap length is, length-map u.frames (λ (f : List KeptPixel). let none : List KeptPixel = [] in none), owner.fits);
+}
+
+-- ---- a history without its past
+
+pub position-without_past : (place : Place) (h : History) → position (without_past place h) ≡ position h
+position-without_past place h = length-map h.frames (λ (f : Frame). frame_without_kept place (last_image h))
+
+last_or-same : (place : Place) (image : List (List Pixel)) (fs : List Frame) → last_or image (map (λ _. frame_without_kept place image) fs) ≡ image
+last_or-same place image [] = refl
+last_or-same place image (f ∷ fs) = last_or-same place image fs
+
+pub last-without_past : (place : Place) (h : History) → last_image (without_past place h) ≡ last_image h
+last-without_past place h = last_or-same place (last_image h) h.frames
+
+none_in : {X Y : Type 0} (f : Y → ℕ) (g : X → Y) (xs : List X) → ((x : X) → f (g x) ≡ 0) → sum_by f (map g xs) ≡ 0
+none_in f g [] none = refl
+none_in f g (x ∷ xs) none = ap (λ (n : ℕ). fold (λ a y. a + f y) n (map g xs)) {x = 0 + f (g x)} {y = 0} (omega (arith, none x)) ∙ none_in f g xs none
+
+-- none of its events kept anything
+pub recorded-without_past : (place : Place) (h : History) → pixels_recorded (without_past place h) ≡ 0
+recorded-without_past place h =
+    let pixels : List (List (List Pixel)) → ℕ = λ rows. sum_by (λ (row : List (List Pixel)). sum_by length row) rows in
+    let columns : List ℕ = range_with_len place.left place.width in
+    let row : ℕ → List (List Pixel) = λ _. map (λ (x : ℕ). let none : List Pixel = [] in none) columns in
+    let blank : Frame → Frame = λ _. frame_without_kept place (last_image h) in
+    ap (sum_by pixels) (map_mapped blank (λ (f : Frame). f.kept) h.frames)
+    ∙ none_in pixels (λ (f : Frame). (blank f).kept) h.frames
+    (λ f. none_in (λ (row : List (List Pixel)). sum_by length row) row (range_with_len place.top place.height) (λ y. none_in length (λ (x : ℕ). let none : List Pixel = [] in none) columns (λ x. refl)))
+
+-- what a history shows further on rests on its position and on what it shows alone
+pub last_extend_by : (table : Table) (place : Place) (count : ℕ) (h g : History) → position h ≡ position g → last_image h ≡ last_image g
+    → last_image (extend_by table place count h) ≡ last_image (extend_by table place count g)
+last_extend_by table place zero h g at same = same
+last_extend_by table place (suc count) h g at same =
+    let h' : History = extend_by table place count h in
+    let g' : History = extend_by table place count g in
+    let at' : position h' ≡ position g' = omega (arith, position_extend_by table place count h, position_extend_by table place count g, at) in
+    last_extend table place h'
+    ∙ ap (λ (k : ℕ). over_place place (λ x y. pixel_past table k x y (pixel_in place (last_image h') x y))) at'
+    ∙ ap (λ (rows : List (List Pixel)). over_place place (λ x y. pixel_past table (position g') x y (pixel_in place rows x y))) (last_extend_by table place count h g at same)
+    ∙ sym (last_extend table place g')

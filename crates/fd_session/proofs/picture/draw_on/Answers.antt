@@ -1,0 +1,13 @@
+use Rattle.std.proofs.Common.{◌∙◌, sym, get_or}
+use Rattle.fd_crew.specs.Lanes.{opening_position}
+use Rattle.fd_session.proofs.Frames.{opening_same}
+use Rattle.fd_session.proofs.Drawings.{run_draws}
+use Rattle.fd_session.proofs.picture.draw_on.Goals as goal
+
+pub run_forward-run-requires-clause-together : goal.run_forward-run-requires-clause-together
+run_forward-run-requires-clause-together g c κs within k d below =
+    (c.requires.shown k d below).position ∙ sym (opening_same c.args.owners.now)
+
+pub returns : goal.returns
+returns g c =
+    run_draws c.args.table.now c.args.to c.args.owners.now c.run_forward-run.new.lanes c.forget_all.new.owners c.run_forward-run.result c.requires.shown c.run_forward-run.ensures.ended c.forget_all.ensures

@@ -1,0 +1,70 @@
+ghost use Rattle.std.specs.Prelude.{◌≤◌};
+
+use crate::tests::frames::grey;
+use crate::{Answer, Picture, SessionFault};
+use fd_events::{Event, EventTable};
+use std::alloc::Global;
+use std::test::Fail;
+use std::thread::Threads;
+
+fn picture(
+    alloc: Global,
+    width: u32,
+    height: u32,
+    events: Vec<Event>,
+    workers: u32,
+) -> Result<Picture, Fail>
+    requires { (1 ≤ workers) × (workers ≤ 64) }
+{
+    let table = EventTable::start(alloc, 2, width, height, events)?;
+    match Picture::start(alloc, table, workers) {
+        Ok(picture) => Ok(picture),
+        Err(_) => Err(Fail::from("memory")),
+    }
+}
+
+/// Draws a picture on to a position, and gives the number of slices that it took.
+fn draw_to<R: Threads + Sync>(rt: &R, picture: &mut Picture, to: u32) -> Result<u32, Fail> {
+    for slices in 1..=100 {
+        if picture.position() > to {
+            return Err(Fail::from("past the position"));
+        }
+        match picture.go_part(rt, to) {
+            None => {}
+            Some(Answer::Moved { .. }) => return Ok(slices),
+            Some(_) => return Err(Fail::from("memory")),
+        }
+    }
+    Err(Fail::from("too many slices"))
+}
+
+/// How many pixels all owners keep.
+fn recorded(picture: &Picture) -> u64 {
+    let mut count: u64 = 0;
+    for owner in &picture.owners {
+        count = count.saturating_add(owner.recorded());
+    }
+    count
+}
+
+/// With one worker a slice has 4,194,304 pixels, which are 16 of these clears.
+#[test]
+fn a_picture_keeps_nothing(rt: HostRuntime) -> Result<(), Fail> {
+    let mut clears = Vec::new(rt.alloc());
+    for level in 1..=40 {
+        clears.push(Event::Clear(grey(level)))?;
+    }
+    let mut picture = picture(rt.alloc(), 512, 512, clears, 1)?;
+    let slices = draw_to(&rt, &mut picture, 40)?;
+    assert!(rt; slices > 1);
+    assert_eq!(rt; picture.position(), 40);
+    assert_eq!(rt; recorded(&picture), 0);
+    assert!(rt; picture.table().width() == 512 && picture.table().height() == 512);
+    assert_eq!(rt; picture.row_from(511, 511), [grey(40)].as_slice());
+    assert!(rt; picture.position() <= 40);
+    assert_eq!(rt; picture.go_part(&rt, 40), Some(Answer::Moved { at: 40 }));
+    assert!(rt; picture.position() <= 41);
+    let refused = Answer::Refused(SessionFault::NoSuchPosition);
+    assert_eq!(rt; picture.go_part(&rt, 41), Some(refused));
+    Ok(())
+}

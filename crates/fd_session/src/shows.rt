@@ -1,0 +1,55 @@
+//! What the image of a frame is read from.
+ghost use Rattle.std.specs.Prelude.{◌≡◌, ◌<◌, ◌≤◌, ◌+◌, length, map};
+ghost use Rattle.std.specs.List.{range_with_len};
+ghost use Rattle.fd_events.specs.Image.{colour_at};
+
+use crate::picture::Picture;
+use crate::session::Session;
+use fd_blend::Colour;
+use fd_events::EventTable;
+
+/// A frame at a position, whose image is read row by row.
+pub trait Shows {
+    ghost use Rattle.fd_session.specs.Machine.{State};
+
+    /// The table, and the position.
+    ghost state: { Self → State };
+
+    /// The table, with its flags as they are now.
+    fn table(&self) -> &EventTable
+        ensures { result.now ≡ (state self.now).table };
+
+    /// The colours of row y at the position, from column x to the right border of the tile there.
+    #[doc(hidden)]
+    fn row_from(&self, x: u32, y: u32) -> &[Colour]
+        requires column { x < (state self.now).table.width }
+        requires row { y < (state self.now).table.height }
+        ensures some { 0 < length result.now }
+        ensures inside { x + length result.now ≤ (state self.now).table.width }
+        ensures short { length result.now ≤ 32 }
+        ensures colours { result.now ≡ map (λ column. colour_at (state self.now).table (state self.now).position column y) (range_with_len x (length result.now)) };
+}
+
+impl Shows for Session {
+    ghost state = { λ session. session };
+
+    fn table(&self) -> &EventTable {
+        Session::table(self)
+    }
+
+    fn row_from(&self, x: u32, y: u32) -> &[Colour] {
+        Session::row_from(self, x, y)
+    }
+}
+
+impl Shows for Picture {
+    ghost state = { λ picture. picture };
+
+    fn table(&self) -> &EventTable {
+        Picture::table(self)
+    }
+
+    fn row_from(&self, x: u32, y: u32) -> &[Colour] {
+        Picture::row_from(self, x, y)
+    }
+}
