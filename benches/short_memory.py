@@ -45,6 +45,10 @@ class Limited:
         """Where the session stands at the end: of several runs the worst, since threads don't want memory in the same order twice."""
         return worst((self.run(lines, mib) or [0])[-1] for _ in range(min(ROUNDS, 3)))
 
+    def further(self, lines, mib):
+        """How much further the second of two moves comes, at the least."""
+        return min(second - first for first, second in (self.run(lines, mib) or [0, 0] for _ in range(min(ROUNDS, 3))))
+
     def least(self, lines, position):
         """The least limit, in MiB, under which the session gets so far, to one in a hundred."""
         high = 4
@@ -60,7 +64,7 @@ class Limited:
 
 
 def going_on(bench):
-    """clears under a limit on address space that is too small for them: reached after jumps that stopped, beside reached by steps; least limits of one jump"""
+    """clears under a limit on address space that is too small for them: reached by a jump and after it, beside reached by steps; least limits of one jump"""
     side, count = bench.scaled(640, 32), 60
     path = bench.capture(captures.clears(side, side, count))
     steps, jump = ["step"] * count, [f"goto {count}"]
@@ -71,7 +75,8 @@ def going_on(bench):
             mib = limited.least(steps, count // 2)
             alone = limited.reached(steps, mib, max)
             bench.figure(f"{name}, {mib} MiB: reached by steps", alone, f"of {count}")
-            for what, lines in [("one stopped jump and steps", jump + steps), ("two stopped jumps", jump * 2)]:
+            for what, lines in [("a jump", jump), ("a jump and steps", jump + steps)]:
                 bench.figure(f"{name}, {mib} MiB: reached by {what}", limited.reached(lines, mib) / alone, "of that", least=GOES_ON)
+            bench.figure(f"{name}, {mib} MiB: further by a second jump", limited.further(jump * 2, mib), "events", least=0)
             bench.figure(f"{name}: least address space of one jump to the end", limited.least(jump, count), "MiB")
             bench.figure(f"{name}: the same by steps", limited.least(steps, count), "MiB")

@@ -27,7 +27,7 @@ fn clear_row(clear: Clear, y: u32, tile: &mut Tile, undo: &mut UndoStack)
     ensures { Writes (spans_in (in_row (λ _ _. true) y) tile.old.place) (pixels_in (in_row (λ _ _. true) y) tile.old.place) (in_row (λ _ _. true) y) (λ _ _. cleared clear) keep_each tile.old undo.old tile.new undo.new }
 {
     let left = tile.place().left;
-    undo.keep(left, y, tile.row(y), tile.depth_row(y));
+    undo.keep_known(left, y, tile.row(y), tile.depth_row(y), tile.flat_depth());
     match clear {
         Clear::Colours(colour) => tile.row_mut(y).fill(colour),
         Clear::Depths(depth) => tile.depth_row_mut(y).fill(depth),

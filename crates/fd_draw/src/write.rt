@@ -98,11 +98,12 @@ pub(crate) fn write_span(
     let place = tile.place();
     let start = (left - place.left) as usize;
     let end = (right - place.left) as usize;
-    undo.keep(
+    undo.keep_known(
         left,
         y,
         &tile.row(y)[start..end],
         &tile.depth_row(y)[start..end],
+        tile.flat_depth(),
     );
     let row = tile.row_mut(y);
     blend_triangle(&mut row[start..end], left, y, primitive, state);

@@ -22,7 +22,7 @@ const LEAST_SHIFT: u32 = 5;
 const GREATEST_SHIFT: u32 = 14;
 
 /// How many cells there are at most for each triangle of a draw, or for each vertex if these are fewer.
-const MOST_CELLS: usize = 4;
+const MOST_CELLS: usize = 12;
 
 /// How many numbers the cells list at most for each of them.
 const MOST_MEETINGS: usize = 8;

@@ -5,3 +5,4 @@ pub mod PassedOver
 pub mod Records
 pub mod Drawn
 pub mod Forgets
+pub mod Undemanded

@@ -190,7 +190,7 @@ impl Owner {
             return Err(self.refuse());
         }
         self.undo.begin();
-        draw_past(table, position, &mut self.tile, &mut self.undo);
+        draw_past(table, position, room, &mut self.tile, &mut self.undo);
         Ok(())
     }
 
@@ -258,16 +258,21 @@ fn demand_past(table: &EventTable, position: u32, place: Place) -> Demand
     fd_draw::demand(table.event(number), table.state_before(number), place)
 }
 
-/// Draws the event after a position, which is switched on, and keeps what it overwrites.
-fn draw_past(table: &EventTable, position: u32, tile: &mut Tile, undo: &mut UndoStack)
+/// Draws the event after a position, which is switched on and writes so much on the tile at most, and keeps what it overwrites.
+fn draw_past(table: &EventTable, position: u32, most: Demand, tile: &mut Tile, undo: &mut UndoStack)
     requires below { position < length table.now.events }
     requires on { flag_at table.now (position + 1) ≡ Some true }
     requires begun { undo.old.frame_left ≡ false }
+    requires most_pixels { most.pixels ≡ pixels_past table.now position tile.old.place }
     requires spans { spans_past table.now position tile.old.place ≤ undo.old.spans_left }
     requires pixels { pixels_past table.now position tile.old.place ≤ undo.old.pixels_left }
     ensures { Paints (pixel_past table.now position) (kept_past table.now position) tile.old undo.old tile.new undo.new }
 {
-    let _len = table.len();
+    let (_len, _place) = (table.len(), tile.place());
+    // of many small draws most write nothing on a tile
+    if most.pixels == 0 {
+        return;
+    }
     let number = position + 1;
     fd_draw::draw(table.event(number), table.state_before(number), tile, undo);
 }

@@ -1,6 +1,6 @@
 -- Owners that are drawn on and forget, and what they show.
-use Rattle.std.proofs.Common.{◌≡◌, ℕ, ◌+◌, ◌-◌, ◌<◌, ◌≤◌, List, [], ◌∷◌, ◌++◌, length, map, get_or, take, drop, refl, sym, ap, ◌∙◌, subst, arith, All}
-use Rattle.std.specs.List.{AllZip, range_with_len}
+use Rattle.std.proofs.Common.{◌≡◌, ℕ, ◌-◌, ◌<◌, ◌≤◌, List, [], ◌∷◌, ◌++◌, length, map, get_or, take, drop, refl, sym, ap, ◌∙◌, subst, arith, All}
+use Rattle.std.specs.List.{AllZip}
 use Rattle.std.specs.Prelude.{Result, Ok, Err, MatchResult}
 use Rattle.std.proofs.lemmas.List.{length-map, get_or-map, append-nil, drop_all, take_all}
 use Rattle.std.proofs.lemmas.List.FromFn.{length-map-range_with_len, get_or-map-range_with_len}
@@ -8,7 +8,7 @@ use Rattle.std.proofs.lemmas.List.Elements.{All-head, All-tail, All-cons, All-ni
 use Rattle.fd_tile.specs.declared.place.Place.{Place}
 use Rattle.fd_tile.specs.Grid.{TargetSize, tile_count, place_of}
 use Rattle.fd_events.specs.Table.{Table}
-use Rattle.fd_owner.specs.History.{History, position, last_image, extend_by, extend_to, pixels_recorded, drawn_history}
+use Rattle.fd_owner.specs.History.{History, position, last_image, extend_by, pixels_recorded, drawn_history}
 use Rattle.fd_owner.specs.Shown.{Shown, IsInside, forgotten}
 use Rattle.fd_owner.proofs.Drawn.{position_drawn}
 use Rattle.fd_owner.proofs.Histories.{position_extend_to}
@@ -16,11 +16,11 @@ use Rattle.fd_owner.proofs.Forgets.{position-without_past, last-without_past, re
 use Rattle.fd_crew.specs.declared.crew.Outcome.{Outcome}
 use Rattle.fd_crew.specs.declared.crew.Outcome.TheVariants.{Reached, Stopped}
 use Rattle.fd_crew.specs.Lanes.{opening_position, GoneTo, IsQuiet, RefusedNoLower, EndsAs}
-use Rattle.fd_session.specs.Held.{StandsAt, places_of, first_places, HoldsFrame, size_of}
+use Rattle.fd_session.specs.Held.{StandsAt, places_of, HoldsFrame}
 use Rattle.fd_session.specs.Moves.{IsFresh, IsFreshOwner, jump_answer}
 use Rattle.fd_session.specs.Machine.{State, at_position, Jumps}
 use Rattle.fd_session.specs.Drawing.{ShowsAt, KeepsNothing, HoldsPicture, IsDrawnAt, DrawsOn}
-use Rattle.fd_session.proofs.Frames.{at_further, position_stands, opening_moved, some_tiles, held_start, left_position}
+use Rattle.fd_session.proofs.Frames.{at_further, position_stands, opening_moved, some_tiles, left_position}
 
 -- ---- one owner
 

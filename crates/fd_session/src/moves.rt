@@ -38,12 +38,16 @@ pub(crate) fn fresh_owners(alloc: Global, grid: &Grid) -> Result<Vec<Owner>, All
 }
 
 /// How a move forward is handed to the crew.
-#[derive(Clone, Copy, Debug)]
+#[derive(Clone, Copy, PartialEq, Eq, Debug)]
 pub(crate) enum Pace {
     /// All at once, by all these workers.
     Whole,
-    /// Slice by slice, each by as many workers as it is worth. Where memory runs out, all that earlier slices did stays.
+    /// The same; where memory runs out, the rest event by event.
+    Slice,
+    /// Slice by slice, each by as many workers as it is worth; where memory runs out, the rest event by event. All that was done stays.
     Slices,
+    /// Event by event, by one worker, which wants the least memory.
+    Events,
 }
 
 impl Pace {
@@ -58,8 +62,12 @@ impl Pace {
         ensures most { result.workers ≤ workers }
     {
         match self {
-            Pace::Whole => Slice { end: to, workers },
+            Pace::Whole | Pace::Slice => Slice { end: to, workers },
             Pace::Slices => next_slice(table, from, to, area, workers),
+            Pace::Events => Slice {
+                end: from + 1,
+                workers: 1,
+            },
         }
     }
 }
@@ -82,8 +90,9 @@ fn run_on<R: Threads + Sync, G: Gate>(
     run_forward(rt, alloc, owners, table, to, workers, gate)
 }
 
-/// Takes all owners on to a position, or to the one before the first event that one of them refuses. It is refused itself only where no owner has moved.
-pub(crate) fn go_on<R: Threads + Sync, G: Gate>(
+/// Takes all owners on to a position at some pace, or to the one before the first event that one of them refuses. It is refused itself only
+/// where no owner has moved.
+fn go_at_pace<R: Threads + Sync, G: Gate>(
     rt: &R,
     alloc: Global,
     owners: &mut [Owner],
@@ -120,6 +129,35 @@ pub(crate) fn go_on<R: Threads + Sync, G: Gate>(
         at = slice.end;
     }
     Ok(Outcome::Reached)
+}
+
+/// The same. Where memory runs out one worker goes on event by event: each thread wants memory of its own, and so does a tile that runs ahead.
+pub(crate) fn go_on<R: Threads + Sync, G: Gate>(
+    rt: &R,
+    alloc: Global,
+    owners: &mut [Owner],
+    table: &EventTable,
+    to: u32,
+    workers: u32,
+    pace: Pace,
+    gate: &G,
+) -> Result<Outcome, AllocError>
+    requires stand { All (StandsAt table.now (opening_position owners.old)) owners.old }
+    requires target { (opening_position owners.old ≤ to) × (to ≤ length table.now.events) }
+    requires workers { (1 ≤ workers) × (workers ≤ 64) }
+    ensures { MatchResult result (λ outcome. GoesOn table.now to owners.old owners.new outcome) (λ _. owners.new ≡ owners.old) }
+{
+    let outcome = go_at_pace(rt, alloc, owners, table, to, workers, pace, gate)?;
+    let Outcome::Stopped { at } = outcome else {
+        return Ok(outcome);
+    };
+    let area = Area::of(owners, table.width());
+    let slice = pace.next(table, at, to, &area, workers);
+    if pace == Pace::Whole || (slice.workers == 1 && slice.end == at + 1) {
+        return Ok(outcome);
+    }
+    let further = go_at_pace(rt, alloc, owners, table, to, 1, Pace::Events, gate);
+    Ok(further.unwrap_or(Outcome::Stopped { at }))
 }
 
 /// Takes all owners back to a position.

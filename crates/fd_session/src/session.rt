@@ -139,7 +139,7 @@ impl Session {
         ensures { JumpsPart self.old to result self.new }
     {
         let part = self.next_part(to);
-        let answer = self.jump(rt, part.end, part.workers, Pace::Whole, &Free);
+        let answer = self.jump(rt, part.end, part.workers, Pace::Slice, &Free);
         if let Answer::Moved { at } = answer {
             if at != to {
                 return None;

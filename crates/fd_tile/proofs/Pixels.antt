@@ -1,5 +1,5 @@
 -- Tiles by their pixels.
-use Rattle.std.proofs.Common.{◌≡◌, ◌≢◌, ℕ, zero, suc, ◌+◌, ◌-◌, ◌<◌, ◌≤◌, List, [], ◌∷◌, ◌++◌, length, get_or, take, refl, sym, ap, ◌∙◌, arith}
+use Rattle.std.proofs.Common.{◌≡◌, ◌≢◌, ℕ, zero, suc, ◌+◌, ◌-◌, ◌<◌, ◌≤◌, List, [], ◌∷◌, ◌++◌, length, get_or, take, replicate, refl, sym, ap, ◌∙◌, arith}
 use Rattle.std.specs.Prelude.{map}
 use Rattle.std.specs.List.{refill, range_with_len}
 use Rattle.std.proofs.lemmas.List.{length-set, take_all, drop_all, append-nil, ext_get_or, get_or-set_same, get_or-set_other, set-set, set-get_or}
@@ -9,7 +9,7 @@ use Rattle.fd_blend.specs.declared.channel.Colour.{Colour}
 use Rattle.fd_blend.specs.Channel.{fresh}
 use Rattle.fd_tile.specs.declared.place.Place.{Place}
 use Rattle.fd_tile.specs.Place.{Holds, HasRow, IsTilePlace, over_place}
-use Rattle.fd_tile.specs.Tile.{TileImage, FillsPlace, IsTileImage, row_in, with_row_in, value_in, row_of, with_row, with_row_left, depth_row_of, with_depth_row, with_depth_row_left, pixels_of, pixel_of, pixel_in}
+use Rattle.fd_tile.specs.Tile.{TileImage, FillsPlace, IsFlat, IsTileImage, row_in, with_row_in, value_in, row_of, with_row, with_row_left, depth_row_of, with_depth_row, with_depth_row_left, pixels_of, pixel_of, pixel_in}
 
 -- a list of the right length is left as it is
 pub refill_same : {X : Type 0} (row w : List X) → length w ≡ length row → refill (length row) row w ≡ w
@@ -31,6 +31,10 @@ module _ {X : Type 0} (p : Place) (rows : List (List X)) (y : ℕ) (filled : Fil
 
   pub length-row_in : length (row_in p rows y) ≡ p.width
   length-row_in = All-get_or (λ r. length r ≡ p.width) rows (y - p.top) [] row_within filled.wide
+
+  -- where one value stands everywhere
+  pub row_in-flat : (value : X) → IsFlat p rows value → row_in p rows y ≡ replicate p.width value
+  row_in-flat value flat = All-get_or (λ r. r ≡ replicate p.width value) rows (y - p.top) [] row_within flat
 
   pub left_row_is : (w : List X) → length w ≡ p.width → with_row_in p rows y (refill (length (row_in p rows y)) (row_in p rows y) w) ≡ with_row_in p rows y w
   left_row_is w e = ap (λ r. with_row_in p rows y r) (refill_same (row_in p rows y) w (e ∙ sym length-row_in))

@@ -37,8 +37,10 @@ fn a_fresh_tile_has_no_colour_and_is_deep(rt: HostRuntime) -> Result<(), Fail> {
     assert_eq!(rt; tile.get(65, 37), NOTHING);
     tile.row_mut(37)[31] = RED;
     assert_eq!(rt; tile.get(95, 37), RED);
+    assert_eq!(rt; tile.flat_depth(), Some(65535));
     assert_eq!(rt; tile.depth(95, 37), 65535);
     tile.set_depth(65, 38, 1000);
+    assert_eq!(rt; tile.flat_depth(), None);
     assert_eq!(rt; tile.depth(66, 38), 65535);
     assert_eq!(rt; tile.depth(65, 37), 65535);
     tile.depth_row_mut(37)[31] = 0;

@@ -1,7 +1,7 @@
 -- Kept pixels that are written back.
-use Rattle.std.proofs.Common.{◌≡◌, ℕ, suc, ◌+◌, ◌-◌, ◌<◌, ◌≤◌, List, [], ◌∷◌, ◌++◌, length, get_or, take, drop, refl, sym, ap, ◌∙◌, subst, arith, append_assoc}
+use Rattle.std.proofs.Common.{◌≡◌, ℕ, suc, ◌+◌, ◌-◌, ◌<◌, ◌≤◌, List, [], ◌∷◌, ◌++◌, length, get_or, take, drop, replicate, refl, sym, ap, ◌∙◌, subst, arith, append_assoc}
 use Rattle.std.specs.Prelude.{slice_set, All}
-use Rattle.std.proofs.lemmas.List.{take_more, take_at, drop_at, set_at, length-take, length-set, drop-drop, take-append-drop}
+use Rattle.std.proofs.lemmas.List.{take_more, take_at, drop_at, set_at, length-take, length-set, length-replicate, drop-drop, take-append-drop, take-replicate, drop-replicate, replicate-append-replicate}
 use Rattle.std.proofs.lemmas.List.Elements.{All-head, All-tail, All-take, All-drop}
 use borrow.Rule.Slice.PartMut.{put_mid}
 use Rattle.fd_blend.specs.declared.channel.Colour.{Colour}
@@ -9,8 +9,8 @@ use Rattle.fd_tile.specs.declared.place.Place.{Place}
 use Rattle.fd_tile.specs.Place.{Holds, HasRow}
 use Rattle.fd_blend.specs.Channel.{fresh}
 use Rattle.std.specs.List.{zip, refill}
-use Rattle.fd_tile.specs.Tile.{Pixel, TileImage, FillsPlace, IsTileImage, row_in, with_row_in, row_of, depth_row_of, with_pixel, with_row_left, with_depth_row_left}
-use Rattle.fd_tile.proofs.Pixels.{length-row_in, left_row_is, row_in-same, with_row_in-twice, with_row_in-as_it_is}
+use Rattle.fd_tile.specs.Tile.{Pixel, TileImage, FillsPlace, IsFlat, IsTileImage, row_in, with_row_in, row_of, depth_row_of, with_pixel, with_row_left, with_depth_row_left}
+use Rattle.fd_tile.proofs.Pixels.{length-row_in, left_row_is, row_in-flat, row_in-same, with_row_in-twice, with_row_in-as_it_is}
 use Rattle.fd_undo.specs.Frame.{KeptPixel, kept_row, restored}
 use Rattle.fd_undo.proofs.Zips.{length-zip_equal}
 
@@ -135,4 +135,36 @@ put_back_row_is t x y j n old row now deep deep_row deep_now equal filled inside
     (part_left p t.rows y x j n old row now fresh filled.colours crossed first.from_left within at count read after)
     ∙ ap (λ depths. of_rows p (with_row_in p t.rows y (pasted (x - p.left) old (row_of t y))) depths)
     (part_left p t.depths y x j n deep deep_row deep_now 0 filled.depths crossed first.from_left (omega (arith, within)) at (count ∙ sym equal) deep_read deep_after)
+    ∙ sym (restored-kept_row t x y old deep equal filled crossed first.from_left)
+
+-- where one value stands everywhere, writing it again changes nothing
+pasted-alike : {X : Type 0} (d : X) (j n w : ℕ) → j + n ≤ w → pasted j (replicate n d) (replicate w d) ≡ replicate w d
+pasted-alike d j n w fits =
+    let long : length (replicate n d) ≡ n = length-replicate n d in
+    pasted_is d j (replicate n d) (replicate w d) (omega (arith, fits, long, length-replicate w d))
+    ∙ ap (λ l. l ++ (replicate n d ++ drop (j + length (replicate n d)) (replicate w d))) (take-replicate j w d (omega (arith, fits)))
+    ∙ ap (λ k. replicate j d ++ (replicate n d ++ drop k (replicate w d))) {x = j + length (replicate n d)} {y = j + n} (omega (arith, long))
+    ∙ ap (λ l. replicate j d ++ (replicate n d ++ l)) (drop-replicate (j + n) w d)
+    ∙ ap (λ l. replicate j d ++ l) (replicate-append-replicate n (w - (j + n)) d)
+    ∙ replicate-append-replicate j (n + (w - (j + n))) d
+    ∙ ap (λ k. replicate k d) {x = j + (n + (w - (j + n)))} {y = w} (omega (arith, fits))
+
+-- the same where all pixels of the tile have the one depth of the row's part: the colours alone are written
+pub put_back_row_alike : (t : TileImage) (x y j n depth : ℕ) (old row now : List Colour) (deep : List ℕ) → deep ≡ replicate (length old) depth → IsTileImage t → IsFlat t.place t.depths depth
+    → Inside t.place (kept_row x y (zip old deep)) → 0 < length old
+    → j ≡ x - t.place.left → n ≡ length old → row ≡ row_of t y → now ≡ old
+    → with_row_left t y (put_mid j n row now) ≡ restored (kept_row x y (zip old deep)) t
+put_back_row_alike t x y j n depth old row now deep alike filled flat inside some at count read after =
+    let p : Place = t.place in
+    let equal : length deep ≡ length old = ap length alike ∙ length-replicate (length old) depth in
+    let long : length (zip old deep) ≡ length old = length-zip_equal old deep equal in
+    let first : Holds t.place x y = kept_row-first t.place x y (zip old deep) inside (omega arith) in
+    let crossed : HasRow t.place y = record { from_top = first.from_top; to_bottom = first.to_bottom } in
+    let within : x + length old ≤ t.place.left + t.place.width = omega (arith, kept_row-within t.place x y (zip old deep) inside (omega arith), long) in
+    let deep_row : row_in p t.depths y ≡ replicate p.width depth = row_in-flat p t.depths y filled.depths crossed depth flat in
+    let again : pasted (x - p.left) deep (row_in p t.depths y) ≡ row_in p t.depths y =
+    ap (λ l. pasted (x - p.left) l (row_in p t.depths y)) alike ∙ ap (λ l. pasted (x - p.left) (replicate (length old) depth) l) deep_row
+    ∙ pasted-alike depth (x - p.left) (length old) p.width (omega (arith, within, first.from_left)) ∙ sym deep_row in
+    ap (λ rows. of_rows p rows t.depths) (part_left p t.rows y x j n old row now fresh filled.colours crossed first.from_left within at count read after)
+    ∙ ap (λ depths. of_rows p (with_row_in p t.rows y (pasted (x - p.left) old (row_of t y))) depths) (sym (ap (λ r. with_row_in p t.depths y r) again ∙ with_row_in-as_it_is p t.depths y))
     ∙ sym (restored-kept_row t x y old deep equal filled crossed first.from_left)

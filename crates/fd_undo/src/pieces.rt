@@ -1,4 +1,4 @@
-ghost use Rattle.std.specs.Prelude.{◌≡◌, ◌+◌, ◌-◌, ◌<◌, ◌≤◌, ℕ, [], ◌∷◌, ◌++◌, length, take, drop, All, OnOk, min, max, ◌/◌, ◌^◌};
+ghost use Rattle.std.specs.Prelude.{◌≡◌, ◌+◌, ◌-◌, ◌<◌, ◌≤◌, ℕ, [], ◌∷◌, ◌++◌, length, take, drop, All, OnOk, min, max, ◌^◌};
 ghost use Rattle.fd_undo.specs.Parts.{IsWhole};
 ghost use Rattle.fd_undo.specs.Pieces.{Chain, IsFound};
 
@@ -11,11 +11,8 @@ mod tests;
 /// A new piece has room for at least so many items.
 const LEAST_ROOM: usize = 32;
 
-/// As long as fewer are held, it has room for as many as are held.
-const DOUBLED_ROOM: usize = 128;
-
-/// It has room for at most so many, unless more are asked for at once.
-const GREATEST_ROOM: usize = 2048;
+/// It has room for as many as are held, but for no more than so many unless more are asked for at once: in a thread's heap each piece is a call of the system.
+const GREATEST_ROOM: usize = 4096;
 
 /// The items of one piece, and how many stand in the pieces before it.
 #[derive(Drop)]
@@ -168,15 +165,12 @@ fn piece_of<T>(pieces: &[Piece<T>], place: usize) -> usize
     pieces.partition_point(|piece| piece.start <= place) - 1
 }
 
-/// How many items a new piece has room for: as many as are held while those are few, else a sixteenth of them, within bounds, in whole steps
-/// of so many more, and those at least.
+/// How many items a new piece has room for: as many as are held, within bounds, in whole steps of so many more, and those at least.
 fn room_of_piece(held: usize, more: usize) -> usize
     requires { 0 < more }
     ensures enough { more ≤ result }
-    ensures little { result ≤ max more (max 32 (max (min held 128) (held / 16))) }
-    ensures short { result ≤ max more 2048 }
+    ensures little { result ≤ max more (max 32 (min held 4096)) }
 {
-    let wanted = (held / 16).max(held.min(DOUBLED_ROOM));
-    let wanted = wanted.clamp(LEAST_ROOM, GREATEST_ROOM);
+    let wanted = held.clamp(LEAST_ROOM, GREATEST_ROOM);
     more.max(wanted - wanted % more)
 }

@@ -1,6 +1,7 @@
-ghost use Rattle.std.specs.Prelude.{◌≡◌, length, All, replicate};
+ghost use Rattle.std.specs.Prelude.{◌≡◌, length, All, IfSome, Some, replicate};
 ghost use Rattle.std.specs.List.{zip};
 ghost use Rattle.fd_tile.specs.Place.{Holds};
+ghost use Rattle.fd_tile.specs.Tile.{IsFlat};
 ghost use Rattle.fd_undo.specs.Frame.{kept_row, restored};
 ghost use Rattle.fd_undo.specs.Stored.{pixel_count, depth_count, depths_of, listed, depths_in, kept_of};
 
@@ -47,8 +48,23 @@ fn put_back_row(tile: &mut Tile, span: &Span, old: &[Colour], depths: &[u16])
     let start = (span.x() - tile.place().left) as usize;
     let row = tile.row_mut(y);
     row[start..start + old.len()].copy_from_slice(old);
+    if let Some(_depth) = standing_depth(span, tile) {
+        return;
+    }
     let row = tile.depth_row_mut(y);
     write_depths(&mut row[start..start + old.len()], span, depths);
+}
+
+/// The one depth of a span's pixels, where all pixels of the tile have it already.
+fn standing_depth(span: &Span, tile: &Tile) -> Option<u16>
+    ensures { IfSome result (λ depth. (span.now.same_depth ≡ Some depth) × IsFlat tile.now.place tile.now.depths depth) }
+{
+    let depth = span.same_depth()?;
+    if tile.flat_depth()? == depth {
+        Some(depth)
+    } else {
+        None
+    }
 }
 
 /// Writes the depths of a span over others: all the same, or those listed.

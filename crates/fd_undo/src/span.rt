@@ -131,3 +131,15 @@ pub(crate) fn same_depth(depths: &[u16]) -> Option<u16>
     }
     same.then_some(first)
 }
+
+/// The same where it may be known already, and then nothing is looked at.
+pub(crate) fn known_depth(depths: &[u16], known: Option<u16>) -> Option<u16>
+    requires { IfSome known (λ depth. depths.now ≡ replicate (length depths.now) depth) }
+    ensures alike { IfSome result (λ depth. depths.now ≡ replicate (length depths.now) depth) }
+    ensures unlike { result ≡ None → (depth : ℕ) → depths.now ≢ replicate (length depths.now) depth }
+{
+    match known {
+        Some(depth) => Some(depth),
+        None => same_depth(depths),
+    }
+}

@@ -1,4 +1,4 @@
-ghost use Rattle.std.specs.Prelude.{◌≡◌, ◌+◌, ◌<◌, ◌≤◌, true, false, [], ◌∷◌, ◌++◌, length, map, take, slice_get, slice_index_or, All, None, IfSome, OnOk, OnErr};
+ghost use Rattle.std.specs.Prelude.{◌≡◌, ◌+◌, ◌<◌, ◌≤◌, true, false, [], ◌∷◌, ◌++◌, length, map, take, slice_get, slice_index_or, All, None, IfSome, OnOk, OnErr, replicate};
 ghost use Rattle.std.specs.List.{zip};
 ghost use Rattle.fd_snap.specs.Limits.{most_pixels};
 ghost use Rattle.fd_tile.specs.Place.{Holds};
@@ -9,7 +9,7 @@ ghost use Rattle.fd_undo.specs.Undo.{without_room, with_kept, recorded_in};
 use crate::kept::{add_kept_in, kept_in};
 use crate::pieces::Pieces;
 use crate::restore::put_back;
-use crate::span::{Span, same_depth};
+use crate::span::{Span, known_depth};
 use crate::stored::{StoredFrame, place_of, take_numbered};
 use fd_blend::Colour;
 use fd_tile::Tile;
@@ -183,7 +183,21 @@ impl UndoStack {
         requires bottom { y ≤ most_pixels }
         ensures { self.new ≡ with_kept self.old (kept_row x y (zip old.now depths.now)) }
     {
-        let span = Span::new(x, y, old.len(), same_depth(depths));
+        self.keep_known(x, y, old, depths, None);
+    }
+
+    /// The same, where it may be known that all depths are this one, so that they are not looked at.
+    pub fn keep_known(&mut self, x: u32, y: u32, old: &[Colour], depths: &[u16], known: Option<u16>)
+        requires begun { self.old.frame_left ≡ false }
+        requires span { 0 < self.old.spans_left }
+        requires pixels { length old.now ≤ self.old.pixels_left }
+        requires equal { length depths.now ≡ length old.now }
+        requires right { x + length old.now ≤ most_pixels }
+        requires bottom { y ≤ most_pixels }
+        requires known { IfSome known (λ depth. depths.now ≡ replicate (length depths.now) depth) }
+        ensures { self.new ≡ with_kept self.old (kept_row x y (zip old.now depths.now)) }
+    {
+        let span = Span::new(x, y, old.len(), known_depth(depths, known));
         self.colours.extend_from_slice(old);
         self.depths.extend_from_slice(&depths[..span.listed()]);
         self.spans.push(span);

@@ -1,5 +1,4 @@
-use Rattle.std.proofs.Common.{◌∙◌, sym, get_or}
-use Rattle.fd_crew.specs.Lanes.{opening_position}
+use Rattle.std.proofs.Common.{◌∙◌, sym}
 use Rattle.fd_session.proofs.Frames.{opening_same}
 use Rattle.fd_session.proofs.Drawings.{run_draws}
 use Rattle.fd_session.proofs.picture.draw_on.Goals as goal

@@ -1,4 +1,4 @@
-use Rattle.std.proofs.Common.{◌≡◌, ◌+◌, ◌-◌, ◌<◌, ◌≤◌, ◌∙◌, ap, sym, subst, ℕ, List, length, arith}
+use Rattle.std.proofs.Common.{◌≡◌, ◌+◌, ◌-◌, ◌<◌, ◌≤◌, ◌∙◌, ap, sym, subst, ℕ, List, Option, length, replicate, arith}
 use Rattle.std.proofs.lemmas.Bool.Decides.{nat_tests}
 use Rattle.fd_tile.specs.Place.{Holds, HasRow}
 use Rattle.fd_tile.specs.Tile.{row_of}
@@ -8,7 +8,7 @@ use Rattle.fd_undo.specs.Frame.{kept_row, restored}
 use Rattle.fd_undo.specs.Stored.{depths_in}
 use Rattle.fd_undo.proofs.Depths.{length-depths_in}
 use Rattle.fd_undo.proofs.Zips.{length-zip_equal}
-use Rattle.fd_undo.proofs.Restored.{Inside, kept_row-first, kept_row-within, put_back_row_is}
+use Rattle.fd_undo.proofs.Restored.{Inside, kept_row-first, kept_row-within, put_back_row_is, put_back_row_alike}
 use Rattle.fd_undo.proofs.restore.put_back_row.Goals as goal
 
 pub overflow_sub-start : goal.overflow_sub-start
@@ -65,5 +65,20 @@ returns c =
     deep c.depth_row_mut-row.result.now c.write_depths.new.row equal
     c.place.ensures.filled inside some (ap (λ p. c.x.result - p.left) c.place.ensures.value) (omega arith) c.row_mut-row.ensures.value c.copy_from_slice.ensures.after
     c.depth_row_mut-row.ensures.value c.write_depths.ensures
+    ∙ ap (λ x. restored (kept_row x c.y-y.result (zip c.args.old.now deep)) c.args.tile.now) c.x.ensures
+    ∙ ap (λ y. restored (kept_row c.args.span.now.x y (zip c.args.old.now deep)) c.args.tile.now) c.y-y.ensures
+
+pub returns-in-Some : goal.returns-in-Some
+returns-in-Some c =
+    let some : 0 < length c.args.old.now = grind (arith, nat_tests) in
+    let alone = c.in-Some.ensures in
+    let deep : List ℕ = depths_in c.args.span.now.same_depth c.args.span.now.len c.args.depths.now in
+    let alike : deep ≡ replicate (length c.args.old.now) c.in-Some._depth =
+    ap (λ (same : Option ℕ). depths_in same c.args.span.now.len c.args.depths.now) alone.0 ∙ ap (λ n. replicate n c.in-Some._depth) (sym c.requires.counted) in
+    let inside : Inside c.args.tile.now.place (kept_row c.x.result c.y-y.result (zip c.args.old.now deep)) =
+    subst (λ x. Inside c.args.tile.now.place (kept_row x c.y-y.result (zip c.args.old.now deep))) (sym c.x.ensures)
+    (subst (λ y. Inside c.args.tile.now.place (kept_row c.args.span.now.x y (zip c.args.old.now deep))) (sym c.y-y.ensures) c.requires.inside) in
+    put_back_row_alike c.args.tile.now c.x.result c.y-y.result (c.x.result - c.place.result.left) _ c.in-Some._depth c.args.old.now c.row_mut-row.result.now c.copy_from_slice.new.self
+    deep alike c.place.ensures.filled alone.1 inside some (ap (λ p. c.x.result - p.left) c.place.ensures.value) (omega arith) c.row_mut-row.ensures.value c.copy_from_slice.ensures.after
     ∙ ap (λ x. restored (kept_row x c.y-y.result (zip c.args.old.now deep)) c.args.tile.now) c.x.ensures
     ∙ ap (λ y. restored (kept_row c.args.span.now.x y (zip c.args.old.now deep)) c.args.tile.now) c.y-y.ensures

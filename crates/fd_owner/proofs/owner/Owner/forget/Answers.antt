@@ -1,5 +1,4 @@
 use Rattle.std.proofs.Common.{ap}
-use Rattle.fd_tile.specs.declared.place.Place.{Place}
 use Rattle.fd_owner.specs.History.{History}
 use Rattle.fd_owner.specs.Shown.{Shown}
 use Rattle.fd_owner.proofs.Forgets.{history_of-emptied, IsOwner-emptied}

@@ -1,4 +1,4 @@
-use Rattle.std.proofs.Common.{◌≡◌, ℕ, ◌<◌, ◌≤◌, ◌∙◌, ap, sym, refl, subst, length, arith, All, List}
+use Rattle.std.proofs.Common.{ℕ, ◌<◌, ◌≤◌, ap, sym, refl, subst, length, arith, List}
 use Rattle.fd_owner.specs.Shown.{Shown}
 use Rattle.fd_crew.specs.Lanes.{opening_position}
 use Rattle.fd_session.specs.Machine.{State, at_position, Jumps}

@@ -7,16 +7,18 @@ use Rattle.fd_tile.proofs.tile.Tile.row_mut.Goals as goal
 pub invariant_of-self-lent : goal.invariant_of-self-lent
 invariant_of-self-lent c w =
     let within : c.args.y - c.self.inside.place.top < length c.self.inside.rows.items =
-    omega (arith, length-map c.self.inside.rows.items (λ row. row.items), c.self.invariant.0.high, ap (λ t. t.place.top) c.self.view_is, ap (λ t. t.place.height) c.self.view_is) in (
-      rows_fill (λ row. row.items) c.self.inside.rows.items (c.args.y - c.self.inside.place.top) c.index_mut-row.result.now within
-          c.index_mut-row.ensures.value c.self.inside.place _ w refl c.self.invariant.0,
-      c.self.invariant.1,
-    )
+    omega (arith, length-map c.self.inside.rows.items (λ row. row.items), c.self.invariant.filled.high, ap (λ t. t.place.top) c.self.view_is, ap (λ t. t.place.height) c.self.view_is) in
+    record {
+      filled = rows_fill (λ row. row.items) c.self.inside.rows.items (c.args.y - c.self.inside.place.top) c.index_mut-row.result.now within
+          c.index_mut-row.ensures.value c.self.inside.place _ w refl c.self.invariant.filled;
+      deep = c.self.invariant.deep;
+      alike = c.self.invariant.alike;
+    }
 
 pub returns : goal.returns
 returns c =
     let within : c.args.y - c.self.inside.place.top < length c.self.inside.rows.items =
-    omega (arith, length-map c.self.inside.rows.items (λ row. row.items), c.self.invariant.0.high, ap (λ t. t.place.top) c.self.view_is, ap (λ t. t.place.height) c.self.view_is) in (
+    omega (arith, length-map c.self.inside.rows.items (λ row. row.items), c.self.invariant.filled.high, ap (λ t. t.place.top) c.self.view_is, ap (λ t. t.place.height) c.self.view_is) in (
       (
         refl,
         λ w. rw (← c.self.view_is) (ap (λ (rows : List (List Colour)). record { place = c.self.inside.place; rows = rows; depths = map (λ row. row.items) c.self.inside.depths.items })

@@ -1,7 +1,7 @@
 use Rattle.std.proofs.Common.{◌≡◌, ◌≤◌, ◌-◌}
 use Rattle.fd_crew.specs.Lanes.{opening_position}
 use Rattle.fd_session.specs.Moves.{IsLeftAt}
-use Rattle.fd_session.proofs.moves.go_on.Given as goal
+use Rattle.fd_session.proofs.moves.go_at_pace.Given as goal
 
 -- all owners stand where the last slice ended; before the first one they have not changed
 abbrev pub invariant-loop-at : goal.invariant-loop-at

@@ -10,7 +10,7 @@ use Rattle.fd_undo.proofs.Zips.{length-zip_equal}
 use Rattle.fd_undo.proofs.Depths.{listed_at_most, depths_in-listed}
 use Rattle.fd_undo.proofs.FrameLemmas.{length-kept_row}
 use Rattle.fd_undo.proofs.Keeps.{kept_stack, kept_now}
-use Rattle.fd_undo.proofs.stack.UndoStack.keep.Goals as goal
+use Rattle.fd_undo.proofs.stack.UndoStack.keep_known.Goals as goal
 
 pub overflow_add-index_mut : goal.overflow_add-index_mut
 overflow_add-index_mut c =
@@ -31,7 +31,7 @@ invariant_of-self c =
     let pixels : length c.args.old.now ≤ c.self.inside.pixels_left = omega (arith, ap (λ u. u.pixels_left) c.self.view_is) in
     let opened : HasOpenFrame c.self.inside.count c.self.inside.stored.items c.self.inside.spans c.self.inside.colours c.self.inside.depths = c.self.invariant.begun begun span in
     let at : c.len-top.result ≡ length c.self.inside.stored.items = c.len-top.ensures ∙ c.self.inside.stored.ok.0 in
-    let s : Span = record { x = c.args.x; y = c.args.y; len = length c.args.old.now; same_depth = c.same_depth.result } in
+    let s : Span = record { x = c.args.x; y = c.args.y; len = length c.args.old.now; same_depth = c.known_depth.result } in
     let f : StoredFrame = c.index_mut.result.now in
     let g : StoredFrame = record {
       number = c.index_mut.result.now.number;
@@ -40,9 +40,9 @@ invariant_of-self c =
       first_span = c.index_mut.result.now.first_span;
       spans = c.index_mut.result.now.spans + 1;
     } in
-    let few : listed s ≤ length c.args.old.now = listed_at_most c.same_depth.result (length c.args.old.now) in
+    let few : listed s ≤ length c.args.old.now = listed_at_most c.known_depth.result (length c.args.old.now) in
     let own : length (take (listed s) c.args.depths.now) ≡ listed s = omega (arith, length-take (listed s) c.args.depths.now, few, c.requires.equal) in
-    let all_deep : depths_in s.same_depth s.len (take (listed s) c.args.depths.now) ≡ c.args.depths.now = depths_in-listed c.same_depth.result (length c.args.old.now) c.args.depths.now c.same_depth.ensures.alike (sym c.requires.equal) in
+    let all_deep : depths_in s.same_depth s.len (take (listed s) c.args.depths.now) ≡ c.args.depths.now = depths_in-listed c.known_depth.result (length c.args.old.now) c.args.depths.now c.known_depth.ensures.alike (sym c.requires.equal) in
     let a_is : c.push.new.self ≡ record { items = c.self.inside.spans.items ++ s ∷ []; starts = c.self.inside.spans.starts; room = c.self.inside.spans.room - 1 } =
     c.push.ensures.value ∙ ap (λ (t : Span). record { items = c.self.inside.spans.items ++ t ∷ []; starts = c.self.inside.spans.starts; room = c.self.inside.spans.room - 1 }) c.new-span.ensures in
     let c_is : c.extend_from_slice-2.new.self
@@ -61,7 +61,7 @@ returns c =
     let pixels : length c.args.old.now ≤ c.self.inside.pixels_left = omega (arith, ap (λ u. u.pixels_left) c.self.view_is) in
     let opened : HasOpenFrame c.self.inside.count c.self.inside.stored.items c.self.inside.spans c.self.inside.colours c.self.inside.depths = c.self.invariant.begun begun span in
     let at : c.len-top.result ≡ length c.self.inside.stored.items = c.len-top.ensures ∙ c.self.inside.stored.ok.0 in
-    let s : Span = record { x = c.args.x; y = c.args.y; len = length c.args.old.now; same_depth = c.same_depth.result } in
+    let s : Span = record { x = c.args.x; y = c.args.y; len = length c.args.old.now; same_depth = c.known_depth.result } in
     let f : StoredFrame = c.index_mut.result.now in
     let g : StoredFrame = record {
       number = c.index_mut.result.now.number;
@@ -70,9 +70,9 @@ returns c =
       first_span = c.index_mut.result.now.first_span;
       spans = c.index_mut.result.now.spans + 1;
     } in
-    let few : listed s ≤ length c.args.old.now = listed_at_most c.same_depth.result (length c.args.old.now) in
+    let few : listed s ≤ length c.args.old.now = listed_at_most c.known_depth.result (length c.args.old.now) in
     let own : length (take (listed s) c.args.depths.now) ≡ listed s = omega (arith, length-take (listed s) c.args.depths.now, few, c.requires.equal) in
-    let all_deep : depths_in s.same_depth s.len (take (listed s) c.args.depths.now) ≡ c.args.depths.now = depths_in-listed c.same_depth.result (length c.args.old.now) c.args.depths.now c.same_depth.ensures.alike (sym c.requires.equal) in
+    let all_deep : depths_in s.same_depth s.len (take (listed s) c.args.depths.now) ≡ c.args.depths.now = depths_in-listed c.known_depth.result (length c.args.old.now) c.args.depths.now c.known_depth.ensures.alike (sym c.requires.equal) in
     let a_is : c.push.new.self ≡ record { items = c.self.inside.spans.items ++ s ∷ []; starts = c.self.inside.spans.starts; room = c.self.inside.spans.room - 1 } =
     c.push.ensures.value ∙ ap (λ (t : Span). record { items = c.self.inside.spans.items ++ t ∷ []; starts = c.self.inside.spans.starts; room = c.self.inside.spans.room - 1 }) c.new-span.ensures in
     let c_is : c.extend_from_slice-2.new.self
