@@ -1,11 +1,15 @@
 ghost use Rattle.std.specs.Prelude.{◌≡◌, ℕ, ◌+◌, ◌<◌, ◌≤◌, IsTrue, Some, length, slice_get};
 ghost use Rattle.fd_events.specs.Limits.{group_size};
 ghost use Rattle.fd_events.specs.Draw.{Triangle, triangles_of};
+ghost use Rattle.fd_events.specs.declared.pipeline.Pipeline.{Pipeline};
+ghost use Rattle.fd_tile.specs.Place.{IsTilePlace};
+ghost use Rattle.fd_draw.specs.Demand.{event_pixels, event_spans};
 ghost use Rattle.fd_draw.specs.Near.{MissesWindow, MissWindow};
 
-use crate::area::shared;
+use crate::area::{shared, whole};
 use fd_cover::Bounds;
-use fd_events::{Draw, GROUP_LEN};
+use fd_events::{Draw, Event, GROUP_LEN};
+use fd_tile::Place;
 
 /// Whether a group of triangles begins with this one, and its box misses the window.
 fn begins_far_group(draw: &Draw, triangle: u32, window: Bounds) -> bool
@@ -60,4 +64,16 @@ pub(crate) fn next_near(draw: &Draw, triangle: u32, window: Bounds) -> u32
         near = next;
     }
     near
+}
+
+/// Whether an event writes nothing on a tile of this place, in whatever state: one look at what a draw lists there. It may also
+/// write nothing where this doesn't tell so.
+pub fn misses(event: &Event, place: Place) -> bool
+    requires { IsTilePlace place }
+    ensures { IsTrue result → (s : Pipeline) → (event_spans event.now s place ≡ 0) × (event_pixels event.now s place ≡ 0) }
+{
+    match event {
+        Event::Draw(draw) => draw.next_listed(0, whole(place)) == draw.triangles(),
+        _ => false,
+    }
 }

@@ -9,7 +9,7 @@ use Rattle.fd_cover.specs.Bounds.{is_within, is_empty, HoldsCovered, HoldsBoth, 
 use Rattle.fd_cover.proofs.BoundsLemmas.{missed_outside, bounds_of-holds}
 use Rattle.fd_events.specs.declared.pipeline.Pipeline.{Pipeline}
 use Rattle.fd_events.specs.Limits.{group_size}
-use Rattle.fd_events.specs.Bounds.{HoldsTriangles, HoldsGroup, IsRoundGroup, AreRoundGroups, HoldsTriangle, HoldEach, between, joined_with, bounds_of_triangles, IsRound}
+use Rattle.fd_events.specs.Bounds.{HoldsTriangles, HoldsGroup, IsRoundGroup, AreRoundGroups, IsTriangleBox, AreTriangleBoxes, between, joined_with, bounds_of_triangles, IsRound}
 use Rattle.fd_events.specs.Draw.{Triangle}
 use Rattle.fd_events.specs.Image.{Pixel, is_drawn_by, is_drawn, pixel_after_triangles, kept_by_triangles}
 
@@ -121,17 +121,17 @@ AreRoundGroups-next boxes ts group box is_next hold holds = λ i found at. elim 
 ]
 
 -- one more box
-pub HoldEach-next : (boxes : List Bounds) (ts : List Triangle) (number : ℕ) (box : Bounds) → length boxes ≡ number → HoldEach boxes ts → HoldsTriangle box number ts
-    → HoldEach (boxes ++ box ∷ []) ts
-HoldEach-next boxes ts number box is_next hold holds = λ i found at. elim (slice_get-last boxes box found i at) [
+pub AreTriangleBoxes-next : (boxes : List Bounds) (ts : List Triangle) (number : ℕ) (box : Bounds) → length boxes ≡ number → AreTriangleBoxes boxes ts → IsTriangleBox box number ts
+    → AreTriangleBoxes (boxes ++ box ∷ []) ts
+AreTriangleBoxes-next boxes ts number box is_next hold holds = λ i found at. elim (slice_get-last boxes box found i at) [
   | inl before ↦ hold i found before
   | inr last ↦ let same : i ≡ number = last.0 ∙ is_next in rw (same, last.1) holds
 ]
 
 -- a triangle's own box
-pub HoldsTriangle-own : (ts : List Triangle) (number : ℕ) (corners : Tri) (box : Bounds) → option_map (λ (u : Triangle). u.corners) (slice_get ts number) ≡ Some corners
-    → HoldsCovered box corners → HoldsTriangle box number ts
-HoldsTriangle-own ts number corners box is covered = λ t at. let same : t.corners ≡ corners = cc in rw same covered
+pub IsTriangleBox-own : (ts : List Triangle) (number : ℕ) (corners : Tri) (box : Bounds) → option_map (λ (u : Triangle). u.corners) (slice_get ts number) ≡ Some corners
+    → box ≡ bounds_of corners → HoldsCovered box corners → IsTriangleBox box number ts
+IsTriangleBox-own ts number corners box is value covered = λ t at. let same : t.corners ≡ corners = cc in rw same (value, covered)
 
 -- the box round all triangles holds what a group's cover
 pub HoldsGroup-all : (ts : List Triangle) (group : ℕ) (box : Bounds) → HoldsTriangles box ts → HoldsGroup box group ts

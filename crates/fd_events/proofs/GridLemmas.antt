@@ -8,7 +8,7 @@ use Rattle.fd_cover.specs.declared.bounds.Bounds.{Bounds}
 use Rattle.fd_cover.specs.Bounds.{is_within, is_empty}
 use Rattle.fd_events.specs.declared.grid.Grid.{Grid}
 use Rattle.fd_events.specs.declared.grid.Cells.{Cells}
-use Rattle.fd_events.specs.Bounds.{HoldEach}
+use Rattle.fd_events.specs.Bounds.{AreTriangleBoxes}
 use Rattle.fd_events.specs.Draw.{Triangle}
 use Rattle.fd_events.specs.Cells.{place_of, cell_count, IsGrid, AreCells, ListTriangles}
 
@@ -64,9 +64,9 @@ pub place-within : (grid : Grid) (column row : ℕ) → IsGrid grid → grid.are
 place-within grid column row is_grid left right top bottom =
     rows_before (row - grid.area.top) (grid.area.bottom - grid.area.top) (grid.area.right - grid.area.left) (column - grid.area.left) (omega (arith, top, bottom)) (omega (arith, left, right))
 
--- ---- boxes that hold what the triangles cover
+-- ---- the boxes of the triangles
 
-pub ListTriangles-from : (cells : Cells) (boxes : List Bounds) (ts : List Triangle) → AreCells cells boxes → HoldEach boxes ts → length boxes ≡ length ts → ListTriangles cells ts
+pub ListTriangles-from : (cells : Cells) (boxes : List Bounds) (ts : List Triangle) → AreCells cells boxes → AreTriangleBoxes boxes ts → length boxes ≡ length ts → ListTriangles cells ts
 ListTriangles-from cells boxes ts are hold all = record {
   grid = are.grid;
   rise = are.rise;
@@ -75,5 +75,5 @@ ListTriangles-from cells boxes ts are hold all = record {
       let nothing : Bounds = record { left = 0; top = 0; right = 0; bottom = 0 } in
       let box : Bounds = get_or boxes i nothing in
       let there : slice_get boxes i ≡ Some box = slice_get-get_or boxes i nothing within in
-      are.listed i box x y there (hold i box there t at x y covered) has;
+      are.listed i box x y there ((hold i box there t at).1 x y covered) has;
 }

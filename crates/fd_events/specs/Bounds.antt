@@ -49,13 +49,13 @@ AreRoundGroups boxes ts = (group : ℕ) (box : Bounds) → slice_get boxes group
 abbrev pub IsGroupBox : Bounds → ℕ → List Triangle → Type 0
 IsGroupBox box group ts = (box ≡ bounds_of_triangles (group_of group ts)) ⊎ (box ≡ bounds_of_triangles ts)
 
--- the box holds every pixel that the triangle of a number covers
-abbrev pub HoldsTriangle : Bounds → ℕ → List Triangle → Type 0
-HoldsTriangle box number ts = (t : Triangle) → slice_get ts number ≡ Some t → HoldsCovered box t.corners
+-- the box is the one round the triangle of a number, and holds what it covers
+abbrev pub IsTriangleBox : Bounds → ℕ → List Triangle → Type 0
+IsTriangleBox box number ts = (t : Triangle) → slice_get ts number ≡ Some t → (box ≡ bounds_of t.corners) × HoldsCovered box t.corners
 
--- so does the box of each number
-abbrev pub HoldEach : List Bounds → List Triangle → Type 0
-HoldEach boxes ts = (number : ℕ) (box : Bounds) → slice_get boxes number ≡ Some box → HoldsTriangle box number ts
+-- so is the box of each number
+abbrev pub AreTriangleBoxes : List Bounds → List Triangle → Type 0
+AreTriangleBoxes boxes ts = (number : ℕ) (box : Bounds) → slice_get boxes number ≡ Some box → IsTriangleBox box number ts
 
 -- none of the triangles from number first up to number last covers a pixel of the window
 abbrev pub CoverNone : Bounds → List Triangle → ℕ → ℕ → Type 0

@@ -1,6 +1,6 @@
 -- What is kept of a draw's triangles to find those of a window.
 use Rattle.std.specs.Prelude.{List, IfSome}
-use Rattle.fd_events.specs.Bounds.{IsRound, AreRoundGroups, HoldEach}
+use Rattle.fd_events.specs.Bounds.{IsRound, AreRoundGroups, AreTriangleBoxes}
 use Rattle.fd_events.specs.Cells.{ListTriangles}
 use Rattle.fd_events.specs.Draw.{Triangle}
 use Rattle.fd_events.specs.declared.finder.Finder.{Finder}
@@ -9,5 +9,5 @@ use Rattle.fd_events.specs.declared.finder.Finder.{Finder}
 pub record Finds (finder : Finder) (ts : List Triangle) : Type 0 where
   pub bounds : IsRound finder.bounds ts
   pub groups : AreRoundGroups finder.groups.items ts
-  pub boxes : HoldEach finder.boxes.items ts
+  pub boxes : AreTriangleBoxes finder.boxes.items ts
   pub cells : IfSome finder.cells (λ cells. ListTriangles cells.value ts)

@@ -62,7 +62,7 @@ impl Model for Draw {
 }
 
 impl Draw {
-    ghost use Rattle.fd_events.specs.Bounds.{HoldsTriangles, HoldsTriangle, HoldsGroup, IsGroupBox, CoverNone, bounds_of_triangles};
+    ghost use Rattle.fd_events.specs.Bounds.{HoldsTriangles, IsTriangleBox, HoldsGroup, IsGroupBox, CoverNone, bounds_of_triangles};
     ghost use Rattle.fd_events.specs.Limits.{group_size, most_triangles};
     ghost use Rattle.fd_events.specs.Draw.{made, triangles_of};
 
@@ -144,7 +144,7 @@ impl Draw {
 
     /// The box round a triangle, which holds every pixel that it covers.
     pub fn triangle_bounds(&self, triangle: u32) -> Bounds
-        ensures { HoldsTriangle result triangle (triangles_of self.now) }
+        ensures { IsTriangleBox result triangle (triangles_of self.now) }
     {
         if let Some(finder) = &self.finder {
             if let Some(bounds) = finder.boxes.get(triangle as usize) {

@@ -56,7 +56,7 @@ impl Model for TriangleList {
 
 impl TriangleList {
     ghost use Rattle.std.specs.Prelude.{IfOk};
-    ghost use Rattle.fd_events.specs.Bounds.{IsRound, IsRoundGroup, AreRoundGroups, HoldEach, between};
+    ghost use Rattle.fd_events.specs.Bounds.{IsRound, IsRoundGroup, AreRoundGroups, AreTriangleBoxes, between};
     ghost use Rattle.fd_events.specs.Draw.{made, listed, triangle_of, triangles_of};
     ghost use Rattle.fd_events.specs.Limits.{group_size, most_triangles, most_vertices};
 
@@ -220,7 +220,7 @@ impl TriangleList {
 
     /// The boxes of all triangles, in their order.
     pub(crate) fn boxes(&self, alloc: Global) -> Result<Vec<Bounds>, AllocError>
-        ensures { IfOk result (λ boxes. HoldEach boxes.items (triangles_of self.now) × (length boxes.items ≡ length (triangles_of self.now)) × (length boxes.items ≤ most_triangles)) }
+        ensures { IfOk result (λ boxes. AreTriangleBoxes boxes.items (triangles_of self.now) × (length boxes.items ≡ length (triangles_of self.now)) × (length boxes.items ≤ most_triangles)) }
     {
         let count = self.len();
         let mut boxes = Vec::with_capacity(alloc, count as usize)?;

@@ -232,8 +232,8 @@ fn meets(reach: Bounds, place: Place) -> bool
         && reach.top < place.top + place.height
 }
 
-/// Whether the event after a position is switched on and can write pixels of a place. The event itself is not looked at.
-fn is_near(table: &EventTable, position: u32, place: Place) -> bool
+/// Whether the event after a position is switched on and its box reaches a place. The event itself is not looked at.
+fn reaches(table: &EventTable, position: u32, place: Place) -> bool
     requires below { position < length table.now.events }
     requires placed { IsTilePlace place }
     requires inside { IsInside place table.now }
@@ -243,6 +243,18 @@ fn is_near(table: &EventTable, position: u32, place: Place) -> bool
     let _len = table.len();
     let number = position + 1;
     table.is_on(number) && meets(table.reach(number), place)
+}
+
+/// Whether it may write pixels of a place, as far as one look tells: at its box, and at what a draw lists there.
+fn is_near(table: &EventTable, position: u32, place: Place) -> bool
+    requires below { position < length table.now.events }
+    requires placed { IsTilePlace place }
+    requires inside { IsInside place table.now }
+    ensures near { IsTrue result → flag_at table.now (position + 1) ≡ Some true }
+    ensures far { IsTrue (not result) → IsUntouched table.now position place }
+{
+    let _len = table.len();
+    reaches(table, position, place) && !fd_draw::misses(table.event(position + 1), place)
 }
 
 /// What the event after a position, which is switched on, writes on a place.

@@ -9,7 +9,7 @@ use std::marker::Model;
 mod tests;
 
 /// A new piece has room for at least so many items.
-const LEAST_ROOM: usize = 32;
+const LEAST_ROOM: usize = 128;
 
 /// It has room for as many as are held, but for no more than so many unless more are asked for at once: in a thread's heap each piece is a call of the system.
 const GREATEST_ROOM: usize = 4096;
@@ -109,14 +109,11 @@ impl<T: Copy> Pieces<T> {
         requires { length items.now ≤ self.old.room }
         ensures { self.new ≡ record { items = self.old.items ++ items.now; starts = self.old.starts; room = self.old.room - length items.now } }
     {
-        let count = self.pieces.len();
-        if count == 0 {
+        if items.is_empty() {
             return;
         }
-        self.pieces[count - 1]
-            .items
-            .extend_from_slice(items)
-            .unwrap();
+        let last = self.pieces.len() - 1;
+        self.pieces[last].items.extend_from_slice(items).unwrap();
         self.room -= items.len();
     }
 
@@ -169,7 +166,7 @@ fn piece_of<T>(pieces: &[Piece<T>], place: usize) -> usize
 fn room_of_piece(held: usize, more: usize) -> usize
     requires { 0 < more }
     ensures enough { more ≤ result }
-    ensures little { result ≤ max more (max 32 (min held 4096)) }
+    ensures little { result ≤ max more (max 128 (min held 4096)) }
 {
     let wanted = held.clamp(LEAST_ROOM, GREATEST_ROOM);
     more.max(wanted - wanted % more)

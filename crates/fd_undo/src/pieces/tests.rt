@@ -4,15 +4,15 @@ use std::test::Fail;
 #[test]
 fn room_is_given_back(rt: HostRuntime) -> Result<(), Fail> {
     let mut list = Pieces::<u16>::new(rt.alloc());
-    list.reserve(rt.alloc(), 33)?;
+    list.reserve(rt.alloc(), 129)?;
     list.extend_from_slice(&[7, 8]);
-    list.reserve(rt.alloc(), 33)?;
+    list.reserve(rt.alloc(), 129)?;
     list.push(9);
     assert_eq!(rt; list.pieces.len(), 2);
-    assert_eq!(rt; list.room, 32);
+    assert_eq!(rt; list.room, 128);
     list.truncate(2);
     assert_eq!(rt; list.pieces.len(), 1);
-    assert_eq!(rt; list.room, 31);
+    assert_eq!(rt; list.room, 127);
     list.truncate(0);
     assert!(rt; list.pieces.is_empty());
     assert_eq!(rt; list.room, 0);
@@ -24,10 +24,10 @@ fn room_that_is_left_is_used(rt: HostRuntime) -> Result<(), Fail> {
     let mut list = Pieces::<u16>::new(rt.alloc());
     list.reserve(rt.alloc(), 2)?;
     list.extend_from_slice(&[7, 8]);
-    list.reserve(rt.alloc(), 30)?;
+    list.reserve(rt.alloc(), 126)?;
     assert_eq!(rt; list.pieces.len(), 1);
-    assert_eq!(rt; list.room, 30);
-    list.reserve(rt.alloc(), 31)?;
+    assert_eq!(rt; list.room, 126);
+    list.reserve(rt.alloc(), 127)?;
     list.push(9);
     assert_eq!(rt; list.pieces.len(), 2);
     assert_eq!(rt; list.piece_from(2), [9].as_slice());

@@ -1,8 +1,8 @@
-use Rattle.std.proofs.Common.{◌≡◌, ℕ, ◌+◌, ◌<◌, ◌++◌, ◌∷◌, [], List, length, length-append, Vec, sym, ap, subst, arith, ◌∙◌}
+use Rattle.std.proofs.Common.{◌≡◌, ℕ, ◌<◌, ◌++◌, [], length, length-append, Vec, sym, ap, arith, ◌∙◌}
 use Rattle.std.proofs.lemmas.List.{length-map, get_or-map}
 use Rattle.std.specs.declared.alloc.Global.{Global}
 use Rattle.fd_events.specs.Numbers.{numbers_of, listed_at}
-use Rattle.fd_events.proofs.PackedLemmas.{ArePacked, ArePacked-next, ArePacked-all}
+use Rattle.fd_events.proofs.PackedLemmas.{ArePacked-next, ArePacked-all}
 use Rattle.fd_events.proofs.packed.Packed.of.Goals as goal
 
 pub loop-cell-preserved : goal.loop-cell-preserved
