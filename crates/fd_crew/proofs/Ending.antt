@@ -6,11 +6,11 @@ use Rattle.std.proofs.lemmas.List.{take_more, take_more_set, take_all, drop_more
 use Rattle.std.proofs.lemmas.List.Elements.{AllZip-push, All-head, All-tail, All-cons, All-nil}
 use Rattle.fd_events.specs.Table.{Table}
 use Rattle.fd_owner.specs.History.{History, position, first_frames, drop_last}
-use Rattle.fd_owner.proofs.Histories.{drop_first, position_first, first_all, first_extend_to}
+use Rattle.fd_owner.proofs.Histories.{drop_first, position_first, first_all, first_first, first_extend_to}
 use Rattle.fd_crew.specs.declared.fence.View.{View}
 use Rattle.fd_crew.specs.declared.crew.Outcome.TheVariants.{Reached, Stopped}
-use Rattle.fd_owner.specs.Shown.{Shown, gone_back}
-use Rattle.fd_crew.specs.Lanes.{gone_back_to, RefusedAt, IsQuiet, Drawn, AnyZip, Worked, CanRun, GoneTo, RefusedNoLower, EndsAs}
+use Rattle.fd_owner.specs.Shown.{Shown, gone_back, gone_back_to}
+use Rattle.fd_crew.specs.Lanes.{RefusedAt, IsQuiet, Drawn, AnyZip, Worked, CanRun, GoneTo, RefusedNoLower, EndsAs}
 
 with_history : (s : Shown) (h k : History) → h ≡ k → (let a : Shown = record { place = s.place; history = h; refusals = s.refusals; refused_at = s.refused_at } in a) ≡ record { place = s.place; history = k; refusals = s.refusals; refused_at = s.refused_at }
 with_history s h k e = λ i. record { place = s.place; history = e i; refusals = s.refusals; refused_at = s.refused_at }
@@ -25,6 +25,14 @@ back_more old now next is le goes =
     let b : gone_back (gone_back_to k old) ≡ gone_back_to (k - 1) old = with_history old (drop_last (first_frames k old.history)) (first_frames (k - 1) old.history) (drop_first k old.history le) in
     let at : position next.history ≡ k - 1 = ap (λ (s : Shown). position s.history) (a ∙ b) ∙ position_first (k - 1) old.history (omega arith) in
     (at, (a ∙ b) ∙ ap (λ (n : ℕ). gone_back_to n old) (sym at))
+
+-- back to one position, and further back to another
+pub back_on : (old between new : Shown) → between ≡ gone_back_to (position between.history) old → new ≡ gone_back_to (position new.history) between
+    → position new.history ≤ position between.history → new ≡ gone_back_to (position new.history) old
+back_on old between new first second le =
+    let n : ℕ = position new.history in
+    let k : ℕ = position between.history in
+    second ∙ ap (gone_back_to n) first ∙ with_history old (first_frames n (first_frames k old.history)) (first_frames n old.history) (first_first n k old.history le)
 
 -- what stands at i in two lists that go on alike from i
 pub alike_at : {L : Type 0} (old now : List L) (i : ℕ) (x : L) → i < length old → length now ≡ length old → x ≡ get_or now i x → drop i now ≡ drop i old → x ≡ get_or old i x

@@ -2,17 +2,13 @@
 use Rattle.std.specs.Prelude.{◌≡◌, ℕ, ◌<◌, ◌≤◌, ◌⊎◌, List, [], ◌∷◌, Some}
 use Rattle.std.specs.List.{AllZip}
 use Rattle.fd_events.specs.Table.{Table}
-use Rattle.fd_owner.specs.History.{position, extend_to, first_frames}
+use Rattle.fd_owner.specs.History.{position, extend_to}
 use Rattle.fd_owner.specs.Shown.{Shown}
 use Rattle.fd_crew.specs.declared.fence.View.{View}
 use Rattle.fd_crew.specs.declared.crew.Outcome.{Outcome}
 use Rattle.fd_crew.specs.declared.crew.Outcome.TheVariants.{Reached, Stopped}
 
 -- ---- one lane, before and after
-
--- the lane has gone back to this position
-abbrev pub gone_back_to : ℕ → Shown → Shown
-gone_back_to to lane = record { place = lane.place; history = first_frames to lane.history; refusals = lane.refusals; refused_at = lane.refused_at }
 
 -- the lane has gone on through the next events to this position
 pub record GoneTo (table : Table) (to : ℕ) (old new : Shown) : Type 0 where

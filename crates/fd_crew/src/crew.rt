@@ -8,10 +8,11 @@ ghost use Rattle.std.specs.List.{AllZip};
 ghost use Rattle.fd_events.specs.Table.{Table};
 ghost use Rattle.fd_owner.specs.History.{position};
 ghost use denote.Param.Send.{IsSync, IsSend};
+ghost use Rattle.fd_owner.specs.Shown.{gone_back_to};
 ghost use Rattle.fd_crew.specs.Fence.{CanWork};
 ghost use Rattle.fd_crew.specs.Seats.{crew_of, target_of};
 ghost use Rattle.fd_crew.specs.Parts.{IsPart, lanes_of, lower_lanes, upper_lanes};
-ghost use Rattle.fd_crew.specs.Lanes.{CanRun, Drawn, RefusedAt, Worked, EndsAs, opening_position, gone_back_to};
+ghost use Rattle.fd_crew.specs.Lanes.{CanRun, Drawn, RefusedAt, Worked, EndsAs, opening_position};
 
 use crate::fence::{Fence, Post};
 use crate::lane::{Gate, Lane};
@@ -169,6 +170,20 @@ fn run_range<R: Threads + Sync, L: Lane, G: Gate, S: Post>(
     seat.join(fence, other);
 }
 
+/// Takes one lane back over its last event and what can be passed with it, to this position at most.
+fn step_back<L: Lane>(lane: &mut L, to: u32)
+    requires { to < position (L.shown lane.old).history }
+    ensures moved { L.shown lane.new ≡ gone_back_to (position (L.shown lane.new).history) (L.shown lane.old) }
+    ensures least { to ≤ position (L.shown lane.new).history }
+    ensures less { position (L.shown lane.new).history < position (L.shown lane.old).history }
+    ensures fits { (table : Table) → L.fits lane.old table → L.fits lane.new table }
+{
+    lane.pass_back(to);
+    if lane.position() > to {
+        lane.back();
+    }
+}
+
 /// Takes one lane back to a position.
 fn take_back<L: Lane>(lane: &mut L, to: u32)
     requires { to ≤ position (L.shown lane.old).history }
@@ -176,7 +191,7 @@ fn take_back<L: Lane>(lane: &mut L, to: u32)
     ensures fits { (table : Table) → L.fits lane.old table → L.fits lane.new table }
 {
     while lane.position() > to {
-        lane.back();
+        step_back(lane, to);
     }
 }
 

@@ -1,7 +1,7 @@
 //! Lanes, which go through the events of a table one by one and back, and the gate before each step.
-ghost use Rattle.std.specs.Prelude.{◌≡◌, ◌<◌, length, MatchResult};
+ghost use Rattle.std.specs.Prelude.{◌≡◌, ◌<◌, ◌≤◌, length, MatchResult};
 ghost use Rattle.fd_owner.specs.History.{position};
-ghost use Rattle.fd_owner.specs.Shown.{gone_forward, gone_back, refused};
+ghost use Rattle.fd_owner.specs.Shown.{gone_forward, gone_back, gone_back_to, refused};
 
 use fd_events::EventTable;
 use fd_owner::Refused;
@@ -41,6 +41,17 @@ pub trait Lane: Send {
         requires { 0 < position (shown self.old).history }
         ensures moved { shown self.new ≡ gone_back (shown self.old) }
         ensures fits { (table : Table) → fits self.old table → fits self.new table };
+
+    /// Goes back at once over last events that overwrote nothing, to this position at most. A lane that doesn't know any stays.
+    fn pass_back(&mut self, to: u32)
+        requires { to ≤ position (shown self.old).history }
+        ensures moved { shown self.new ≡ gone_back_to (position (shown self.new).history) (shown self.old) }
+        ensures least { to ≤ position (shown self.new).history }
+        ensures most { position (shown self.new).history ≤ position (shown self.old).history }
+        ensures fits { (table : Table) → fits self.old table → fits self.new table }
+    {
+        let _at_most = to;
+    }
 }
 
 /// What each worker passes right before it takes a lane through an event, after its look at the fence.

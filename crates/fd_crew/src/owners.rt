@@ -30,4 +30,8 @@ impl Lane for Owner {
     fn back(&mut self) {
         Owner::back(self)
     }
+
+    fn pass_back(&mut self, to: u32) {
+        Owner::pass_back(self, to)
+    }
 }

@@ -1,6 +1,7 @@
 pub mod Histories
 pub mod Pictures
 pub mod Forward
+pub mod PassedBack
 pub mod PassedOver
 pub mod Records
 pub mod Drawn

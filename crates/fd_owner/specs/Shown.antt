@@ -2,7 +2,7 @@
 use Rattle.std.specs.Prelude.{ℕ, ◌+◌, ◌≤◌, min, Option, Some}
 use Rattle.fd_tile.specs.declared.place.Place.{Place}
 use Rattle.fd_events.specs.Table.{Table}
-use Rattle.fd_owner.specs.History.{History, position, extend, drop_last, without_past}
+use Rattle.fd_owner.specs.History.{History, position, extend, drop_last, first_frames, without_past}
 
 -- the place and its history; how often a step was refused, and at which position last
 pub record Shown : Type 0 where
@@ -18,6 +18,10 @@ gone_forward table lane = record { place = lane.place; history = extend table la
 -- it has gone back over its last event
 abbrev pub gone_back : Shown → Shown
 gone_back lane = record { place = lane.place; history = drop_last lane.history; refusals = lane.refusals; refused_at = lane.refused_at }
+
+-- it has gone back to this position
+abbrev pub gone_back_to : ℕ → Shown → Shown
+gone_back_to to lane = record { place = lane.place; history = first_frames to lane.history; refusals = lane.refusals; refused_at = lane.refused_at }
 
 -- it has forgotten what its events overwrote
 abbrev pub forgotten : Shown → Shown

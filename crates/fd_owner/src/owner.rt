@@ -3,7 +3,7 @@ ghost use Rattle.fd_tile.specs.Place.{Holds, HasRow, IsTilePlace};
 ghost use Rattle.fd_tile.specs.Tile.{FillsPlace, pixels_of, row_in, pixel_in};
 ghost use Rattle.fd_draw.specs.Paints.{Paints};
 ghost use Rattle.fd_owner.specs.History.{position, last_image, pixels_kept, pixels_recorded, pixel_past, kept_past};
-ghost use Rattle.fd_owner.specs.Shown.{gone_forward, gone_back, refused, forgotten, IsInside};
+ghost use Rattle.fd_owner.specs.Shown.{gone_forward, gone_back, gone_back_to, refused, forgotten, IsInside};
 ghost use Rattle.fd_owner.specs.Step.{spans_past, pixels_past};
 ghost use Rattle.fd_owner.specs.Untouched.{Misses, IsUntouched};
 ghost use Rattle.fd_events.specs.Table.{flag_at};
@@ -210,6 +210,16 @@ impl Owner {
         ensures { self.new ≡ gone_back self.old }
     {
         self.undo.undo_top(&mut self.tile);
+    }
+
+    /// Goes back at once over last events that overwrote nothing, to this position at most.
+    pub fn pass_back(&mut self, to: u32)
+        requires { to ≤ position self.old.history }
+        ensures moved { self.new ≡ gone_back_to (position self.new.history) self.old }
+        ensures least { to ≤ position self.new.history }
+        ensures most { position self.new.history ≤ position self.old.history }
+    {
+        self.undo.drop_empty(to as usize);
     }
 
     /// Forgets what all events overwrote, and gives its memory back. The position and the image that is shown stay, and the way back shows that image alone.

@@ -14,7 +14,7 @@ use Rattle.fd_tile.proofs.Pixels.{value_in-over_place, over_place_same, HasRow-f
 use Rattle.fd_events.specs.Table.{Table, IsTable}
 use Rattle.fd_events.specs.Image.{colour_at, pixel_at}
 use Rattle.fd_owner.specs.History.{History, position, last_image, extend, extend_by, extend_to, first_frames, fresh_history, drawn_history}
-use Rattle.fd_owner.specs.Shown.{Shown, IsInside}
+use Rattle.fd_owner.specs.Shown.{Shown, IsInside, gone_back_to}
 use Rattle.fd_owner.proofs.Drawn.{position_drawn, last_drawn, pixel_drawn}
 use Rattle.fd_owner.proofs.Pictures.{map_mapped, row_in-over_place}
 use Rattle.fd_owner.proofs.Histories.{extend_none, first_extend_to}
@@ -24,7 +24,7 @@ use Rattle.std.proofs.lemmas.List.{append-nil, drop_all, take_all, length-drop}
 use Rattle.std.specs.Prelude.{Result, Ok, Err, MatchResult, None}
 use Rattle.fd_crew.specs.declared.crew.Outcome.{Outcome}
 use Rattle.fd_crew.specs.declared.crew.Outcome.TheVariants.{Reached, Stopped}
-use Rattle.fd_crew.specs.Lanes.{opening_position, GoneTo, IsQuiet, RefusedNoLower, EndsAs, gone_back_to}
+use Rattle.fd_crew.specs.Lanes.{opening_position, GoneTo, IsQuiet, RefusedNoLower, EndsAs}
 use Rattle.fd_session.specs.Held.{StandsAt, places_of, first_places, HoldsFrame, size_of}
 use Rattle.fd_session.specs.Moves.{IsLeftAt, IsFresh, IsFreshOwner, GoesOn, jump_answer}
 

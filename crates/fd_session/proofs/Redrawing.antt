@@ -8,10 +8,9 @@ use Rattle.std.proofs.lemmas.List.Elements.{All-head, All-tail, All-cons, All-ni
 use Rattle.fd_tile.specs.declared.place.Place.{Place}
 use Rattle.fd_events.specs.Table.{Table, with_flag, flag_at}
 use Rattle.fd_owner.specs.History.{position, drawn_history}
-use Rattle.fd_owner.specs.Shown.{Shown}
+use Rattle.fd_owner.specs.Shown.{Shown, gone_back_to}
 use Rattle.fd_crew.specs.declared.crew.Outcome.{Outcome}
 use Rattle.fd_crew.specs.declared.crew.Outcome.TheVariants.{Reached, Stopped}
-use Rattle.fd_crew.specs.Lanes.{gone_back_to}
 use Rattle.fd_session.specs.Held.{StandsAt, places_of}
 use Rattle.fd_session.specs.Moves.{IsLeftAt, GoesOn}
 use Rattle.fd_session.specs.Redraw.{IsSpared, StandsFrom, StoodFrom, IsLeftFrom, run_position}

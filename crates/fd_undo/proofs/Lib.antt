@@ -3,6 +3,7 @@ pub mod Pixels
 pub mod FrameLemmas
 pub mod PieceLemmas
 pub mod Depths
+pub mod Dropped
 pub mod KeptAt
 pub mod Numbers
 pub mod Restored

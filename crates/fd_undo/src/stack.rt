@@ -1,4 +1,4 @@
-ghost use Rattle.std.specs.Prelude.{◌≡◌, ◌+◌, ◌<◌, ◌≤◌, true, false, [], ◌∷◌, ◌++◌, length, map, take, slice_get, slice_index_or, All, None, IfSome, OnOk, OnErr, replicate};
+ghost use Rattle.std.specs.Prelude.{◌≡◌, ◌+◌, ◌-◌, ◌<◌, ◌≤◌, true, false, [], ◌∷◌, ◌++◌, length, map, take, slice_get, slice_index_or, All, None, IfSome, OnOk, OnErr, replicate};
 ghost use Rattle.std.specs.List.{zip};
 ghost use Rattle.fd_snap.specs.Limits.{most_pixels};
 ghost use Rattle.fd_tile.specs.Place.{Holds};
@@ -10,7 +10,7 @@ use crate::kept::{add_kept_in, kept_in};
 use crate::pieces::Pieces;
 use crate::restore::put_back;
 use crate::span::{Span, known_depth};
-use crate::stored::{StoredFrame, place_of, take_numbered};
+use crate::stored::{StoredFrame, after_newest, place_of, take_numbered};
 use fd_blend::Colour;
 use fd_tile::Tile;
 use std::alloc::{AllocError, Global};
@@ -231,6 +231,19 @@ impl UndoStack {
             self.colours.truncate(top.first);
             self.depths.truncate(top.first_depth);
         }
+    }
+
+    /// Drops frames from the top that keep nothing, at once and down to so many frames at most. No room is left.
+    pub fn drop_empty(&mut self, to: usize)
+        requires { to ≤ length self.old.frames }
+        ensures left { to ≤ length self.new.frames }
+        ensures dropped { self.old.frames ≡ self.new.frames ++ replicate (length self.old.frames - length self.new.frames) [] }
+        ensures no_room { self.new ≡ without_room self.new.frames }
+    {
+        self.frame_left = false;
+        self.spans_left = 0;
+        self.pixels_left = 0;
+        self.count = to.max(after_newest(&self.stored));
     }
 
     /// Empties all frames, and gives their memory back. No room is left.

@@ -1,4 +1,4 @@
-ghost use Rattle.std.specs.Prelude.{◌≡◌, ◌≢◌, ℕ, ◌<◌, [], ◌∷◌, ◌++◌, length, None, IfSome, vec_capacity};
+ghost use Rattle.std.specs.Prelude.{◌≡◌, ◌≢◌, ℕ, ◌+◌, ◌^◌, ◌<◌, [], ◌∷◌, ◌++◌, length, None, IfSome, vec_capacity};
 ghost use Rattle.fd_undo.specs.Stored.{NumbersRise, number_at, newest};
 
 /// The number of one frame from 0, where its colours, its depths and its spans begin in the stack's lists, and how many spans it has.
@@ -23,6 +23,19 @@ pub(crate) fn take_numbered(stored: &mut Vec<StoredFrame>, number: usize) -> Opt
     } else {
         None
     }
+}
+
+/// The number after that of the youngest stored frame, or 0.
+pub(crate) fn after_newest(stored: &[StoredFrame]) -> usize
+    requires { 0 < length stored.now → (newest stored.now).number + 1 < 2 ^ 64 }
+    ensures some { 0 < length stored.now → result ≡ (newest stored.now).number + 1 }
+    ensures none { length stored.now ≡ 0 → result ≡ 0 }
+{
+    let len = stored.len();
+    if len == 0 {
+        return 0;
+    }
+    stored[len - 1].number + 1
 }
 
 /// Where the frame of this number is stored, if it is.

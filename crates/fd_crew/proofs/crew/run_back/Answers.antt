@@ -1,7 +1,7 @@
 use Rattle.std.proofs.Common.{arith, ◌≡◌, ◌≤◌, sym, ap, subst, get_or}
 use Rattle.fd_events.specs.Table.{Table}
 use Rattle.fd_owner.specs.History.{position}
-use Rattle.fd_crew.specs.Lanes.{gone_back_to}
+use Rattle.fd_owner.specs.Shown.{gone_back_to}
 use Rattle.fd_crew.proofs.Working.{rest_after}
 use Rattle.fd_crew.proofs.Ending.{alike_at, zip_next, zip_whole}
 use Rattle.fd_crew.proofs.crew.run_back.Goals as goal
