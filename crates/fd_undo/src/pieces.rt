@@ -12,7 +12,7 @@ mod tests;
 const LEAST_ROOM: usize = 128;
 
 /// It has room for as many as are held, but for no more than so many unless more are asked for at once: in a thread's heap each piece is a call of the system.
-const GREATEST_ROOM: usize = 4096;
+const GREATEST_ROOM: usize = 2048;
 
 /// The items of one piece, and how many stand in the pieces before it.
 #[derive(Drop)]
@@ -166,7 +166,7 @@ fn piece_of<T>(pieces: &[Piece<T>], place: usize) -> usize
 fn room_of_piece(held: usize, more: usize) -> usize
     requires { 0 < more }
     ensures enough { more ≤ result }
-    ensures little { result ≤ max more (max 128 (min held 4096)) }
+    ensures little { result ≤ max more (max 128 (min held 2048)) }
 {
     let wanted = held.clamp(LEAST_ROOM, GREATEST_ROOM);
     more.max(wanted - wanted % more)
