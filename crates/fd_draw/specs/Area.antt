@@ -43,6 +43,10 @@ pub record IsPart (part box : Bounds) : Type 0 where
   pub rows : part.top < part.bottom
   pub to_bottom : part.bottom ≤ box.bottom
 
+-- the box of a place's pixels
+abbrev pub box_of : Place → Bounds
+box_of p = record { left = p.left; top = p.top; right = p.left + p.width; bottom = p.top + p.height }
+
 -- the place that a box takes
 abbrev pub place_in : Bounds → Place
 place_in box = record { left = box.left; top = box.top; width = box.right - box.left; height = box.bottom - box.top }

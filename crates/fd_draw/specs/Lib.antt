@@ -1,8 +1,10 @@
 pub mod Area
 pub mod Demand
+pub mod Found
 pub mod Mask
 pub mod Near
 pub mod Paints
+pub mod Plan
 pub mod Primitive
 pub mod Row
 pub mod Span

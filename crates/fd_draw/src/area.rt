@@ -2,7 +2,7 @@ ghost use Rattle.std.specs.Prelude.{◌≡◌, ℕ, ◌+◌, ◌<◌, ◌≤◌,
 ghost use Rattle.fd_cover.specs.Bounds.{is_within};
 ghost use Rattle.fd_cover.specs.Covers.{covers};
 ghost use Rattle.fd_tile.specs.Place.{IsTilePlace};
-ghost use Rattle.fd_draw.specs.Area.{IsInside, IsOpen, IsPart, is_drawn_in};
+ghost use Rattle.fd_draw.specs.Area.{IsInside, IsOpen, IsPart, box_of, is_drawn_in};
 
 use fd_cover::{Bounds, Raster, Rect, Tri};
 use fd_tile::Place;
@@ -20,7 +20,7 @@ fn nearest(bound: i32, low: u32, high: u32) -> u32
 /// The box of a tile's pixels.
 pub(crate) fn whole(place: Place) -> Bounds
     requires { IsTilePlace place }
-    ensures { result ≡ record { left = place.left; top = place.top; right = place.left + place.width; bottom = place.top + place.height } }
+    ensures { result ≡ box_of place }
 {
     Bounds {
         left: place.left,

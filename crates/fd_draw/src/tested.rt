@@ -4,18 +4,18 @@ ghost use Rattle.fd_cover.specs.Covers.{covers};
 ghost use Rattle.fd_events.specs.Image.{depth_of as source_depth, is_drawn, pixel_after_triangle};
 ghost use Rattle.fd_tile.specs.Place.{HasRow};
 ghost use Rattle.fd_tile.specs.Tile.{IsTileImage, depth_of};
-ghost use Rattle.fd_draw.specs.Area.{IsInside, IsWrittenIn};
 ghost use Rattle.fd_draw.specs.Demand.{is_reached, pixels_in};
 ghost use Rattle.fd_draw.specs.Written.{kept_by_triangle};
 ghost use Rattle.fd_draw.specs.Mask.{is_set};
+ghost use Rattle.fd_draw.specs.Plan.{IsFoundOn};
 ghost use Rattle.fd_draw.specs.Primitive.{IsBrushed, triangle_of};
 ghost use Rattle.fd_draw.specs.Writing.{HasRoom, StoresDepths, Writes, between, in_row};
 
+use crate::found::Found;
 use crate::lanes::{alike, test_row};
 use crate::primitive::Primitive;
-use crate::span::covered_span;
 use crate::write::{WIDEST, write_span};
-use fd_cover::{Bounds, DepthRows, Rows};
+use fd_cover::DepthRows;
 use fd_events::Pipeline;
 use fd_tile::Tile;
 use fd_undo::UndoStack;
@@ -98,32 +98,29 @@ fn draw_runs(
     }
 }
 
-/// The same for the pixels of row y, at which the triangle's rows stand, that it covers in a box.
+/// The same for the pixels of row y at which the triangle was found.
 fn draw_row(
     primitive: &Primitive,
     state: &Pipeline,
-    rows: &Rows,
+    found: &Found,
     depth_rows: &DepthRows,
-    area: Bounds,
     y: u32,
     buffer: &mut [u16; WIDEST],
     tile: &mut Tile,
     undo: &mut UndoStack,
 )
     requires brushed { IsBrushed primitive.now state.now }
-    requires rows { rows.now ≡ (primitive.now.corners, y) }
     requires depth_rows { depth_rows.now ≡ (primitive.now.corners, primitive.now.depths) }
     requires filled { IsTileImage tile.old }
-    requires inside { IsInside area tile.old.place }
-    requires reached { IsWrittenIn (is_reached (triangle_of primitive.now) state.now) (covers primitive.now.corners) tile.old.place area }
-    requires from_top { area.top ≤ y }
-    requires to_bottom { y < area.bottom }
+    requires found { IsFoundOn (triangle_of primitive.now) state.now tile.old.place found.now }
+    requires from_top { found.now.area.top ≤ y }
+    requires to_bottom { y < found.now.area.bottom }
     requires room { HasRoom (pixels_in (in_row (is_reached (triangle_of primitive.now) state.now) y) tile.old.place) (pixels_in (in_row (is_reached (triangle_of primitive.now) state.now) y) tile.old.place) undo.old }
     ensures { Writes (pixels_in (in_row (is_reached (triangle_of primitive.now) state.now) y) tile.old.place) (pixels_in (in_row (is_reached (triangle_of primitive.now) state.now) y) tile.old.place) (in_row (is_reached (triangle_of primitive.now) state.now) y)
         (pixel_after_triangle (triangle_of primitive.now) primitive.now.interp state.now) (kept_by_triangle (triangle_of primitive.now) state.now) tile.old undo.old tile.new undo.new }
 {
     let place = tile.place();
-    if let Some((left, right)) = covered_span(rows, area.left, area.right) {
+    if let Some((left, right)) = found.span(&primitive.corners, y) {
         let start = (left - place.left) as usize;
         let end = (right - place.left) as usize;
         depth_rows.row(left, y, &mut buffer[..end - start]);
@@ -133,38 +130,33 @@ fn draw_row(
     }
 }
 
-/// The same for all pixels that the triangle covers in a box.
+/// The same for all pixels at which the triangle was found.
 pub(crate) fn draw_tested(
     primitive: &Primitive,
     state: &Pipeline,
-    area: Bounds,
+    found: &Found,
     tile: &mut Tile,
     undo: &mut UndoStack,
 )
     requires brushed { IsBrushed primitive.now state.now }
     requires filled { IsTileImage tile.old }
-    requires inside { IsInside area tile.old.place }
-    requires some { area.top < area.bottom }
-    requires reached { IsWrittenIn (is_reached (triangle_of primitive.now) state.now) (covers primitive.now.corners) tile.old.place area }
+    requires found { IsFoundOn (triangle_of primitive.now) state.now tile.old.place found.now }
     requires room { HasRoom (pixels_in (is_reached (triangle_of primitive.now) state.now) tile.old.place) (pixels_in (is_reached (triangle_of primitive.now) state.now) tile.old.place) undo.old }
     ensures { Writes (pixels_in (is_reached (triangle_of primitive.now) state.now) tile.old.place) (pixels_in (is_reached (triangle_of primitive.now) state.now) tile.old.place) (is_reached (triangle_of primitive.now) state.now)
         (pixel_after_triangle (triangle_of primitive.now) primitive.now.interp state.now) (kept_by_triangle (triangle_of primitive.now) state.now) tile.old undo.old tile.new undo.new }
 {
-    let mut rows = Rows::of(&primitive.corners, area.top);
     let depth_rows = DepthRows::of(&primitive.corners, &primitive.depths);
     let mut buffer = [0; WIDEST];
-    for y in area.top..area.bottom {
+    for y in found.area.top..found.area.bottom {
         draw_row(
             primitive,
             state,
-            &rows,
+            found,
             &depth_rows,
-            area,
             y,
             &mut buffer,
             tile,
             undo,
         );
-        rows.down();
     }
 }

@@ -1,6 +1,6 @@
 ghost use Rattle.std.specs.Prelude.{◌≤◌};
 
-use crate::{Demand, demand, draw};
+use crate::{Demand, Plan, draw, first_listed};
 use fd_blend::Colour;
 use fd_cover::{Cull, Depth, Func, Interp, Raster, Rect};
 use fd_events::{Draw, Event, Pipeline, Vertex};
@@ -48,11 +48,12 @@ fn draw_with_room(
     tile: &mut Tile,
     undo: &mut UndoStack,
 ) -> Result<Demand, Fail> {
-    let demand = demand(event, state, tile.place());
-    undo.reserve(demand.spans, demand.pixels)?;
+    let first = first_listed(event, tile.place()).ok_or("listed")?;
+    let plan = Plan::of(event, state, tile.place(), first);
+    undo.reserve(plan.demand.spans, plan.demand.pixels)?;
     undo.begin();
-    draw(event, state, tile, undo);
-    Ok(demand)
+    draw(event, state, &plan, tile, undo);
+    Ok(plan.demand)
 }
 
 /// The colour and the depth of a pixel.
@@ -139,6 +140,63 @@ fn triangles_are_drawn_in_their_order(rt: HostRuntime) -> Result<(), Fail> {
     assert_eq!(rt; pixel_at(&tile, 1, 1), Some((grey(3), 65535)));
     assert_eq!(rt; undo.kept(0, 1, 1, 0), Some((grey(0), 65535)));
     assert_eq!(rt; undo.kept(0, 1, 1, 1), None);
+    Ok(())
+}
+
+/// Triangles with legs of 4 pixels, side by side and one over the other, each of its own grey.
+fn fan(alloc: Global) -> Result<Vec<Triangle>, Fail> {
+    let mut list = Vec::new(alloc);
+    for level in 1..41u8 {
+        let left = i32::from(level % 8);
+        let corners = [(left, 0), (left + 4, 0), (left, 4)];
+        list.push((corners, grey(level), 0))?;
+    }
+    Ok(list)
+}
+
+/// Draws each triangle in a draw of its own.
+fn draw_each(alloc: Global, list: &[Triangle], tile: &mut Tile) -> Result<(), Fail> {
+    let mut undo = UndoStack::new(alloc);
+    for triangle in list {
+        let event = triangles(alloc, &[*triangle])?;
+        draw_with_room(&event, &Pipeline::default(), tile, &mut undo)?;
+    }
+    Ok(())
+}
+
+/// Whether two tiles show the same in these columns and rows.
+fn show_the_same(one: &Tile, other: &Tile, width: u32, height: u32) -> bool {
+    for y in 0..height {
+        for x in 0..width {
+            if pixel_at(one, x, y) != pixel_at(other, x, y) {
+                return false;
+            }
+        }
+    }
+    true
+}
+
+const WIDE: Place = Place {
+    left: 0,
+    top: 0,
+    width: 16,
+    height: 8,
+};
+
+/// More triangles of one draw than a plan keeps are drawn as in draws of their own.
+#[test]
+fn triangles_that_are_not_planned_are_drawn_too(rt: HostRuntime) -> Result<(), Fail> {
+    let mut together = Tile::fresh(rt.alloc(), WIDE)?;
+    let mut alone = Tile::fresh(rt.alloc(), WIDE)?;
+    let mut undo = UndoStack::new(rt.alloc());
+    let list = fan(rt.alloc())?;
+    let event = triangles(rt.alloc(), &list)?;
+    let demand = draw_with_room(&event, &Pipeline::default(), &mut together, &mut undo)?;
+    assert_eq!(rt; (demand.spans, demand.pixels), (120, 240));
+    assert_eq!(rt; undo.recorded(), 240);
+    assert_eq!(rt; pixel_at(&together, 0, 0), Some((grey(40), 65535)));
+    draw_each(rt.alloc(), &list, &mut alone)?;
+    assert!(rt; show_the_same(&together, &alone, 16, 8));
     Ok(())
 }
 
@@ -265,8 +323,9 @@ fn a_triangle_beside_the_tile_asks_for_nothing(rt: HostRuntime) -> Result<(), Fa
         height: 32,
     };
     let event = triangles(rt.alloc(), &[([(0, 0), (32, 0), (0, 32)], grey(3), 0)])?;
-    let demand = demand(&event, &Pipeline::default(), place);
-    assert_eq!(rt; (demand.spans, demand.pixels), (0, 0));
+    let first = first_listed(&event, place).ok_or("listed")?;
+    let plan = Plan::of(&event, &Pipeline::default(), place, first);
+    assert_eq!(rt; (plan.demand.spans, plan.demand.pixels), (0, 0));
     Ok(())
 }
 

@@ -4,7 +4,7 @@ ghost use Rattle.fd_events.specs.Draw.{triangles_of};
 ghost use Rattle.fd_events.specs.Image.{pixel_after, pixel_after_triangle, pixel_after_triangles, kept_by, kept_by_triangles};
 ghost use Rattle.fd_tile.specs.Place.{HasRow};
 ghost use Rattle.fd_tile.specs.Tile.{IsTileImage};
-ghost use Rattle.fd_draw.specs.Area.{IsInside, IsOpen, IsWrittenIn};
+ghost use Rattle.fd_draw.specs.Area.{IsInside, IsOpen};
 ghost use Rattle.fd_draw.specs.Demand.{is_reached, pixels_in, spans_in, triangle_pixels, triangle_spans, event_pixels, event_spans};
 ghost use Rattle.fd_draw.specs.Written.{colour_blended, blended, kept_by_triangle};
 ghost use Rattle.fd_cover.specs.Covers.{covers};
@@ -13,17 +13,19 @@ ghost use Rattle.fd_tile.specs.declared.place.TheConstants.{TILE_SIDE};
 ghost use Rattle.fd_draw.specs.Row.{changed_row};
 ghost use Rattle.fd_draw.specs.Paints.{Paints};
 ghost use Rattle.fd_draw.specs.Primitive.{IsBrushed, triangle_of};
+ghost use Rattle.fd_draw.specs.Plan.{ArePlanned, IsFoundOn, IsPlan};
 ghost use Rattle.fd_draw.specs.Triangles.{triangle_at};
 ghost use Rattle.fd_draw.specs.Writing.{HasRoom, Writes, between, in_row, keep_each};
 
-use crate::area::{drawn_area, open_area, shared, whole};
+use crate::area::{open_area, whole};
 use crate::clear::{Clear, clear_rows};
+use crate::found::{Found, find};
 use crate::near::next_near;
+use crate::plan::{Plan, Planned};
 use crate::primitive::{Primitive, brush_of};
-use crate::span::covered_span;
 use crate::tested::draw_tested;
 use fd_blend::{Colour, blend_row};
-use fd_cover::{Bounds, Rows, shade_row};
+use fd_cover::{Bounds, shade_row};
 use fd_events::{Draw, Event, Pipeline};
 use fd_tile::{TILE_SIDE, Tile};
 use fd_undo::UndoStack;
@@ -109,82 +111,100 @@ pub(crate) fn write_span(
     blend_triangle(&mut row[start..end], left, y, primitive, state);
 }
 
-/// Keeps and then blends the pixels of row y, at which the triangle's rows stand, that it covers in a box.
+/// Keeps and then blends the pixels of row y at which a triangle was found.
 fn write_row(
     primitive: &Primitive,
     state: &Pipeline,
-    rows: &Rows,
-    area: Bounds,
+    found: &Found,
     y: u32,
     tile: &mut Tile,
     undo: &mut UndoStack,
 )
     requires brushed { IsBrushed primitive.now state.now }
-    requires rows { rows.now ≡ (primitive.now.corners, y) }
-    requires inside { IsInside area tile.old.place }
-    requires reached { IsWrittenIn (is_reached (triangle_of primitive.now) state.now) (covers primitive.now.corners) tile.old.place area }
-    requires from_top { area.top ≤ y }
-    requires to_bottom { y < area.bottom }
+    requires found { IsFoundOn (triangle_of primitive.now) state.now tile.old.place found.now }
+    requires from_top { found.now.area.top ≤ y }
+    requires to_bottom { y < found.now.area.bottom }
     requires room { HasRoom (spans_in (in_row (is_reached (triangle_of primitive.now) state.now) y) tile.old.place) (pixels_in (in_row (is_reached (triangle_of primitive.now) state.now) y) tile.old.place) undo.old }
     ensures { Writes (spans_in (in_row (is_reached (triangle_of primitive.now) state.now) y) tile.old.place) (pixels_in (in_row (is_reached (triangle_of primitive.now) state.now) y) tile.old.place) (in_row (is_reached (triangle_of primitive.now) state.now) y)
         (blended (triangle_of primitive.now) primitive.now.interp state.now) keep_each tile.old undo.old tile.new undo.new }
 {
     let _place = tile.place();
-    if let Some((left, right)) = covered_span(rows, area.left, area.right) {
+    if let Some((left, right)) = found.span(&primitive.corners, y) {
         write_span(primitive, state, left, right, y, tile, undo);
     }
 }
 
-/// Keeps and then blends the pixels that a triangle covers in a box, row after row.
+/// Keeps and then blends the pixels at which a triangle was found, row after row.
 fn write_rows(
     primitive: &Primitive,
     state: &Pipeline,
-    area: Bounds,
+    found: &Found,
     tile: &mut Tile,
     undo: &mut UndoStack,
 )
     requires brushed { IsBrushed primitive.now state.now }
     requires filled { IsTileImage tile.old }
-    requires inside { IsInside area tile.old.place }
-    requires some { area.top < area.bottom }
-    requires reached { IsWrittenIn (is_reached (triangle_of primitive.now) state.now) (covers primitive.now.corners) tile.old.place area }
+    requires found { IsFoundOn (triangle_of primitive.now) state.now tile.old.place found.now }
     requires room { HasRoom (spans_in (is_reached (triangle_of primitive.now) state.now) tile.old.place) (pixels_in (is_reached (triangle_of primitive.now) state.now) tile.old.place) undo.old }
     ensures { Writes (spans_in (is_reached (triangle_of primitive.now) state.now) tile.old.place) (pixels_in (is_reached (triangle_of primitive.now) state.now) tile.old.place) (is_reached (triangle_of primitive.now) state.now)
         (blended (triangle_of primitive.now) primitive.now.interp state.now) keep_each tile.old undo.old tile.new undo.new }
 {
-    let mut rows = Rows::of(&primitive.corners, area.top);
-    for y in area.top..area.bottom {
-        write_row(primitive, state, &rows, area, y, tile, undo);
-        rows.down();
+    for y in found.area.top..found.area.bottom {
+        write_row(primitive, state, found, y, tile, undo);
     }
 }
 
-/// Keeps and then writes the pixels at which a triangle is drawn in a box, which has those that it reaches: by rows, or with the depth
-/// test on by runs.
+/// Keeps and then writes those at which it is drawn: by rows, or with the depth test on by runs.
 fn draw_primitive(
     primitive: &Primitive,
     state: &Pipeline,
-    area: Bounds,
+    found: &Found,
     tile: &mut Tile,
     undo: &mut UndoStack,
 )
     requires brushed { IsBrushed primitive.now state.now }
     requires filled { IsTileImage tile.old }
-    requires inside { IsInside area tile.old.place }
-    requires some { area.top < area.bottom }
-    requires reached { IsWrittenIn (is_reached (triangle_of primitive.now) state.now) (covers primitive.now.corners) tile.old.place area }
+    requires found { IsFoundOn (triangle_of primitive.now) state.now tile.old.place found.now }
     requires room { HasRoom (triangle_spans state.now tile.old.place (triangle_of primitive.now)) (triangle_pixels state.now tile.old.place (triangle_of primitive.now)) undo.old }
     ensures { Writes (triangle_spans state.now tile.old.place (triangle_of primitive.now)) (triangle_pixels state.now tile.old.place (triangle_of primitive.now)) (is_reached (triangle_of primitive.now) state.now)
         (pixel_after_triangle (triangle_of primitive.now) primitive.now.interp state.now) (kept_by_triangle (triangle_of primitive.now) state.now) tile.old undo.old tile.new undo.new }
 {
     if state.depth.enable {
-        draw_tested(primitive, state, area, tile, undo);
+        draw_tested(primitive, state, found, tile, undo);
     } else {
-        write_rows(primitive, state, area, tile, undo);
+        write_rows(primitive, state, found, tile, undo);
     }
 }
 
-/// Keeps and then writes the pixels at which a triangle of a draw is drawn: by rows, or with the depth test on by runs; `window` has the pixels that the scissor leaves.
+/// The same for a triangle of a draw.
+fn draw_found(
+    draw: &Draw,
+    triangle: u32,
+    found: &Found,
+    state: &Pipeline,
+    tile: &mut Tile,
+    undo: &mut UndoStack,
+)
+    requires triangle { triangle < length (triangles_of draw.now) }
+    requires filled { IsTileImage tile.old }
+    requires found { IsFoundOn (triangle_at draw.now triangle) state.now tile.old.place found.now }
+    requires room { HasRoom (triangle_spans state.now tile.old.place (triangle_at draw.now triangle)) (triangle_pixels state.now tile.old.place (triangle_at draw.now triangle)) undo.old }
+    ensures { Writes (triangle_spans state.now tile.old.place (triangle_at draw.now triangle)) (triangle_pixels state.now tile.old.place (triangle_at draw.now triangle)) (is_reached (triangle_at draw.now triangle) state.now)
+        (pixel_after_triangle (triangle_at draw.now triangle) draw.now.interp state.now) (kept_by_triangle (triangle_at draw.now triangle) state.now) tile.old undo.old tile.new undo.new }
+{
+    let colours = draw.colours(triangle);
+    let interp = draw.interp();
+    let primitive = Primitive {
+        corners: draw.tri(triangle),
+        colours,
+        depths: draw.depths(triangle),
+        interp,
+        brush: brush_of(interp, state, colours[0]),
+    };
+    draw_primitive(&primitive, state, found, tile, undo);
+}
+
+/// Finds a triangle of a draw, and then does the same; `window` has the pixels that the scissor leaves.
 fn draw_triangle(
     draw: &Draw,
     triangle: u32,
@@ -201,35 +221,34 @@ fn draw_triangle(
     ensures { Writes (triangle_spans state.now tile.old.place (triangle_at draw.now triangle)) (triangle_pixels state.now tile.old.place (triangle_at draw.now triangle)) (is_reached (triangle_at draw.now triangle) state.now)
         (pixel_after_triangle (triangle_at draw.now triangle) draw.now.interp state.now) (kept_by_triangle (triangle_at draw.now triangle) state.now) tile.old undo.old tile.new undo.new }
 {
-    let corners = draw.tri(triangle);
-    if let Some(area) = drawn_area(&corners, &state.raster, window) {
-        let colours = draw.colours(triangle);
-        let interp = draw.interp();
-        let primitive = Primitive {
-            corners,
-            colours,
-            depths: draw.depths(triangle),
-            interp,
-            brush: brush_of(interp, state, colours[0]),
-        };
-        draw_primitive(&primitive, state, area, tile, undo);
+    let _place = tile.place();
+    if let Some(found) = find(&draw.tri(triangle), &state.raster, window) {
+        draw_found(draw, triangle, &found, state, tile, undo);
     }
 }
 
-/// Keeps and then writes the pixels at which the triangles of a draw are drawn, one triangle after the other.
-fn draw_triangles(draw: &Draw, state: &Pipeline, tile: &mut Tile, undo: &mut UndoStack)
+/// Keeps and then writes the pixels at which the triangles of a draw are drawn, one triangle after the other: those that are planned, and
+/// then the rest.
+fn draw_triangles(draw: &Draw, state: &Pipeline, plan: &Plan, tile: &mut Tile, undo: &mut UndoStack)
     requires begun { undo.old.frame_left ≡ false }
+    requires planned { ArePlanned draw.now state.now tile.old.place 0 plan.now.planned.items plan.now.rest }
     requires spans { sum_by (triangle_spans state.now tile.old.place) (triangles_of draw.now) ≤ undo.old.spans_left }
     requires pixels { sum_by (triangle_pixels state.now tile.old.place) (triangles_of draw.now) ≤ undo.old.pixels_left }
     ensures { Paints (pixel_after_triangles (triangles_of draw.now) draw.now.interp state.now)
         (kept_by_triangles (triangles_of draw.now) draw.now.interp state.now) tile.old undo.old tile.new undo.new }
 {
-    let window = open_area(&state.raster, &state.scissor, tile.place());
-    if shared(window, draw.bounds()).is_empty() {
-        return;
+    let place = tile.place();
+    let planned = plan.planned.as_slice();
+    for i in 0..planned.len() {
+        let Planned { triangle, found } = &planned[i];
+        draw_found(draw, *triangle, found, state, tile, undo);
     }
     let count = draw.triangles();
-    let mut triangle = next_near(draw, 0, window);
+    if plan.rest == count {
+        return;
+    }
+    let window = open_area(&state.raster, &state.scissor, place);
+    let mut triangle = next_near(draw, plan.rest, window);
     while triangle < count {
         draw_triangle(draw, triangle, state, window, tile, undo);
         triangle = next_near(draw, triangle + 1, window);
@@ -237,9 +256,10 @@ fn draw_triangles(draw: &Draw, state: &Pipeline, tile: &mut Tile, undo: &mut Und
 }
 
 /// Draws an event in a state on a tile, and keeps the pixels that it overwrites in the top frame, which has been begun with
-/// room for them.
-pub fn draw(event: &Event, state: &Pipeline, tile: &mut Tile, undo: &mut UndoStack)
+/// room for them. The plan is the event's.
+pub fn draw(event: &Event, state: &Pipeline, plan: &Plan, tile: &mut Tile, undo: &mut UndoStack)
     requires begun { undo.old.frame_left ≡ false }
+    requires planned { IsPlan plan.now event.now state.now tile.old.place }
     requires spans { event_spans event.now state.now tile.old.place ≤ undo.old.spans_left }
     requires pixels { event_pixels event.now state.now tile.old.place ≤ undo.old.pixels_left }
     ensures { Paints (pixel_after event.now state.now) (kept_by event.now state.now) tile.old undo.old tile.new undo.new }
@@ -248,7 +268,7 @@ pub fn draw(event: &Event, state: &Pipeline, tile: &mut Tile, undo: &mut UndoSta
     match event {
         Event::Clear(colour) => clear_rows(Clear::Colours(*colour), whole(place), tile, undo),
         Event::DepthClear(depth) => clear_rows(Clear::Depths(*depth), whole(place), tile, undo),
-        Event::Draw(draw) => draw_triangles(draw, state, tile, undo),
+        Event::Draw(draw) => draw_triangles(draw, state, plan, tile, undo),
         // State events and markers draw nothing.
         _ => {}
     }

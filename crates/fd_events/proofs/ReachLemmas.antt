@@ -1,14 +1,18 @@
 -- What an event leaves outside its reach.
-use Rattle.std.proofs.Common.{◌≡◌, ℕ, ◌<◌, true, false, Option, Some, None, option_map, refl, subst, arith}
-use Rattle.std.specs.Prelude.{IfSome}
-use Rattle.std.proofs.lemmas.Bool.Decides.{nat_tests}
+use Rattle.std.proofs.Common.{◌≡◌, ◌≢◌, ℕ, suc, ◌<◌, ◌&&◌, Bool, true, false, ◌⊎◌, inl, inr, List, length, get_or, replicate, slice_get, Option, Some, None, option_map, refl, sym, ap, ◌∙◌, subst, arith}
+use Rattle.std.specs.Prelude.{IfSome, not, map, slice_set}
+use Rattle.std.proofs.lemmas.Bool.Decides.{nat_tests, eqb_tells}
+use Rattle.std.proofs.lemmas.List.{length-map, length-set, get_or-map, get_or-replicate, get_or-set_same, get_or-set_other}
+use Rattle.std.proofs.lemmas.Option.{slice_get-map, slice_get-get_or, unwrap_or-slice_get}
 use Rattle.fd_cover.specs.declared.bounds.Bounds.{Bounds}
-use Rattle.fd_cover.specs.Bounds.{is_within}
+use Rattle.fd_cover.specs.Bounds.{is_within, is_empty}
 use Rattle.fd_events.specs.declared.event.Event.{Event}
 use Rattle.fd_events.specs.declared.event.Event.TheVariants.{Clear, DepthClear, Draw, SetRaster, SetScissor, SetBlend, SetFactor, SetDepth, Marker}
 use Rattle.fd_events.specs.Bounds.{bounds_of_triangles}
 use Rattle.fd_events.specs.Draw.{triangles_of}
-use Rattle.fd_events.specs.Reach.{clipped, reach_of, HoldsWritten}
+use Rattle.fd_events.specs.declared.reach.Reach.{Reach}
+use Rattle.fd_events.specs.Reach.{clipped, reach_of, box_of, nowhere, may_write, AreReaches, AreWriters, HoldsWritten}
+use Rattle.fd_events.specs.Table.{is_set}
 use Rattle.fd_events.proofs.BoundsLemmas.{bounds_of_triangles-holds, pixel_after_triangles-outside, kept_by_triangles-outside}
 
 -- a pixel of the target that the clipped box leaves out
@@ -35,6 +39,70 @@ reach-holds width height (SetBlend blend) state x y before column row outside = 
 reach-holds width height (SetFactor factor) state x y before column row outside = (refl, refl)
 reach-holds width height (SetDepth depth) state x y before column row outside = (refl, refl)
 reach-holds width height (Marker label) state x y before column row outside = (refl, refl)
+
+-- one box is kept for each event
+pub length-reaches : (width height : ℕ) (events : List Event) (reaches : List Reach) → AreReaches width height events reaches → length reaches ≡ length events
+length-reaches width height events reaches are = sym (length-map reaches box_of) ∙ ap length are ∙ length-map events (reach_of width height)
+
+pub reach_at : (width height : ℕ) (events : List Event) (reaches : List Reach) (n : ℕ) (reach : Reach) → AreReaches width height events reaches → slice_get reaches n ≡ Some reach
+    → option_map (reach_of width height) (slice_get events n) ≡ Some (box_of reach)
+reach_at width height events reaches n reach are at =
+    sym (slice_get-map (reach_of width height) events n) ∙ ap (λ boxes. slice_get boxes n) (sym are) ∙ slice_get-map box_of reaches n ∙ ap (option_map box_of) at
+
+-- whether it may write, by its box
+may_write_by : (width height : ℕ) (on : Bool) (found : Option Event) (box : Bounds) → option_map (reach_of width height) found ≡ Some box
+    → option_map (may_write width height on) found ≡ Some (on && not (is_empty box))
+may_write_by width height on None box is = absurd (cc)
+may_write_by width height on (Some event) box is =
+    let same : reach_of width height event ≡ box = cc in
+    ap (λ b. Some (on && not (is_empty b))) same
+
+pub writer_at : (width height : ℕ) (events : List Event) (flags writers : List Bool) (reaches : List Reach) (n : ℕ) → AreReaches width height events reaches → AreWriters flags reaches writers
+    → n < length reaches → option_map (may_write width height (is_set flags (suc n))) (slice_get events n) ≡ Some (get_or writers n false)
+writer_at width height events flags writers reaches n are writing within =
+    may_write_by width height (is_set flags (suc n)) (slice_get events n) (box_of (get_or reaches n nowhere))
+    (reach_at width height events reaches n (get_or reaches n nowhere) are (slice_get-get_or reaches n nowhere within))
+    ∙ ap (λ on. Some (on && not (is_empty (box_of (get_or reaches n nowhere))))) (unwrap_or-slice_get flags n false)
+    ∙ ap (λ (b : Bool). Some b) (sym (writing.each n within))
+
+-- where all are switched on
+pub AreWriters-all_on : (reaches : List Reach) (n : ℕ) → n ≡ length reaches → AreWriters (replicate n true) reaches (map (λ reach. not (is_empty (box_of reach))) reaches)
+AreWriters-all_on reaches n size = record {
+  number = length-map reaches (λ reach. not (is_empty (box_of reach)));
+  each = λ k within.
+      get_or-map (λ (reach : Reach). not (is_empty (box_of reach))) reaches k nowhere false within
+      ∙ ap (λ on. on && not (is_empty (box_of (get_or reaches k nowhere)))) (sym (get_or-replicate n k true false (omega arith)));
+}
+
+-- where one is switched
+pub AreWriters-set : (flags writers : List Bool) (reaches : List Reach) (n : ℕ) (on : Bool) → AreWriters flags reaches writers → n < length flags → n < length reaches
+    → AreWriters (slice_set flags n on) reaches (slice_set writers n (on && not (is_empty (box_of (get_or reaches n nowhere)))))
+AreWriters-set flags writers reaches n on are flagged within = record {
+  number = length-set writers n (on && not (is_empty (box_of (get_or reaches n nowhere)))) ∙ are.number;
+  each = λ k below. at k below (tells k n);
+}
+  where
+    tells : (a b : ℕ) → (a ≡ b) ⊎ (a ≢ b)
+    tells a b = elim (eqb_tells a b) [
+      | inl same ↦ inl same.1
+      | inr other ↦ inr other.1
+    ]
+
+    now : Bool
+    now = on && not (is_empty (box_of (get_or reaches n nowhere)))
+
+    at : (k : ℕ) → k < length reaches → (k ≡ n) ⊎ (k ≢ n)
+        → get_or (slice_set writers n (on && not (is_empty (box_of (get_or reaches n nowhere))))) k false ≡ (get_or (slice_set flags n on) k false && not (is_empty (box_of (get_or reaches k nowhere))))
+    at k below (inl same) =
+        let there : n < length writers = omega (arith, are.number) in
+        ap (λ j. get_or (slice_set writers n now) j false) same
+        ∙ get_or-set_same writers n now false there
+        ∙ ap (λ b. b && not (is_empty (box_of (get_or reaches n nowhere)))) (sym (get_or-set_same flags n on false flagged))
+        ∙ ap (λ j. get_or (slice_set flags n on) j false && not (is_empty (box_of (get_or reaches j nowhere)))) (sym same)
+    at k below (inr other) =
+        get_or-set_other writers n k now false other
+        ∙ are.each k below
+        ∙ ap (λ b. b && not (is_empty (box_of (get_or reaches k nowhere)))) (sym (get_or-set_other flags n k on false other))
 
 -- so for the box that a table gives
 pub reach_is-holds : (width height : ℕ) (found : Option Event) (box : Bounds) → option_map (reach_of width height) found ≡ Some box → IfSome found (HoldsWritten box width height)

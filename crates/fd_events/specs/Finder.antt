@@ -10,4 +10,4 @@ pub record Finds (finder : Finder) (ts : List Triangle) : Type 0 where
   pub bounds : IsRound finder.bounds ts
   pub groups : AreRoundGroups finder.groups.items ts
   pub boxes : AreTriangleBoxes finder.boxes.items ts
-  pub cells : IfSome finder.cells (λ cells. ListTriangles cells.value ts)
+  pub cells : IfSome finder.cells (λ cells. ListTriangles cells ts)

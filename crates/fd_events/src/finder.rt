@@ -22,7 +22,7 @@ pub(crate) struct Finder {
     // the box of each triangle, or nothing
     pub(crate) boxes: Vec<Bounds>,
     // for many triangles that are small: those that meet each cell of a grid
-    pub(crate) cells: Option<Box<Cells>>,
+    pub(crate) cells: Option<Cells>,
 }
 
 impl Finder {

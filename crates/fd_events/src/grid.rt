@@ -235,9 +235,9 @@ impl Cells {
         boxes: &[Bounds],
         vertices: usize,
         alloc: Global,
-    ) -> Result<Option<Box<Cells>>, AllocError>
+    ) -> Result<Option<Cells>, AllocError>
         requires { length boxes.now ≤ most_triangles }
-        ensures { IfOk result (λ cells. IfSome cells (λ cells. AreCells cells.value boxes.now)) }
+        ensures { IfOk result (λ cells. IfSome cells (λ cells. AreCells cells boxes.now)) }
     {
         let part = Bounds {
             left: bounds.left,
@@ -245,10 +245,7 @@ impl Cells {
             right: bounds.right.min(width),
             bottom: bounds.bottom.min(height),
         };
-        match Cells::over(part, boxes, vertices, alloc)? {
-            Some(cells) => Ok(Some(Box::new(alloc, cells)?)),
-            None => Ok(None),
-        }
+        Cells::over(part, boxes, vertices, alloc)
     }
 
     /// The numbers that the cell lists in which a window lies, where it lies in one.

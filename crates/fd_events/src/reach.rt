@@ -13,6 +13,7 @@ pub(crate) struct Reach {
 }
 
 impl Reach {
+    ghost use Rattle.fd_cover.specs.Bounds.{is_empty};
     ghost use Rattle.fd_events.specs.Reach.{box_of, clipped};
 
     /// No pixel.
@@ -53,6 +54,13 @@ impl Reach {
             right: bounds.right.min(width) as u16,
             bottom: bounds.bottom.min(height) as u16,
         }
+    }
+
+    /// Whether it has no pixel.
+    pub(crate) fn is_empty(self) -> bool
+        ensures { result ≡ is_empty (box_of self) }
+    {
+        self.bounds().is_empty()
     }
 
     /// The same box with sides of 32 bits.

@@ -1,9 +1,10 @@
-ghost use Rattle.std.specs.Prelude.{◌≡◌, ◌≤◌, ◌+◌, ◌-◌, length, ℕ, Some, slice_get, if◌then◌else◌};
+ghost use Rattle.std.specs.Prelude.{◌≡◌, ◌≤◌, ◌+◌, ◌-◌, ◌&&◌, length, ℕ, Some, map, not, slice_get, if◌then◌else◌};
 ghost use Rattle.fd_events.specs.Pipeline.{state_after};
 ghost use Rattle.std.specs.Prelude.{IfOk};
 ghost use Rattle.fd_events.specs.Table.{state_of};
 ghost use Rattle.fd_snap.specs.Limits.{most_pixels};
-ghost use Rattle.fd_events.specs.Reach.{AreReaches};
+ghost use Rattle.fd_cover.specs.Bounds.{is_empty};
+ghost use Rattle.fd_events.specs.Reach.{box_of, AreReaches};
 ghost use Rattle.fd_events.specs.declared.table.TableFault.TheVariants.{Memory};
 
 use crate::event::Event;
@@ -94,6 +95,24 @@ fn reaches_of(
     Ok(reaches)
 }
 
+/// Whether an event is switched on and its box has a pixel.
+fn may_write(on: bool, reach: Reach) -> bool
+    ensures { result ≡ (on && not (is_empty (box_of reach))) }
+{
+    on && !reach.is_empty()
+}
+
+/// The same of each event, where all are switched on.
+fn writers_of(reaches: &[Reach], alloc: Global) -> Result<Vec<bool>, AllocError>
+    ensures { IfOk result (λ writers. writers.items ≡ map (λ reach. not (is_empty (box_of reach))) reaches.now) }
+{
+    let mut writers = Vec::with_capacity(alloc, reaches.len())?;
+    for reach in reaches {
+        writers.push(may_write(true, *reach))?;
+    }
+    Ok(writers)
+}
+
 /// The version of a capture, the target's size and the events of the frame, numbered from 1, each switched on or off.
 #[derive(Debug, Drop)]
 pub struct EventTable {
@@ -104,13 +123,15 @@ pub struct EventTable {
     flags: Vec<bool>,
     // the state before each event, and the one after the last
     states: Vec<Pipeline>,
-    // the box of the pixels that each event can write: a tile asks this of every event, and the events themselves are large
+    // the box of the pixels that each event can write, since the events themselves are large
     reaches: Vec<Reach>,
+    // whether each event is switched on and its box has a pixel: each tile asks this of every event
+    writers: Vec<bool>,
 }
 
 impl Model for EventTable {
     ghost use Rattle.fd_events.specs.Table.{Table, table_of, IsTable, HasStates};
-    ghost use Rattle.fd_events.specs.Reach.{AreReaches};
+    ghost use Rattle.fd_events.specs.Reach.{AreReaches, AreWriters};
 
     ghost Value = { Table };
 
@@ -119,12 +140,13 @@ impl Model for EventTable {
     ghost invariant = { λ t.
         IsTable (table_of t.version t.width t.height t.events.items t.flags.items)
         × HasStates (table_of t.version t.width t.height t.events.items t.flags.items) t.states.items
-        × AreReaches t.width t.height t.events.items t.reaches.items };
+        × AreReaches t.width t.height t.events.items t.reaches.items
+        × AreWriters t.flags.items t.reaches.items t.writers.items };
 }
 
 impl EventTable {
     ghost use Rattle.std.specs.Prelude.{◌≡◌, ◌≤◌, ◌+◌, ◌-◌, length, Some, IfSome, IfOk, option_map};
-    ghost use Rattle.fd_events.specs.Reach.{reach_of, HoldsWritten};
+    ghost use Rattle.fd_events.specs.Reach.{reach_of, may_write_at, HoldsWritten};
     ghost use Rattle.fd_events.specs.Table.{IsTable, IsVersion, all_on, started, UnlessMemory, event_at, flag_at, state_at, with_flag};
 
     /// A table of these events, all switched on. They are dropped on a refusal.
@@ -163,6 +185,7 @@ impl EventTable {
         let mut states = vec![in alloc; Pipeline::default(); events.len() + 1]?;
         recompute(&events, &flags, &mut states, 0);
         let reaches = reaches_of(&events, width, height, alloc)?;
+        let writers = writers_of(&reaches, alloc)?;
         Ok(EventTable {
             version,
             width,
@@ -171,6 +194,7 @@ impl EventTable {
             flags,
             states,
             reaches,
+            writers,
         })
     }
 
@@ -235,6 +259,15 @@ impl EventTable {
         self.reaches[number as usize - 1].bounds()
     }
 
+    /// Whether the event of this number is switched on and its box has a pixel. Else it writes nothing, and this takes one look at a byte.
+    pub fn may_write(&self, number: u32) -> bool
+        requires first { 1 ≤ number }
+        requires last { number ≤ length self.now.events }
+        ensures { Some result ≡ may_write_at self.now number }
+    {
+        self.writers[number as usize - 1]
+    }
+
     /// The state before the event of this number, or after the last event.
     pub fn state_before(&self, number: u32) -> &Pipeline
         requires first { 1 ≤ number }
@@ -252,6 +285,7 @@ impl EventTable {
     {
         let index = number as usize - 1;
         self.flags[index] = on;
+        self.writers[index] = may_write(on, self.reaches[index]);
         recompute(&self.events, &self.flags, &mut self.states, index);
     }
 }

@@ -1,8 +1,10 @@
 -- An event whose reach misses a place writes nothing there.
 use Rattle.std.proofs.Common.{◌≡◌, ℕ, suc, ◌+◌, ◌<◌, ◌≤◌, Bool, true, false, cond, not, ◌&&◌, List, [], ◌++◌, Option, Some, None, option_map, slice_get, refl, sym, ap, ◌∙◌, subst, arith}
+use Rattle.std.proofs.lemmas.Bool.Decides.{nat_tests}
 use Rattle.std.proofs.lemmas.List.{append-nil}
 use Rattle.std.specs.Prelude.{IfSome}
 use Rattle.fd_cover.specs.declared.bounds.Bounds.{Bounds}
+use Rattle.fd_cover.specs.Bounds.{is_empty}
 use Rattle.fd_cover.specs.Verdict.{is_culled, holds}
 use Rattle.fd_cover.proofs.BoundsLemmas.{uncovered_outside}
 use Rattle.fd_tile.specs.declared.place.Place.{Place}
@@ -16,7 +18,7 @@ use Rattle.fd_events.specs.declared.pipeline.Pipeline.{Pipeline}
 use Rattle.fd_events.specs.Bounds.{bounds_of_triangles}
 use Rattle.fd_events.specs.Draw.{Triangle, triangles_of}
 use Rattle.fd_events.specs.Image.{pixel_after_event, kept_by_event}
-use Rattle.fd_events.specs.Reach.{clipped, reach_of}
+use Rattle.fd_events.specs.Reach.{clipped, reach_of, may_write, may_write_at}
 use Rattle.fd_events.specs.Table.{Table, is_set, event_at, active_event, state_at}
 use Rattle.fd_events.proofs.BoundsLemmas.{bounds_of_triangles-holds}
 use Rattle.fd_events.proofs.ReachLemmas.{outside_clipped, in_whole, reach-holds}
@@ -111,6 +113,30 @@ untouched_far table k place reach placed inside is misses =
     let there : option_map (reach_of table.width table.height) (slice_get table.events k) ≡ Some reach =
     ap (option_map (reach_of table.width table.height)) (sym (at_number-next table.events k)) ∙ is in
     untouched table k place placed inside (missed (is_set table.flags (suc k)) (slice_get table.events k) table.width table.height reach place there misses)
+
+-- a box without pixels misses every place
+empty_misses : (box : Bounds) (place : Place) → is_empty box ≡ true → Misses box place
+empty_misses box place empty x y held = grind (arith, nat_tests)
+
+quiet : (on : Bool) (event : Option Event) (width height : ℕ) (place : Place) → option_map (may_write width height on) event ≡ Some false
+    → IfSome (cond on event None) (λ event. Misses (reach_of width height event) place)
+quiet false event width height place is = tt
+quiet true None width height place is = tt
+quiet true (Some event) width height place is =
+    let some : not (is_empty (reach_of width height event)) ≡ false = cc in
+    empty_misses (reach_of width height event) place (not_false (is_empty (reach_of width height event)) some)
+  where
+    not_false : (b : Bool) → not b ≡ false → b ≡ true
+    not_false true is = refl
+    not_false false is = absurd (cc)
+
+-- it is switched off, or its reach is empty
+pub untouched_quiet : (table : Table) (k : ℕ) (place : Place) → IsTilePlace place → IsInside place table → may_write_at table (k + 1) ≡ Some false → IsUntouched table k place
+untouched_quiet table k place placed inside is =
+    let there : option_map (may_write table.width table.height (is_set table.flags (suc k))) (slice_get table.events k) ≡ Some false =
+    ap (λ n. option_map (may_write table.width table.height (is_set table.flags n)) (slice_get table.events k)) {x = suc k} {y = k + 1} (omega arith)
+    ∙ ap (option_map (may_write table.width table.height (is_set table.flags (k + 1)))) (sym (at_number-next table.events k)) ∙ is in
+    untouched table k place placed inside (quiet (is_set table.flags (suc k)) (slice_get table.events k) table.width table.height place there)
 
 -- drawing nothing is drawing it
 pub Paints-untouched : (table : Table) (k : ℕ) (t : TileImage) (u : Undo) → IsTileImage t → u.frame_left ≡ false → IsUntouched table k t.place

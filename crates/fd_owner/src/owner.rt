@@ -1,16 +1,16 @@
-ghost use Rattle.std.specs.Prelude.{◌≡◌, ◌+◌, ◌-◌, ◌<◌, ◌≤◌, ◌++◌, [], length, take, map, not, true, false, IsTrue, Some, None, slice_get, OnOk, OnErr};
+ghost use Rattle.std.specs.Prelude.{◌≡◌, ◌+◌, ◌-◌, ◌<◌, ◌≤◌, ◌++◌, [], length, take, map, not, true, false, IsTrue, Some, None, slice_get, IfNone, IfSome, OnOk, OnErr};
 ghost use Rattle.fd_tile.specs.Place.{Holds, HasRow, IsTilePlace};
 ghost use Rattle.fd_tile.specs.Tile.{FillsPlace, pixels_of, row_in, pixel_in};
 ghost use Rattle.fd_draw.specs.Paints.{Paints};
 ghost use Rattle.fd_owner.specs.History.{position, last_image, pixels_kept, pixels_recorded, pixel_past, kept_past};
 ghost use Rattle.fd_owner.specs.Shown.{gone_forward, gone_back, gone_back_to, refused, forgotten, IsInside};
-ghost use Rattle.fd_owner.specs.Step.{spans_past, pixels_past};
+ghost use Rattle.fd_owner.specs.Step.{IsPlanPast, MayBeginPast, spans_past, pixels_past};
 ghost use Rattle.fd_owner.specs.Untouched.{Misses, IsUntouched};
 ghost use Rattle.fd_events.specs.Table.{flag_at};
 
 use fd_blend::Colour;
 use fd_cover::Bounds;
-use fd_draw::Demand;
+use fd_draw::Plan;
 use fd_events::EventTable;
 use fd_tile::{Place, Tile};
 use fd_undo::UndoStack;
@@ -151,10 +151,9 @@ impl Owner {
     {
         let position = self.position();
         let place = self.place();
-        if is_near(table, position, place) {
-            self.draw_next(table)
-        } else {
-            self.pass_over_next(table)
+        match first_near(table, position, place) {
+            Some(first) => self.draw_next(table, first),
+            None => self.pass_over_next(table),
         }
     }
 
@@ -174,23 +173,28 @@ impl Owner {
         Ok(())
     }
 
-    /// Goes through the next event, which is switched on, and draws it.
+    /// Goes through the next event, which is switched on, and draws it. Of its triangles none before this one covers a pixel of the tile.
     #[inline(never)]
-    fn draw_next(&mut self, table: &EventTable) -> Result<(), Refused>
+    fn draw_next(&mut self, table: &EventTable, first: u32) -> Result<(), Refused>
         requires below { position self.old.history < length table.now.events }
         requires on { flag_at table.now (position self.old.history + 1) ≡ Some true }
+        requires first { MayBeginPast table.now (position self.old.history) self.old.place first }
         ensures ok { OnOk result (self.new ≡ gone_forward table.now self.old) }
         ensures refused { OnErr result (self.new ≡ refused self.old) }
     {
         let position = self.undo.frames() as u32;
         let len = table.len();
         prove!(position < len);
-        let room = demand_past(table, position, self.tile.place());
-        if self.undo.reserve(room.spans, room.pixels).is_err() {
+        let plan = plan_past(table, position, self.tile.place(), first);
+        if self
+            .undo
+            .reserve(plan.demand.spans, plan.demand.pixels)
+            .is_err()
+        {
             return Err(self.refuse());
         }
         self.undo.begin();
-        draw_past(table, position, room, &mut self.tile, &mut self.undo);
+        draw_past(table, position, &plan, &mut self.tile, &mut self.undo);
         Ok(())
     }
 
@@ -252,51 +256,68 @@ fn reaches(table: &EventTable, position: u32, place: Place) -> bool
 {
     let _len = table.len();
     let number = position + 1;
-    table.is_on(number) && meets(table.reach(number), place)
+    table.may_write(number) && meets(table.reach(number), place)
 }
 
-/// Whether it may write pixels of a place, as far as one look tells: at its box, and at what a draw lists there.
-fn is_near(table: &EventTable, position: u32, place: Place) -> bool
+/// The first triangle that it may draw on a place, as far as one look tells: at its box, and at what a draw lists there. None where it
+/// writes nothing there.
+fn first_near(table: &EventTable, position: u32, place: Place) -> Option<u32>
     requires below { position < length table.now.events }
     requires placed { IsTilePlace place }
     requires inside { IsInside place table.now }
-    ensures near { IsTrue result → flag_at table.now (position + 1) ≡ Some true }
-    ensures far { IsTrue (not result) → IsUntouched table.now position place }
+    ensures near { IfSome result (λ _. flag_at table.now (position + 1) ≡ Some true) }
+    ensures first { IfSome result (λ first. MayBeginPast table.now position place first) }
+    ensures far { IfNone result (IsUntouched table.now position place) }
 {
     let _len = table.len();
-    reaches(table, position, place) && !fd_draw::misses(table.event(position + 1), place)
+    if reaches(table, position, place) {
+        fd_draw::first_listed(table.event(position + 1), place)
+    } else {
+        None
+    }
 }
 
-/// What the event after a position, which is switched on, writes on a place.
-fn demand_past(table: &EventTable, position: u32, place: Place) -> Demand
+/// What the event after a position, which is switched on, writes on a place. Of its triangles none before this one covers a pixel there.
+fn plan_past(table: &EventTable, position: u32, place: Place, first: u32) -> Plan
     requires below { position < length table.now.events }
     requires on { flag_at table.now (position + 1) ≡ Some true }
     requires placed { IsTilePlace place }
-    ensures spans { result.spans ≡ spans_past table.now position place }
-    ensures pixels { result.pixels ≡ pixels_past table.now position place }
+    requires first { MayBeginPast table.now position place first }
+    ensures spans { result.demand.spans ≡ spans_past table.now position place }
+    ensures pixels { result.demand.pixels ≡ pixels_past table.now position place }
+    ensures planned { IsPlanPast result table.now position place }
 {
     let _len = table.len();
     let number = position + 1;
-    fd_draw::demand(table.event(number), table.state_before(number), place)
+    let event = table.event(number);
+    Plan::of(event, table.state_before(number), place, first)
 }
 
-/// Draws the event after a position, which is switched on and writes so much on the tile at most, and keeps what it overwrites.
-fn draw_past(table: &EventTable, position: u32, most: Demand, tile: &mut Tile, undo: &mut UndoStack)
+/// Draws the event after a position, which is switched on and whose plan this is, and keeps what it overwrites.
+fn draw_past(table: &EventTable, position: u32, plan: &Plan, tile: &mut Tile, undo: &mut UndoStack)
     requires below { position < length table.now.events }
     requires on { flag_at table.now (position + 1) ≡ Some true }
     requires begun { undo.old.frame_left ≡ false }
-    requires most_pixels { most.pixels ≡ pixels_past table.now position tile.old.place }
+    requires planned { IsPlanPast plan.now table.now position tile.old.place }
+    requires most_pixels { plan.now.demand.pixels ≡ pixels_past table.now position tile.old.place }
     requires spans { spans_past table.now position tile.old.place ≤ undo.old.spans_left }
     requires pixels { pixels_past table.now position tile.old.place ≤ undo.old.pixels_left }
     ensures { Paints (pixel_past table.now position) (kept_past table.now position) tile.old undo.old tile.new undo.new }
 {
     let (_len, _place) = (table.len(), tile.place());
     // of many small draws most write nothing on a tile
-    if most.pixels == 0 {
+    let most = plan.demand.pixels;
+    if most == 0 {
         return;
     }
     let number = position + 1;
-    fd_draw::draw(table.event(number), table.state_before(number), tile, undo);
+    fd_draw::draw(
+        table.event(number),
+        table.state_before(number),
+        plan,
+        tile,
+        undo,
+    );
 }
 
 #[cfg(test)]

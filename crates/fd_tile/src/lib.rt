@@ -6,6 +6,7 @@ pub use place::{Place, TILE_SIDE};
 pub use tile::Tile;
 
 mod grid;
+mod part;
 mod place;
 #[cfg(test)]
 mod tests;

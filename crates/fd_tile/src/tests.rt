@@ -51,6 +51,28 @@ fn a_fresh_tile_has_no_colour_and_is_deep(rt: HostRuntime) -> Result<(), Fail> {
 }
 
 #[test]
+fn several_rows_are_put_at_once(rt: HostRuntime) -> Result<(), Fail> {
+    let place = Place {
+        left: 32,
+        top: 64,
+        width: 5,
+        height: 4,
+    };
+    let mut tile = Tile::fresh(rt.alloc(), place)?;
+    let mut colours = [RED; 10];
+    colours[7] = NOTHING;
+    tile.put_rows(65, 2, &colours);
+    assert_eq!(rt; tile.row(64), [NOTHING; 5].as_slice());
+    assert_eq!(rt; tile.row(65), [RED; 5].as_slice());
+    assert_eq!(rt; tile.row(66), [RED, RED, NOTHING, RED, RED].as_slice());
+    assert_eq!(rt; tile.row(67), [NOTHING; 5].as_slice());
+    assert_eq!(rt; tile.flat_depth(), Some(65535));
+    tile.put_rows(68, 0, &[]);
+    assert_eq!(rt; tile.get(36, 67), NOTHING);
+    Ok(())
+}
+
+#[test]
 fn borders_cut_the_last_tiles(rt: HostRuntime) -> Result<(), Fail> {
     let Some(grid) = Grid::new(70, 33) else {
         return Err(Fail::from("a refused size"));

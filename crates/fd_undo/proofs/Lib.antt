@@ -14,4 +14,5 @@ pub mod Begins
 pub mod Keeps
 pub mod Undone
 pub mod Forgets
+pub mod WholeRows
 pub mod PutBack

@@ -1,13 +1,16 @@
 -- One step of putting back: the last span that is left goes, with its colours and its depths.
-use Rattle.std.proofs.Common.{◌≡◌, ℕ, ◌+◌, ◌-◌, ◌<◌, ◌≤◌, ◌∙◌, sym, ap, subst, List, [], ◌∷◌, ◌++◌, length, get_or, take, drop, arith}
+use Rattle.std.proofs.Common.{◌≡◌, ℕ, ◌+◌, ◌-◌, ◌*◌, ◌<◌, ◌≤◌, ◌∙◌, sym, ap, subst, List, [], ◌∷◌, ◌++◌, length, get_or, take, drop, arith, length-drop}
 use Rattle.std.specs.List.{zip}
-use Rattle.std.proofs.lemmas.List.{take_more, take-take, length-take, drop-take}
+use Rattle.std.proofs.lemmas.List.{take_more, take-take, length-take, drop-take, take-append-drop, get_or-take, get_or-drop}
 use Rattle.fd_blend.specs.declared.channel.Colour.{Colour}
-use Rattle.fd_tile.specs.Tile.{TileImage}
+use Rattle.fd_tile.specs.Tile.{TileImage, IsTileImage, with_rows_from, cut_rows}
+use Rattle.fd_undo.specs.Rows.{AreWholeRows}
+use Rattle.fd_undo.proofs.Zips.{length-zip_equal, zip-append}
+use Rattle.fd_undo.proofs.WholeRows.{kept_of-append, AreRows-counts, AreRows-held, AreRows-first, rows_restored}
 use Rattle.fd_undo.specs.Span.{Span}
 use Rattle.fd_undo.specs.Frame.{KeptPixel, kept_row, restored}
 use Rattle.fd_undo.specs.Stored.{pixel_count, depth_count, listed, depths_in, depths_of, kept_of}
-use Rattle.fd_undo.proofs.Depths.{popped_count, popped_depths, kept_of-popped}
+use Rattle.fd_undo.proofs.Depths.{popped_count, popped_depths, kept_of-popped, pixel_count-append, depth_count-append, depths_of-append, length-depths_of}
 use Rattle.fd_undo.proofs.Restored.{Inside, Inside-front, Inside-back, restored-append, restored-place}
 
 sliced : {X : Type 0} (start end : ℕ) (xs : List X) → start ≤ end → take (end - start) (drop start xs) ≡ drop start (take end xs)
@@ -83,3 +86,112 @@ module _ (spans : List Span) (colours : List Colour) (depths : List ℕ) (left e
           ap (restored (left_of (take (left - 1) spans) (take (end - len) colours) (take (depths_end - deep) depths))) written
           ∙ sym (restored-append (left_of (take (left - 1) spans) (take (end - len) colours) (take (depths_end - deep) depths)) row t)
           ∙ ap (λ ks. restored ks t) (sym split)
+
+-- ---- several rows go at once: the last ones that are left
+module _ (spans : List Span) (colours : List Colour) (depths : List ℕ) (left end depths_end count : ℕ) (within : left ≤ length spans)
+    (counted : pixel_count (take left spans) ≡ end) (fits : end ≤ length colours) (deep_counted : depth_count (take left spans) ≡ depths_end) (deep_fits : depths_end ≤ length depths)
+    (t : TileImage) (w : ℕ) (w_is : w ≡ t.place.width) (filled : IsTileImage t) (any : 0 < count) (few : count ≤ length (take left spans))
+    (run : AreWholeRows t (drop (length (take left spans) - count) (take left spans)))
+    (inside : Inside t.place (left_of (take left spans) (take end colours) (take depths_end depths))) where
+  abbrev spans_left : List Span
+  spans_left = take left spans
+
+  abbrev front : List Span
+  front = take (left - count) spans
+
+  abbrev back : List Span
+  back = drop (length (take left spans) - count) (take left spans)
+
+  abbrev pub begins : ℕ
+  begins = end - count * w
+
+  all_long : length (take left spans) ≡ left
+  all_long = omega (arith, length-take left spans, within)
+
+  back_long : length back ≡ count
+  back_long = omega (arith, length-drop (length (take left spans) - count) (take left spans), few)
+
+  two : take left spans ≡ front ++ back
+  two =
+      sym (take-append-drop (length (take left spans) - count) (take left spans))
+      ∙ ap (λ l. l ++ back) (ap (λ n. take (n - count) (take left spans)) all_long ∙ take-take (left - count) left spans (omega arith))
+
+  back_counts : (pixel_count back ≡ count * w) × (depth_count back ≡ 0)
+  back_counts =
+      let counts = AreRows-counts t.place run.depth run.y back run.rows in
+      (counts.0 ∙ ap (λ n. n * t.place.width) back_long ∙ ap (λ k. count * k) (sym w_is), counts.1)
+
+  pub front_counts : (pixel_count front ≡ begins) × (depth_count front ≡ depths_end) × (count * w ≤ end)
+  front_counts =
+      let pixels : pixel_count (take left spans) ≡ pixel_count front + pixel_count back = ap pixel_count two ∙ pixel_count-append front back in
+      let deep : depth_count (take left spans) ≡ depth_count front + depth_count back = ap depth_count two ∙ depth_count-append front back in
+      (omega (arith, pixels, back_counts.0, counted), omega (arith, deep, back_counts.1, deep_counted), omega (arith, pixels, back_counts.0, counted))
+
+  abbrev pub old : List Colour
+  old = take (end - begins) (drop begins colours)
+
+  pub old_long : length old ≡ count * w
+  old_long = omega (arith, length-take (end - begins) (drop begins colours), length-drop begins colours, front_counts.2, fits)
+
+  abbrev deep_front : List ℕ
+  deep_front = depths_of front (take depths_end depths)
+
+  abbrev deep_back : List ℕ
+  deep_back = depths_of back (drop (depth_count front) (take depths_end depths))
+
+  halves : left_of (take left spans) (take end colours) (take depths_end depths) ≡ left_of front (take begins colours) (take depths_end depths) ++ kept_of back (zip old deep_back)
+  halves =
+      let cs : List Colour = take end colours in
+      let ds : List ℕ = take depths_end depths in
+      let enough : depth_count front ≤ length (take depths_end depths) = omega (arith, front_counts.1, length-take depths_end depths, deep_fits) in
+      let deep_long : length deep_front ≡ pixel_count front = length-depths_of front (take depths_end depths) enough in
+      let first_long : length (take begins (take end colours)) ≡ pixel_count front = omega (arith, length-take begins (take end colours), length-take end colours, front_counts.0, fits) in
+      ap (λ l. kept_of l (zip cs (depths_of l ds))) two
+      ∙ ap (λ l. kept_of (front ++ back) (zip cs l)) (depths_of-append front back ds)
+      ∙ ap (λ l. kept_of (front ++ back) (zip l (deep_front ++ deep_back))) (sym (take-append-drop begins cs))
+      ∙ ap (λ l. kept_of (front ++ back) l) (zip-append (take begins cs) (drop begins cs) deep_front deep_back (deep_long ∙ sym first_long))
+      ∙ kept_of-append front back (zip (take begins cs) deep_front) (zip (drop begins cs) deep_back) (sym first_long ∙ sym (length-zip_equal (take begins cs) deep_front (deep_long ∙ sym first_long)))
+      ∙ ap (λ l. kept_of front (zip l deep_front) ++ kept_of back (zip (drop begins cs) deep_back)) (take-take begins end colours (omega arith))
+      ∙ ap (λ l. left_of front (take begins colours) ds ++ kept_of back (zip l deep_back)) (sym (sliced begins end colours (omega arith)))
+
+  both : Inside t.place (left_of front (take begins colours) (take depths_end depths) ++ kept_of back (zip old deep_back))
+  both = subst (λ ks. Inside t.place ks) halves inside
+
+  back_inside : Inside t.place (kept_of back (zip old deep_back))
+  back_inside = Inside-back t.place (left_of front (take begins colours) (take depths_end depths)) (kept_of back (zip old deep_back)) both
+
+  pub rows_held : (t.place.top ≤ run.y) × (run.y + count ≤ t.place.top + t.place.height)
+  rows_held =
+      let deep_long : length deep_back ≡ pixel_count back = length-depths_of back (drop (depth_count front) (take depths_end depths)) (omega (arith, back_counts.1)) in
+      let zipped : length (zip old deep_back) ≡ length old = length-zip_equal old deep_back (deep_long ∙ back_counts.0 ∙ sym old_long) in
+      let held : (t.place.top ≤ run.y) × (run.y + length back ≤ t.place.top + t.place.height) =
+      AreRows-held t.place run.depth run.y back (zip old deep_back) filled.colours.placed.wide run.rows (omega (arith, zipped, old_long, back_counts.0)) back_inside (omega (arith, back_long, any)) in
+      (held.0, omega (arith, held.1, back_long))
+
+  pub first_row : (s : Span) → s ≡ get_or spans (left - count) s → s.y ≡ run.y
+  first_row s read =
+      let n : ℕ = length (take left spans) - count in
+      ap (λ (r : Span). r.y)
+      (read ∙ sym (get_or-take left spans (left - count) s (omega (arith, all_long, few, any)))
+      ∙ ap (λ k. get_or (take left spans) k s) {x = left - count} {y = length (take left spans) - count + 0} (omega (arith, all_long))
+      ∙ sym (get_or-drop (length (take left spans) - count) (take left spans) 0 s))
+      ∙ AreRows-first t.place run.depth run.y back s run.rows (omega (arith, back_long, any))
+
+  module _ (y : ℕ) (now : TileImage) (at : y ≡ run.y) (written : now ≡ with_rows_from t y (cut_rows t.place.width count old)) where
+    put_is : now ≡ restored (kept_of back (zip old deep_back)) t
+    put_is =
+        written ∙ ap (λ k. with_rows_from t k (cut_rows t.place.width count old)) at
+        ∙ ap (λ n. with_rows_from t run.y (cut_rows t.place.width n old)) (sym back_long)
+        ∙ sym (rows_restored t run.depth run.y back old (drop (depth_count front) (take depths_end depths)) filled run.flat run.rows (old_long ∙ ap (λ k. count * k) w_is ∙ ap (λ n. n * t.place.width) (sym back_long))
+        rows_held.0 (omega (arith, rows_held.1, back_long)) back_inside)
+
+    pub rows_left_inside : Inside now.place (left_of front (take begins colours) (take depths_end depths))
+    rows_left_inside =
+        subst (λ p. Inside p (left_of front (take begins colours) (take depths_end depths))) (sym (restored-place (kept_of back (zip old deep_back)) t) ∙ ap (λ u. u.place) (sym put_is))
+        (Inside-front t.place (left_of front (take begins colours) (take depths_end depths)) (kept_of back (zip old deep_back)) both)
+
+    pub rows_left_restored : restored (left_of front (take begins colours) (take depths_end depths)) now ≡ restored (left_of (take left spans) (take end colours) (take depths_end depths)) t
+    rows_left_restored =
+        ap (restored (left_of front (take begins colours) (take depths_end depths))) put_is
+        ∙ sym (restored-append (left_of front (take begins colours) (take depths_end depths)) (kept_of back (zip old deep_back)) t)
+        ∙ ap (λ ks. restored ks t) (sym halves)

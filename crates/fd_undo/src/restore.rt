@@ -1,8 +1,9 @@
-ghost use Rattle.std.specs.Prelude.{◌≡◌, length, All, IfSome, Some, replicate};
+ghost use Rattle.std.specs.Prelude.{◌≡◌, ◌+◌, ◌-◌, ◌<◌, ◌≤◌, length, drop, All, IfSome, Some, replicate, true};
 ghost use Rattle.std.specs.List.{zip};
 ghost use Rattle.fd_tile.specs.Place.{Holds};
 ghost use Rattle.fd_tile.specs.Tile.{IsFlat};
 ghost use Rattle.fd_undo.specs.Frame.{kept_row, restored};
+ghost use Rattle.fd_undo.specs.Rows.{IsRow, AreWholeRows};
 ghost use Rattle.fd_undo.specs.Stored.{pixel_count, depth_count, depths_of, listed, depths_in, kept_of};
 
 use crate::span::Span;
@@ -19,19 +20,63 @@ pub(crate) fn put_back(spans: &[Span], colours: &[Colour], depths: &[u16], tile:
     let mut left = spans.len();
     let (mut end, mut depths_end) = (colours.len(), depths.len());
     while left > 0 {
-        left -= 1;
-        let span = spans[left];
-        let start = end - span.len();
-        let first_depth = depths_end - span.listed();
-        put_back_row(
-            tile,
-            &span,
-            &colours[start..end],
-            &depths[first_depth..depths_end],
-        );
-        end = start;
-        depths_end = first_depth;
+        let rows = last_rows(&spans[..left], tile);
+        if rows > 0 {
+            left -= rows;
+            let start = end - rows * tile.place().width as usize;
+            tile.put_rows(spans[left].y(), rows as u32, &colours[start..end]);
+            end = start;
+        } else {
+            left -= 1;
+            let span = spans[left];
+            let start = end - span.len();
+            let first_depth = depths_end - span.listed();
+            put_back_row(
+                tile,
+                &span,
+                &colours[start..end],
+                &depths[first_depth..depths_end],
+            );
+            end = start;
+            depths_end = first_depth;
+        }
     }
+}
+
+/// How many of the last spans are whole rows of the tile, each right below the one before it, and as deep as all pixels of the tile are.
+fn last_rows(spans: &[Span], tile: &Tile) -> usize
+    requires { 0 < length spans.now }
+    ensures few { result ≤ length spans.now }
+    ensures rows { 0 < result → AreWholeRows tile.now (drop (length spans.now - result) spans.now) }
+{
+    let Some(depth) = tile.flat_depth() else {
+        return 0;
+    };
+    let width = tile.place().width as usize;
+    let mut first = spans.len() - 1;
+    if !is_row(&spans[first], width, depth) {
+        return 0;
+    }
+    let mut y = spans[first].y();
+    while first > 0 && is_row_above(y, &spans[first - 1], width, depth) {
+        first -= 1;
+        y -= 1;
+    }
+    spans.len() - first
+}
+
+/// Whether a span has all pixels of a row, and this one depth.
+fn is_row(span: &Span, width: usize, depth: u16) -> bool
+    ensures { result ≡ true → IsRow width depth span.now }
+{
+    span.len() == width && span.same_depth() == Some(depth)
+}
+
+/// The same of the row right above row y.
+fn is_row_above(y: u32, span: &Span, width: usize, depth: u16) -> bool
+    ensures { result ≡ true → (span.now.y + 1 ≡ y) × IsRow width depth span.now }
+{
+    y > 0 && span.y() == y - 1 && is_row(span, width, depth)
 }
 
 /// Writes the colours and depths of a span back.

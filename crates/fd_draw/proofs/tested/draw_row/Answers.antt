@@ -1,4 +1,4 @@
-use Rattle.std.proofs.Common.{sym, drop, true, ◌++◌, List, take, map, ◌≡◌, ℕ, ◌+◌, ◌-◌, ◌<◌, ◌≤◌, ◌∙◌, ap, subst, refl, arith, length, get_or, Some, None}
+use Rattle.std.proofs.Common.{sym, drop, true, ◌++◌, List, take, map, ◌≡◌, ℕ, ◌+◌, ◌-◌, ◌<◌, ◌≤◌, ◌∙◌, ap, subst, refl, arith, length, get_or, Some}
 use Rattle.fd_cover.specs.Depth.{depth_at, passes}
 use Rattle.fd_draw.proofs.Rows.{take_front}
 use Rattle.fd_tile.specs.Tile.{depth_of, depth_row_of}
@@ -25,22 +25,20 @@ use Rattle.fd_draw.proofs.tested.draw_row.Goals as goal
 
 pub row-requires-clause-covered : goal.row-requires-clause-covered
 row-requires-clause-covered c = λ column low high.
-    let given : IsRowSpan (λ x. covers c.args.primitive.now.corners x c.args.y) c.args.area.left c.args.area.right (Some (c.in-Some.left, c.in-Some.right)) =
-    subst (λ (r : Tri × ℕ). IsRowSpan (λ x. covers r.0 x r.1) c.args.area.left c.args.area.right (Some (c.in-Some.left, c.in-Some.right))) c.requires.rows c.in-Some.ensures in
+    let given : IsRowSpan (λ x. covers c.args.primitive.now.corners x c.args.y) c.args.found.now.area.left c.args.found.now.area.right (Some (c.in-Some.left, c.in-Some.right)) = c.in-Some.ensures in
     let left : c.place-place.result.left ≡ c.args.tile.now.place.left = ap (λ (q : Place). q.left) c.place-place.ensures.value in
-    let wide : (c.in-Some.right - c.place-place.result.left - (c.in-Some.left - c.place-place.result.left)) ≡ c.in-Some.right - c.in-Some.left = omega (arith, left, c.requires.inside.from_left, given.bounds.0, given.bounds.1) in
-    let few : (c.in-Some.right - c.place-place.result.left - (c.in-Some.left - c.place-place.result.left)) ≤ length c.args.buffer.now = omega (arith, left, c.requires.inside.from_left, c.requires.inside.to_right, given.bounds.0, given.bounds.2, c.requires.filled.colours.placed.at_most_wide, c.told-buffer) in
+    let wide : (c.in-Some.right - c.place-place.result.left - (c.in-Some.left - c.place-place.result.left)) ≡ c.in-Some.right - c.in-Some.left = omega (arith, left, c.requires.found.inside.from_left, given.bounds.0, given.bounds.1) in
+    let few : (c.in-Some.right - c.place-place.result.left - (c.in-Some.left - c.place-place.result.left)) ≤ length c.args.buffer.now = omega (arith, left, c.requires.found.inside.from_left, c.requires.found.inside.to_right, given.bounds.0, given.bounds.2, c.requires.filled.colours.placed.at_most_wide, c.told-buffer) in
     let before : column < c.in-Some.right = omega (arith, high, length-take (c.in-Some.right - c.place-place.result.left - (c.in-Some.left - c.place-place.result.left)) c.args.buffer.now, wide, few, given.bounds.1) in
     subst (λ (d : Tri × List ℕ). covers d.0 column c.args.y ≡ true) (sym c.requires.depth_rows)
     (given.same column (omega (arith, low, given.bounds.0)) (omega (arith, before, given.bounds.2)) ∙ in_span-inside c.in-Some.left c.in-Some.right column low before)
 
 pub draw_runs-requires-clause-covered : goal.draw_runs-requires-clause-covered
 draw_runs-requires-clause-covered c = λ column low high.
-    let given : IsRowSpan (λ x. covers c.args.primitive.now.corners x c.args.y) c.args.area.left c.args.area.right (Some (c.in-Some.left, c.in-Some.right)) =
-    subst (λ (r : Tri × ℕ). IsRowSpan (λ x. covers r.0 x r.1) c.args.area.left c.args.area.right (Some (c.in-Some.left, c.in-Some.right))) c.requires.rows c.in-Some.ensures in
+    let given : IsRowSpan (λ x. covers c.args.primitive.now.corners x c.args.y) c.args.found.now.area.left c.args.found.now.area.right (Some (c.in-Some.left, c.in-Some.right)) = c.in-Some.ensures in
     let left : c.place-place.result.left ≡ c.args.tile.now.place.left = ap (λ (q : Place). q.left) c.place-place.ensures.value in
-    let wide : (c.in-Some.right - c.place-place.result.left - (c.in-Some.left - c.place-place.result.left)) ≡ c.in-Some.right - c.in-Some.left = omega (arith, left, c.requires.inside.from_left, given.bounds.0, given.bounds.1) in
-    let few : (c.in-Some.right - c.place-place.result.left - (c.in-Some.left - c.place-place.result.left)) ≤ length c.args.buffer.now = omega (arith, left, c.requires.inside.from_left, c.requires.inside.to_right, given.bounds.0, given.bounds.2, c.requires.filled.colours.placed.at_most_wide, c.told-buffer) in
+    let wide : (c.in-Some.right - c.place-place.result.left - (c.in-Some.left - c.place-place.result.left)) ≡ c.in-Some.right - c.in-Some.left = omega (arith, left, c.requires.found.inside.from_left, given.bounds.0, given.bounds.1) in
+    let few : (c.in-Some.right - c.place-place.result.left - (c.in-Some.left - c.place-place.result.left)) ≤ length c.args.buffer.now = omega (arith, left, c.requires.found.inside.from_left, c.requires.found.inside.to_right, given.bounds.0, given.bounds.2, c.requires.filled.colours.placed.at_most_wide, c.told-buffer) in
     let size : length c.row.new.out ≡ (c.in-Some.right - c.place-place.result.left - (c.in-Some.left - c.place-place.result.left)) = c.row.auto.out ∙ length-take (c.in-Some.right - c.place-place.result.left - (c.in-Some.left - c.place-place.result.left)) c.args.buffer.now ∙ omega (arith, few) in
     let front : take (c.in-Some.right - c.place-place.result.left - (c.in-Some.left - c.place-place.result.left)) (c.row.new.out ++ post_of 0 (c.in-Some.right - c.place-place.result.left - (c.in-Some.left - c.place-place.result.left)) c.args.buffer.now) ≡ c.row.new.out = take_front (c.in-Some.right - c.place-place.result.left - (c.in-Some.left - c.place-place.result.left)) c.row.new.out (post_of 0 (c.in-Some.right - c.place-place.result.left - (c.in-Some.left - c.place-place.result.left)) c.args.buffer.now) size in
     let before : column < c.in-Some.right = omega (arith, high, ap length front, size, wide, given.bounds.1) in
@@ -48,11 +46,10 @@ draw_runs-requires-clause-covered c = λ column low high.
 
 pub draw_runs-requires-clause-depths : goal.draw_runs-requires-clause-depths
 draw_runs-requires-clause-depths c = λ column low high.
-    let given : IsRowSpan (λ x. covers c.args.primitive.now.corners x c.args.y) c.args.area.left c.args.area.right (Some (c.in-Some.left, c.in-Some.right)) =
-    subst (λ (r : Tri × ℕ). IsRowSpan (λ x. covers r.0 x r.1) c.args.area.left c.args.area.right (Some (c.in-Some.left, c.in-Some.right))) c.requires.rows c.in-Some.ensures in
+    let given : IsRowSpan (λ x. covers c.args.primitive.now.corners x c.args.y) c.args.found.now.area.left c.args.found.now.area.right (Some (c.in-Some.left, c.in-Some.right)) = c.in-Some.ensures in
     let left : c.place-place.result.left ≡ c.args.tile.now.place.left = ap (λ (q : Place). q.left) c.place-place.ensures.value in
-    let wide : (c.in-Some.right - c.place-place.result.left - (c.in-Some.left - c.place-place.result.left)) ≡ c.in-Some.right - c.in-Some.left = omega (arith, left, c.requires.inside.from_left, given.bounds.0, given.bounds.1) in
-    let few : (c.in-Some.right - c.place-place.result.left - (c.in-Some.left - c.place-place.result.left)) ≤ length c.args.buffer.now = omega (arith, left, c.requires.inside.from_left, c.requires.inside.to_right, given.bounds.0, given.bounds.2, c.requires.filled.colours.placed.at_most_wide, c.told-buffer) in
+    let wide : (c.in-Some.right - c.place-place.result.left - (c.in-Some.left - c.place-place.result.left)) ≡ c.in-Some.right - c.in-Some.left = omega (arith, left, c.requires.found.inside.from_left, given.bounds.0, given.bounds.1) in
+    let few : (c.in-Some.right - c.place-place.result.left - (c.in-Some.left - c.place-place.result.left)) ≤ length c.args.buffer.now = omega (arith, left, c.requires.found.inside.from_left, c.requires.found.inside.to_right, given.bounds.0, given.bounds.2, c.requires.filled.colours.placed.at_most_wide, c.told-buffer) in
     let size : length c.row.new.out ≡ (c.in-Some.right - c.place-place.result.left - (c.in-Some.left - c.place-place.result.left)) = c.row.auto.out ∙ length-take (c.in-Some.right - c.place-place.result.left - (c.in-Some.left - c.place-place.result.left)) c.args.buffer.now ∙ omega (arith, few) in
     let front : take (c.in-Some.right - c.place-place.result.left - (c.in-Some.left - c.place-place.result.left)) (c.row.new.out ++ post_of 0 (c.in-Some.right - c.place-place.result.left - (c.in-Some.left - c.place-place.result.left)) c.args.buffer.now) ≡ c.row.new.out = take_front (c.in-Some.right - c.place-place.result.left - (c.in-Some.left - c.place-place.result.left)) c.row.new.out (post_of 0 (c.in-Some.right - c.place-place.result.left - (c.in-Some.left - c.place-place.result.left)) c.args.buffer.now) size in
     let is : c.row.new.out ≡ map (λ column. depth_at c.args.primitive.now.corners c.args.primitive.now.depths column c.args.y) (range_with_len c.in-Some.left (length (take (c.in-Some.right - c.place-place.result.left - (c.in-Some.left - c.place-place.result.left)) c.args.buffer.now))) =
@@ -61,15 +58,14 @@ draw_runs-requires-clause-depths c = λ column low high.
 
 pub draw_runs-requires-clause-passed : goal.draw_runs-requires-clause-passed
 draw_runs-requires-clause-passed c = λ column low high.
-    let given : IsRowSpan (λ x. covers c.args.primitive.now.corners x c.args.y) c.args.area.left c.args.area.right (Some (c.in-Some.left, c.in-Some.right)) =
-    subst (λ (r : Tri × ℕ). IsRowSpan (λ x. covers r.0 x r.1) c.args.area.left c.args.area.right (Some (c.in-Some.left, c.in-Some.right))) c.requires.rows c.in-Some.ensures in
+    let given : IsRowSpan (λ x. covers c.args.primitive.now.corners x c.args.y) c.args.found.now.area.left c.args.found.now.area.right (Some (c.in-Some.left, c.in-Some.right)) = c.in-Some.ensures in
     let left : c.place-place.result.left ≡ c.args.tile.now.place.left = ap (λ (q : Place). q.left) c.place-place.ensures.value in
     let written = is_reached (triangle_of c.args.primitive.now) c.args.state.now in
     let p = c.args.tile.now.place in
-    let crossed : HasRow p c.args.y = record { from_top = omega (arith, c.requires.inside.from_top, c.requires.from_top); to_bottom = omega (arith, c.requires.inside.to_bottom, c.requires.to_bottom) } in
-    let span = span_written written (covers c.args.primitive.now.corners) p c.args.area c.args.y (Some (c.in-Some.left, c.in-Some.right)) c.requires.inside c.requires.reached c.requires.from_top c.requires.to_bottom given in
-    let wide : (c.in-Some.right - c.place-place.result.left - (c.in-Some.left - c.place-place.result.left)) ≡ c.in-Some.right - c.in-Some.left = omega (arith, left, c.requires.inside.from_left, given.bounds.0, given.bounds.1) in
-    let few : (c.in-Some.right - c.place-place.result.left - (c.in-Some.left - c.place-place.result.left)) ≤ length c.args.buffer.now = omega (arith, left, c.requires.inside.from_left, c.requires.inside.to_right, given.bounds.0, given.bounds.2, c.requires.filled.colours.placed.at_most_wide, c.told-buffer) in
+    let crossed : HasRow p c.args.y = record { from_top = omega (arith, c.requires.found.inside.from_top, c.requires.from_top); to_bottom = omega (arith, c.requires.found.inside.to_bottom, c.requires.to_bottom) } in
+    let span = span_written written (covers c.args.primitive.now.corners) p c.args.found.now.area c.args.y (Some (c.in-Some.left, c.in-Some.right)) c.requires.found.inside c.requires.found.reached c.requires.from_top c.requires.to_bottom given in
+    let wide : (c.in-Some.right - c.place-place.result.left - (c.in-Some.left - c.place-place.result.left)) ≡ c.in-Some.right - c.in-Some.left = omega (arith, left, c.requires.found.inside.from_left, given.bounds.0, given.bounds.1) in
+    let few : (c.in-Some.right - c.place-place.result.left - (c.in-Some.left - c.place-place.result.left)) ≤ length c.args.buffer.now = omega (arith, left, c.requires.found.inside.from_left, c.requires.found.inside.to_right, given.bounds.0, given.bounds.2, c.requires.filled.colours.placed.at_most_wide, c.told-buffer) in
     let size : length c.row.new.out ≡ (c.in-Some.right - c.place-place.result.left - (c.in-Some.left - c.place-place.result.left)) = c.row.auto.out ∙ length-take (c.in-Some.right - c.place-place.result.left - (c.in-Some.left - c.place-place.result.left)) c.args.buffer.now ∙ omega (arith, few) in
     let front : take (c.in-Some.right - c.place-place.result.left - (c.in-Some.left - c.place-place.result.left)) (c.row.new.out ++ post_of 0 (c.in-Some.right - c.place-place.result.left - (c.in-Some.left - c.place-place.result.left)) c.args.buffer.now) ≡ c.row.new.out = take_front (c.in-Some.right - c.place-place.result.left - (c.in-Some.left - c.place-place.result.left)) c.row.new.out (post_of 0 (c.in-Some.right - c.place-place.result.left - (c.in-Some.left - c.place-place.result.left)) c.args.buffer.now) size in
     let is : c.row.new.out ≡ map (λ column. depth_at c.args.primitive.now.corners c.args.primitive.now.depths column c.args.y) (range_with_len c.in-Some.left (length (take (c.in-Some.right - c.place-place.result.left - (c.in-Some.left - c.place-place.result.left)) c.args.buffer.now))) =
@@ -92,15 +88,14 @@ draw_runs-requires-clause-passed c = λ column low high.
 
 pub draw_runs-requires-clause-room : goal.draw_runs-requires-clause-room
 draw_runs-requires-clause-room c =
-    let given : IsRowSpan (λ x. covers c.args.primitive.now.corners x c.args.y) c.args.area.left c.args.area.right (Some (c.in-Some.left, c.in-Some.right)) =
-    subst (λ (r : Tri × ℕ). IsRowSpan (λ x. covers r.0 x r.1) c.args.area.left c.args.area.right (Some (c.in-Some.left, c.in-Some.right))) c.requires.rows c.in-Some.ensures in
+    let given : IsRowSpan (λ x. covers c.args.primitive.now.corners x c.args.y) c.args.found.now.area.left c.args.found.now.area.right (Some (c.in-Some.left, c.in-Some.right)) = c.in-Some.ensures in
     let left : c.place-place.result.left ≡ c.args.tile.now.place.left = ap (λ (q : Place). q.left) c.place-place.ensures.value in
     let written = is_reached (triangle_of c.args.primitive.now) c.args.state.now in
     let p = c.args.tile.now.place in
-    let crossed : HasRow p c.args.y = record { from_top = omega (arith, c.requires.inside.from_top, c.requires.from_top); to_bottom = omega (arith, c.requires.inside.to_bottom, c.requires.to_bottom) } in
-    let span = span_written written (covers c.args.primitive.now.corners) p c.args.area c.args.y (Some (c.in-Some.left, c.in-Some.right)) c.requires.inside c.requires.reached c.requires.from_top c.requires.to_bottom given in
-    let wide : (c.in-Some.right - c.place-place.result.left - (c.in-Some.left - c.place-place.result.left)) ≡ c.in-Some.right - c.in-Some.left = omega (arith, left, c.requires.inside.from_left, given.bounds.0, given.bounds.1) in
-    let few : (c.in-Some.right - c.place-place.result.left - (c.in-Some.left - c.place-place.result.left)) ≤ length c.args.buffer.now = omega (arith, left, c.requires.inside.from_left, c.requires.inside.to_right, given.bounds.0, given.bounds.2, c.requires.filled.colours.placed.at_most_wide, c.told-buffer) in
+    let crossed : HasRow p c.args.y = record { from_top = omega (arith, c.requires.found.inside.from_top, c.requires.from_top); to_bottom = omega (arith, c.requires.found.inside.to_bottom, c.requires.to_bottom) } in
+    let span = span_written written (covers c.args.primitive.now.corners) p c.args.found.now.area c.args.y (Some (c.in-Some.left, c.in-Some.right)) c.requires.found.inside c.requires.found.reached c.requires.from_top c.requires.to_bottom given in
+    let wide : (c.in-Some.right - c.place-place.result.left - (c.in-Some.left - c.place-place.result.left)) ≡ c.in-Some.right - c.in-Some.left = omega (arith, left, c.requires.found.inside.from_left, given.bounds.0, given.bounds.1) in
+    let few : (c.in-Some.right - c.place-place.result.left - (c.in-Some.left - c.place-place.result.left)) ≤ length c.args.buffer.now = omega (arith, left, c.requires.found.inside.from_left, c.requires.found.inside.to_right, given.bounds.0, given.bounds.2, c.requires.filled.colours.placed.at_most_wide, c.told-buffer) in
     let size : length c.row.new.out ≡ (c.in-Some.right - c.place-place.result.left - (c.in-Some.left - c.place-place.result.left)) = c.row.auto.out ∙ length-take (c.in-Some.right - c.place-place.result.left - (c.in-Some.left - c.place-place.result.left)) c.args.buffer.now ∙ omega (arith, few) in
     let front : take (c.in-Some.right - c.place-place.result.left - (c.in-Some.left - c.place-place.result.left)) (c.row.new.out ++ post_of 0 (c.in-Some.right - c.place-place.result.left - (c.in-Some.left - c.place-place.result.left)) c.args.buffer.now) ≡ c.row.new.out = take_front (c.in-Some.right - c.place-place.result.left - (c.in-Some.left - c.place-place.result.left)) c.row.new.out (post_of 0 (c.in-Some.right - c.place-place.result.left - (c.in-Some.left - c.place-place.result.left)) c.args.buffer.now) size in
     let counted = row_count written p c.args.y c.in-Some.left c.in-Some.right crossed span in
@@ -112,15 +107,14 @@ draw_runs-requires-clause-room c =
 
 pub returns-in-Some : goal.returns-in-Some
 returns-in-Some c =
-    let given : IsRowSpan (λ x. covers c.args.primitive.now.corners x c.args.y) c.args.area.left c.args.area.right (Some (c.in-Some.left, c.in-Some.right)) =
-    subst (λ (r : Tri × ℕ). IsRowSpan (λ x. covers r.0 x r.1) c.args.area.left c.args.area.right (Some (c.in-Some.left, c.in-Some.right))) c.requires.rows c.in-Some.ensures in
+    let given : IsRowSpan (λ x. covers c.args.primitive.now.corners x c.args.y) c.args.found.now.area.left c.args.found.now.area.right (Some (c.in-Some.left, c.in-Some.right)) = c.in-Some.ensures in
     let left : c.place-place.result.left ≡ c.args.tile.now.place.left = ap (λ (q : Place). q.left) c.place-place.ensures.value in
     let written = is_reached (triangle_of c.args.primitive.now) c.args.state.now in
     let p = c.args.tile.now.place in
-    let crossed : HasRow p c.args.y = record { from_top = omega (arith, c.requires.inside.from_top, c.requires.from_top); to_bottom = omega (arith, c.requires.inside.to_bottom, c.requires.to_bottom) } in
-    let span = span_written written (covers c.args.primitive.now.corners) p c.args.area c.args.y (Some (c.in-Some.left, c.in-Some.right)) c.requires.inside c.requires.reached c.requires.from_top c.requires.to_bottom given in
-    let wide : (c.in-Some.right - c.place-place.result.left - (c.in-Some.left - c.place-place.result.left)) ≡ c.in-Some.right - c.in-Some.left = omega (arith, left, c.requires.inside.from_left, given.bounds.0, given.bounds.1) in
-    let few : (c.in-Some.right - c.place-place.result.left - (c.in-Some.left - c.place-place.result.left)) ≤ length c.args.buffer.now = omega (arith, left, c.requires.inside.from_left, c.requires.inside.to_right, given.bounds.0, given.bounds.2, c.requires.filled.colours.placed.at_most_wide, c.told-buffer) in
+    let crossed : HasRow p c.args.y = record { from_top = omega (arith, c.requires.found.inside.from_top, c.requires.from_top); to_bottom = omega (arith, c.requires.found.inside.to_bottom, c.requires.to_bottom) } in
+    let span = span_written written (covers c.args.primitive.now.corners) p c.args.found.now.area c.args.y (Some (c.in-Some.left, c.in-Some.right)) c.requires.found.inside c.requires.found.reached c.requires.from_top c.requires.to_bottom given in
+    let wide : (c.in-Some.right - c.place-place.result.left - (c.in-Some.left - c.place-place.result.left)) ≡ c.in-Some.right - c.in-Some.left = omega (arith, left, c.requires.found.inside.from_left, given.bounds.0, given.bounds.1) in
+    let few : (c.in-Some.right - c.place-place.result.left - (c.in-Some.left - c.place-place.result.left)) ≤ length c.args.buffer.now = omega (arith, left, c.requires.found.inside.from_left, c.requires.found.inside.to_right, given.bounds.0, given.bounds.2, c.requires.filled.colours.placed.at_most_wide, c.told-buffer) in
     let size : length c.row.new.out ≡ (c.in-Some.right - c.place-place.result.left - (c.in-Some.left - c.place-place.result.left)) = c.row.auto.out ∙ length-take (c.in-Some.right - c.place-place.result.left - (c.in-Some.left - c.place-place.result.left)) c.args.buffer.now ∙ omega (arith, few) in
     let front : take (c.in-Some.right - c.place-place.result.left - (c.in-Some.left - c.place-place.result.left)) (c.row.new.out ++ post_of 0 (c.in-Some.right - c.place-place.result.left - (c.in-Some.left - c.place-place.result.left)) c.args.buffer.now) ≡ c.row.new.out = take_front (c.in-Some.right - c.place-place.result.left - (c.in-Some.left - c.place-place.result.left)) c.row.new.out (post_of 0 (c.in-Some.right - c.place-place.result.left - (c.in-Some.left - c.place-place.result.left)) c.args.buffer.now) size in
     let last : c.in-Some.left + length (take (c.in-Some.right - c.place-place.result.left - (c.in-Some.left - c.place-place.result.left)) (c.row.new.out ++ post_of 0 (c.in-Some.right - c.place-place.result.left - (c.in-Some.left - c.place-place.result.left)) c.args.buffer.now)) ≡ c.in-Some.right = omega (arith, ap length front, size, wide, span.bounds.1) in
@@ -135,5 +129,5 @@ returns-in-Some c =
 
 pub returns-in_default : goal.returns-in_default
 returns-in_default c =
-    Writes-no_span (is_reached (triangle_of c.args.primitive.now) c.args.state.now) (covers c.args.primitive.now.corners) c.args.y c.args.tile.now c.args.area c.requires.inside c.requires.reached c.requires.from_top c.requires.to_bottom
-    (subst (λ (r : Tri × ℕ). IsRowSpan (λ x. covers r.0 x r.1) c.args.area.left c.args.area.right None) c.requires.rows (rw c.in_default.is at c.covered_span.ensures)) _ _ _ _ c.args.undo.now c.place-place.ensures.filled c.requires.room.begun
+    Writes-no_span (is_reached (triangle_of c.args.primitive.now) c.args.state.now) (covers c.args.primitive.now.corners) c.args.y c.args.tile.now c.args.found.now.area c.requires.found.inside c.requires.found.reached c.requires.from_top c.requires.to_bottom
+    (rw c.in_default.is at c.span.ensures) _ _ _ _ c.args.undo.now c.place-place.ensures.filled c.requires.room.begun

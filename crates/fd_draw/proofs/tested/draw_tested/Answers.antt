@@ -1,5 +1,4 @@
-use Rattle.std.proofs.Common.{ℕ, ◌+◌, ◌∙◌, ap, subst, sym, arith}
-use Rattle.fd_cover.specs.declared.triangle.Tri.{Tri}
+use Rattle.std.proofs.Common.{ap, subst, sym, arith}
 use Rattle.fd_cover.specs.Covers.{covers}
 use Rattle.fd_tile.specs.declared.place.Place.{Place}
 use Rattle.fd_tile.specs.Place.{HasRow}
@@ -14,10 +13,9 @@ pub loop-y-init : goal.loop-y-init
 loop-y-init c =
     let written = is_reached (triangle_of c.args.primitive.now) c.args.state.now in
     let p = c.args.tile.now.place in
-    let pixels = pixels_in-rows written (covers c.args.primitive.now.corners) p c.args.area c.requires.inside c.requires.reached in
+    let pixels = pixels_in-rows written (covers c.args.primitive.now.corners) p c.args.found.now.area c.requires.found.inside c.requires.found.reached in
     record {
-      rows = c.of-rows.ensures;
-      painted = Paints-first written _ _ (covers c.args.primitive.now.corners) c.args.tile.now c.args.area c.requires.reached c.args.undo.now c.requires.filled c.requires.room.begun;
+      painted = Paints-first written _ _ (covers c.args.primitive.now.corners) c.args.tile.now c.args.found.now.area c.requires.found.reached c.args.undo.now c.requires.filled c.requires.room.begun;
       spans = omega (arith, pixels);
       pixels = omega (arith, pixels);
     }
@@ -26,8 +24,8 @@ pub draw_row-requires-clause-room : goal.draw_row-requires-clause-room
 draw_row-requires-clause-room c =
     let written = is_reached (triangle_of c.args.primitive.now) c.args.state.now in
     let p = c.args.tile.now.place in
-    let crossed : HasRow p c.loop-y.y = record { from_top = omega (arith, c.requires.inside.from_top, c.loop-y.auto.y); to_bottom = omega (arith, c.requires.inside.to_bottom, c.loop-y-test.true) } in
-    let pixels = total_more (row_pixels written p) c.loop-y.y c.args.area.bottom c.loop-y-test.true in
+    let crossed : HasRow p c.loop-y.y = record { from_top = omega (arith, c.requires.found.inside.from_top, c.loop-y.auto.y); to_bottom = omega (arith, c.requires.found.inside.to_bottom, c.loop-y-test.true) } in
+    let pixels = total_more (row_pixels written p) c.loop-y.y c.args.found.now.area.bottom c.loop-y-test.true in
     subst (λ (q : Place). HasRoom (pixels_in (in_row written c.loop-y.y) q) (pixels_in (in_row written c.loop-y.y) q) c.loop-y.undo) (sym c.loop-y.invariant.painted.placed) (record {
       begun = c.loop-y.invariant.painted.begun;
       spans = omega (arith, pixels, pixels_in-row written p c.loop-y.y crossed, c.loop-y.invariant.spans, c.requires.room.spans);
@@ -38,11 +36,10 @@ pub loop-y-preserved : goal.loop-y-preserved
 loop-y-preserved c =
     let written = is_reached (triangle_of c.args.primitive.now) c.args.state.now in
     let p = c.args.tile.now.place in
-    let crossed : HasRow p c.loop-y.y = record { from_top = omega (arith, c.requires.inside.from_top, c.loop-y.auto.y); to_bottom = omega (arith, c.requires.inside.to_bottom, c.loop-y-test.true) } in
-    let pixels = total_more (row_pixels written p) c.loop-y.y c.args.area.bottom c.loop-y-test.true in
+    let crossed : HasRow p c.loop-y.y = record { from_top = omega (arith, c.requires.found.inside.from_top, c.loop-y.auto.y); to_bottom = omega (arith, c.requires.found.inside.to_bottom, c.loop-y-test.true) } in
+    let pixels = total_more (row_pixels written p) c.loop-y.y c.args.found.now.area.bottom c.loop-y-test.true in
     let same_pixels = ap (λ (q : Place). pixels_in (in_row written c.loop-y.y) q) c.loop-y.invariant.painted.placed in
     record {
-      rows = c.down.ensures ∙ ap (λ (r : Tri × ℕ). (r.0, r.1 + 1)) c.loop-y.invariant.rows;
       painted = Paints-row written _ _ c.loop-y.y _ _ _ _ _ _ c.loop-y.invariant.painted c.draw_row.ensures.painted;
       spans = omega (arith, pixels, pixels_in-row written p c.loop-y.y crossed, same_pixels, c.loop-y.invariant.spans, c.draw_row.ensures.spans);
       pixels = omega (arith, pixels, pixels_in-row written p c.loop-y.y crossed, same_pixels, c.loop-y.invariant.pixels, c.draw_row.ensures.pixels);
@@ -53,7 +50,7 @@ returns c =
     let written = is_reached (triangle_of c.args.primitive.now) c.args.state.now in
     let p = c.args.tile.now.place in
     record {
-      painted = Paints-last written _ _ (covers c.args.primitive.now.corners) c.args.tile.now c.args.area c.requires.reached c.loop-y.y _ _ _ c.loop-y-test.false c.loop-y.invariant.painted;
-      spans = omega (arith, total_none (row_pixels written p) c.loop-y.y c.args.area.bottom c.loop-y-test.false, c.loop-y.invariant.spans);
-      pixels = omega (arith, total_none (row_pixels written p) c.loop-y.y c.args.area.bottom c.loop-y-test.false, c.loop-y.invariant.pixels);
+      painted = Paints-last written _ _ (covers c.args.primitive.now.corners) c.args.tile.now c.args.found.now.area c.requires.found.reached c.loop-y.y _ _ _ c.loop-y-test.false c.loop-y.invariant.painted;
+      spans = omega (arith, total_none (row_pixels written p) c.loop-y.y c.args.found.now.area.bottom c.loop-y-test.false, c.loop-y.invariant.spans);
+      pixels = omega (arith, total_none (row_pixels written p) c.loop-y.y c.args.found.now.area.bottom c.loop-y-test.false, c.loop-y.invariant.pixels);
     }

@@ -1,4 +1,4 @@
-use Rattle.std.proofs.Common.{◌≡◌, ◌≤◌, ◌+◌, ◌-◌}
+use Rattle.std.proofs.Common.{◌≤◌, ◌+◌, ◌-◌}
 use Rattle.fd_events.specs.Image.{pixel_after_triangle}
 use Rattle.fd_draw.specs.Demand.{total, row_pixels, is_reached, pixels_in}
 use Rattle.fd_draw.specs.Written.{kept_by_triangle}
@@ -11,9 +11,8 @@ use Rattle.fd_draw.proofs.tested.draw_tested.Given as goal
 -- the rows above this one are done, and the room for the others is left
 abbrev pub invariant-loop-y : goal.invariant-loop-y
 invariant-loop-y l = record {
-  rows : l.rows ≡ (l.primitive.corners, l.y);
   painted : Paints (after_where (above (is_reached (triangle_of l.primitive) l.state) l.y) (pixel_after_triangle (triangle_of l.primitive) l.primitive.interp l.state))
       (kept_where (above (is_reached (triangle_of l.primitive) l.state) l.y) (kept_by_triangle (triangle_of l.primitive) l.state)) l.initial.tile l.initial.undo l.tile l.undo;
-  spans : l.initial.undo.spans_left + total (row_pixels (is_reached (triangle_of l.primitive) l.state) l.initial.tile.place) l.y (l.area.bottom - l.y) ≤ l.undo.spans_left + pixels_in (is_reached (triangle_of l.primitive) l.state) l.initial.tile.place;
-  pixels : l.initial.undo.pixels_left + total (row_pixels (is_reached (triangle_of l.primitive) l.state) l.initial.tile.place) l.y (l.area.bottom - l.y) ≤ l.undo.pixels_left + pixels_in (is_reached (triangle_of l.primitive) l.state) l.initial.tile.place;
+  spans : l.initial.undo.spans_left + total (row_pixels (is_reached (triangle_of l.primitive) l.state) l.initial.tile.place) l.y (l.found.area.bottom - l.y) ≤ l.undo.spans_left + pixels_in (is_reached (triangle_of l.primitive) l.state) l.initial.tile.place;
+  pixels : l.initial.undo.pixels_left + total (row_pixels (is_reached (triangle_of l.primitive) l.state) l.initial.tile.place) l.y (l.found.area.bottom - l.y) ≤ l.undo.pixels_left + pixels_in (is_reached (triangle_of l.primitive) l.state) l.initial.tile.place;
 }

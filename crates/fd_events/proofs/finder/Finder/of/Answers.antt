@@ -15,5 +15,5 @@ returns c =
       groups = c.in_ok-groups.ensures;
       boxes = boxes.0;
       cells = IfSome_then c.in_ok-cells.cells c.in_ok-cells.ensures
-          (λ cells are. ListTriangles-from cells.value c.in_ok-boxes.boxes.items ts (subst (λ (bs : List Bounds). AreCells cells.value bs) c.deref.ensures.value are) boxes.0 boxes.1);
+          (λ cells are. ListTriangles-from cells c.in_ok-boxes.boxes.items ts (subst (λ (bs : List Bounds). AreCells cells bs) c.deref.ensures.value are) boxes.0 boxes.1);
     }

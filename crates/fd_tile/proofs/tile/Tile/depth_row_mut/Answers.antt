@@ -1,32 +1,34 @@
-use Rattle.std.proofs.Common.{◌<◌, ◌-◌, List, ℕ, length, map, refl, sym, ap, ◌∙◌, arith}
-use Rattle.std.proofs.lemmas.List.{length-map}
-use Rattle.fd_tile.proofs.Rows.{row_at, rows_left, rows_fill}
+use Rattle.std.proofs.Common.{◌∙◌, ap, sym, subst, List, refl, ℕ}
+use Rattle.fd_tile.specs.Place.{HasRow}
+use Rattle.fd_tile.specs.Tile.{TileImage, rows_over}
+use Rattle.fd_tile.proofs.Cut.{row_read, vec_rows_left, vec_counted_left}
 use Rattle.fd_tile.proofs.tile.Tile.depth_row_mut.Goals as goal
 
 pub invariant_of-self-lent : goal.invariant_of-self-lent
 invariant_of-self-lent c w =
-    let within : c.args.y - c.self.inside.place.top < length c.self.inside.depths.items =
-    omega (arith, length-map c.self.inside.depths.items (λ row. row.items), c.self.invariant.deep.high, ap (λ t. t.place.top) c.self.view_is, ap (λ t. t.place.height) c.self.view_is) in
+    let t = c.self.inside in
+    let i = c.self.invariant in
+    let crossed : HasRow c.self.inside.place c.args.y = subst (λ (u : TileImage). HasRow u.place c.args.y) (sym c.self.view_is) c.requires in
     record {
-      filled = c.self.invariant.filled;
-      deep = rows_fill (λ row. row.items) c.self.inside.depths.items (c.args.y - c.self.inside.place.top) c.index_mut-row.result.now within
-          c.index_mut-row.ensures.value c.self.inside.place _ w refl c.self.invariant.deep;
+      placed = i.placed;
+      counted = i.counted;
+      deep_counted = vec_counted_left t.place t.depths i.placed i.deep_counted c.args.y c.row_start-start.result crossed c.row_start-start.ensures w;
       alike = tt;
     }
 
 pub returns : goal.returns
 returns c =
-    let within : c.args.y - c.self.inside.place.top < length c.self.inside.depths.items =
-    omega (arith, length-map c.self.inside.depths.items (λ row. row.items), c.self.invariant.deep.high, ap (λ t. t.place.top) c.self.view_is, ap (λ t. t.place.height) c.self.view_is) in (
+    let t = c.self.inside in
+    let i = c.self.invariant in
+    let crossed : HasRow c.self.inside.place c.args.y = subst (λ (u : TileImage). HasRow u.place c.args.y) (sym c.self.view_is) c.requires in (
       (
         refl,
-        λ w. rw (← c.self.view_is) (ap (λ (depths : List (List ℕ)). record { place = c.self.inside.place; rows = map (λ row. row.items) c.self.inside.rows.items; depths = depths })
-            (rows_left (λ row. row.items) c.self.inside.depths.items (c.args.y - c.self.inside.place.top) c.index_mut-row.result.now within
-            c.index_mut-row.ensures.value _ w refl)),
+        λ w. rw (← c.self.view_is) (ap (λ (depths : List (List ℕ)). record { place = t.place; rows = rows_over t.place t.colours.items; depths = depths })
+            (vec_rows_left t.place t.depths i.placed i.deep_counted c.args.y c.row_start-start.result crossed c.row_start-start.ensures w)),
       ),
       record {
         writes_back = tt;
-        value = rw (← c.self.view_is) (c.as_mut_slice.ensures.value
-            ∙ sym (row_at (λ row. row.items) c.self.inside.depths.items (c.args.y - c.self.inside.place.top) c.index_mut-row.result.now within c.index_mut-row.ensures.value));
+        value = rw (← c.self.view_is) (c.part_mut.ensures.value
+            ∙ row_read t.place t.depths.items i.placed i.deep_counted c.args.y c.row_start-start.result crossed c.row_start-start.ensures);
       },
     )

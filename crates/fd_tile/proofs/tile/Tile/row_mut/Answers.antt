@@ -1,33 +1,35 @@
-use Rattle.std.proofs.Common.{◌<◌, ◌-◌, List, length, map, refl, sym, ap, ◌∙◌, arith}
+use Rattle.std.proofs.Common.{◌∙◌, ap, sym, subst, List, refl}
 use Rattle.fd_blend.specs.declared.channel.Colour.{Colour}
-use Rattle.std.proofs.lemmas.List.{length-map}
-use Rattle.fd_tile.proofs.Rows.{row_at, rows_left, rows_fill}
+use Rattle.fd_tile.specs.Place.{HasRow}
+use Rattle.fd_tile.specs.Tile.{TileImage, rows_over}
+use Rattle.fd_tile.proofs.Cut.{row_read, vec_rows_left, vec_counted_left}
 use Rattle.fd_tile.proofs.tile.Tile.row_mut.Goals as goal
 
 pub invariant_of-self-lent : goal.invariant_of-self-lent
 invariant_of-self-lent c w =
-    let within : c.args.y - c.self.inside.place.top < length c.self.inside.rows.items =
-    omega (arith, length-map c.self.inside.rows.items (λ row. row.items), c.self.invariant.filled.high, ap (λ t. t.place.top) c.self.view_is, ap (λ t. t.place.height) c.self.view_is) in
+    let t = c.self.inside in
+    let i = c.self.invariant in
+    let crossed : HasRow c.self.inside.place c.args.y = subst (λ (u : TileImage). HasRow u.place c.args.y) (sym c.self.view_is) c.requires in
     record {
-      filled = rows_fill (λ row. row.items) c.self.inside.rows.items (c.args.y - c.self.inside.place.top) c.index_mut-row.result.now within
-          c.index_mut-row.ensures.value c.self.inside.place _ w refl c.self.invariant.filled;
-      deep = c.self.invariant.deep;
-      alike = c.self.invariant.alike;
+      placed = i.placed;
+      counted = vec_counted_left t.place t.colours i.placed i.counted c.args.y c.row_start-start.result crossed c.row_start-start.ensures w;
+      deep_counted = i.deep_counted;
+      alike = i.alike;
     }
 
 pub returns : goal.returns
 returns c =
-    let within : c.args.y - c.self.inside.place.top < length c.self.inside.rows.items =
-    omega (arith, length-map c.self.inside.rows.items (λ row. row.items), c.self.invariant.filled.high, ap (λ t. t.place.top) c.self.view_is, ap (λ t. t.place.height) c.self.view_is) in (
+    let t = c.self.inside in
+    let i = c.self.invariant in
+    let crossed : HasRow c.self.inside.place c.args.y = subst (λ (u : TileImage). HasRow u.place c.args.y) (sym c.self.view_is) c.requires in (
       (
         refl,
-        λ w. rw (← c.self.view_is) (ap (λ (rows : List (List Colour)). record { place = c.self.inside.place; rows = rows; depths = map (λ row. row.items) c.self.inside.depths.items })
-            (rows_left (λ row. row.items) c.self.inside.rows.items (c.args.y - c.self.inside.place.top) c.index_mut-row.result.now within
-            c.index_mut-row.ensures.value _ w refl)),
+        λ w. rw (← c.self.view_is) (ap (λ (rows : List (List Colour)). record { place = t.place; rows = rows; depths = rows_over t.place t.depths.items })
+            (vec_rows_left t.place t.colours i.placed i.counted c.args.y c.row_start-start.result crossed c.row_start-start.ensures w)),
       ),
       record {
         writes_back = tt;
-        value = rw (← c.self.view_is) (c.as_mut_slice.ensures.value
-            ∙ sym (row_at (λ row. row.items) c.self.inside.rows.items (c.args.y - c.self.inside.place.top) c.index_mut-row.result.now within c.index_mut-row.ensures.value));
+        value = rw (← c.self.view_is) (c.part_mut.ensures.value
+            ∙ row_read t.place t.colours.items i.placed i.counted c.args.y c.row_start-start.result crossed c.row_start-start.ensures);
       },
     )

@@ -1,0 +1,130 @@
+ghost use Rattle.std.specs.Prelude.{◌≡◌, ◌+◌, ◌*◌, ◌^◌, ◌<◌, ◌≤◌, min, ◌∷◌, ◌++◌, true, [], length, if◌then◌else◌};
+ghost use Rattle.std.specs.List.{sum_by};
+ghost use Rattle.fd_events.specs.Bounds.{CoverNone};
+ghost use Rattle.fd_events.specs.Draw.{triangles_of};
+ghost use Rattle.fd_tile.specs.Place.{IsTilePlace};
+ghost use Rattle.fd_tile.specs.declared.place.TheConstants.{TILE_SIDE};
+ghost use Rattle.fd_draw.specs.Area.{box_of};
+ghost use Rattle.fd_draw.specs.Demand.{pixels_in, spans_in, triangle_pixels, triangle_spans, event_pixels, event_spans};
+ghost use Rattle.fd_draw.specs.declared.plan.TheConstants.{MOST_PLANNED};
+ghost use Rattle.arrayvec.specs.ArrayVec.{array_vec_len};
+ghost use Rattle.fd_draw.specs.Plan.{ArePlanned, IsPlan, MayBeginAt};
+
+use crate::area::{open_area, shared};
+use crate::found::{Found, find};
+use crate::near::{near_from, next_near};
+use crate::room::{Demand, NOTHING};
+use arrayvec::ArrayVec;
+use fd_cover::Bounds;
+use fd_events::{Draw, Event, Pipeline};
+use fd_tile::Place;
+
+/// How many triangles a plan keeps.
+const MOST_PLANNED: usize = 8;
+
+/// A triangle of a draw by its number, with what was found of it on a tile.
+#[derive(Clone, Copy, Default)]
+pub(crate) struct Planned {
+    pub triangle: u32,
+    pub found: Found,
+}
+
+/// What an event writes at most on a tile, and of a draw the first triangles that it draws there. From number `rest` on none is kept.
+#[derive(Drop)]
+pub struct Plan {
+    pub demand: Demand,
+    pub(crate) planned: ArrayVec<Planned, MOST_PLANNED>,
+    pub(crate) rest: u32,
+}
+
+impl Plan {
+    /// What an event writes at most in a state on a tile of this place. Of its triangles none before this one covers a pixel of the place.
+    pub fn of(event: &Event, state: &Pipeline, place: Place, first: u32) -> Plan
+        requires placed { IsTilePlace place }
+        requires first { MayBeginAt event.now place first }
+        ensures spans { result.demand.spans ≡ event_spans event.now state.now place }
+        ensures pixels { result.demand.pixels ≡ event_pixels event.now state.now place }
+        ensures planned { IsPlan result event.now state.now place }
+    {
+        match event {
+            Event::Clear(_) => plan_clear(place),
+            Event::DepthClear(_) => plan_clear(place),
+            Event::Draw(draw) => plan_draw(draw, state, place, first),
+            // State events and markers write nothing.
+            _ => Plan::without_triangles(NOTHING, 0),
+        }
+    }
+
+    /// Of so much, and of no triangle before number `rest`.
+    fn without_triangles(demand: Demand, rest: u32) -> Plan
+        ensures demand { result.demand ≡ demand }
+        ensures planned { result.planned.items ≡ [] }
+        ensures rest { result.rest ≡ rest }
+    {
+        Plan {
+            demand,
+            planned: ArrayVec::new(),
+            rest,
+        }
+    }
+
+    /// Adds a triangle that was found, which is kept unless the plan is full.
+    fn add(&mut self, triangle: u32, found: Found, state: &Pipeline)
+        requires few_spans { found.demand.spans ≤ TILE_SIDE }
+        requires few_pixels { found.demand.pixels ≤ TILE_SIDE * TILE_SIDE }
+        requires room_spans { self.old.demand.spans + TILE_SIDE * TILE_SIDE < 2 ^ 64 }
+        requires room_pixels { self.old.demand.pixels + TILE_SIDE * TILE_SIDE < 2 ^ 64 }
+        ensures spans { self.new.demand.spans ≡ self.old.demand.spans + (if state.now.depth.enable then found.demand.pixels else found.demand.spans) }
+        ensures pixels { self.new.demand.pixels ≡ self.old.demand.pixels + found.demand.pixels }
+        ensures room { array_vec_len self.old.planned < MOST_PLANNED → (self.new.planned.items ≡ self.old.planned.items ++ (record { triangle = triangle; found = found }) ∷ []) × (self.new.rest ≡ self.old.rest) }
+        ensures full { array_vec_len self.old.planned ≡ MOST_PLANNED → (self.new.planned ≡ self.old.planned) × (self.new.rest ≡ min self.old.rest triangle) }
+    {
+        let Demand { spans, pixels } = found.demand;
+        // with the depth test on each pixel is a span of its own, as any of them may fail
+        self.demand.spans += if state.depth.enable { pixels } else { spans };
+        self.demand.pixels += pixels;
+        if self.planned.is_full() {
+            self.rest = self.rest.min(triangle);
+        } else {
+            self.planned.push(Planned { triangle, found });
+        }
+    }
+}
+
+/// The plan of a draw, of whose triangles none before this one covers a pixel of the place.
+fn plan_draw(draw: &Draw, state: &Pipeline, place: Place, first: u32) -> Plan
+    requires placed { IsTilePlace place }
+    requires within { first ≤ length (triangles_of draw.now) }
+    requires missed { CoverNone (box_of place) (triangles_of draw.now) 0 first }
+    ensures spans { result.demand.spans ≡ sum_by (triangle_spans state.now place) (triangles_of draw.now) }
+    ensures pixels { result.demand.pixels ≡ sum_by (triangle_pixels state.now place) (triangles_of draw.now) }
+    ensures planned { ArePlanned draw.now state.now place 0 result.planned.items result.rest }
+{
+    let count = draw.triangles();
+    let window = open_area(&state.raster, &state.scissor, place);
+    let mut plan = Plan::without_triangles(NOTHING, count);
+    if shared(window, draw.bounds()).is_empty() {
+        return plan;
+    }
+    let mut triangle = near_from(draw, first, window);
+    while triangle < count {
+        if let Some(found) = find(&draw.tri(triangle), &state.raster, window) {
+            plan.add(triangle, found, state);
+        }
+        triangle = next_near(draw, triangle + 1, window);
+    }
+    plan
+}
+
+/// The plan of a clear: all pixels, by rows.
+fn plan_clear(place: Place) -> Plan
+    requires { IsTilePlace place }
+    ensures spans { result.demand.spans ≡ spans_in (λ x y. true) place }
+    ensures pixels { result.demand.pixels ≡ pixels_in (λ x y. true) place }
+{
+    let demand = Demand {
+        spans: place.height as usize,
+        pixels: place.width as usize * place.height as usize,
+    };
+    Plan::without_triangles(demand, 0)
+}

@@ -1,0 +1,14 @@
+use Rattle.std.proofs.Common.{◌∙◌, ◌-◌, ◌+◌, ap, sym, subst, take, drop}
+use Rattle.fd_tile.specs.Place.{HasRow}
+use Rattle.fd_tile.specs.Tile.{TileImage}
+use Rattle.fd_tile.proofs.Cut.{row_read}
+use Rattle.fd_tile.proofs.tile.Tile.row.Goals as goal
+
+pub returns : goal.returns
+returns c =
+    let t = c.self.inside in
+    let i = c.self.invariant in
+    let start = c.row_start-start.result in
+    let crossed : HasRow c.self.inside.place c.args.y = subst (λ (u : TileImage). HasRow u.place c.args.y) (sym c.self.view_is) c.requires in
+    rw (← c.self.view_is) (ap (λ l. take (start + t.place.width - start) (drop start l)) c.deref.ensures.value
+    ∙ row_read t.place t.colours.items i.placed i.counted c.args.y start crossed c.row_start-start.ensures)
