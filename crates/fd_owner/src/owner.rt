@@ -239,11 +239,11 @@ fn meets(reach: Bounds, place: Place) -> bool
     requires { IsTilePlace place }
     ensures { IsTrue (not result) → Misses reach place }
 {
-    // a box of no pixel ends this at its first line
-    place.left < reach.right
-        && place.top < reach.bottom
-        && reach.left < place.left + place.width
-        && reach.top < place.top + place.height
+    // no comparison waits for another, since none of them could be foretold
+    (place.left < reach.right)
+        & (place.top < reach.bottom)
+        & (reach.left < place.left + place.width)
+        & (reach.top < place.top + place.height)
 }
 
 /// Whether the event after a position is switched on and its box reaches a place. The event itself is not looked at.

@@ -6,26 +6,37 @@ use fd_events::{Draw, Event, EventTable, GROUP_LEN};
 use fd_owner::Owner;
 use fd_tile::TILE_SIDE;
 
-/// The work that a worker must have to be worth its thread, in pixels: some 200 microseconds, as `make bench` had owners clear a
-/// pixel, and keep the colour before, in 7 nanoseconds.
-const WORKER_WORK: usize = 32_768;
+/// The work that a worker must have to be worth its thread, in nanoseconds: a thread takes 30 to 50 microseconds to start.
+const WORKER_WORK: usize = 225_000;
 
-/// The work of a slice for each of its workers, in pixels: some 30 milliseconds, where a thread takes 30 to 50 microseconds to start. A quarter of
-/// it made large triangles slower by half, as a tile then goes through fewer events while it is in the cache.
-const SLICE_WORK: usize = 4_194_304;
+/// The work of a slice for each of its workers, in nanoseconds. A quarter of it made large triangles slower by half, as a tile then goes through
+/// fewer events while it is in the cache.
+const SLICE_WORK: usize = 30_000_000;
+
+/// The work of a slice for each tile beside that, in nanoseconds, so that on many tiles a slice does more than fetch them all.
+const FETCHED_WORK: usize = 500;
+
+/// The most work of a slice, in nanoseconds, by however many workers. In so long a time 33,554,432 pixels are written, whose colours take 128 MiB
+/// among the undo records: about so much is drawn in vain where memory runs out.
+const SLICE_MOST: usize = 235_000_000;
 
 /// The events of a slice on a single tile. It is one worker's, whatever their work is, so that this is not estimated.
 const TILE_SLICE: u32 = 4096;
 
-/// The most work of a slice, in pixels, by however many workers. All but its last event write no more pixels than that together, whose
-/// colours take 128 MiB among the undo records: about so much is drawn in vain where memory runs out.
-const SLICE_MOST: usize = 33_554_432;
+/// The work of writing a pixel and keeping what it was, in nanoseconds. This and what follows is what `make bench` has measured.
+const PIXEL_WORK: usize = 7;
 
-/// The work of a step on one tile that draws nothing there, in pixels. It takes some 2 nanoseconds.
-const STEP_WORK: usize = 1;
+/// The work of a step on one tile that draws nothing there, in nanoseconds.
+const STEP_WORK: usize = 2;
 
-/// The work of looking at one triangle on one tile, in pixels.
-const TRIANGLE_WORK: usize = 8;
+/// The work of looking for a draw's triangles on one tile, in nanoseconds.
+const LOOK_WORK: usize = 45;
+
+/// The work of a triangle on one tile beside its pixels, in nanoseconds.
+const TRIANGLE_WORK: usize = 450;
+
+/// The work of passing over a triangle that lies beside the tile, in nanoseconds.
+const PASSED_WORK: usize = 60;
 
 /// Tiles that are moved together, and a box round them.
 #[derive(Clone, Copy, Debug)]
@@ -70,21 +81,44 @@ fn common_pixels(a: &Bounds, b: &Bounds) -> usize {
     columns as usize * rows as usize
 }
 
-/// The work of a group of triangles in an area: the pixels of its box, and a look at each triangle for each tile's worth of them.
-fn group_work(group: &Bounds, area: &Bounds) -> usize {
-    let pixels = common_pixels(group, area);
-    let tiles = pixels / (TILE_SIDE * TILE_SIDE) as usize + 1;
-    let looks = tiles.saturating_mul(GROUP_LEN as usize);
-    looks.saturating_mul(TRIANGLE_WORK).saturating_add(pixels)
+/// The work of so many pixels, and of so much more for each tile's worth of them.
+fn pixels_work(pixels: usize, of_a_tile: usize) -> usize {
+    let tiles = pixels.div_ceil((TILE_SIDE * TILE_SIDE) as usize);
+    let written = pixels.saturating_mul(PIXEL_WORK);
+    tiles.saturating_mul(of_a_tile).saturating_add(written)
 }
 
-/// The work of a draw in an area: that of its groups, which may lie over one another.
-fn draw_work(draw: &Draw, area: &Bounds) -> usize {
+/// The work of the triangles of a draw in an area, each in its own box.
+fn triangles_work(draw: &Draw, area: &Bounds) -> usize {
     let mut work: usize = 0;
-    for group in 0..draw.triangles().div_ceil(GROUP_LEN) {
-        work = work.saturating_add(group_work(&draw.group_bounds(group), area));
+    for triangle in 0..draw.triangles() {
+        let pixels = common_pixels(&draw.triangle_bounds(triangle), area);
+        work = work.saturating_add(pixels_work(pixels, TRIANGLE_WORK));
     }
     work
+}
+
+/// The same, with a look at each group of them alone, as if none lay over another of its group.
+fn groups_work(draw: &Draw, area: &Bounds) -> usize {
+    let mut work: usize = 0;
+    for group in 0..draw.triangles().div_ceil(GROUP_LEN) {
+        let pixels = common_pixels(&draw.group_bounds(group), area);
+        work = work.saturating_add(pixels_work(pixels, GROUP_LEN as usize * PASSED_WORK));
+    }
+    work
+}
+
+/// The work of a draw in an area, of which it reaches so many pixels. Its triangles are looked at one by one where they are no more for each tile
+/// than a group has, so that to estimate the work takes little beside it.
+fn draw_work(draw: &Draw, area: &Area, reached: usize) -> usize {
+    let groups = draw.triangles().div_ceil(GROUP_LEN);
+    let work = if groups as usize <= area.tiles {
+        triangles_work(draw, &area.bounds)
+    } else {
+        groups_work(draw, &area.bounds)
+    };
+    let tiles = reached.div_ceil((TILE_SIDE * TILE_SIDE) as usize);
+    work.saturating_add(tiles.saturating_mul(LOOK_WORK))
 }
 
 /// The work of the event of this number on all tiles of an area.
@@ -98,8 +132,8 @@ fn event_work(table: &EventTable, number: u32, area: &Area) -> usize
         return steps;
     }
     let drawn = match table.event(number) {
-        Event::Draw(draw) => draw_work(draw, &area.bounds),
-        _ => written,
+        Event::Draw(draw) => draw_work(draw, area, written),
+        _ => written.saturating_mul(PIXEL_WORK),
     };
     drawn.saturating_add(steps)
 }
@@ -130,7 +164,10 @@ pub(crate) fn next_slice(table: &EventTable, from: u32, to: u32, area: &Area, wo
     }
     // a worker that has no tile is worth nothing
     let useful = area.tiles.clamp(1, workers as usize);
-    let enough = useful.saturating_mul(SLICE_WORK).min(SLICE_MOST);
+    let fetched = area.tiles.saturating_mul(FETCHED_WORK);
+    let enough = fetched
+        .saturating_add(useful.saturating_mul(SLICE_WORK))
+        .min(SLICE_MOST);
     let mut work: usize = 0;
     let mut end = from;
     loop {

@@ -32,7 +32,7 @@ kept_of-append (r ∷ ss) ts ps qs e =
     rw (take-append-le r.len ps qs fits, drop-append-le r.len ps qs fits, kept_of-append ss ts (drop r.len ps) qs left)
     (sym (append_assoc (kept_row r.x r.y (take r.len ps)) (kept_of ss (drop r.len ps)) (kept_of ts qs)))
 
-pub AreRows-counts : (p : Place) (depth y : ℕ) (spans : List Span) → AreRows p depth y spans → (pixel_count spans ≡ length spans * p.width) × (depth_count spans ≡ 0)
+pub AreRows-counts : (p : Place) (depth y : ℕ) (spans : List Span) → AreRows p.width depth y spans → (pixel_count spans ≡ length spans * p.width) × (depth_count spans ≡ 0)
 AreRows-counts p depth y [] rows = (sym (zero-mul p.width), refl)
 AreRows-counts p depth y (s ∷ spans) (at, row, rows) =
     let rest : (pixel_count spans ≡ length spans * p.width) × (depth_count spans ≡ 0) = AreRows-counts p depth (y + 1) spans rows in
@@ -72,7 +72,7 @@ one_row u x y depth old filled flat wide inside =
     sym (put_back_row_alike u x y (x - u.place.left) (length old) depth old (row_of u y) old (replicate (length old) depth) refl filled flat inside some refl refl refl refl)
     ∙ ap (λ l. with_row_left u y l) whole ∙ with_row_left_is u y filled crossed old wide
 
-pub rows_restored : (t : TileImage) (depth y : ℕ) (spans : List Span) (cs : List Colour) (ds : List ℕ) → IsTileImage t → IsFlat t.place t.depths depth → AreRows t.place depth y spans
+pub rows_restored : (t : TileImage) (depth y : ℕ) (spans : List Span) (cs : List Colour) (ds : List ℕ) → IsTileImage t → IsFlat t.place t.depths depth → AreRows t.place.width depth y spans
     → length cs ≡ length spans * t.place.width → t.place.top ≤ y → y + length spans ≤ t.place.top + t.place.height → Inside t.place (kept_of spans (zip cs (depths_of spans ds)))
     → restored (kept_of spans (zip cs (depths_of spans ds))) t ≡ with_rows_from t y (cut_rows t.place.width (length spans) cs)
 rows_restored t depth y [] cs ds filled flat rows wide low high inside = refl
@@ -118,7 +118,7 @@ held_first p s spans ps some row fits inside =
     (omega (arith, length-take-le s.len ps (omega (arith, pixel_count-cons s spans, fits)), row.wide, some))
 
 -- the rows lie in the tile
-pub AreRows-held : (p : Place) (depth y : ℕ) (spans : List Span) (ps : List Pixel) → 1 ≤ p.width → AreRows p depth y spans → pixel_count spans ≤ length ps → Inside p (kept_of spans ps) → 0 < length spans
+pub AreRows-held : (p : Place) (depth y : ℕ) (spans : List Span) (ps : List Pixel) → 1 ≤ p.width → AreRows p.width depth y spans → pixel_count spans ≤ length ps → Inside p (kept_of spans ps) → 0 < length spans
     → (p.top ≤ y) × (y + length spans ≤ p.top + p.height)
 AreRows-held p depth y [] ps some rows fits inside any = absurd (omega arith)
 AreRows-held p depth y (s ∷ []) ps some (at, row, rows) fits inside any =
@@ -131,6 +131,6 @@ AreRows-held p depth y (s ∷ r ∷ spans) ps some (at, row, rows) fits inside a
     (Inside-back p (kept_row s.x s.y (take s.len ps)) (kept_of (r ∷ spans) (drop s.len ps)) inside) (omega arith) in
     (omega (arith, first.from_top, at), omega (arith, next.1))
 
-pub AreRows-first : (p : Place) (depth y : ℕ) (spans : List Span) (other : Span) → AreRows p depth y spans → 0 < length spans → (get_or spans 0 other).y ≡ y
+pub AreRows-first : (p : Place) (depth y : ℕ) (spans : List Span) (other : Span) → AreRows p.width depth y spans → 0 < length spans → (get_or spans 0 other).y ≡ y
 AreRows-first p depth y [] other rows any = absurd (omega arith)
 AreRows-first p depth y (s ∷ spans) other (at, row, rows) any = at

@@ -1,7 +1,8 @@
-ghost use Rattle.std.specs.Prelude.{◌≡◌, ◌+◌, ◌-◌, ◌<◌, ◌≤◌, length, drop, All, IfSome, Some, replicate, true};
+ghost use Rattle.std.specs.Prelude.{◌≡◌, ◌+◌, ◌-◌, ◌<◌, ◌≤◌, length, take, drop, All, Some, replicate, true};
 ghost use Rattle.std.specs.List.{zip};
+ghost use borrow.Rule.Slice.PartMut.{put_mid};
 ghost use Rattle.fd_tile.specs.Place.{Holds};
-ghost use Rattle.fd_tile.specs.Tile.{IsFlat};
+ghost use Rattle.fd_tile.specs.Tile.{row_of, with_row_left};
 ghost use Rattle.fd_undo.specs.Frame.{kept_row, restored};
 ghost use Rattle.fd_undo.specs.Rows.{IsRow, AreWholeRows};
 ghost use Rattle.fd_undo.specs.Stored.{pixel_count, depth_count, depths_of, listed, depths_in, kept_of};
@@ -10,49 +11,51 @@ use crate::span::Span;
 use fd_blend::Colour;
 use fd_tile::Tile;
 
-/// Writes the colours and depths of some spans back, the last span first.
+/// Writes the colours and depths of some spans back, the last span first. As long as they are as deep as all pixels of the tile, no depth is looked at.
 pub(crate) fn put_back(spans: &[Span], colours: &[Colour], depths: &[u16], tile: &mut Tile)
     requires counted { pixel_count spans.now ≡ length colours.now }
     requires depths_counted { depth_count spans.now ≡ length depths.now }
     requires inside { All (λ k. Holds tile.old.place k.x k.y) (kept_of spans.now (zip colours.now (depths_of spans.now depths.now))) }
     ensures { tile.new ≡ restored (kept_of spans.now (zip colours.now (depths_of spans.now depths.now))) tile.old }
 {
-    let mut left = spans.len();
-    let (mut end, mut depths_end) = (colours.len(), depths.len());
-    while left > 0 {
-        let rows = last_rows(&spans[..left], tile);
-        if rows > 0 {
-            left -= rows;
-            let start = end - rows * tile.place().width as usize;
-            tile.put_rows(spans[left].y(), rows as u32, &colours[start..end]);
-            end = start;
-        } else {
-            left -= 1;
-            let span = spans[left];
-            let start = end - span.len();
-            let first_depth = depths_end - span.listed();
-            put_back_row(
-                tile,
-                &span,
-                &colours[start..end],
-                &depths[first_depth..depths_end],
-            );
-            end = start;
-            depths_end = first_depth;
+    let (mut left, mut end) = (spans.len(), colours.len());
+    if let Some(depth) = tile.flat_depth() {
+        while left > 0 {
+            let span = &spans[left - 1];
+            if !is_deep(span, depth) {
+                break;
+            }
+            let width = tile.place().width as usize;
+            let rows = last_rows(&spans[..left], width, depth);
+            if rows > 0 {
+                left -= rows;
+                let start = end - rows * width;
+                tile.put_rows(spans[left].y(), rows as u32, &colours[start..end]);
+                end = start;
+            } else {
+                let start = end - span.len();
+                put_colours(tile, span, &colours[start..end]);
+                left -= 1;
+                end = start;
+            }
         }
     }
+    put_back_rows(&spans[..left], &colours[..end], depths, tile);
 }
 
-/// How many of the last spans are whole rows of the tile, each right below the one before it, and as deep as all pixels of the tile are.
-fn last_rows(spans: &[Span], tile: &Tile) -> usize
+/// Whether a span has pixels, and all of them this depth.
+fn is_deep(span: &Span, depth: u16) -> bool
+    ensures { result ≡ true → (0 < span.now.len) × (span.now.same_depth ≡ Some depth) }
+{
+    span.len() > 0 && span.same_depth() == Some(depth)
+}
+
+/// How many of the last spans have all pixels of a row of this width, each right below the one before it, and this one depth.
+fn last_rows(spans: &[Span], width: usize, depth: u16) -> usize
     requires { 0 < length spans.now }
     ensures few { result ≤ length spans.now }
-    ensures rows { 0 < result → AreWholeRows tile.now (drop (length spans.now - result) spans.now) }
+    ensures rows { 0 < result → AreWholeRows width depth (drop (length spans.now - result) spans.now) }
 {
-    let Some(depth) = tile.flat_depth() else {
-        return 0;
-    };
-    let width = tile.place().width as usize;
     let mut first = spans.len() - 1;
     if !is_row(&spans[first], width, depth) {
         return 0;
@@ -79,6 +82,42 @@ fn is_row_above(y: u32, span: &Span, width: usize, depth: u16) -> bool
     y > 0 && span.y() == y - 1 && is_row(span, width, depth)
 }
 
+/// Writes the colours of a span back.
+fn put_colours(tile: &mut Tile, span: &Span, old: &[Colour])
+    requires first { Holds tile.old.place span.now.x span.now.y }
+    requires within { span.now.x + length old.now ≤ tile.old.place.left + tile.old.place.width }
+    ensures { tile.new ≡ with_row_left tile.old span.now.y (put_mid (span.now.x - tile.old.place.left) (length old.now) (row_of tile.old span.now.y) old.now) }
+{
+    let start = (span.x() - tile.place().left) as usize;
+    let row = tile.row_mut(span.y());
+    row[start..start + old.len()].copy_from_slice(old);
+}
+
+/// Writes the colours and depths of some spans back, one by one, the last span first.
+fn put_back_rows(spans: &[Span], colours: &[Colour], depths: &[u16], tile: &mut Tile)
+    requires counted { pixel_count spans.now ≡ length colours.now }
+    requires depths_counted { depth_count spans.now ≡ length depths.now }
+    requires inside { All (λ k. Holds tile.old.place k.x k.y) (kept_of spans.now (zip colours.now (depths_of spans.now depths.now))) }
+    ensures { tile.new ≡ restored (kept_of spans.now (zip colours.now (depths_of spans.now depths.now))) tile.old }
+{
+    let mut left = spans.len();
+    let (mut end, mut depths_end) = (colours.len(), depths.len());
+    while left > 0 {
+        left -= 1;
+        let span = &spans[left];
+        let start = end - span.len();
+        let first_depth = depths_end - span.listed();
+        put_back_row(
+            tile,
+            span,
+            &colours[start..end],
+            &depths[first_depth..depths_end],
+        );
+        end = start;
+        depths_end = first_depth;
+    }
+}
+
 /// Writes the colours and depths of a span back.
 fn put_back_row(tile: &mut Tile, span: &Span, old: &[Colour], depths: &[u16])
     requires counted { length old.now ≡ span.now.len }
@@ -89,27 +128,10 @@ fn put_back_row(tile: &mut Tile, span: &Span, old: &[Colour], depths: &[u16])
     if old.is_empty() {
         return;
     }
-    let y = span.y();
     let start = (span.x() - tile.place().left) as usize;
-    let row = tile.row_mut(y);
-    row[start..start + old.len()].copy_from_slice(old);
-    if let Some(_depth) = standing_depth(span, tile) {
-        return;
-    }
-    let row = tile.depth_row_mut(y);
+    put_colours(tile, span, old);
+    let row = tile.depth_row_mut(span.y());
     write_depths(&mut row[start..start + old.len()], span, depths);
-}
-
-/// The one depth of a span's pixels, where all pixels of the tile have it already.
-fn standing_depth(span: &Span, tile: &Tile) -> Option<u16>
-    ensures { IfSome result (λ depth. (span.now.same_depth ≡ Some depth) × IsFlat tile.now.place tile.now.depths depth) }
-{
-    let depth = span.same_depth()?;
-    if tile.flat_depth()? == depth {
-        Some(depth)
-    } else {
-        None
-    }
 }
 
 /// Writes the depths of a span over others: all the same, or those listed.

@@ -5,7 +5,7 @@ use fd_events::Event;
 use std::alloc::Global;
 use std::test::Fail;
 
-/// Clears of 256 by 256 pixels, each of its own grey. With one worker a slice has 4,194,304 pixels, which are 64 of them.
+/// Clears of 256 by 256 pixels, each of its own grey, of 458,880 ns by estimate. With one worker a slice takes 30 ms, which are 66 of them.
 fn clears(alloc: Global, count: u8) -> Result<Session, Fail> {
     let mut events = Vec::new(alloc);
     for level in 1..=count {

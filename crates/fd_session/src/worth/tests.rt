@@ -34,7 +34,7 @@ fn work_decides_how_many_workers_start(rt: HostRuntime) -> Result<(), Fail> {
     let clear = Event::Clear(colour(1, 2, 3, 4));
     let small = flat(alloc, [(0, 0), (90, 0), (0, 90)], colour(1, 2, 3, 4))?;
     let mut table = table(alloc, clear, small)?;
-    // the clear is work for 16 workers, and the draw for none
+    // the clear takes 3,671,040 ns, which is worth 16 workers, and the draw 61,684 ns, which is worth none
     for (from, to, workers, worth) in [
         (0, 1, 64, 16),
         (0, 2, 64, 16),
@@ -52,15 +52,60 @@ fn work_decides_how_many_workers_start(rt: HostRuntime) -> Result<(), Fail> {
     Ok(())
 }
 
-/// A group of triangles here is work of 128 by 128 pixels and 17 times 32 looks, which is 20,736. The first draw has one, and the second one twenty.
+/// Triangles of 128 by 128 pixels, 16 tiles' worth, over one another. Each takes 7 ns a pixel and 450 ns a tile, which is 121,888 ns.
+fn over_one_another(alloc: Global, count: usize) -> Result<Event, Fail> {
+    let corners = [(0, 0), (128, 0), (0, 128)];
+    let triangles = vec![in alloc; (corners, [colour(1, 2, 3, 4); 3]); count]?;
+    draw(alloc, Interp::Flat, &triangles)
+}
+
 #[test]
 fn triangles_over_one_another_are_worth_more(rt: HostRuntime) -> Result<(), Fail> {
     let alloc = rt.alloc();
-    let triangles = vec![in alloc; ([(0, 0), (128, 0), (0, 128)], [colour(1, 2, 3, 4); 3]); 640]?;
-    let one = draw(alloc, Interp::Flat, &triangles[..1])?;
-    let all = draw(alloc, Interp::Flat, &triangles)?;
-    let table = table(alloc, one, all)?;
+    let one = over_one_another(alloc, 1)?;
+    let twenty = over_one_another(alloc, 20)?;
+    let table = table(alloc, one, twenty)?;
     assert_eq!(rt; next_slice(&table, 0, 1, &area(512), 64).workers, 1);
-    assert_eq!(rt; next_slice(&table, 0, 2, &area(512), 64).workers, 13);
+    assert_eq!(rt; next_slice(&table, 0, 2, &area(512), 64).workers, 11);
+    Ok(())
+}
+
+/// Twenty groups of them are more than 15 tiles, so each group is taken for its box once and a look of 60 ns at each triangle a tile: 145,408 ns.
+#[test]
+fn many_triangles_are_looked_at_in_groups(rt: HostRuntime) -> Result<(), Fail> {
+    let alloc = rt.alloc();
+    let one = over_one_another(alloc, 1)?;
+    let many = over_one_another(alloc, 640)?;
+    let table = table(alloc, one, many)?;
+    assert_eq!(rt; next_slice(&table, 1, 2, &area(15), 64).workers, 12);
+    assert_eq!(rt; next_slice(&table, 1, 2, &area(20), 64).workers, 20);
+    Ok(())
+}
+
+/// Triangles of 8 by 8 pixels in two corners of the target, by turns.
+fn far_apart(alloc: Global, count: usize) -> Result<Event, Fail> {
+    let mut triangles = Vec::new(alloc);
+    for number in 0..count {
+        let (x, y) = if number % 2 == 0 { (0, 0) } else { (1016, 504) };
+        let corners = [(x, y), (x + 8, y), (x, y + 8)];
+        triangles.push((corners, [colour(1, 2, 3, 4); 3]))?;
+    }
+    draw(alloc, Interp::Flat, &triangles)
+}
+
+#[test]
+fn what_lies_between_triangles_is_no_work(rt: HostRuntime) -> Result<(), Fail> {
+    let alloc = rt.alloc();
+    let table = table(alloc, far_apart(alloc, 64)?, far_apart(alloc, 64)?)?;
+    assert_eq!(rt; next_slice(&table, 0, 2, &area(512), 64).workers, 1);
+    Ok(())
+}
+
+/// A step over 20,000,000 tiles takes longer than a slice does otherwise.
+#[test]
+fn a_slice_does_more_than_fetch_its_tiles(rt: HostRuntime) -> Result<(), Fail> {
+    let alloc = rt.alloc();
+    let table = table(alloc, far_apart(alloc, 2)?, far_apart(alloc, 2)?)?;
+    assert_eq!(rt; next_slice(&table, 0, 2, &area(20_000_000), 1).end, 2);
     Ok(())
 }
