@@ -23,37 +23,26 @@ fn grey(level: u8) -> Colour {
 /// A triangle by its vertices in whole pixels, its colour and its depth.
 type Triangle = ([(i32, i32); 3], Colour, u16);
 
+/// A coordinate by whole pixels.
+fn scaled(pixels: i32) -> Result<i32, Fail> {
+    Ok(pixels.checked_mul(65536).ok_or("in range")?)
+}
+
+fn position(at: (i32, i32)) -> Result<Pos, Fail> {
+    Ok(Pos::new(scaled(at.0)?, scaled(at.1)?).ok_or("in range")?)
+}
+
 /// A draw of triangles.
 fn triangles(alloc: Global, triangles: &[Triangle]) -> Result<Event, Fail> {
     let mut vertices = Vec::new(alloc);
     for (corners, colour, z) in triangles {
-        for (x, y) in *corners {
-            let x = x.checked_mul(65536).ok_or("in range")?;
-            let y = y.checked_mul(65536).ok_or("in range")?;
-            let pos = Pos::new(x, y).ok_or("in range")?;
-            vertices.push(Vertex {
-                pos,
-                colour: *colour,
-                z: *z,
-            })?;
+        for at in *corners {
+            let pos = position(at)?;
+            let (colour, z) = (*colour, *z);
+            vertices.push(Vertex { pos, colour, z })?;
         }
     }
     Ok(Event::Draw(Draw::new(vertices, None, Interp::Flat)?))
-}
-
-/// Draws an event on a tile, with room for just what it writes, and says how much that is.
-fn draw_with_room(
-    event: &Event,
-    state: &Pipeline,
-    tile: &mut Tile,
-    undo: &mut UndoStack,
-) -> Result<Demand, Fail> {
-    let first = first_listed(event, tile.place()).ok_or("listed")?;
-    let plan = Plan::of(event, state, tile.place(), first);
-    undo.reserve(plan.demand.spans, plan.demand.pixels)?;
-    undo.begin();
-    draw(event, state, &plan, tile, undo);
-    Ok(plan.demand)
 }
 
 /// The colour and the depth of a pixel.
@@ -65,9 +54,90 @@ fn pixel_at(tile: &Tile, x: u32, y: u32) -> Option<(Colour, u16)> {
     }
 }
 
+/// A tile, what events overwrote on it, and the room that the last draw asked for.
+#[derive(Drop)]
+struct Canvas {
+    tile: Tile,
+    undo: UndoStack,
+    demand: Demand,
+}
+
+fn canvas_of(alloc: Global, tile: Tile) -> Canvas {
+    Canvas {
+        tile,
+        undo: UndoStack::new(alloc),
+        demand: Demand {
+            spans: 0,
+            pixels: 0,
+        },
+    }
+}
+
+/// Draws an event, with room for just what it writes.
+fn draw_with_room(canvas: &mut Canvas, event: &Event, state: &Pipeline) -> Result<(), Fail> {
+    let place = canvas.tile.place();
+    let first = first_listed(event, place).ok_or("listed")?;
+    let plan = Plan::of(event, state, place, first);
+    canvas.undo.reserve(plan.demand.spans, plan.demand.pixels)?;
+    canvas.undo.begin();
+    draw(event, state, &plan, &mut canvas.tile, &mut canvas.undo);
+    canvas.demand = plan.demand;
+    Ok(())
+}
+
+/// Draws triangles in one draw.
+fn draw_together(
+    canvas: &mut Canvas,
+    alloc: Global,
+    list: &[Triangle],
+    state: &Pipeline,
+) -> Result<(), Fail> {
+    let event = triangles(alloc, list)?;
+    draw_with_room(canvas, &event, state)
+}
+
+/// A tile on which triangles were drawn in one draw.
+fn drawn(alloc: Global, tile: Tile, list: &[Triangle], state: &Pipeline) -> Result<Canvas, Fail> {
+    let mut canvas = canvas_of(alloc, tile);
+    draw_together(&mut canvas, alloc, list, state)?;
+    Ok(canvas)
+}
+
+/// The spans and pixels that the last draw asked for.
+fn expect_demand(rt: &impl Abort, canvas: &Canvas, spans: usize, pixels: usize) {
+    assert_eq!(rt;
+        (canvas.demand.spans, canvas.demand.pixels),
+        (spans, pixels)
+    );
+}
+
+/// How many pixels all events overwrote.
+fn expect_recorded(rt: &impl Abort, undo: &UndoStack, recorded: u64) {
+    assert_eq!(rt; undo.recorded(), recorded);
+}
+
+/// A pixel's grey and depth.
+fn expect_pixel(rt: &impl Abort, tile: &Tile, at: (u32, u32), level: u8, depth: u16) {
+    assert_eq!(rt; pixel_at(tile, at.0, at.1), Some((grey(level), depth)));
+}
+
+/// The greys that an event overwrote at a pixel, each as deep as a fresh pixel is, and no more than these.
+fn expect_kept(rt: &impl Abort, undo: &UndoStack, frame: usize, at: (u32, u32), levels: &[u8]) {
+    for (n, level) in levels.iter().enumerate() {
+        assert_eq!(rt;
+            undo.kept(frame, at.0, at.1, n),
+            Some((grey(*level), 65535))
+        );
+    }
+    assert_eq!(rt; undo.kept(frame, at.0, at.1, levels.len()), None);
+}
+
 const CLOCKWISE: [(i32, i32); 3] = [(0, 0), (2, 0), (0, 2)];
 
 const COUNTER_CLOCKWISE: [(i32, i32); 3] = [(0, 0), (0, 2), (2, 0)];
+
+/// It covers each pixel of `CORNER`.
+const LARGE: [(i32, i32); 3] = [(0, 0), (4, 0), (0, 4)];
 
 const CORNER: Place = Place {
     left: 0,
@@ -88,6 +158,19 @@ fn tested(func: Func, write: bool) -> Pipeline {
     }
 }
 
+/// Nothing is culled, and the scissor is on.
+fn scissored(scissor: Rect) -> Pipeline {
+    Pipeline {
+        raster: Raster {
+            cull: Cull::None,
+            front_ccw: false,
+            scissor: true,
+        },
+        scissor,
+        ..Pipeline::default()
+    }
+}
+
 /// On a tile that the target's borders cut, and with a scissor that leaves no pixel.
 #[test]
 fn a_clear_keeps_every_pixel(rt: HostRuntime) -> Result<(), Fail> {
@@ -97,28 +180,18 @@ fn a_clear_keeps_every_pixel(rt: HostRuntime) -> Result<(), Fail> {
         width: 3,
         height: 2,
     };
-    let mut tile = Tile::fresh(rt.alloc(), place)?;
-    let mut undo = UndoStack::new(rt.alloc());
-    let state = Pipeline {
-        raster: Raster {
-            cull: Cull::None,
-            front_ccw: false,
-            scissor: true,
-        },
-        ..Pipeline::default()
-    };
-    let demand = draw_with_room(&Event::Clear(grey(7)), &state, &mut tile, &mut undo)?;
-    assert_eq!(rt; (demand.spans, demand.pixels), (2, 6));
-    let demand = draw_with_room(&Event::DepthClear(9), &state, &mut tile, &mut undo)?;
-    assert_eq!(rt; (demand.spans, demand.pixels), (2, 6));
-    assert_eq!(rt; undo.recorded(), 12);
+    let mut canvas = canvas_of(rt.alloc(), Tile::fresh(rt.alloc(), place)?);
+    let state = scissored(Pipeline::default().scissor);
+    draw_with_room(&mut canvas, &Event::Clear(grey(7)), &state)?;
+    expect_demand(&rt, &canvas, 2, 6);
+    draw_with_room(&mut canvas, &Event::DepthClear(9), &state)?;
+    expect_demand(&rt, &canvas, 2, 6);
+    expect_recorded(&rt, &canvas.undo, 12);
     for y in 64..66 {
         for x in 32..35 {
-            assert_eq!(rt; pixel_at(&tile, x, y), Some((grey(7), 9)));
-            assert_eq!(rt; undo.kept(0, x, y, 0), Some((grey(0), 65535)));
-            assert_eq!(rt; undo.kept(0, x, y, 1), None);
-            assert_eq!(rt; undo.kept(1, x, y, 0), Some((grey(7), 65535)));
-            assert_eq!(rt; undo.kept(1, x, y, 1), None);
+            expect_pixel(&rt, &canvas.tile, (x, y), 7, 9);
+            expect_kept(&rt, &canvas.undo, 0, (x, y), &[0]);
+            expect_kept(&rt, &canvas.undo, 1, (x, y), &[7]);
         }
     }
     Ok(())
@@ -126,20 +199,15 @@ fn a_clear_keeps_every_pixel(rt: HostRuntime) -> Result<(), Fail> {
 
 #[test]
 fn triangles_are_drawn_in_their_order(rt: HostRuntime) -> Result<(), Fail> {
-    let mut tile = Tile::fresh(rt.alloc(), CORNER)?;
-    let mut undo = UndoStack::new(rt.alloc());
-    let large = [(0, 0), (4, 0), (0, 4)];
-    let event = triangles(rt.alloc(), &[(large, grey(3), 5), (CLOCKWISE, grey(4), 6)])?;
-    let demand = draw_with_room(&event, &Pipeline::default(), &mut tile, &mut undo)?;
-    assert_eq!(rt; (demand.spans, demand.pixels), (3, 5));
-    assert_eq!(rt; undo.recorded(), 5);
-    assert_eq!(rt; pixel_at(&tile, 0, 0), Some((grey(4), 65535)));
-    assert_eq!(rt; undo.kept(0, 0, 0, 0), Some((grey(0), 65535)));
-    assert_eq!(rt; undo.kept(0, 0, 0, 1), Some((grey(3), 65535)));
-    assert_eq!(rt; undo.kept(0, 0, 0, 2), None);
-    assert_eq!(rt; pixel_at(&tile, 1, 1), Some((grey(3), 65535)));
-    assert_eq!(rt; undo.kept(0, 1, 1, 0), Some((grey(0), 65535)));
-    assert_eq!(rt; undo.kept(0, 1, 1, 1), None);
+    let list = [(LARGE, grey(3), 5), (CLOCKWISE, grey(4), 6)];
+    let tile = Tile::fresh(rt.alloc(), CORNER)?;
+    let canvas = drawn(rt.alloc(), tile, &list, &Pipeline::default())?;
+    expect_demand(&rt, &canvas, 3, 5);
+    expect_recorded(&rt, &canvas.undo, 5);
+    expect_pixel(&rt, &canvas.tile, (0, 0), 4, 65535);
+    expect_kept(&rt, &canvas.undo, 0, (0, 0), &[0, 3]);
+    expect_pixel(&rt, &canvas.tile, (1, 1), 3, 65535);
+    expect_kept(&rt, &canvas.undo, 0, (1, 1), &[0]);
     Ok(())
 }
 
@@ -154,14 +222,13 @@ fn fan(alloc: Global) -> Result<Vec<Triangle>, Fail> {
     Ok(list)
 }
 
-/// Draws each triangle in a draw of its own.
-fn draw_each(alloc: Global, list: &[Triangle], tile: &mut Tile) -> Result<(), Fail> {
-    let mut undo = UndoStack::new(alloc);
+/// A tile on which each triangle was drawn in a draw of its own.
+fn drawn_alone(alloc: Global, tile: Tile, list: &[Triangle]) -> Result<Canvas, Fail> {
+    let mut canvas = canvas_of(alloc, tile);
     for triangle in list {
-        let event = triangles(alloc, &[*triangle])?;
-        draw_with_room(&event, &Pipeline::default(), tile, &mut undo)?;
+        draw_together(&mut canvas, alloc, &[*triangle], &Pipeline::default())?;
     }
-    Ok(())
+    Ok(canvas)
 }
 
 /// Whether two tiles show the same in these columns and rows.
@@ -186,64 +253,79 @@ const WIDE: Place = Place {
 /// More triangles of one draw than a plan keeps are drawn as in draws of their own.
 #[test]
 fn triangles_that_are_not_planned_are_drawn_too(rt: HostRuntime) -> Result<(), Fail> {
-    let mut together = Tile::fresh(rt.alloc(), WIDE)?;
-    let mut alone = Tile::fresh(rt.alloc(), WIDE)?;
-    let mut undo = UndoStack::new(rt.alloc());
     let list = fan(rt.alloc())?;
-    let event = triangles(rt.alloc(), &list)?;
-    let demand = draw_with_room(&event, &Pipeline::default(), &mut together, &mut undo)?;
-    assert_eq!(rt; (demand.spans, demand.pixels), (120, 240));
-    assert_eq!(rt; undo.recorded(), 240);
-    assert_eq!(rt; pixel_at(&together, 0, 0), Some((grey(40), 65535)));
-    draw_each(rt.alloc(), &list, &mut alone)?;
-    assert!(rt; show_the_same(&together, &alone, 16, 8));
+    let tile = Tile::fresh(rt.alloc(), WIDE)?;
+    let together = drawn(rt.alloc(), tile, &list, &Pipeline::default())?;
+    expect_demand(&rt, &together, 120, 240);
+    expect_recorded(&rt, &together.undo, 240);
+    expect_pixel(&rt, &together.tile, (0, 0), 40, 65535);
+    let alone = drawn_alone(rt.alloc(), Tile::fresh(rt.alloc(), WIDE)?, &list)?;
+    assert!(rt; show_the_same(&together.tile, &alone.tile, 16, 8));
     Ok(())
 }
 
 /// Room is asked for each pixel that a triangle reaches; what fails the test is left alone and not kept.
 #[test]
 fn farther_triangles_leave_no_trace(rt: HostRuntime) -> Result<(), Fail> {
-    let mut tile = Tile::fresh(rt.alloc(), CORNER)?;
-    let mut undo = UndoStack::new(rt.alloc());
-    let large = [(0, 0), (4, 0), (0, 4)];
     let near = (CLOCKWISE, grey(1), 1000);
-    let far = (large, grey(2), 2000);
-    let event = triangles(rt.alloc(), &[near, far, near])?;
-    let demand = draw_with_room(&event, &tested(Func::Less, true), &mut tile, &mut undo)?;
-    assert_eq!(rt; (demand.spans, demand.pixels), (6, 6));
-    assert_eq!(rt; undo.recorded(), 4);
-    assert_eq!(rt; pixel_at(&tile, 0, 0), Some((grey(1), 1000)));
-    assert_eq!(rt; undo.kept(0, 0, 0, 0), Some((grey(0), 65535)));
-    assert_eq!(rt; undo.kept(0, 0, 0, 1), None);
-    for (x, y) in [(1, 0), (0, 1), (1, 1)] {
-        assert_eq!(rt; pixel_at(&tile, x, y), Some((grey(2), 2000)));
-        assert_eq!(rt; undo.kept(0, x, y, 0), Some((grey(0), 65535)));
-        assert_eq!(rt; undo.kept(0, x, y, 1), None);
+    let far = (LARGE, grey(2), 2000);
+    let list = [near, far, near];
+    let tile = Tile::fresh(rt.alloc(), CORNER)?;
+    let canvas = drawn(rt.alloc(), tile, &list, &tested(Func::Less, true))?;
+    expect_demand(&rt, &canvas, 6, 6);
+    expect_recorded(&rt, &canvas.undo, 4);
+    expect_pixel(&rt, &canvas.tile, (0, 0), 1, 1000);
+    expect_kept(&rt, &canvas.undo, 0, (0, 0), &[0]);
+    for at in [(1, 0), (0, 1), (1, 1)] {
+        expect_pixel(&rt, &canvas.tile, at, 2, 2000);
+        expect_kept(&rt, &canvas.undo, 0, at, &[0]);
     }
     Ok(())
 }
 
-/// Of a row of five pixels the second and the fourth are as deep as the triangle, and the test is whether depths differ.
-#[test]
-fn pixels_of_a_row_pass_in_runs(rt: HostRuntime) -> Result<(), Fail> {
+/// A row of five pixels, of which the second and the fourth are 7 deep.
+fn row_of_five(alloc: Global) -> Result<Tile, Fail> {
     let place = Place {
         left: 0,
         top: 0,
         width: 5,
         height: 1,
     };
-    let mut tile = Tile::fresh(rt.alloc(), place)?;
-    let mut undo = UndoStack::new(rt.alloc());
-    assert!(rt; tile.place().holds(1, 0) && tile.place().holds(3, 0));
-    tile.set_depth(1, 0, 7);
-    tile.set_depth(3, 0, 7);
-    let event = triangles(rt.alloc(), &[([(0, 0), (12, 0), (0, 12)], grey(8), 7)])?;
-    draw_with_room(&event, &tested(Func::NotEqual, false), &mut tile, &mut undo)?;
-    assert_eq!(rt; undo.recorded(), 3);
-    for (x, kept) in [(0, true), (1, false), (2, true), (3, false), (4, true)] {
-        let pixel = if kept { (grey(8), 65535) } else { (grey(0), 7) };
-        assert_eq!(rt; pixel_at(&tile, x, 0), Some(pixel));
-        assert_eq!(rt; undo.kept(0, x, 0, 0).is_some(), kept);
+    let mut tile = Tile::fresh(alloc, place)?;
+    for x in [1, 3] {
+        if !tile.place().holds(x, 0) {
+            return Err(Fail::from("no such pixel"));
+        }
+        tile.set_depth(x, 0, 7);
+    }
+    Ok(tile)
+}
+
+/// A pixel of that row, which grey 8 was drawn on or not.
+fn expect_drawn_on(rt: &impl Abort, canvas: &Canvas, x: u32, drawn_on: bool) {
+    let pixel = if drawn_on {
+        (grey(8), 65535)
+    } else {
+        (grey(0), 7)
+    };
+    assert_eq!(rt; pixel_at(&canvas.tile, x, 0), Some(pixel));
+    assert_eq!(rt; canvas.undo.kept(0, x, 0, 0).is_some(), drawn_on);
+}
+
+/// Of a row of five pixels the second and the fourth are as deep as the triangle, and the test is whether depths differ.
+#[test]
+fn pixels_of_a_row_pass_in_runs(rt: HostRuntime) -> Result<(), Fail> {
+    let mut canvas = canvas_of(rt.alloc(), row_of_five(rt.alloc())?);
+    let list = [([(0, 0), (12, 0), (0, 12)], grey(8), 7)];
+    draw_together(
+        &mut canvas,
+        rt.alloc(),
+        &list,
+        &tested(Func::NotEqual, false),
+    )?;
+    expect_recorded(&rt, &canvas.undo, 3);
+    for (x, drawn_on) in [(0, true), (1, false), (2, true), (3, false), (4, true)] {
+        expect_drawn_on(&rt, &canvas, x, drawn_on);
     }
     Ok(())
 }
@@ -278,13 +360,13 @@ fn expect_runs(
         height: 1,
     };
     let mut tile = Tile::fresh(alloc, place)?;
-    let mut undo = UndoStack::new(alloc);
     for x in 0..width {
         assert!(rt; tile.place().holds(x, 0));
         tile.set_depth(x, 0, 6 + (x % 3) as u16);
     }
-    let event = triangles(alloc, &[([(0, 0), (80, 0), (0, 80)], grey(8), 7)])?;
-    draw_with_room(&event, &tested(func, true), &mut tile, &mut undo)?;
+    let mut canvas = canvas_of(alloc, tile);
+    let list = [([(0, 0), (80, 0), (0, 80)], grey(8), 7)];
+    draw_together(&mut canvas, alloc, &list, &tested(func, true))?;
     for x in 0..width {
         let before = 6 + (x % 3) as u16;
         let passed = passing[(x % 3) as usize];
@@ -298,8 +380,8 @@ fn expect_runs(
         } else {
             None
         };
-        assert_eq!(rt; pixel_at(&tile, x, 0), Some(pixel));
-        assert_eq!(rt; undo.kept(0, x, 0, 0), kept);
+        assert_eq!(rt; pixel_at(&canvas.tile, x, 0), Some(pixel));
+        assert_eq!(rt; canvas.undo.kept(0, x, 0, 0), kept);
     }
     Ok(())
 }
@@ -331,30 +413,21 @@ fn a_triangle_beside_the_tile_asks_for_nothing(rt: HostRuntime) -> Result<(), Fa
 
 #[test]
 fn culled_and_scissored_pixels_are_left_alone(rt: HostRuntime) -> Result<(), Fail> {
-    let mut tile = Tile::fresh(rt.alloc(), CORNER)?;
-    let mut undo = UndoStack::new(rt.alloc());
-    let culled = triangles(rt.alloc(), &[(COUNTER_CLOCKWISE, grey(3), 0)])?;
-    let demand = draw_with_room(&culled, &Pipeline::default(), &mut tile, &mut undo)?;
-    assert_eq!(rt; (demand.spans, demand.pixels), (0, 0));
-    assert_eq!(rt; pixel_at(&tile, 0, 0), Some((grey(0), 65535)));
-    let state = Pipeline {
-        raster: Raster {
-            cull: Cull::None,
-            front_ccw: false,
-            scissor: true,
-        },
-        scissor: Rect {
-            left: -5,
-            top: 0,
-            right: 9,
-            bottom: 1,
-        },
-        ..Pipeline::default()
-    };
-    let large = triangles(rt.alloc(), &[([(0, 0), (0, 4), (4, 0)], grey(5), 0)])?;
-    let demand = draw_with_room(&large, &state, &mut tile, &mut undo)?;
-    assert_eq!(rt; (demand.spans, demand.pixels), (1, 2));
-    assert_eq!(rt; pixel_at(&tile, 1, 0), Some((grey(5), 65535)));
-    assert_eq!(rt; pixel_at(&tile, 0, 1), Some((grey(0), 65535)));
+    let culled = [(COUNTER_CLOCKWISE, grey(3), 0)];
+    let tile = Tile::fresh(rt.alloc(), CORNER)?;
+    let mut canvas = drawn(rt.alloc(), tile, &culled, &Pipeline::default())?;
+    expect_demand(&rt, &canvas, 0, 0);
+    expect_pixel(&rt, &canvas.tile, (0, 0), 0, 65535);
+    let state = scissored(Rect {
+        left: -5,
+        top: 0,
+        right: 9,
+        bottom: 1,
+    });
+    let large = [([(0, 0), (0, 4), (4, 0)], grey(5), 0)];
+    draw_together(&mut canvas, rt.alloc(), &large, &state)?;
+    expect_demand(&rt, &canvas, 1, 2);
+    expect_pixel(&rt, &canvas.tile, (1, 0), 5, 65535);
+    expect_pixel(&rt, &canvas.tile, (0, 1), 0, 65535);
     Ok(())
 }

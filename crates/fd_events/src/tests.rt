@@ -131,14 +131,22 @@ fn a_blend_event_switched_off_and_on(rt: HostRuntime) -> Result<(), Fail> {
     Ok(())
 }
 
+/// A grey vertex at a position in 1/65536 pixel.
+fn vertex(x: i32, y: i32, level: u8, z: u16) -> Result<Vertex, Fail> {
+    let Some(pos) = Pos::new(x, y) else {
+        return Err(Fail::from("a position"));
+    };
+    let colour = grey(level);
+    Ok(Vertex { pos, colour, z })
+}
+
 /// Vertices at (1/256, -1/512) pixels, rounded to (1/256, 0); the first three are darker and nearer.
-fn vertices(alloc: Global, number: i32) -> Result<Vec<Vertex>, Fail> {
+fn vertices(alloc: Global, number: u32) -> Result<Vec<Vertex>, Fail> {
+    let near = vertex(256, -128, 1, 0)?;
+    let far = vertex(256, -128, 2, 65_535)?;
     let mut vertices = Vec::new(alloc);
     for place in 0..number {
-        let pos = Pos::new(256, -128).ok_or("a position")?;
-        let (level, z) = if place < 3 { (1, 0) } else { (2, 65_535) };
-        let colour = grey(level);
-        vertices.push(Vertex { pos, colour, z })?;
+        vertices.push(if place < 3 { near } else { far })?;
     }
     Ok(vertices)
 }
@@ -177,12 +185,7 @@ fn refused_draws_and_their_faults(rt: HostRuntime) -> Result<(), Fail> {
 /// A triangle with these corners, in 1/65536 pixel.
 fn push_triangle(vertices: &mut Vec<Vertex>, corners: [(i32, i32); 3]) -> Result<(), Fail> {
     for (x, y) in corners {
-        let pos = Pos::new(x, y).ok_or("a position")?;
-        vertices.push(Vertex {
-            pos,
-            colour: grey(1),
-            z: 0,
-        })?;
+        vertices.push(vertex(x, y, 1, 0)?)?;
     }
     Ok(())
 }

@@ -1,6 +1,6 @@
 ghost use Rattle.std.specs.Prelude.{◌≤◌};
 
-use crate::tests::frames::{CLOCKWISE, flat_at, grey, session};
+use crate::tests::frames::{CLOCKWISE, expect_moved, expect_pixel, flat_at, grey, session};
 use crate::{Answer, Session, SessionFault};
 use fd_cover::{Depth, Func};
 use fd_events::Event;
@@ -26,7 +26,7 @@ pub(crate) fn tested(alloc: Global, workers: u32) -> Result<Session, Fail>
 }
 
 fn expect(rt: &impl Abort, session: &Session, level: u8, depth: u16) {
-    assert_eq!(rt; session.pixel(0, 0), Ok(grey(level)));
+    expect_pixel(rt, session, (0, 0), grey(level));
     assert_eq!(rt; session.depth(0, 0), Ok(depth));
 }
 
@@ -36,10 +36,10 @@ fn a_nearer_triangle_wins(rt: HostRuntime) -> Result<(), Fail> {
         let mut session = tested(rt.alloc(), workers)?;
         expect(&rt, &session, 0, 65535);
         for (at, level, depth) in [(3, 1, 1000), (5, 2, 2000), (4, 1, 65535), (3, 1, 1000)] {
-            assert_eq!(rt; session.goto(&rt, at), Answer::Moved { at });
+            expect_moved(&rt, session.goto(&rt, at), at);
             expect(&rt, &session, level, depth);
         }
-        assert_eq!(rt; session.switch(&rt, 2, false), Answer::Moved { at: 3 });
+        expect_moved(&rt, session.switch(&rt, 2, false), 3);
         expect(&rt, &session, 2, 2000);
         assert_eq!(rt; session.depth(1, 0), Err(SessionFault::NoSuchPixel));
     }

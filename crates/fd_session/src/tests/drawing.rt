@@ -1,8 +1,8 @@
 ghost use Rattle.std.specs.Prelude.{◌<◌};
 
 use crate::tests::frames::{
-    CLOCKWISE, blend, colour, draw, flat, grey, masked_and_scissored, position, raster, scissor,
-    session,
+    CLOCKWISE, added_twice, blend, colour, culled_and_scissored, draw, expect_moved, expect_pixel,
+    expect_refused, flat, grey, masked_and_scissored, position, raster, scissor, session,
 };
 use crate::{Answer, SessionFault};
 use fd_blend::Factor;
@@ -24,10 +24,10 @@ fn the_shared_edge_is_drawn_once(rt: HostRuntime) -> Result<(), Fail> {
         let mut events = Vec::new(rt.alloc());
         events.push(draw(rt.alloc(), Interp::Flat, &triangles)?)?;
         let mut session = session(rt.alloc(), 2, 2, events, workers)?;
-        assert_eq!(rt; session.goto_gated(&rt, 1, &Free), Answer::Moved { at: 1 });
-        assert_eq!(rt; session.pixel(0, 0), Ok(red));
+        expect_moved(&rt, session.goto_gated(&rt, 1, &Free), 1);
+        expect_pixel(&rt, &session, (0, 0), red);
         for (x, y) in [(1, 0), (0, 1), (1, 1)] {
-            assert_eq!(rt; session.pixel(x, y), Ok(green), "at {x} {y}");
+            expect_pixel(&rt, &session, (x, y), green);
         }
         assert_eq!(rt; session.pixel(2, 0), Err(SessionFault::NoSuchPixel));
     }
@@ -38,16 +38,11 @@ fn the_shared_edge_is_drawn_once(rt: HostRuntime) -> Result<(), Fail> {
 fn culled_and_scissored_draws_leave_the_pixel(rt: HostRuntime) -> Result<(), Fail> {
     let last = colour(3, 4, 5, 6);
     for workers in [1, 2, 64] {
-        let mut events = Vec::new(rt.alloc());
-        events.push(flat(rt.alloc(), [(0, 0), (0, 2), (2, 0)], grey(1))?)?;
-        events.push(raster(Cull::Back, true))?;
-        events.push(flat(rt.alloc(), CLOCKWISE, grey(2))?)?;
-        events.push(scissor(0, 0, 1, 1))?;
-        events.push(flat(rt.alloc(), CLOCKWISE, last)?)?;
+        let events = culled_and_scissored(rt.alloc(), last)?;
         let mut session = session(rt.alloc(), 1, 1, events, workers)?;
         for (at, seen) in [(1, grey(0)), (3, grey(0)), (4, grey(0)), (5, last)] {
-            assert_eq!(rt; session.goto(&rt, at), Answer::Moved { at });
-            assert_eq!(rt; session.pixel(0, 0), Ok(seen), "at {at}");
+            expect_moved(&rt, session.goto(&rt, at), at);
+            expect_pixel(&rt, &session, (0, 0), seen);
         }
     }
     Ok(())
@@ -57,13 +52,13 @@ fn culled_and_scissored_draws_leave_the_pixel(rt: HostRuntime) -> Result<(), Fai
 fn mask_and_scissor_leave_clears_alone(rt: HostRuntime) -> Result<(), Fail> {
     for workers in [1, 2, 64] {
         let mut session = masked_and_scissored(rt.alloc(), workers)?;
-        assert_eq!(rt; session.goto_gated(&rt, 5, &Free), Answer::Moved { at: 5 });
-        assert_eq!(rt; session.pixel(0, 0), Ok(colour(200, 9, 202, 9)));
+        expect_moved(&rt, session.goto_gated(&rt, 5, &Free), 5);
+        expect_pixel(&rt, &session, (0, 0), colour(200, 9, 202, 9));
         for (x, y) in [(1, 0), (0, 1), (1, 1)] {
-            assert_eq!(rt; session.pixel(x, y), Ok(grey(9)), "at {x} {y}");
+            expect_pixel(&rt, &session, (x, y), grey(9));
         }
         assert_eq!(rt; session.back(), Ok(4));
-        assert_eq!(rt; session.pixel(0, 0), Ok(grey(9)));
+        expect_pixel(&rt, &session, (0, 0), grey(9));
     }
     Ok(())
 }
@@ -76,16 +71,13 @@ fn a_blend_state_switched_off_and_on(rt: HostRuntime) -> Result<(), Fail> {
         events.push(blend(true, Factor::SrcAlpha, Factor::Zero, 15)?)?;
         events.push(flat(rt.alloc(), CLOCKWISE, source)?)?;
         let mut session = session(rt.alloc(), 1, 1, events, workers)?;
-        assert_eq!(rt; session.goto(&rt, 2), Answer::Moved { at: 2 });
-        assert_eq!(rt; session.pixel(0, 0), Ok(colour(100, 50, 25, 128)));
-        assert_eq!(rt; session.switch(&rt, 1, false), Answer::Moved { at: 2 });
-        assert_eq!(rt; session.pixel(0, 0), Ok(source));
-        assert_eq!(rt; session.switch(&rt, 1, true), Answer::Moved { at: 2 });
-        assert_eq!(rt; session.pixel(0, 0), Ok(colour(100, 50, 25, 128)));
-        assert_eq!(rt;
-            session.switch(&rt, 1, true),
-            Answer::Refused(SessionFault::AlreadySo)
-        );
+        expect_moved(&rt, session.goto(&rt, 2), 2);
+        expect_pixel(&rt, &session, (0, 0), colour(100, 50, 25, 128));
+        expect_moved(&rt, session.switch(&rt, 1, false), 2);
+        expect_pixel(&rt, &session, (0, 0), source);
+        expect_moved(&rt, session.switch(&rt, 1, true), 2);
+        expect_pixel(&rt, &session, (0, 0), colour(100, 50, 25, 128));
+        expect_refused(&rt, session.switch(&rt, 1, true), SessionFault::AlreadySo);
         assert_eq!(rt; session.is_on(1), Ok(true));
     }
     Ok(())
@@ -93,16 +85,13 @@ fn a_blend_state_switched_off_and_on(rt: HostRuntime) -> Result<(), Fail> {
 
 #[test]
 fn back_returns_to_the_image_before_the_draw(rt: HostRuntime) -> Result<(), Fail> {
-    let twice = [(CLOCKWISE, [grey(10); 3]), (CLOCKWISE, [grey(10); 3])];
     for workers in [1, 2, 64] {
-        let mut events = Vec::new(rt.alloc());
-        events.push(blend(true, Factor::One, Factor::One, 15)?)?;
-        events.push(draw(rt.alloc(), Interp::Flat, &twice)?)?;
+        let events = added_twice(rt.alloc())?;
         let mut session = session(rt.alloc(), 1, 1, events, workers)?;
-        assert_eq!(rt; session.goto(&rt, 2), Answer::Moved { at: 2 });
-        assert_eq!(rt; session.pixel(0, 0), Ok(grey(20)));
+        expect_moved(&rt, session.goto(&rt, 2), 2);
+        expect_pixel(&rt, &session, (0, 0), grey(20));
         assert_eq!(rt; session.back(), Ok(1));
-        assert_eq!(rt; session.pixel(0, 0), Ok(grey(0)));
+        expect_pixel(&rt, &session, (0, 0), grey(0));
     }
     Ok(())
 }
@@ -116,8 +105,8 @@ fn linear_red_rounds_to_nearest(rt: HostRuntime) -> Result<(), Fail> {
         let mut events = Vec::new(rt.alloc());
         events.push(draw(rt.alloc(), Interp::Linear, &triangles)?)?;
         let mut session = session(rt.alloc(), 1, 1, events, workers)?;
-        assert_eq!(rt; session.step(&rt), Answer::Moved { at: 1 });
-        assert_eq!(rt; session.pixel(0, 0), Ok(colour(64, 0, 0, 255)));
+        expect_moved(&rt, session.step(&rt), 1);
+        expect_pixel(&rt, &session, (0, 0), colour(64, 0, 0, 255));
     }
     Ok(())
 }
@@ -194,10 +183,7 @@ fn every_pixel_is_what_its_history_leads_to(rt: HostRuntime) -> Result<(), Fail>
             round(rt.alloc(), &mut events, &mut numbers)?;
         }
         let mut session = session(rt.alloc(), 40, 35, events, workers)?;
-        assert_eq!(rt;
-            session.goto_gated(&rt, 31, &Free),
-            Answer::Moved { at: 31 }
-        );
+        expect_moved(&rt, session.goto_gated(&rt, 31, &Free), 31);
         for y in 0..35 {
             for x in 0..40 {
                 let entries = session.history(rt.alloc(), x, y)?;

@@ -1,12 +1,13 @@
 //! Frames of the tests.
 ghost use Rattle.std.specs.Prelude.{◌≤◌};
 
-use crate::Session;
+use crate::{Answer, Session, SessionFault};
 use fd_blend::{BlendOp, BlendState, Colour, Factor, Mask, Part};
 use fd_cover::{Cull, Interp, Raster, Rect};
 use fd_events::{Draw, Event, EventTable, Vertex};
 use fd_snap::Pos;
 use std::alloc::Global;
+use std::process::Abort;
 use std::test::Fail;
 
 pub(crate) const fn colour(r: u8, g: u8, b: u8, a: u8) -> Colour {
@@ -130,4 +131,41 @@ pub(crate) fn masked_and_scissored(alloc: Global, workers: u32) -> Result<Sessio
     let drawn = colour(200, 201, 202, 203);
     events.push(flat(alloc, [(0, 0), (4, 0), (0, 4)], drawn)?)?;
     session(alloc, 2, 2, events, workers)
+}
+
+/// A culled draw of grey 1, a scissored one of grey 2, and one of this colour that is drawn, on pixel (0, 0).
+pub(crate) fn culled_and_scissored(alloc: Global, drawn: Colour) -> Result<Vec<Event>, Fail> {
+    let counter_clockwise = [(0, 0), (0, 2), (2, 0)];
+    let mut events = Vec::new(alloc);
+    events.push(flat(alloc, counter_clockwise, grey(1))?)?;
+    events.push(raster(Cull::Back, true))?;
+    events.push(flat(alloc, CLOCKWISE, grey(2))?)?;
+    events.push(scissor(0, 0, 1, 1))?;
+    events.push(flat(alloc, CLOCKWISE, drawn)?)?;
+    Ok(events)
+}
+
+/// Additive blending, and a draw of two triangles of grey 10 over one another.
+pub(crate) fn added_twice(alloc: Global) -> Result<Vec<Event>, Fail> {
+    let twice = [(CLOCKWISE, [grey(10); 3]), (CLOCKWISE, [grey(10); 3])];
+    let mut events = Vec::new(alloc);
+    events.push(blend(true, Factor::One, Factor::One, 15)?)?;
+    events.push(draw(alloc, Interp::Flat, &twice)?)?;
+    Ok(events)
+}
+
+/// Checks that a move was carried out, and where it ended.
+pub(crate) fn expect_moved(rt: &impl Abort, answer: Answer, at: u32) {
+    assert_eq!(rt; answer, Answer::Moved { at });
+}
+
+/// Checks why a move was refused.
+pub(crate) fn expect_refused(rt: &impl Abort, answer: Answer, fault: SessionFault) {
+    assert_eq!(rt; answer, Answer::Refused(fault));
+}
+
+/// Checks the colour that pixel (x, y) shows.
+pub(crate) fn expect_pixel(rt: &impl Abort, session: &Session, pixel: (u32, u32), shown: Colour) {
+    let (x, y) = pixel;
+    assert_eq!(rt; session.pixel(x, y), Ok(shown), "at {x} {y}");
 }

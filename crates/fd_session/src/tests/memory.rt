@@ -1,5 +1,5 @@
 //! Moves that meet want of memory. All memory is taken and given back bit by bit, so that a move gets a little further each time.
-use crate::tests::frames::{colour, flat, one_clear, session};
+use crate::tests::frames::{colour, expect_moved, expect_pixel, flat, one_clear, session};
 use crate::{Answer, Session, SessionFault};
 use fd_blend::Colour;
 use fd_crew::Free;
@@ -59,7 +59,7 @@ fn exhaust(alloc: Global) -> Result<Vec<Vec<u8>>, AllocError> {
 fn expect_ends(rt: &impl Abort, session: &Session, position: u32, shown: Colour) {
     assert_eq!(rt; session.position(), position);
     for x in [0, 32] {
-        assert_eq!(rt; session.pixel(x, 0), Ok(shown), "at {x}");
+        expect_pixel(rt, session, (x, 0), shown);
     }
 }
 
@@ -125,9 +125,9 @@ fn a_switch_that_reaches_nothing_wants_no_memory(rt: HostRuntime) -> Result<(), 
     events.push(Event::Clear(CLEARED))?;
     events.push(flat(rt.alloc(), [(50, 0), (60, 0), (50, 10)], CLEARED)?)?;
     let mut session = session(rt.alloc(), 33, 1, events, 2)?;
-    assert_eq!(rt; session.goto(&rt, 2), Answer::Moved { at: 2 });
+    expect_moved(&rt, session.goto(&rt, 2), 2);
     let pieces = exhaust(rt.alloc())?;
-    assert_eq!(rt; session.switch(&rt, 2, false), Answer::Moved { at: 2 });
+    expect_moved(&rt, session.switch(&rt, 2, false), 2);
     assert_eq!(rt; session.is_on(2), Ok(false));
     assert_eq!(rt; session.switch(&rt, 1, false), Answer::Stopped { at: 0 });
     drop(pieces);

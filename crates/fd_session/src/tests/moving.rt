@@ -1,4 +1,7 @@
-use crate::tests::frames::{colour, grey, masked_and_scissored, one_clear, session};
+use crate::tests::frames::{
+    colour, expect_moved, expect_pixel, expect_refused, grey, masked_and_scissored, one_clear,
+    session,
+};
 use crate::{Answer, Session, SessionFault};
 use fd_blend::Colour;
 use fd_crew::Free;
@@ -9,11 +12,11 @@ use std::test::Fail;
 fn back_restores_a_fresh_target(rt: HostRuntime) -> Result<(), Fail> {
     for workers in [1, 2, 64] {
         let mut session = one_clear(rt.alloc(), 1, colour(10, 20, 30, 40), workers)?;
-        assert_eq!(rt; session.step(&rt), Answer::Moved { at: 1 });
-        assert_eq!(rt; session.pixel(0, 0), Ok(colour(10, 20, 30, 40)));
-        assert_eq!(rt; session.step(&rt), Answer::Refused(SessionFault::AtEnd));
+        expect_moved(&rt, session.step(&rt), 1);
+        expect_pixel(&rt, &session, (0, 0), colour(10, 20, 30, 40));
+        expect_refused(&rt, session.step(&rt), SessionFault::AtEnd);
         assert_eq!(rt; session.back(), Ok(0));
-        assert_eq!(rt; session.pixel(0, 0), Ok(grey(0)));
+        expect_pixel(&rt, &session, (0, 0), grey(0));
         assert_eq!(rt; session.back(), Err(SessionFault::AtStart));
     }
     Ok(())
@@ -23,27 +26,21 @@ fn back_restores_a_fresh_target(rt: HostRuntime) -> Result<(), Fail> {
 fn no_events_refuse_every_move(rt: HostRuntime) -> Result<(), Fail> {
     for workers in [1, 2, 64] {
         let mut session = session(rt.alloc(), 1, 1, Vec::new(rt.alloc()), workers)?;
-        assert_eq!(rt; session.step(&rt), Answer::Refused(SessionFault::AtEnd));
+        expect_refused(&rt, session.step(&rt), SessionFault::AtEnd);
         assert_eq!(rt; session.back(), Err(SessionFault::AtStart));
-        assert_eq!(rt; session.goto(&rt, 0), Answer::Moved { at: 0 });
-        assert_eq!(rt;
-            session.goto(&rt, 1),
-            Answer::Refused(SessionFault::NoSuchPosition)
-        );
-        assert_eq!(rt;
-            session.switch(&rt, 1, true),
-            Answer::Refused(SessionFault::NoSuchEvent)
-        );
-        assert_eq!(rt; session.pixel(0, 0), Ok(grey(0)));
+        expect_moved(&rt, session.goto(&rt, 0), 0);
+        expect_refused(&rt, session.goto(&rt, 1), SessionFault::NoSuchPosition);
+        expect_refused(&rt, session.switch(&rt, 1, true), SessionFault::NoSuchEvent);
+        expect_pixel(&rt, &session, (0, 0), grey(0));
     }
     Ok(())
 }
 
 /// What the session shows of a target of two by two pixels.
 fn expect_pixels(rt: &impl Abort, session: &Session, first: Colour, others: Colour) {
-    assert_eq!(rt; session.pixel(0, 0), Ok(first));
+    expect_pixel(rt, session, (0, 0), first);
     for (x, y) in [(1, 0), (0, 1), (1, 1)] {
-        assert_eq!(rt; session.pixel(x, y), Ok(others), "at {x} {y}");
+        expect_pixel(rt, session, (x, y), others);
     }
 }
 
@@ -52,11 +49,11 @@ fn going_back_and_forth_gives_the_same_bytes(rt: HostRuntime) -> Result<(), Fail
     let drawn = colour(200, 9, 202, 9);
     for workers in [1, 2, 64] {
         let mut session = masked_and_scissored(rt.alloc(), workers)?;
-        assert_eq!(rt; session.goto_gated(&rt, 5, &Free), Answer::Moved { at: 5 });
+        expect_moved(&rt, session.goto_gated(&rt, 5, &Free), 5);
         expect_pixels(&rt, &session, drawn, grey(9));
-        assert_eq!(rt; session.goto(&rt, 0), Answer::Moved { at: 0 });
+        expect_moved(&rt, session.goto(&rt, 0), 0);
         expect_pixels(&rt, &session, grey(0), grey(0));
-        assert_eq!(rt; session.goto(&rt, 5), Answer::Moved { at: 5 });
+        expect_moved(&rt, session.goto(&rt, 5), 5);
         expect_pixels(&rt, &session, drawn, grey(9));
     }
     Ok(())
@@ -67,15 +64,15 @@ fn a_clear_reaches_each_tile(rt: HostRuntime) -> Result<(), Fail> {
     let cleared = colour(1, 2, 3, 4);
     for workers in [1, 2, 64] {
         let mut session = one_clear(rt.alloc(), 70, cleared, workers)?;
-        assert_eq!(rt; session.goto_gated(&rt, 1, &Free), Answer::Moved { at: 1 });
+        expect_moved(&rt, session.goto_gated(&rt, 1, &Free), 1);
         for x in [0, 31, 32, 63, 64, 69] {
-            assert_eq!(rt; session.pixel(x, 0), Ok(cleared), "at {x}");
+            expect_pixel(&rt, &session, (x, 0), cleared);
         }
-        assert_eq!(rt; session.switch(&rt, 1, false), Answer::Moved { at: 1 });
-        assert_eq!(rt; session.pixel(64, 0), Ok(grey(0)));
+        expect_moved(&rt, session.switch(&rt, 1, false), 1);
+        expect_pixel(&rt, &session, (64, 0), grey(0));
         assert_eq!(rt; session.back(), Ok(0));
-        assert_eq!(rt; session.switch(&rt, 1, true), Answer::Moved { at: 0 });
-        assert_eq!(rt; session.pixel(64, 0), Ok(grey(0)));
+        expect_moved(&rt, session.switch(&rt, 1, true), 0);
+        expect_pixel(&rt, &session, (64, 0), grey(0));
     }
     Ok(())
 }
@@ -84,7 +81,7 @@ fn a_clear_reaches_each_tile(rt: HostRuntime) -> Result<(), Fail> {
 fn rows_are_read_tile_by_tile(rt: HostRuntime) -> Result<(), Fail> {
     let cleared = colour(1, 2, 3, 4);
     let mut session = one_clear(rt.alloc(), 70, cleared, 2)?;
-    assert_eq!(rt; session.step(&rt), Answer::Moved { at: 1 });
+    expect_moved(&rt, session.step(&rt), 1);
     assert!(rt; session.table().width() == 70 && session.table().height() == 1);
     for (x, count) in [(0, 32), (31, 1), (32, 32), (40, 24), (64, 6), (69, 1)] {
         let row = session.row_from(x, 0);

@@ -1,5 +1,5 @@
 //! Long moves, which go slice by slice.
-use crate::tests::frames::{grey, session};
+use crate::tests::frames::{expect_moved, expect_pixel, grey, session};
 use crate::{Answer, Session, SessionFault};
 use fd_events::Event;
 use std::alloc::Global;
@@ -27,15 +27,15 @@ fn a_jump_has_parts(rt: HostRuntime) -> Result<(), Fail> {
         parts = parts.saturating_add(1);
         assert!(rt; session.position() > position && session.position() < 150);
         position = session.position();
-        assert_eq!(rt; session.pixel(255, 255), Ok(grey(position as u8)));
+        expect_pixel(&rt, &session, (255, 255), grey(position as u8));
     }
     assert_eq!(rt; session.position(), 150);
     assert!(rt; parts == 2);
     assert_eq!(rt; session.goto_part(&rt, 7), Some(Answer::Moved { at: 7 }));
-    assert_eq!(rt; session.pixel(255, 255), Ok(grey(7)));
+    expect_pixel(&rt, &session, (255, 255), grey(7));
     let refused = Answer::Refused(SessionFault::NoSuchPosition);
     assert_eq!(rt; session.goto_part(&rt, 151), Some(refused));
-    assert_eq!(rt; session.goto(&rt, 150), Answer::Moved { at: 150 });
-    assert_eq!(rt; session.pixel(255, 255), Ok(grey(150)));
+    expect_moved(&rt, session.goto(&rt, 150), 150);
+    expect_pixel(&rt, &session, (255, 255), grey(150));
     Ok(())
 }

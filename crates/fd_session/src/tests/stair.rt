@@ -1,7 +1,7 @@
 //! A frame that is work for many workers. Each pixel's colour follows from its column by a count.
 ghost use Rattle.std.specs.Prelude.{◌≤◌};
 
-use crate::tests::frames::{blend, draw, grey, session};
+use crate::tests::frames::{blend, draw, expect_moved, grey, session};
 use crate::{Answer, Session};
 use fd_blend::Factor;
 use fd_cover::Interp;
@@ -54,21 +54,18 @@ fn expect_stair(rt: &impl Abort, session: &Session, cleared: u8, draws: u8) {
 fn many_workers_draw_what_one_does(rt: HostRuntime) -> Result<(), Fail> {
     for workers in [1, 2, 64] {
         let mut session = stair(rt.alloc(), workers)?;
-        assert_eq!(rt; session.step(&rt), Answer::Moved { at: 1 });
+        expect_moved(&rt, session.step(&rt), 1);
         expect_stair(&rt, &session, 100, 0);
-        assert_eq!(rt; session.goto(&rt, 18), Answer::Moved { at: 18 });
+        expect_moved(&rt, session.goto(&rt, 18), 18);
         expect_stair(&rt, &session, 100, 16);
-        assert_eq!(rt; session.switch(&rt, 1, false), Answer::Moved { at: 18 });
+        expect_moved(&rt, session.switch(&rt, 1, false), 18);
         expect_stair(&rt, &session, 0, 16);
-        assert_eq!(rt; session.switch(&rt, 1, true), Answer::Moved { at: 18 });
+        expect_moved(&rt, session.switch(&rt, 1, true), 18);
         expect_stair(&rt, &session, 100, 16);
         assert_eq!(rt; session.back(), Ok(17));
         expect_stair(&rt, &session, 100, 15);
-        assert_eq!(rt; session.goto(&rt, 2), Answer::Moved { at: 2 });
-        assert_eq!(rt;
-            session.goto_gated(&rt, 18, &Free),
-            Answer::Moved { at: 18 }
-        );
+        expect_moved(&rt, session.goto(&rt, 2), 2);
+        expect_moved(&rt, session.goto_gated(&rt, 18, &Free), 18);
         expect_stair(&rt, &session, 100, 16);
     }
     Ok(())

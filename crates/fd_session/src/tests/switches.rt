@@ -1,7 +1,7 @@
 //! Switches of events that reach some of nine tiles.
 ghost use Rattle.std.specs.Prelude.{◌≤◌};
 
-use crate::tests::frames::{blend, flat, grey, session};
+use crate::tests::frames::{blend, expect_moved, expect_pixel, flat, grey, session};
 use crate::{Answer, Session};
 use fd_blend::Factor;
 use fd_events::Event;
@@ -26,9 +26,9 @@ fn nine_tiles(alloc: Global, workers: u32) -> Result<Session, Fail>
 
 /// What is shown in the middle, in the last column's first and last tile, and on the other tiles.
 fn expect_tiles(rt: &impl Abort, session: &Session, middle: u8, column: u8, others: u8) {
-    assert_eq!(rt; session.pixel(33, 33), Ok(grey(middle)));
+    expect_pixel(rt, session, (33, 33), grey(middle));
     for y in [1, 80] {
-        assert_eq!(rt; session.pixel(71, y), Ok(grey(column)), "at {y}");
+        expect_pixel(rt, session, (71, y), grey(column));
     }
     for (x, y) in [
         (0, 0),
@@ -39,7 +39,7 @@ fn expect_tiles(rt: &impl Abort, session: &Session, middle: u8, column: u8, othe
         (60, 60),
         (94, 94),
     ] {
-        assert_eq!(rt; session.pixel(x, y), Ok(grey(others)), "at {x} {y}");
+        expect_pixel(rt, session, (x, y), grey(others));
     }
 }
 
@@ -47,7 +47,7 @@ fn expect_tiles(rt: &impl Abort, session: &Session, middle: u8, column: u8, othe
 fn a_switch_shows_on_the_tiles_that_it_reaches(rt: HostRuntime) -> Result<(), Fail> {
     for workers in [1, 2, 64] {
         let mut session = nine_tiles(rt.alloc(), workers)?;
-        assert_eq!(rt; session.goto(&rt, 6), Answer::Moved { at: 6 });
+        expect_moved(&rt, session.goto(&rt, 6), 6);
         expect_tiles(&rt, &session, 6, 10, 101);
         for (number, middle, column, others) in [
             (2, 101, 10, 101),
@@ -63,12 +63,12 @@ fn a_switch_shows_on_the_tiles_that_it_reaches(rt: HostRuntime) -> Result<(), Fa
             assert_eq!(rt; session.switch(&rt, number, true), moved, "{number}");
             expect_tiles(&rt, &session, 6, 10, 101);
         }
-        assert_eq!(rt; session.switch(&rt, 3, false), Answer::Moved { at: 6 });
-        assert_eq!(rt; session.goto(&rt, 4), Answer::Moved { at: 4 });
+        expect_moved(&rt, session.switch(&rt, 3, false), 6);
+        expect_moved(&rt, session.goto(&rt, 4), 4);
         expect_tiles(&rt, &session, 5, 100, 100);
-        assert_eq!(rt; session.goto(&rt, 1), Answer::Moved { at: 1 });
+        expect_moved(&rt, session.goto(&rt, 1), 1);
         expect_tiles(&rt, &session, 100, 100, 100);
-        assert_eq!(rt; session.goto(&rt, 0), Answer::Moved { at: 0 });
+        expect_moved(&rt, session.goto(&rt, 0), 0);
         expect_tiles(&rt, &session, 0, 0, 0);
     }
     Ok(())

@@ -1,5 +1,5 @@
 use crate::Answer;
-use crate::tests::frames::{colour, one_clear};
+use crate::tests::frames::{colour, expect_moved, expect_pixel, one_clear};
 use fd_crew::Gate;
 use std::sync::atomic::{AtomicU64, Ordering};
 use std::test::Fail;
@@ -42,10 +42,10 @@ fn every_worker_is_in_a_lane_at_once(rt: HostRuntime) -> Result<(), Fail> {
         second: AtomicU64::new(0),
         gave_up: AtomicU64::new(0),
     };
-    assert_eq!(rt; session.goto_gated(&rt, 1, &gate), Answer::Moved { at: 1 });
+    expect_moved(&rt, session.goto_gated(&rt, 1, &gate), 1);
     assert_eq!(rt; gate.gave_up.load(Ordering::SeqCst), 0);
     for x in [0, 32] {
-        assert_eq!(rt; session.pixel(x, 0), Ok(colour(1, 2, 3, 4)), "at {x}");
+        expect_pixel(&rt, &session, (x, 0), colour(1, 2, 3, 4));
     }
     Ok(())
 }

@@ -1,6 +1,10 @@
+ghost use Rattle.std.specs.Prelude.{◌≡◌, ◌<◌};
+
 use crate::UndoStack;
 use fd_blend::Colour;
 use fd_tile::{Place, Tile};
+use std::alloc::Global;
+use std::process::Abort;
 use std::test::Fail;
 
 const FRESH: Colour = Colour {
@@ -27,6 +31,38 @@ const SMALL: Place = Place {
 /// As deep as a fresh pixel is.
 const DEEP: u16 = 65535;
 
+/// Checks how many pixels and frames there are.
+fn expect_counts(
+    rt: &impl Abort,
+    undo: &UndoStack,
+    recorded: u64,
+    frames: usize,
+) -> Result<(), Fail> {
+    assert_eq!(rt; (undo.recorded(), undo.frames()), (recorded, frames));
+    Ok(())
+}
+
+/// Draws over a pixel of a small tile.
+fn draw_over(tile: &mut Tile, x: u32, y: u32)
+    requires small { tile.old.place ≡ record { left = 0; top = 0; width = 2; height = 2 } }
+    requires inside { (x < 2) × (y < 2) }
+    ensures { tile.new.place ≡ tile.old.place }
+{
+    tile.set(x, y, RED);
+    tile.set_depth(x, y, 1000);
+}
+
+/// Checks that a small tile is fresh, but for its pixel (1, 0), which is 7 deep.
+fn expect_as_before(rt: &impl Abort, tile: &Tile) -> Result<(), Fail>
+    requires { tile.now.place ≡ record { left = 0; top = 0; width = 2; height = 2 } }
+{
+    assert_eq!(rt; tile.row(0), [FRESH, FRESH].as_slice());
+    assert_eq!(rt; tile.row(1), [FRESH, FRESH].as_slice());
+    assert_eq!(rt; tile.depth_row(0), [DEEP, 7].as_slice());
+    assert_eq!(rt; tile.depth_row(1), [DEEP, DEEP].as_slice());
+    Ok(())
+}
+
 #[test]
 fn a_frame_is_put_back(rt: HostRuntime) -> Result<(), Fail> {
     let mut tile = Tile::fresh(rt.alloc(), SMALL)?;
@@ -36,22 +72,13 @@ fn a_frame_is_put_back(rt: HostRuntime) -> Result<(), Fail> {
     undo.begin();
     undo.keep(0, 0, &[FRESH, FRESH], &[DEEP, 7]);
     undo.keep(1, 1, &[FRESH], &[DEEP]);
-    tile.set(0, 0, RED);
-    tile.set(1, 0, RED);
-    tile.set(1, 1, RED);
-    tile.set_depth(0, 0, 1000);
-    tile.set_depth(1, 0, 1000);
-    tile.set_depth(1, 1, 1000);
-    assert_eq!(rt; undo.recorded(), 3);
-    assert_eq!(rt; undo.frames(), 1);
+    draw_over(&mut tile, 0, 0);
+    draw_over(&mut tile, 1, 0);
+    draw_over(&mut tile, 1, 1);
+    expect_counts(&rt, &undo, 3, 1)?;
     undo.undo_top(&mut tile);
-    assert_eq!(rt; undo.recorded(), 0);
-    assert_eq!(rt; undo.frames(), 0);
-    assert_eq!(rt; tile.row(0), [FRESH, FRESH].as_slice());
-    assert_eq!(rt; tile.row(1), [FRESH, FRESH].as_slice());
-    assert_eq!(rt; tile.depth_row(0), [DEEP, 7].as_slice());
-    assert_eq!(rt; tile.depth_row(1), [DEEP, DEEP].as_slice());
-    Ok(())
+    expect_counts(&rt, &undo, 0, 0)?;
+    expect_as_before(&rt, &tile)
 }
 
 #[test]
@@ -68,15 +95,9 @@ fn a_frame_without_pixels_stores_nothing(rt: HostRuntime) -> Result<(), Fail> {
 
 #[test]
 fn frames_that_are_forgotten_keep_nothing(rt: HostRuntime) -> Result<(), Fail> {
-    let mut undo = UndoStack::new(rt.alloc());
-    undo.reserve(0, 0)?;
-    undo.begin();
-    undo.reserve(2, 3)?;
-    undo.begin();
-    undo.keep(0, 0, &[RED, RED], &[DEEP, 7]);
+    let mut undo = with_two_frames(rt.alloc())?;
     undo.forget();
-    assert_eq!(rt; undo.frames(), 2);
-    assert_eq!(rt; undo.recorded(), 0);
+    expect_counts(&rt, &undo, 0, 2)?;
     assert!(rt; undo.stored.capacity() == 0);
     assert!(rt; undo.depths.len() == 0);
     undo.reserve(1, 1)?;
@@ -87,9 +108,9 @@ fn frames_that_are_forgotten_keep_nothing(rt: HostRuntime) -> Result<(), Fail> {
     Ok(())
 }
 
-#[test]
-fn what_is_kept_of_a_pixel(rt: HostRuntime) -> Result<(), Fail> {
-    let mut undo = UndoStack::new(rt.alloc());
+/// Two frames: one that keeps nothing, and one that keeps pixel (1, 1) twice.
+fn with_two_frames(alloc: Global) -> Result<UndoStack, Fail> {
+    let mut undo = UndoStack::new(alloc);
     undo.reserve(0, 0)?;
     undo.begin();
     undo.reserve(3, 4)?;
@@ -97,6 +118,12 @@ fn what_is_kept_of_a_pixel(rt: HostRuntime) -> Result<(), Fail> {
     undo.keep(0, 1, &[FRESH, FRESH], &[5, 6]);
     undo.keep(1, 1, &[RED], &[6]);
     undo.keep(0, 0, &[RED], &[8]);
+    Ok(undo)
+}
+
+#[test]
+fn what_is_kept_of_a_pixel(rt: HostRuntime) -> Result<(), Fail> {
+    let undo = with_two_frames(rt.alloc())?;
     for (frame, x, y, n, pixel) in [
         (1, 1, 1, 0, Some((FRESH, 6))),
         (1, 1, 1, 1, Some((RED, 6))),
@@ -113,10 +140,16 @@ fn what_is_kept_of_a_pixel(rt: HostRuntime) -> Result<(), Fail> {
             "frame {frame}, pixel {x} {y}"
         );
     }
+    Ok(())
+}
+
+#[test]
+fn what_is_kept_is_added(rt: HostRuntime) -> Result<(), Fail> {
+    let undo = with_two_frames(rt.alloc())?;
     let mut kept = Vec::new(rt.alloc());
-    undo.add_kept(1, 1, 1, 1, &mut kept)?;
-    undo.add_kept(0, 1, 1, 9, &mut kept)?;
-    undo.add_kept(1, 1, 1, 9, &mut kept)?;
+    for (frame, count) in [(1, 1), (0, 9), (1, 9)] {
+        undo.add_kept(frame, 1, 1, count, &mut kept)?;
+    }
     assert_eq!(rt;
         kept.as_slice(),
         [(FRESH, 6), (FRESH, 6), (RED, 6)].as_slice()
