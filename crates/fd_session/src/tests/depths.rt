@@ -1,7 +1,7 @@
 ghost use Rattle.std.specs.Prelude.{◌≤◌};
 
 use crate::tests::frames::{CLOCKWISE, expect_moved, expect_pixel, flat_at, grey, session};
-use crate::{Answer, Session, SessionFault};
+use crate::{Session, SessionFault};
 use fd_cover::{Depth, Func};
 use fd_events::Event;
 use std::alloc::Global;

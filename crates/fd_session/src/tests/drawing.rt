@@ -1,10 +1,10 @@
 ghost use Rattle.std.specs.Prelude.{◌<◌};
 
+use crate::SessionFault;
 use crate::tests::frames::{
     CLOCKWISE, added_twice, blend, colour, culled_and_scissored, draw, expect_moved, expect_pixel,
     expect_refused, flat, grey, masked_and_scissored, position, raster, scissor, session,
 };
-use crate::{Answer, SessionFault};
 use fd_blend::Factor;
 use fd_cover::{Cull, Interp};
 use fd_crew::Free;

@@ -2,7 +2,7 @@ use crate::tests::frames::{
     colour, expect_moved, expect_pixel, expect_refused, grey, masked_and_scissored, one_clear,
     session,
 };
-use crate::{Answer, Session, SessionFault};
+use crate::{Session, SessionFault};
 use fd_blend::Colour;
 use fd_crew::Free;
 use std::process::Abort;

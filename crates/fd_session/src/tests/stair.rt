@@ -1,8 +1,8 @@
 //! A frame that is work for many workers. Each pixel's colour follows from its column by a count.
 ghost use Rattle.std.specs.Prelude.{◌≤◌};
 
+use crate::Session;
 use crate::tests::frames::{blend, draw, expect_moved, grey, session};
-use crate::{Answer, Session};
 use fd_blend::Factor;
 use fd_cover::Interp;
 use fd_crew::Free;

@@ -1,4 +1,3 @@
-use crate::Answer;
 use crate::tests::frames::{colour, expect_moved, expect_pixel, one_clear};
 use fd_crew::Gate;
 use std::sync::atomic::{AtomicU64, Ordering};
