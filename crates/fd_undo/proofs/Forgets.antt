@@ -20,17 +20,19 @@ pub empty_frames : (count : ℕ) (stored : List SpannedFrame) (before after : Li
 empty_frames count stored before after = all_empty (frame_of stored before) after (range_with_len 0 count)
 
 pub empty_stack : (count : ℕ) (stored : List StoredFrame) (a : Parts Span) (b : Parts Colour) (c : Parts ℕ) (room : ℕ) → stored ≡ [] → a.items ≡ [] → b.items ≡ [] → c.items ≡ []
-    → IsUndoStack count stored a b c room false 0 0
+    → IsUndoStack count stored a b c room 0 false 0 0
 empty_stack count [] a b c room none no_span no_colour no_depth = record {
-  follow = (omega arith, omega (arith, ap length no_colour));
+  follow = (omega arith, refl);
   spans_follow = omega (arith, ap length no_span);
+  colours_follow = omega (arith, ap length no_colour);
   depths_follow = omega (arith, ap length no_depth);
   whole = λ k d within. absurd (omega (arith, within));
   frame_room = λ left. absurd (false≢true left);
   stored_room = λ left. absurd (false≢true left);
   begun = λ _ span. absurd (omega arith);
   span_room = omega arith;
-  pixel_room = omega arith;
+  colour_room = omega arith;
   depth_room = omega arith;
+  countable = omega arith;
 }
 empty_stack count (f ∷ stored) a b c room none no_span no_colour no_depth = absurd (omega (arith, ap length none))

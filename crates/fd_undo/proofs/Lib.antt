@@ -1,8 +1,9 @@
 pub mod Zips
 pub mod Pixels
+pub mod Values
+pub mod Words
 pub mod FrameLemmas
 pub mod PieceLemmas
-pub mod Depths
 pub mod Dropped
 pub mod KeptAt
 pub mod Numbers

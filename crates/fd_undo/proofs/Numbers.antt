@@ -11,8 +11,8 @@ use Rattle.fd_tile.specs.Tile.{Pixel}
 use Rattle.fd_undo.specs.Span.{Span}
 use Rattle.fd_undo.specs.Frame.{kept_row, top, older}
 use Rattle.fd_undo.specs.Undo.{recorded_in}
-use Rattle.fd_undo.specs.Stored.{SpannedFrame, pixel_count, kept_of, frame_of, frames_of, Follow, DepthsFollow, spans_of, depth_count, listed, no_frame, top_stored}
-use Rattle.fd_undo.proofs.Depths.{spans_of-push, DepthsFollow-pop, DepthsFollow-push, depth_count_push}
+use Rattle.fd_undo.specs.Stored.{SpannedFrame, pixel_count, kept_of, frame_of, frames_of, Follow, ValuesFollow, Listing, spans_of, listed_count, no_frame, top_stored}
+use Rattle.fd_undo.proofs.Values.{spans_of-push, ValuesFollow-pop, ValuesFollow-push, listed_count_push}
 use Rattle.fd_undo.proofs.FrameLemmas.{older-push, top-push, kept_of-push, kept_of-more, length-kept_of, recorded_in-cons}
 
 -- ---- stored frames in their order
@@ -234,14 +234,14 @@ module _ (count n : ℕ) (fs : List SpannedFrame) (f g : SpannedFrame) (s : Span
       ∙ ap (λ l. l ++ s ∷ []) (sym (spans_of-push front f))
       ∙ ap (λ l. spans_of l ++ s ∷ []) (sym parts)
 
-  pub kept_depths : (l : ℕ) → DepthsFollow 0 fs l → g.first_depth ≡ f.first_depth → DepthsFollow 0 (slice_set fs (n - 1) g) (l + listed s)
-  kept_depths l deep start =
+  pub kept_values : {V : Type 0} (way : Listing V) (from : SpannedFrame → ℕ) (l : ℕ) → ValuesFollow way from 0 fs l → from g ≡ from f → ValuesFollow way from 0 (slice_set fs (n - 1) g) (l + way.listed s)
+  kept_values way from l values start =
       let front : List SpannedFrame = take (length fs - 1) fs in
-      let below : DepthsFollow 0 front f.first_depth × (f.first_depth + depth_count f.spans ≡ l) = DepthsFollow-pop front f 0 l (subst (λ gs. DepthsFollow 0 gs l) parts deep) in
-      let grown : depth_count g.spans ≡ depth_count f.spans + listed s = ap depth_count spans ∙ depth_count_push f.spans s in
-      subst (λ gs. DepthsFollow 0 gs (l + listed s)) (sym set_is)
-      (subst (λ k. DepthsFollow 0 (front ++ g ∷ []) k) {x = f.first_depth + depth_count g.spans} {y = l + listed s} (omega (arith, below.1, grown))
-      (DepthsFollow-push front g 0 f.first_depth below.0 start))
+      let below : ValuesFollow way from 0 front (from f) × (from f + listed_count way f.spans ≡ l) = ValuesFollow-pop way from front f 0 l (subst (λ gs. ValuesFollow way from 0 gs l) parts values) in
+      let grown : listed_count way g.spans ≡ listed_count way f.spans + way.listed s = ap (listed_count way) spans ∙ listed_count_push way f.spans s in
+      subst (λ gs. ValuesFollow way from 0 gs (l + way.listed s)) (sym set_is)
+      (subst (λ k. ValuesFollow way from 0 (front ++ g ∷ []) k) {x = from f + listed_count way g.spans} {y = l + way.listed s} (omega (arith, below.1, grown))
+      (ValuesFollow-push way from front g 0 (from f) below.0 start))
 
   pub kept_top : top_stored (slice_set fs (n - 1) g) ≡ g
   kept_top = ap top_stored set_is ∙ top_stored-push (take (length fs - 1) fs) g

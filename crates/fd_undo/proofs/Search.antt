@@ -1,7 +1,7 @@
 -- A stored frame that is looked for by its number.
 use Rattle.std.proofs.Common.{◌≡◌, ◌≢◌, ℕ, zero, suc, ◌+◌, ◌<◌, ◌≤◌, List, [], ◌∷◌, length, get_or, take, drop, Result, Ok, Err, None, IfSome, refl, sym, ap, ◌∙◌, subst, arith, inl, inr, ◌⊎◌}
 use Rattle.std.proofs.lemmas.Bool.{cases_lt}
-use Rattle.std.proofs.lemmas.List.{get_or_past, length-take}
+use Rattle.std.proofs.lemmas.List.{get_or_past}
 use Rattle.std.specs.Result.{result_ok}
 use Rattle.std.proofs.lemmas.Option.{none-some}
 use Rattle.std.specs.List.Sorted.{IsSearchInRange, IsBinarySearchResult, IsNonDecreasingBy}
@@ -10,13 +10,13 @@ use Rattle.std.proofs.lemmas.Cmp.{ranked}
 use Rattle.std.proofs.lemmas.List.Sorted.{IsNonDecreasingBy-from_default}
 use Rattle.std.proofs.lemmas.Bool.Decides.{nat_tests}
 use Rattle.fd_tile.specs.Tile.{Pixel}
-use Rattle.std.specs.List.{zip}
 use Rattle.fd_blend.specs.declared.channel.Colour.{Colour}
 use Rattle.fd_undo.specs.Span.{Span}
 use Rattle.fd_undo.proofs.Spanned.{length-spanned_frames, get_or-spanned, piece_long}
-use Rattle.fd_undo.proofs.Depths.{DepthsFollow-at, frame_pixels, depths_of-front, kept_of-front, length-depths_of}
+use Rattle.fd_undo.proofs.Values.{ValuesFollow-at}
+use Rattle.fd_undo.proofs.Pixels.{frame_pixels, pixels_of-front}
 use Rattle.fd_undo.specs.declared.stored.StoredFrame.{StoredFrame}
-use Rattle.fd_undo.specs.Stored.{SpannedFrame, spanned, spanned_frames, pixels_in, no_stored, pixel_count, depth_count, depths_of, kept_of, frame_of, frames_of, Follow, DepthsFollow, NumbersRise, number_at, no_frame}
+use Rattle.fd_undo.specs.Stored.{SpannedFrame, spanned, spanned_frames, pixels_in, no_stored, pixel_count, by_colour, by_depth, listed_count, pixels_of, kept_of, frame_of, frames_of, Follow, ColoursFollow, DepthsFollow, NumbersRise, number_at, no_frame}
 use Rattle.fd_undo.proofs.Numbers.{Follow-at, this_number, other_number, get_or-frames_of, length-frames_of}
 
 -- the number of the frame at a place
@@ -86,39 +86,34 @@ module _ (count : ℕ) (fs : List SpannedFrame) (cs : List Pixel) (i : ℕ) wher
       by_cases (inr past) = get_or_past (frames_of count fs cs) i [] (omega (arith, length-frames_of count fs cs))
 
 -- what the code reads of the frame at place a
-module _ (stored : List StoredFrame) (spans : List Span) (colours : List Colour) (depths : List ℕ) (count a : ℕ) (follow : Follow 0 0 (spanned_frames spans stored) count (length colours))
-    (deep : DepthsFollow 0 (spanned_frames spans stored) (length depths)) (within : a < length stored) (f : StoredFrame) (read : f ≡ get_or stored a f) where
+module _ (stored : List StoredFrame) (spans : List Span) (colours : List Colour) (depths : List ℕ) (count recorded a : ℕ) (follow : Follow 0 0 (spanned_frames spans stored) count recorded)
+    (coloured : ColoursFollow 0 (spanned_frames spans stored) (length colours)) (deep : DepthsFollow 0 (spanned_frames spans stored) (length depths)) (within : a < length stored) (f : StoredFrame) (read : f ≡ get_or stored a f) where
   inside : a < length (spanned_frames spans stored)
   inside = omega (arith, length-spanned_frames spans stored)
 
   at_place : spanned spans f ≡ get_or (spanned_frames spans stored) a no_frame
   at_place = ap (λ t. spanned spans t) read ∙ sym (get_or-spanned spans stored a f within)
 
-  bound : (get_or (spanned_frames spans stored) a no_frame).first + pixel_count (get_or (spanned_frames spans stored) a no_frame).spans ≤ length colours
-  bound = (Follow-at (spanned_frames spans stored) 0 0 count (length colours) a follow inside).1
-
   -- the pieces may hold more than the frame's own
-  module _ (cs : List Colour) (ds : List ℕ) (cs_read : take (pixel_count (spanned spans f).spans) cs ≡ take (pixel_count (spanned spans f).spans) (drop f.first colours))
-      (ds_read : take (depth_count (spanned spans f).spans) ds ≡ take (depth_count (spanned spans f).spans) (drop f.first_depth depths)) where
-    pub frame_fits : (pixel_count (spanned spans f).spans ≤ length cs) × (depth_count (spanned spans f).spans ≤ length ds)
+  module _ (cs : List Colour) (ds : List ℕ) (cs_read : take (listed_count by_colour (spanned spans f).spans) cs ≡ take (listed_count by_colour (spanned spans f).spans) (drop f.first_colour colours))
+      (ds_read : take (listed_count by_depth (spanned spans f).spans) ds ≡ take (listed_count by_depth (spanned spans f).spans) (drop f.first_depth depths)) where
+    pub frame_fits : (listed_count by_colour (spanned spans f).spans ≤ length cs) × (listed_count by_depth (spanned spans f).spans ≤ length ds)
     frame_fits =
-        let own : (f.first + pixel_count (spanned spans f).spans ≤ length colours) × (f.first_depth + depth_count (spanned spans f).spans ≤ length depths) = (
-          subst (λ (t : SpannedFrame). t.first + pixel_count t.spans ≤ length colours) (sym at_place) bound,
-          subst (λ (t : SpannedFrame). t.first_depth + depth_count t.spans ≤ length depths) (sym at_place) (DepthsFollow-at (spanned_frames spans stored) 0 (length depths) a deep inside).1,
+        let own : (f.first_colour + listed_count by_colour (spanned spans f).spans ≤ length colours) × (f.first_depth + listed_count by_depth (spanned spans f).spans ≤ length depths) = (
+          subst (λ (t : SpannedFrame). t.first_colour + listed_count by_colour t.spans ≤ length colours) (sym at_place) (ValuesFollow-at by_colour (λ t. t.first_colour) (spanned_frames spans stored) 0 (length colours) a coloured inside).1,
+          subst (λ (t : SpannedFrame). t.first_depth + listed_count by_depth t.spans ≤ length depths) (sym at_place) (ValuesFollow-at by_depth (λ t. t.first_depth) (spanned_frames spans stored) 0 (length depths) a deep inside).1,
         ) in
-        (piece_long cs colours f.first (pixel_count (spanned spans f).spans) cs_read own.0, piece_long ds depths f.first_depth (depth_count (spanned spans f).spans) ds_read own.1)
+        (piece_long cs colours f.first_colour (listed_count by_colour (spanned spans f).spans) cs_read own.0, piece_long ds depths f.first_depth (listed_count by_depth (spanned spans f).spans) ds_read own.1)
 
     pub frame_read : (i : ℕ) → number_in (spanned_frames spans stored) a ≡ i
-        → kept_of (spanned spans f).spans (zip cs (depths_of (spanned spans f).spans ds)) ≡ get_or (frames_of count (spanned_frames spans stored) (pixels_in (spanned_frames spans stored) colours depths)) i []
+        → kept_of (spanned spans f).spans (pixels_of (spanned spans f).spans cs ds) ≡ get_or (frames_of count (spanned_frames spans stored) (pixels_in (spanned_frames spans stored) colours depths)) i []
     frame_read i number =
         let own : List Span = (spanned spans f).spans in
         let fs : List SpannedFrame = spanned_frames spans stored in
-        ap (λ l. kept_of own (zip cs l)) (depths_of-front own ds (drop f.first_depth depths) ds_read frame_fits.1)
-        ∙ kept_of-front own cs (drop f.first colours) (depths_of own (drop f.first_depth depths)) cs_read
-        (length-depths_of own (drop f.first_depth depths) (omega (arith, frame_fits.1, ap length ds_read, length-take (depth_count own) ds, length-take (depth_count own) (drop f.first_depth depths)))) frame_fits.0
-        ∙ ap (λ (g : SpannedFrame). kept_of g.spans (zip (drop g.first colours) (depths_of g.spans (drop g.first_depth depths)))) at_place
-        ∙ sym (frame_pixels fs colours depths count a follow deep inside bound)
-        ∙ sym (stored_frame count fs (pixels_in fs colours depths) i (length colours) a follow inside number)
+        ap (λ l. kept_of own l) (pixels_of-front own cs (drop f.first_colour colours) ds (drop f.first_depth depths) cs_read ds_read frame_fits.0 frame_fits.1)
+        ∙ ap (λ (g : SpannedFrame). kept_of g.spans (pixels_of g.spans (drop g.first_colour colours) (drop g.first_depth depths))) at_place
+        ∙ sym (frame_pixels fs colours depths count recorded follow coloured deep a inside)
+        ∙ sym (stored_frame count fs (pixels_in fs colours depths) i recorded a follow inside number)
 
 -- ---- a binary search
 module _ (fs : List StoredFrame) (rising : NumbersRise fs) (n : ℕ) where

@@ -6,9 +6,8 @@ use Rattle.fd_blend.specs.declared.channel.Colour.{Colour}
 use Rattle.fd_undo.specs.Span.{Span}
 use Rattle.fd_undo.specs.declared.stored.StoredFrame.{StoredFrame}
 use Rattle.fd_undo.specs.Parts.{Parts, IsWhole}
-use Rattle.fd_undo.specs.Stored.{SpannedFrame, spanned, spanned_frames, pixel_count, depth_count, Follow, DepthsFollow, SpansFollow, IsWholeFrame, no_stored, no_frame, newest, top_stored}
-use Rattle.fd_undo.proofs.Numbers.{Follow-at}
-use Rattle.fd_undo.proofs.Depths.{DepthsFollow-at}
+use Rattle.fd_undo.specs.Stored.{SpannedFrame, spanned, spanned_frames, by_colour, by_depth, listed_count, ColoursFollow, DepthsFollow, SpansFollow, IsWholeFrame, no_stored, no_frame, newest, top_stored}
+use Rattle.fd_undo.proofs.Values.{ValuesFollow-at}
 
 -- ---- one frame more or less
 pub spanned_frames-push : (ss : List Span) (fs : List StoredFrame) (f : StoredFrame) → spanned_frames ss (fs ++ f ∷ []) ≡ spanned_frames ss fs ++ spanned ss f ∷ []
@@ -41,7 +40,7 @@ SpansFollow-at (f ∷ fs) k l (suc a) d (first, rest) within = SpansFollow-at fs
 -- ---- more spans at the end change nothing
 pub spanned-more : (ss new : List Span) (f : StoredFrame) → f.first_span + f.spans ≤ length ss → spanned (ss ++ new) f ≡ spanned ss f
 spanned-more ss new f fits =
-    ap (λ l. record { number = f.number; first = f.first; first_depth = f.first_depth; spans = l })
+    ap (λ l. record { number = f.number; first = f.first; first_colour = f.first_colour; first_depth = f.first_depth; spans = l })
     (ap (λ l. take f.spans l) (drop-append-le f.first_span ss new (omega arith))
     ∙ take-append-le f.spans (drop f.first_span ss) new (omega (arith, length-drop f.first_span ss)))
 
@@ -141,22 +140,22 @@ module _ (a a' : Parts Span) (b b' : Parts Colour) (c c' : Parts ℕ) where
       let same : spanned a'.items f ≡ spanned a.items f = ap (λ l. spanned l f) a_items ∙ spanned-more a.items new f whole.spans_whole.within in
       record {
         spans_whole = whole_longer a a' new f.first_span f.spans a_items a_starts whole.spans_whole;
-        colours_whole = subst (λ t. IsWhole b' f.first (pixel_count t.spans)) (sym same) (whole_longer b b' old f.first (pixel_count (spanned a.items f).spans) b_items b_starts whole.colours_whole);
-        depths_whole = subst (λ t. IsWhole c' f.first_depth (depth_count t.spans)) (sym same) (whole_longer c c' deep f.first_depth (depth_count (spanned a.items f).spans) c_items c_starts whole.depths_whole);
+        colours_whole = subst (λ t. IsWhole b' f.first_colour (listed_count by_colour t.spans)) (sym same) (whole_longer b b' old f.first_colour (listed_count by_colour (spanned a.items f).spans) b_items b_starts whole.colours_whole);
+        depths_whole = subst (λ t. IsWhole c' f.first_depth (listed_count by_depth t.spans)) (sym same) (whole_longer c c' deep f.first_depth (listed_count by_depth (spanned a.items f).spans) c_items c_starts whole.depths_whole);
       }
 
   pub whole_frame-kept : a'.items ≡ a.items → ((first n : ℕ) → IsWhole a first n → IsWhole a' first n) → ((first n : ℕ) → IsWhole b first n → IsWhole b' first n)
       → ((first n : ℕ) → IsWhole c first n → IsWhole c' first n) → (f : StoredFrame) → IsWholeFrame a b c f → IsWholeFrame a' b' c' f
   whole_frame-kept items a_whole b_whole c_whole f whole = record {
     spans_whole = a_whole f.first_span f.spans whole.spans_whole;
-    colours_whole = b_whole f.first (pixel_count (spanned a'.items f).spans) (subst (λ l. IsWhole b f.first (pixel_count (spanned l f).spans)) (sym items) whole.colours_whole);
-    depths_whole = c_whole f.first_depth (depth_count (spanned a'.items f).spans) (subst (λ l. IsWhole c f.first_depth (depth_count (spanned l f).spans)) (sym items) whole.depths_whole);
+    colours_whole = b_whole f.first_colour (listed_count by_colour (spanned a'.items f).spans) (subst (λ l. IsWhole b f.first_colour (listed_count by_colour (spanned l f).spans)) (sym items) whole.colours_whole);
+    depths_whole = c_whole f.first_depth (listed_count by_depth (spanned a'.items f).spans) (subst (λ l. IsWhole c f.first_depth (listed_count by_depth (spanned l f).spans)) (sym items) whole.depths_whole);
   }
 
   -- the frames below one that is dropped
-  module _ (fs : List StoredFrame) (f : StoredFrame) (count : ℕ) (spans_follow : SpansFollow 0 fs f.first_span) (fits : f.first_span ≤ length a.items) (cut : a'.items ≡ take f.first_span a.items)
-      (follow : Follow 0 0 (spanned_frames a.items fs) count f.first) (deep : DepthsFollow 0 (spanned_frames a.items fs) f.first_depth)
-      (a_whole : (first n : ℕ) → IsWhole a first n → first + n ≤ f.first_span → IsWhole a' first n) (b_whole : (first n : ℕ) → IsWhole b first n → first + n ≤ f.first → IsWhole b' first n)
+  module _ (fs : List StoredFrame) (f : StoredFrame) (spans_follow : SpansFollow 0 fs f.first_span) (fits : f.first_span ≤ length a.items) (cut : a'.items ≡ take f.first_span a.items)
+      (coloured : ColoursFollow 0 (spanned_frames a.items fs) f.first_colour) (deep : DepthsFollow 0 (spanned_frames a.items fs) f.first_depth)
+      (a_whole : (first n : ℕ) → IsWhole a first n → first + n ≤ f.first_span → IsWhole a' first n) (b_whole : (first n : ℕ) → IsWhole b first n → first + n ≤ f.first_colour → IsWhole b' first n)
       (c_whole : (first n : ℕ) → IsWhole c first n → first + n ≤ f.first_depth → IsWhole c' first n) where
     pub whole_below : All (λ g. IsWholeFrame a b c g) fs → All (λ g. IsWholeFrame a' b' c' g) fs
     whole_below whole k d within =
@@ -169,12 +168,12 @@ module _ (a a' : Parts Span) (b b' : Parts Colour) (c c' : Parts ℕ) where
         ap (λ l. spanned l g) cut
         ∙ sym (spanned-more (take f.first_span a.items) (drop f.first_span a.items) g (omega (arith, end, length-take f.first_span a.items)))
         ∙ ap (λ l. spanned l g) (take-append-drop f.first_span a.items) in
-        let colours_end : (spanned a.items (get_or fs k d)).first + pixel_count (spanned a.items (get_or fs k d)).spans ≤ f.first =
-        subst (λ (t : SpannedFrame). t.first + pixel_count t.spans ≤ f.first) is (Follow-at (spanned_frames a.items fs) 0 0 count f.first k follow inside).1 in
-        let depths_end : (spanned a.items (get_or fs k d)).first_depth + depth_count (spanned a.items (get_or fs k d)).spans ≤ f.first_depth =
-        subst (λ (t : SpannedFrame). t.first_depth + depth_count t.spans ≤ f.first_depth) is (DepthsFollow-at (spanned_frames a.items fs) 0 f.first_depth k deep inside).1 in
+        let colours_end : (spanned a.items (get_or fs k d)).first_colour + listed_count by_colour (spanned a.items (get_or fs k d)).spans ≤ f.first_colour =
+        subst (λ (t : SpannedFrame). t.first_colour + listed_count by_colour t.spans ≤ f.first_colour) is (ValuesFollow-at by_colour (λ t. t.first_colour) (spanned_frames a.items fs) 0 f.first_colour k coloured inside).1 in
+        let depths_end : (spanned a.items (get_or fs k d)).first_depth + listed_count by_depth (spanned a.items (get_or fs k d)).spans ≤ f.first_depth =
+        subst (λ (t : SpannedFrame). t.first_depth + listed_count by_depth t.spans ≤ f.first_depth) is (ValuesFollow-at by_depth (λ t. t.first_depth) (spanned_frames a.items fs) 0 f.first_depth k deep inside).1 in
         record {
           spans_whole = a_whole g.first_span g.spans here.spans_whole end;
-          colours_whole = subst (λ t. IsWhole b' g.first (pixel_count t.spans)) (sym same) (b_whole g.first (pixel_count (spanned a.items g).spans) here.colours_whole colours_end);
-          depths_whole = subst (λ t. IsWhole c' g.first_depth (depth_count t.spans)) (sym same) (c_whole g.first_depth (depth_count (spanned a.items g).spans) here.depths_whole depths_end);
+          colours_whole = subst (λ t. IsWhole b' g.first_colour (listed_count by_colour t.spans)) (sym same) (b_whole g.first_colour (listed_count by_colour (spanned a.items g).spans) here.colours_whole colours_end);
+          depths_whole = subst (λ t. IsWhole c' g.first_depth (listed_count by_depth t.spans)) (sym same) (c_whole g.first_depth (listed_count by_depth (spanned a.items g).spans) here.depths_whole depths_end);
         }

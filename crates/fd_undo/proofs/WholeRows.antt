@@ -1,12 +1,13 @@
 -- Whole rows that are put back at once.
 use Rattle.std.proofs.Common.{◌≡◌, ℕ, suc, ◌+◌, ◌-◌, ◌*◌, ◌<◌, ◌≤◌, List, [], ◌∷◌, ◌++◌, length, get_or, take, drop, replicate, refl, sym, ap, ◌∙◌, subst, arith, append_assoc, length-drop, Option}
-use Rattle.std.specs.Prelude.{All}
+use Rattle.std.specs.Prelude.{All, if◌then◌else◌}
 use Rattle.std.specs.List.{zip}
 use Rattle.std.proofs.Math.Nat.{zero-mul, suc-mul}
 use Rattle.std.proofs.lemmas.List.{take_at, drop_at, drop_all, append-nil, length-take-le, length-replicate, take-append-drop, take-append-le, drop-append-le}
 use Rattle.std.proofs.lemmas.List.Elements.{All-head, All-tail}
 use borrow.Rule.Slice.PartMut.{put_mid}
 use Rattle.fd_blend.specs.declared.channel.Colour.{Colour}
+use Rattle.fd_blend.specs.Channel.{fresh}
 use Rattle.fd_tile.specs.declared.place.Place.{Place}
 use Rattle.fd_tile.specs.Place.{Holds, HasRow}
 use Rattle.fd_tile.specs.Tile.{Pixel, TileImage, IsFlat, IsTileImage, row_of, with_row, with_row_left, with_rows_from, cut_rows}
@@ -15,9 +16,9 @@ use Rattle.fd_tile.proofs.Pixels.{length-row_of, with_row_left_is, IsTileImage-w
 use Rattle.fd_undo.specs.Span.{Span}
 use Rattle.fd_undo.specs.Frame.{kept_row, restored}
 use Rattle.fd_undo.specs.Rows.{IsRow, AreRows}
-use Rattle.fd_undo.specs.Stored.{pixel_count, depth_count, listed, listed_in, depths_in, depths_of, kept_of}
+use Rattle.fd_undo.specs.Stored.{pixel_count, by_colour, by_depth, listed_colours, listed_in, listed_depths, depths_in, values_in, listed_count, values_of, kept_of}
 use Rattle.fd_undo.proofs.FrameLemmas.{pixel_count-cons}
-use Rattle.fd_undo.proofs.Depths.{depth_count-cons}
+use Rattle.fd_undo.proofs.Values.{listed_count-cons}
 use Rattle.fd_undo.proofs.Zips.{length-zip_equal, zip-append}
 use Rattle.fd_undo.proofs.Restored.{Inside, Inside-front, Inside-back, restored-append, kept_row-first, kept_row-within, put_back_row_alike}
 
@@ -32,12 +33,31 @@ kept_of-append (r ∷ ss) ts ps qs e =
     rw (take-append-le r.len ps qs fits, drop-append-le r.len ps qs fits, kept_of-append ss ts (drop r.len ps) qs left)
     (sym (append_assoc (kept_row r.x r.y (take r.len ps)) (kept_of ss (drop r.len ps)) (kept_of ts qs)))
 
-pub AreRows-counts : (p : Place) (depth y : ℕ) (spans : List Span) → AreRows p.width depth y spans → (pixel_count spans ≡ length spans * p.width) × (depth_count spans ≡ 0)
-AreRows-counts p depth y [] rows = (sym (zero-mul p.width), refl)
+-- how many pixels they have, and how many colours and depths of the lists
+abbrev AreCounted : (width : ℕ) → List Span → Type 0
+AreCounted width spans = (pixel_count spans ≡ length spans * width) × (listed_count by_colour spans ≡ length spans * width) × (listed_count by_depth spans ≡ 0)
+
+pub AreRows-counts : (p : Place) (depth y : ℕ) (spans : List Span) → AreRows p.width depth y spans → AreCounted p.width spans
+AreRows-counts p depth y [] rows = (sym (zero-mul p.width), sym (zero-mul p.width), refl)
 AreRows-counts p depth y (s ∷ spans) (at, row, rows) =
-    let rest : (pixel_count spans ≡ length spans * p.width) × (depth_count spans ≡ 0) = AreRows-counts p depth (y + 1) spans rows in
-    let none : listed s ≡ 0 = ap (λ (o : Option ℕ). listed_in o s.len) row.deep in
-    (omega (arith, pixel_count-cons s spans, row.wide, rest.0, suc-mul (length spans) p.width), omega (arith, depth_count-cons s spans, none, rest.1))
+    let rest : AreCounted p.width spans = AreRows-counts p depth (y + 1) spans rows in
+    let all : listed_colours s ≡ s.len = ap (λ t. if t then 1 else s.len) row.coloured in
+    let none : listed_depths s ≡ 0 = ap (λ (o : Option ℕ). listed_in o s.len) row.deep in (
+      omega (arith, pixel_count-cons s spans, row.wide, rest.0, suc-mul (length spans) p.width),
+      omega (arith, listed_count-cons by_colour s spans, all, row.wide, rest.1, suc-mul (length spans) p.width),
+      omega (arith, listed_count-cons by_depth s spans, none, rest.2),
+    )
+
+-- their colours are those of the list
+pub AreRows-colours : (p : Place) (depth y : ℕ) (spans : List Span) (cs : List Colour) → AreRows p.width depth y spans → length cs ≡ length spans * p.width → values_of by_colour spans cs ≡ cs
+AreRows-colours p depth y [] [] rows size = refl
+AreRows-colours p depth y [] (c ∷ cs) rows size = absurd (omega (arith, size, zero-mul p.width))
+AreRows-colours p depth y (s ∷ spans) cs (at, row, rows) size =
+    let w : ℕ = p.width in
+    ap (λ t. (if t then replicate s.len (get_or cs 0 fresh) else take s.len cs) ++ values_of by_colour spans (drop (if t then 1 else s.len) cs)) row.coloured
+    ∙ ap (λ n. take n cs ++ values_of by_colour spans (drop n cs)) row.wide
+    ∙ ap (λ l. take w cs ++ l) (AreRows-colours p depth (y + 1) spans (drop w cs) rows (omega (arith, length-drop p.width cs, size, suc-mul (length spans) p.width)))
+    ∙ take-append-drop w cs
 
 -- ---- rows of a tile
 pub with_rows_from-kept : (t : TileImage) (y : ℕ) (rows : List (List Colour)) → ((with_rows_from t y rows).place ≡ t.place) × ((with_rows_from t y rows).depths ≡ t.depths)
@@ -73,34 +93,34 @@ one_row u x y depth old filled flat wide inside =
     ∙ ap (λ l. with_row_left u y l) whole ∙ with_row_left_is u y filled crossed old wide
 
 pub rows_restored : (t : TileImage) (depth y : ℕ) (spans : List Span) (cs : List Colour) (ds : List ℕ) → IsTileImage t → IsFlat t.place t.depths depth → AreRows t.place.width depth y spans
-    → length cs ≡ length spans * t.place.width → t.place.top ≤ y → y + length spans ≤ t.place.top + t.place.height → Inside t.place (kept_of spans (zip cs (depths_of spans ds)))
-    → restored (kept_of spans (zip cs (depths_of spans ds))) t ≡ with_rows_from t y (cut_rows t.place.width (length spans) cs)
+    → length cs ≡ length spans * t.place.width → t.place.top ≤ y → y + length spans ≤ t.place.top + t.place.height → Inside t.place (kept_of spans (zip cs (values_of by_depth spans ds)))
+    → restored (kept_of spans (zip cs (values_of by_depth spans ds))) t ≡ with_rows_from t y (cut_rows t.place.width (length spans) cs)
 rows_restored t depth y [] cs ds filled flat rows wide low high inside = refl
 rows_restored t depth y (s ∷ spans) cs ds filled flat (at, row, rows) wide low high inside =
     let w : ℕ = t.place.width in
     let old : List Colour = take w cs in
     let rest : List Colour = drop w cs in
-    let later : List ℕ = depths_of spans (drop (listed s) ds) in
+    let later : List ℕ = values_of by_depth spans (drop (listed_depths s) ds) in
     let more : suc (length spans) * t.place.width ≡ length spans * t.place.width + t.place.width = suc-mul (length spans) t.place.width in
     let old_long : length (take t.place.width cs) ≡ t.place.width = length-take-le t.place.width cs (omega arith) in
     let rest_long : length (drop t.place.width cs) ≡ length spans * t.place.width = omega (arith, length-drop t.place.width cs) in
     let deep : List ℕ = replicate (length old) depth in
     let one : List Pixel = zip old deep in
     let others : List Pixel = zip rest later in
-    let deep_is : depths_in s.same_depth s.len ds ≡ deep = ap (λ (o : Option ℕ). depths_in o s.len ds) row.deep ∙ ap (λ n. replicate n depth) (row.wide ∙ sym old_long) in
-    let cut : zip cs (depths_of (s ∷ spans) ds) ≡ one ++ others =
-    ap (λ l. zip l (depths_in s.same_depth s.len ds ++ later)) (sym (take-append-drop w cs))
+    let deep_is : depths_in s ds ≡ deep = ap (λ (o : Option ℕ). values_in o s.len ds) row.deep ∙ ap (λ n. replicate n depth) (row.wide ∙ sym old_long) in
+    let cut : zip cs (values_of by_depth (s ∷ spans) ds) ≡ one ++ others =
+    ap (λ l. zip l (depths_in s ds ++ later)) (sym (take-append-drop w cs))
     ∙ ap (λ l. zip (old ++ rest) (l ++ later)) deep_is
     ∙ zip-append old rest deep later (length-replicate (length old) depth) in
     let size : length one ≡ s.len = length-zip_equal old deep (length-replicate (length old) depth) ∙ old_long ∙ sym row.wide in
-    let parts : kept_of (s ∷ spans) (zip cs (depths_of (s ∷ spans) ds)) ≡ kept_row s.x y one ++ kept_of spans others =
+    let parts : kept_of (s ∷ spans) (zip cs (values_of by_depth (s ∷ spans) ds)) ≡ kept_row s.x y one ++ kept_of spans others =
     ap (λ l. kept_of (s ∷ spans) l) cut
     ∙ ap (λ l. kept_row s.x s.y l ++ kept_of spans (drop s.len (one ++ others))) (take_at one others s.len size)
     ∙ ap (λ l. kept_row s.x s.y one ++ kept_of spans l) (drop_at one others s.len size)
     ∙ ap (λ k. kept_row s.x k one ++ kept_of spans others) at in
     let both : Inside t.place (kept_row s.x y one ++ kept_of spans others) = subst (λ ks. Inside t.place ks) parts inside in
     let below : restored (kept_of spans others) t ≡ with_rows_from t (y + 1) (cut_rows w (length spans) rest) =
-    rows_restored t depth (y + 1) spans rest (drop (listed s) ds) filled flat rows rest_long (omega arith) (omega arith) (Inside-back t.place (kept_row s.x y one) (kept_of spans others) both) in
+    rows_restored t depth (y + 1) spans rest (drop (listed_depths s) ds) filled flat rows rest_long (omega arith) (omega arith) (Inside-back t.place (kept_row s.x y one) (kept_of spans others) both) in
     let u : TileImage = with_rows_from t (y + 1) (cut_rows w (length spans) rest) in
     let kept : (u.place ≡ t.place) × (u.depths ≡ t.depths) = with_rows_from-kept t (y + 1) (cut_rows w (length spans) rest) in
     let filled_u : IsTileImage u =

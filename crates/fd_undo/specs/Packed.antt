@@ -1,43 +1,64 @@
--- How a span is packed: its length has 32768 on top where its depths stand in the stack's list.
+-- How a span is packed: its row has 32768 on top where each pixel has a colour in the stack's list, and its length where each has a depth there.
 use Rattle.std.specs.Prelude.{◌≡◌, ℕ, ◌+◌, ◌-◌, ◌≤◌, nat_lt, Bool, true, false, Option, Some, None, if◌then◌else◌, refl}
-use Rattle.std.proofs.Common.{sym, ap, ◌∙◌, arith}
+use Rattle.std.proofs.Common.{sym, ◌∙◌, ap, arith}
 use Rattle.std.proofs.lemmas.Bool.Decides.{nat_tests}
 use Rattle.fd_undo.specs.declared.span.Span.TheInside.{Inside}
 use Rattle.fd_undo.specs.Span.{Span}
 
+-- whether a number has no mark, and the number without it
+abbrev pub is_plain : ℕ → Bool
+is_plain n = nat_lt n 32768
+
+abbrev pub unmarked : ℕ → ℕ
+unmarked n = if is_plain n then n else n - 32768
+
 abbrev pub unpacked : Inside → Span
 unpacked a = record {
   x = a.x;
-  y = a.y;
-  len = if nat_lt a.len_and_kind 32768 then a.len_and_kind else a.len_and_kind - 32768;
-  same_depth = if nat_lt a.len_and_kind 32768 then Some a.depth else None;
+  y = unmarked a.marked_y;
+  len = unmarked a.marked_len;
+  one_colour = is_plain a.marked_y;
+  same_depth = if is_plain a.marked_len then Some a.depth else None;
 }
 
 -- a depth that is not used is 0
 abbrev pub IsPacked : Inside → Type 0
-IsPacked a = nat_lt a.len_and_kind 32768 ≡ false → a.depth ≡ 0
+IsPacked a = is_plain a.marked_len ≡ false → a.depth ≡ 0
 
-abbrev pub packed_len : Option ℕ → ℕ → ℕ
-packed_len (Some depth) len = len
-packed_len None len = len + 32768
+abbrev pub marked : Bool → ℕ → ℕ
+marked plain n = if plain then n else n + 32768
+
+abbrev pub is_some : Option ℕ → Bool
+is_some (Some depth) = true
+is_some None = false
 
 abbrev pub packed_depth : Option ℕ → ℕ
 packed_depth (Some depth) = depth
 packed_depth None = 0
 
 abbrev pub packed : Span → Inside
-packed s = record { x = s.x; y = s.y; len_and_kind = packed_len s.same_depth s.len; depth = packed_depth s.same_depth }
+packed s = record { x = s.x; marked_y = marked s.one_colour s.y; marked_len = marked (is_some s.same_depth) s.len; depth = packed_depth s.same_depth }
 
 -- what is packed gives the fields back
-module _ (a : Inside) (unused : IsPacked a) where
-  again : (t : Bool) → nat_lt a.len_and_kind 32768 ≡ t → packed (unpacked a) ≡ a
-  again true is =
-      ap (λ t. packed record { x = a.x; y = a.y; len = if t then a.len_and_kind else a.len_and_kind - 32768; same_depth = if t then Some a.depth else None }) is
-  again false is =
-      let long : 32768 ≤ a.len_and_kind = grind (arith, nat_tests, is) in
-      ap (λ t. packed record { x = a.x; y = a.y; len = if t then a.len_and_kind else a.len_and_kind - 32768; same_depth = if t then Some a.depth else None }) is
-      ∙ ap (λ n. record { x = a.x; y = a.y; len_and_kind = n; depth = 0 }) {x = a.len_and_kind - 32768 + 32768} {y = a.len_and_kind} (omega (arith, long))
-      ∙ ap (λ n. record { x = a.x; y = a.y; len_and_kind = a.len_and_kind; depth = n }) (sym (unused is))
+number_is : (n : ℕ) (t : Bool) → is_plain n ≡ t → marked t (if t then n else n - 32768) ≡ n
+number_is n true is = refl
+number_is n false is =
+    let long : 32768 ≤ n = grind (arith, nat_tests, is) in
+    omega (arith, long)
 
-  pub packed_again : packed (unpacked a) ≡ a
-  packed_again = again (nat_lt a.len_and_kind 32768) refl
+number_again : (n : ℕ) → marked (is_plain n) (unmarked n) ≡ n
+number_again n = number_is n (is_plain n) refl
+
+kind_is : (t : Bool) (depth : ℕ) → is_some (if t then Some depth else None) ≡ t
+kind_is true depth = refl
+kind_is false depth = refl
+
+depth_is : (t : Bool) (depth : ℕ) → (t ≡ false → depth ≡ 0) → packed_depth (if t then Some depth else None) ≡ depth
+depth_is true depth none = refl
+depth_is false depth none = sym (none refl)
+
+pub packed_again : (a : Inside) → IsPacked a → packed (unpacked a) ≡ a
+packed_again a none =
+    ap (λ n. record { x = a.x; marked_y = n; marked_len = marked (is_some (if is_plain a.marked_len then Some a.depth else None)) (unmarked a.marked_len); depth = packed_depth (if is_plain a.marked_len then Some a.depth else None) }) (number_again a.marked_y)
+    ∙ ap (λ n. record { x = a.x; marked_y = a.marked_y; marked_len = n; depth = packed_depth (if is_plain a.marked_len then Some a.depth else None) }) (ap (λ t. marked t (unmarked a.marked_len)) (kind_is (is_plain a.marked_len) a.depth) ∙ number_again a.marked_len)
+    ∙ ap (λ d. record { x = a.x; marked_y = a.marked_y; marked_len = a.marked_len; depth = d }) (depth_is (is_plain a.marked_len) a.depth none)

@@ -1,10 +1,11 @@
 -- Spans that are whole rows of a tile.
-use Rattle.std.specs.Prelude.{◌≡◌, ℕ, ◌+◌, List, [], ◌∷◌, Some}
+use Rattle.std.specs.Prelude.{◌≡◌, ℕ, ◌+◌, List, [], ◌∷◌, Some, false}
 use Rattle.fd_undo.specs.Span.{Span}
 
--- it has all pixels of a row, and this one depth
+-- it has all pixels of a row, each its own colour in the list, and this one depth
 pub record IsRow (width depth : ℕ) (s : Span) : Type 0 where
   pub wide : s.len ≡ width
+  pub coloured : s.one_colour ≡ false
   pub deep : s.same_depth ≡ Some depth
 
 -- they are the rows from row y on

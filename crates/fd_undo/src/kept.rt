@@ -1,7 +1,6 @@
 ghost use Rattle.std.specs.Prelude.{◌≡◌, ◌≤◌, ◌++◌, length, take, slice_get, OnOk};
-ghost use Rattle.std.specs.List.{zip};
 ghost use Rattle.fd_undo.specs.Frame.{kept_at};
-ghost use Rattle.fd_undo.specs.Stored.{pixel_count, depth_count, depths_of, kept_of};
+ghost use Rattle.fd_undo.specs.Stored.{by_colour, by_depth, listed_count, pixels_of, kept_of};
 
 use crate::span::Span;
 use fd_blend::Colour;
@@ -16,23 +15,24 @@ pub(crate) fn kept_in(
     y: u32,
     n: usize,
 ) -> Option<(Colour, u16)>
-    requires within { pixel_count spans.now ≤ length colours.now }
-    requires depths_within { depth_count spans.now ≤ length depths.now }
-    ensures { result ≡ slice_get (kept_at (kept_of spans.now (zip colours.now (depths_of spans.now depths.now))) x y) n }
+    requires within { listed_count by_colour spans.now ≤ length colours.now }
+    requires depths_within { listed_count by_depth spans.now ≤ length depths.now }
+    ensures { result ≡ slice_get (kept_at (kept_of spans.now (pixels_of spans.now colours.now depths.now)) x y) n }
 {
-    let (mut first, mut first_depth) = (0, 0);
+    let (mut first_colour, mut first_depth) = (0, 0);
     let mut left = n;
     for span in spans {
         if span.holds(x, y) {
             if left == 0 {
                 let column = (x - span.x()) as usize;
+                let colour = span.colour(colours, first_colour, column);
                 let depth = span.depth(depths, first_depth, column);
-                return Some((colours[first + column], depth));
+                return Some((colour, depth));
             }
             left -= 1;
         }
-        first += span.len();
-        first_depth += span.listed();
+        first_colour += span.listed_colours();
+        first_depth += span.listed_depths();
     }
     None
 }
@@ -47,11 +47,11 @@ pub(crate) fn add_kept_in(
     count: usize,
     kept: &mut Vec<(Colour, u16)>,
 ) -> Result<(), AllocError>
-    requires within { pixel_count spans.now ≤ length colours.now }
-    requires depths_within { depth_count spans.now ≤ length depths.now }
-    ensures { OnOk result (kept.new.items ≡ kept.old.items ++ take count (kept_at (kept_of spans.now (zip colours.now (depths_of spans.now depths.now))) x y)) }
+    requires within { listed_count by_colour spans.now ≤ length colours.now }
+    requires depths_within { listed_count by_depth spans.now ≤ length depths.now }
+    ensures { OnOk result (kept.new.items ≡ kept.old.items ++ take count (kept_at (kept_of spans.now (pixels_of spans.now colours.now depths.now)) x y)) }
 {
-    let (mut first, mut first_depth) = (0, 0);
+    let (mut first_colour, mut first_depth) = (0, 0);
     let mut left = count;
     for span in spans {
         if left == 0 {
@@ -59,12 +59,13 @@ pub(crate) fn add_kept_in(
         }
         if span.holds(x, y) {
             let column = (x - span.x()) as usize;
+            let colour = span.colour(colours, first_colour, column);
             let depth = span.depth(depths, first_depth, column);
-            kept.push((colours[first + column], depth))?;
+            kept.push((colour, depth))?;
             left -= 1;
         }
-        first += span.len();
-        first_depth += span.listed();
+        first_colour += span.listed_colours();
+        first_depth += span.listed_depths();
     }
     Ok(())
 }

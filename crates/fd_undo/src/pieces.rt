@@ -72,8 +72,13 @@ impl<T: Copy> Pieces<T> {
         last.start + last.items.len()
     }
 
-    /// Makes room for so many more items in one piece. If that is refused there may be less than before.
-    pub(crate) fn reserve(&mut self, alloc: Global, more: usize) -> Result<(), AllocError>
+    /// Makes room for so many more items in one piece, as if there were `held` of them at least. If that is refused there may be less than before.
+    pub(crate) fn reserve(
+        &mut self,
+        alloc: Global,
+        more: usize,
+        held: usize,
+    ) -> Result<(), AllocError>
         ensures items { self.new.items ≡ self.old.items }
         ensures room { OnOk result (more ≤ self.new.room) }
         ensures whole { (first n : ℕ) → IsWhole self.old first n → IsWhole self.new first n }
@@ -87,7 +92,7 @@ impl<T: Copy> Pieces<T> {
         }
         self.truncate(start);
         self.pieces.reserve(1)?;
-        let items = Vec::with_capacity(alloc, room_of_piece(start, more))?;
+        let items = Vec::with_capacity(alloc, room_of_piece(start.max(held), more))?;
         self.room = items.capacity().min(usize::MAX - start);
         self.pieces.push_reserved(Piece { start, items });
         Ok(())

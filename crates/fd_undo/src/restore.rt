@@ -1,11 +1,11 @@
 ghost use Rattle.std.specs.Prelude.{◌≡◌, ◌+◌, ◌-◌, ◌<◌, ◌≤◌, length, take, drop, All, Some, replicate, true};
-ghost use Rattle.std.specs.List.{zip};
 ghost use borrow.Rule.Slice.PartMut.{put_mid};
 ghost use Rattle.fd_tile.specs.Place.{Holds};
 ghost use Rattle.fd_tile.specs.Tile.{row_of, with_row_left};
 ghost use Rattle.fd_undo.specs.Frame.{kept_row, restored};
 ghost use Rattle.fd_undo.specs.Rows.{IsRow, AreWholeRows};
-ghost use Rattle.fd_undo.specs.Stored.{pixel_count, depth_count, depths_of, listed, depths_in, kept_of};
+ghost use Rattle.std.specs.List.{zip};
+ghost use Rattle.fd_undo.specs.Stored.{by_colour, by_depth, listed_colours, colours_in, listed_depths, depths_in, listed_count, pixels_of, kept_of};
 
 use crate::span::Span;
 use fd_blend::Colour;
@@ -13,10 +13,10 @@ use fd_tile::Tile;
 
 /// Writes the colours and depths of some spans back, the last span first. As long as they are as deep as all pixels of the tile, no depth is looked at.
 pub(crate) fn put_back(spans: &[Span], colours: &[Colour], depths: &[u16], tile: &mut Tile)
-    requires counted { pixel_count spans.now ≡ length colours.now }
-    requires depths_counted { depth_count spans.now ≡ length depths.now }
-    requires inside { All (λ k. Holds tile.old.place k.x k.y) (kept_of spans.now (zip colours.now (depths_of spans.now depths.now))) }
-    ensures { tile.new ≡ restored (kept_of spans.now (zip colours.now (depths_of spans.now depths.now))) tile.old }
+    requires counted { listed_count by_colour spans.now ≡ length colours.now }
+    requires depths_counted { listed_count by_depth spans.now ≡ length depths.now }
+    requires inside { All (λ k. Holds tile.old.place k.x k.y) (kept_of spans.now (pixels_of spans.now colours.now depths.now)) }
+    ensures { tile.new ≡ restored (kept_of spans.now (pixels_of spans.now colours.now depths.now)) tile.old }
 {
     let (mut left, mut end) = (spans.len(), colours.len());
     if let Some(depth) = tile.flat_depth() {
@@ -33,7 +33,7 @@ pub(crate) fn put_back(spans: &[Span], colours: &[Colour], depths: &[u16], tile:
                 tile.put_rows(spans[left].y(), rows as u32, &colours[start..end]);
                 end = start;
             } else {
-                let start = end - span.len();
+                let start = end - span.listed_colours();
                 put_colours(tile, span, &colours[start..end]);
                 left -= 1;
                 end = start;
@@ -50,7 +50,7 @@ fn is_deep(span: &Span, depth: u16) -> bool
     span.len() > 0 && span.same_depth() == Some(depth)
 }
 
-/// How many of the last spans have all pixels of a row of this width, each right below the one before it, and this one depth.
+/// How many of the last spans have all pixels of a row of this width, each right below the one before it, each pixel with a colour in the list, and this one depth.
 fn last_rows(spans: &[Span], width: usize, depth: u16) -> usize
     requires { 0 < length spans.now }
     ensures few { result ≤ length spans.now }
@@ -68,11 +68,11 @@ fn last_rows(spans: &[Span], width: usize, depth: u16) -> usize
     spans.len() - first
 }
 
-/// Whether a span has all pixels of a row, and this one depth.
+/// Whether a span has all pixels of a row, each pixel with a colour in the list, and this one depth.
 fn is_row(span: &Span, width: usize, depth: u16) -> bool
     ensures { result ≡ true → IsRow width depth span.now }
 {
-    span.len() == width && span.same_depth() == Some(depth)
+    span.len() == width && !span.one_colour() && span.same_depth() == Some(depth)
 }
 
 /// The same of the row right above row y.
@@ -83,30 +83,31 @@ fn is_row_above(y: u32, span: &Span, width: usize, depth: u16) -> bool
 }
 
 /// Writes the colours of a span back.
-fn put_colours(tile: &mut Tile, span: &Span, old: &[Colour])
+fn put_colours(tile: &mut Tile, span: &Span, listed: &[Colour])
+    requires counted { length listed.now ≡ listed_colours span.now }
     requires first { Holds tile.old.place span.now.x span.now.y }
-    requires within { span.now.x + length old.now ≤ tile.old.place.left + tile.old.place.width }
-    ensures { tile.new ≡ with_row_left tile.old span.now.y (put_mid (span.now.x - tile.old.place.left) (length old.now) (row_of tile.old span.now.y) old.now) }
+    requires within { span.now.x + span.now.len ≤ tile.old.place.left + tile.old.place.width }
+    ensures { tile.new ≡ with_row_left tile.old span.now.y (put_mid (span.now.x - tile.old.place.left) span.now.len (row_of tile.old span.now.y) (colours_in span.now listed.now)) }
 {
     let start = (span.x() - tile.place().left) as usize;
     let row = tile.row_mut(span.y());
-    row[start..start + old.len()].copy_from_slice(old);
+    write_colours(&mut row[start..start + span.len()], span, listed);
 }
 
 /// Writes the colours and depths of some spans back, one by one, the last span first.
 fn put_back_rows(spans: &[Span], colours: &[Colour], depths: &[u16], tile: &mut Tile)
-    requires counted { pixel_count spans.now ≡ length colours.now }
-    requires depths_counted { depth_count spans.now ≡ length depths.now }
-    requires inside { All (λ k. Holds tile.old.place k.x k.y) (kept_of spans.now (zip colours.now (depths_of spans.now depths.now))) }
-    ensures { tile.new ≡ restored (kept_of spans.now (zip colours.now (depths_of spans.now depths.now))) tile.old }
+    requires counted { listed_count by_colour spans.now ≡ length colours.now }
+    requires depths_counted { listed_count by_depth spans.now ≡ length depths.now }
+    requires inside { All (λ k. Holds tile.old.place k.x k.y) (kept_of spans.now (pixels_of spans.now colours.now depths.now)) }
+    ensures { tile.new ≡ restored (kept_of spans.now (pixels_of spans.now colours.now depths.now)) tile.old }
 {
     let mut left = spans.len();
     let (mut end, mut depths_end) = (colours.len(), depths.len());
     while left > 0 {
         left -= 1;
         let span = &spans[left];
-        let start = end - span.len();
-        let first_depth = depths_end - span.listed();
+        let start = end - span.listed_colours();
+        let first_depth = depths_end - span.listed_depths();
         put_back_row(
             tile,
             span,
@@ -119,26 +120,40 @@ fn put_back_rows(spans: &[Span], colours: &[Colour], depths: &[u16], tile: &mut 
 }
 
 /// Writes the colours and depths of a span back.
-fn put_back_row(tile: &mut Tile, span: &Span, old: &[Colour], depths: &[u16])
-    requires counted { length old.now ≡ span.now.len }
-    requires depths_counted { length depths.now ≡ listed span.now }
-    requires inside { All (λ k. Holds tile.old.place k.x k.y) (kept_row span.now.x span.now.y (zip old.now (depths_in span.now.same_depth span.now.len depths.now))) }
-    ensures { tile.new ≡ restored (kept_row span.now.x span.now.y (zip old.now (depths_in span.now.same_depth span.now.len depths.now))) tile.old }
+fn put_back_row(tile: &mut Tile, span: &Span, colours: &[Colour], depths: &[u16])
+    requires counted { length colours.now ≡ listed_colours span.now }
+    requires depths_counted { length depths.now ≡ listed_depths span.now }
+    requires inside { All (λ k. Holds tile.old.place k.x k.y) (kept_row span.now.x span.now.y (zip (colours_in span.now colours.now) (depths_in span.now depths.now))) }
+    ensures { tile.new ≡ restored (kept_row span.now.x span.now.y (zip (colours_in span.now colours.now) (depths_in span.now depths.now))) tile.old }
 {
-    if old.is_empty() {
+    let len = span.len();
+    if len == 0 {
         return;
     }
     let start = (span.x() - tile.place().left) as usize;
-    put_colours(tile, span, old);
+    put_colours(tile, span, colours);
     let row = tile.depth_row_mut(span.y());
-    write_depths(&mut row[start..start + old.len()], span, depths);
+    write_depths(&mut row[start..start + len], span, depths);
+}
+
+/// Writes the colours of a span over others: one for all, or those listed.
+fn write_colours(row: &mut [Colour], span: &Span, listed: &[Colour])
+    requires counted { length row.old ≡ span.now.len }
+    requires listed_counted { length listed.now ≡ listed_colours span.now }
+    ensures { row.new ≡ colours_in span.now listed.now }
+{
+    if span.one_colour() {
+        fill(row, listed[0]);
+    } else {
+        row.copy_from_slice(listed);
+    }
 }
 
 /// Writes the depths of a span over others: all the same, or those listed.
 fn write_depths(row: &mut [u16], span: &Span, depths: &[u16])
     requires counted { length row.old ≡ span.now.len }
-    requires depths_counted { length depths.now ≡ listed span.now }
-    ensures { row.new ≡ depths_in span.now.same_depth span.now.len depths.now }
+    requires depths_counted { length depths.now ≡ listed_depths span.now }
+    ensures { row.new ≡ depths_in span.now depths.now }
 {
     match span.same_depth() {
         Some(depth) => fill(row, depth),
@@ -146,11 +161,11 @@ fn write_depths(row: &mut [u16], span: &Span, depths: &[u16])
     }
 }
 
-/// Writes one depth over all of these. Each is written alike, the last one too, so that many are written at once.
-fn fill(row: &mut [u16], depth: u16)
-    ensures { row.new ≡ replicate (length row.old) depth }
+/// Writes one value over all of these. Each is written alike, the last one too, so that many are written at once.
+fn fill<T: Copy>(row: &mut [T], value: T)
+    ensures { row.new ≡ replicate (length row.old) value }
 {
     for each in row.iter_mut() {
-        *each = depth;
+        *each = value;
     }
 }

@@ -1,19 +1,24 @@
-ghost use Rattle.std.specs.Prelude.{◌≡◌, ◌+◌, ◌<◌, ◌≤◌, length, drop, slice_index_or, replicate, None, IfSome, ℕ, ◌≢◌};
+ghost use Rattle.std.specs.Prelude.{◌≡◌, ◌+◌, ◌<◌, ◌≤◌, length, drop, slice_index_or, replicate, None, IfSome, ℕ, ◌≢◌, true, false};
 ghost use Rattle.fd_snap.specs.Limits.{most_pixels};
-ghost use Rattle.fd_undo.specs.Stored.{span_holds, listed, depths_in};
+ghost use Rattle.fd_blend.specs.Channel.{fresh};
+ghost use Rattle.fd_blend.specs.Packing.{word_of};
+ghost use Rattle.fd_undo.specs.Packed.{unmarked};
+ghost use Rattle.fd_undo.specs.Stored.{span_holds, listed_colours, colours_in, listed_depths, depths_in};
 
+use fd_blend::Colour;
 use std::marker::Model;
 
-/// Added to a span's length where its depths stand in the stack's list.
+/// Added to a span's row where each pixel has a colour in the stack's list, and to its length where each has a depth there.
 const LISTED: u16 = 1 << 15;
 
-/// Neighbouring pixels of a row, whose colours stand in the stack's list. Their one depth is here, or their depths stand in another list.
+/// Neighbouring pixels of a row, whose colours stand in the stack's list: one for all, or one for each. Their one depth is here, or their depths stand in
+/// another list.
 #[derive(Clone, Copy)]
 pub(crate) struct Span {
     x: u16,
-    y: u16,
     // a whole stack has one for each row that was drawn, so it is kept small
-    len_and_kind: u16,
+    marked_y: u16,
+    marked_len: u16,
     depth: u16,
 }
 
@@ -36,20 +41,22 @@ impl Model for Span {
 }
 
 impl Span {
-    /// The span of row y from column x on. Without one depth for all, as many stand in the stack's list as there are pixels.
-    pub(crate) fn new(x: u32, y: u32, len: usize, same_depth: Option<u16>) -> Span
+    /// The span of row y from column x on. With one colour for all it has one in the stack's list, and else as many as it has pixels; without one depth for
+    /// all it has as many of them.
+    pub(crate) fn new(x: u32, y: u32, len: usize, one_colour: bool, same_depth: Option<u16>) -> Span
         requires right { x + len ≤ most_pixels }
         requires bottom { y ≤ most_pixels }
-        ensures { result ≡ record { x = x; y = y; len = len; same_depth = same_depth } }
+        ensures { result ≡ record { x = x; y = y; len = len; one_colour = one_colour; same_depth = same_depth } }
     {
-        let (kind, depth) = match same_depth {
+        let colour_mark = if one_colour { 0 } else { LISTED };
+        let (depth_mark, depth) = match same_depth {
             Some(depth) => (0, depth),
             None => (LISTED, 0),
         };
         Span {
             x: x as u16,
-            y: y as u16,
-            len_and_kind: len as u16 + kind,
+            marked_y: y as u16 + colour_mark,
+            marked_len: len as u16 + depth_mark,
             depth,
         }
     }
@@ -65,26 +72,28 @@ impl Span {
     pub(crate) fn y(&self) -> u32
         ensures { result ≡ self.now.y }
     {
-        self.y as u32
+        unmarked(self.marked_y) as u32
     }
 
     /// How many pixels it has.
     pub(crate) fn len(&self) -> usize
         ensures { result ≡ self.now.len }
     {
-        let len = if self.len_and_kind < LISTED {
-            self.len_and_kind
-        } else {
-            self.len_and_kind - LISTED
-        };
-        len as usize
+        unmarked(self.marked_len) as usize
+    }
+
+    /// Whether one colour in the stack's list is that of all pixels.
+    pub(crate) fn one_colour(&self) -> bool
+        ensures { result ≡ self.now.one_colour }
+    {
+        self.marked_y < LISTED
     }
 
     /// The depth of all pixels. Where it is `None` their depths stand in the stack's list.
     pub(crate) fn same_depth(&self) -> Option<u16>
         ensures { result ≡ self.now.same_depth }
     {
-        (self.len_and_kind < LISTED).then_some(self.depth)
+        (self.marked_len < LISTED).then_some(self.depth)
     }
 
     /// Whether pixel (x, y) is one of the span's.
@@ -95,9 +104,16 @@ impl Span {
         self.y() == y && left <= x && ((x - left) as usize) < self.len()
     }
 
+    /// How many colours of the stack's list are the span's.
+    pub(crate) fn listed_colours(&self) -> usize
+        ensures { result ≡ listed_colours self.now }
+    {
+        if self.one_colour() { 1 } else { self.len() }
+    }
+
     /// How many depths of the stack's list are the span's.
-    pub(crate) fn listed(&self) -> usize
-        ensures { result ≡ listed self.now }
+    pub(crate) fn listed_depths(&self) -> usize
+        ensures { result ≡ listed_depths self.now }
     {
         match self.same_depth() {
             Some(_) => 0,
@@ -105,11 +121,24 @@ impl Span {
         }
     }
 
+    /// The colour of the span's pixel in this column, from 0. Its colours in the list stand from `first` on.
+    pub(crate) fn colour(&self, colours: &[Colour], first: usize, column: usize) -> Colour
+        requires within { column < self.now.len }
+        requires listed { first + listed_colours self.now ≤ length colours.now }
+        ensures { result ≡ slice_index_or (colours_in self.now (drop first colours.now)) column fresh }
+    {
+        if self.one_colour() {
+            colours[first]
+        } else {
+            colours[first + column]
+        }
+    }
+
     /// The depth of the span's pixel in this column, from 0. Its depths in the list stand from `first` on.
     pub(crate) fn depth(&self, depths: &[u16], first: usize, column: usize) -> u16
         requires within { column < self.now.len }
-        requires listed { first + listed self.now ≤ length depths.now }
-        ensures { result ≡ slice_index_or (depths_in self.now.same_depth self.now.len (drop first depths.now)) column 65535 }
+        requires listed { first + listed_depths self.now ≤ length depths.now }
+        ensures { result ≡ slice_index_or (depths_in self.now (drop first depths.now)) column 65535 }
     {
         match self.same_depth() {
             Some(depth) => depth,
@@ -118,12 +147,58 @@ impl Span {
     }
 }
 
+/// A row or a length without its mark.
+fn unmarked(number: u16) -> u16
+    ensures { result ≡ unmarked number }
+{
+    if number < LISTED {
+        number
+    } else {
+        number - LISTED
+    }
+}
+
+/// Whether all of these are one colour, and there are any.
+pub(crate) fn is_one_colour(colours: &[Colour]) -> bool
+    ensures alike { result ≡ true → (0 < length colours.now) × (colours.now ≡ replicate (length colours.now) (slice_index_or colours.now 0 fresh)) }
+    ensures unlike { result ≡ false → 0 < length colours.now → (colour : Colour) → colours.now ≢ replicate (length colours.now) colour }
+{
+    let Some(&first) = colours.first() else {
+        return false;
+    };
+    let mut same = true;
+    // without an early end, so that many are compared at once
+    for colour in colours {
+        same &= is_same(*colour, first);
+    }
+    same
+}
+
+/// Whether two colours are the same, each looked at as one number.
+fn is_same(one: Colour, other: Colour) -> bool
+    ensures yes { result ≡ true → one ≡ other }
+    ensures no { result ≡ false → one ≢ other }
+{
+    word_of(one) == word_of(other)
+}
+
+/// A colour's bytes as one number, red lowest.
+fn word_of(colour: Colour) -> u32
+    ensures value { result ≡ word_of colour }
+    ensures r { colour.r < 256 }
+    ensures g { colour.g < 256 }
+    ensures b { colour.b < 256 }
+    ensures a { colour.a < 256 }
+{
+    u32::from_le_bytes([colour.r, colour.g, colour.b, colour.a])
+}
+
 /// The depth that all of these are, if they are all alike.
 pub(crate) fn same_depth(depths: &[u16]) -> Option<u16>
     ensures alike { IfSome result (λ depth. depths.now ≡ replicate (length depths.now) depth) }
     ensures unlike { result ≡ None → (depth : ℕ) → depths.now ≢ replicate (length depths.now) depth }
 {
-    let first = depths.first().copied().unwrap_or(0);
+    let first = depths.first().copied().unwrap_or_default();
     let mut same = true;
     // without an early end, so that many are compared at once
     for depth in depths {

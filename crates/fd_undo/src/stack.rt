@@ -3,13 +3,13 @@ ghost use Rattle.std.specs.List.{zip};
 ghost use Rattle.fd_snap.specs.Limits.{most_pixels};
 ghost use Rattle.fd_tile.specs.Place.{Holds};
 ghost use Rattle.fd_undo.specs.Frame.{kept_row, kept_at, restored, top, older};
-ghost use Rattle.fd_undo.specs.Stored.{pixel_count, depth_count, depths_of, kept_of};
+ghost use Rattle.fd_undo.specs.Stored.{by_colour, by_depth, listed_count, pixels_of, kept_of};
 ghost use Rattle.fd_undo.specs.Undo.{without_room, with_kept, recorded_in};
 
 use crate::kept::{add_kept_in, kept_in};
 use crate::pieces::Pieces;
 use crate::restore::put_back;
-use crate::span::{Span, known_depth};
+use crate::span::{Span, is_one_colour, known_depth};
 use crate::stored::{StoredFrame, after_newest, place_of, take_numbered};
 use fd_blend::Colour;
 use fd_tile::Tile;
@@ -35,10 +35,12 @@ pub struct UndoStack {
     stored: Vec<StoredFrame>,
     // the spans of all frames, oldest first
     spans: Pieces<Span>,
-    // their colours
+    // their colours, one for a span whose pixels are all alike
     colours: Pieces<Colour>,
     // the depths of the spans whose pixels are not all equally deep
     depths: Pieces<u16>,
+    // how many pixels all frames keep
+    recorded: usize,
     frame_left: bool,
     spans_left: usize,
     pixels_left: usize,
@@ -58,7 +60,7 @@ impl Model for UndoStack {
       pixels_left = u.pixels_left;
     } };
 
-    ghost invariant = { λ u. IsUndoStack u.count u.stored.items u.spans u.colours u.depths (vec_capacity u.stored) u.frame_left u.spans_left u.pixels_left };
+    ghost invariant = { λ u. IsUndoStack u.count u.stored.items u.spans u.colours u.depths (vec_capacity u.stored) u.recorded u.frame_left u.spans_left u.pixels_left };
 }
 
 impl UndoStack {
@@ -73,6 +75,7 @@ impl UndoStack {
             spans: Pieces::new(alloc),
             colours: Pieces::new(alloc),
             depths: Pieces::new(alloc),
+            recorded: 0,
             frame_left: false,
             spans_left: 0,
             pixels_left: 0,
@@ -110,15 +113,21 @@ impl UndoStack {
         ensures full { OnErr result (self.new ≡ without_room self.old.frames) }
     {
         self.drop_room();
-        if self.count == usize::MAX {
+        if self.count == usize::MAX || usize::MAX - self.recorded < pixels {
             return Err(Full);
         }
         if spans > 0 {
             self.stored.reserve(1).map_err(|_| Full)?;
         }
-        self.spans.reserve(self.alloc, spans).map_err(|_| Full)?;
-        self.colours.reserve(self.alloc, pixels).map_err(|_| Full)?;
-        self.depths.reserve(self.alloc, pixels).map_err(|_| Full)?;
+        self.spans.reserve(self.alloc, spans, 0).map_err(|_| Full)?;
+        // most frames need few of the colours, and then what is left is room for the next one
+        let twice = pixels.saturating_mul(2);
+        self.colours
+            .reserve(self.alloc, pixels, twice)
+            .map_err(|_| Full)?;
+        self.depths
+            .reserve(self.alloc, pixels, 0)
+            .map_err(|_| Full)?;
         self.frame_left = true;
         self.spans_left = spans;
         self.pixels_left = pixels;
@@ -163,7 +172,8 @@ impl UndoStack {
         if self.spans_left > 0 {
             self.stored.push_reserved(StoredFrame {
                 number: self.count,
-                first: self.colours.len(),
+                first: self.recorded,
+                first_colour: self.colours.len(),
                 first_depth: self.depths.len(),
                 first_span: self.spans.len(),
                 spans: 0,
@@ -197,14 +207,23 @@ impl UndoStack {
         requires known { IfSome known (λ depth. depths.now ≡ replicate (length depths.now) depth) }
         ensures { self.new ≡ with_kept self.old (kept_row x y (zip old.now depths.now)) }
     {
-        let span = Span::new(x, y, old.len(), known_depth(depths, known));
-        self.colours.extend_from_slice(old);
-        self.depths.extend_from_slice(&depths[..span.listed()]);
+        let span = Span::new(
+            x,
+            y,
+            old.len(),
+            is_one_colour(old),
+            known_depth(depths, known),
+        );
+        self.colours
+            .extend_from_slice(&old[..span.listed_colours()]);
+        self.depths
+            .extend_from_slice(&depths[..span.listed_depths()]);
         self.spans.push(span);
         let top = self.stored.len() - 1;
         self.stored[top].spans += 1;
         self.spans_left -= 1;
         self.pixels_left -= old.len();
+        self.recorded += old.len();
     }
 
     /// Writes the top frame's colours and depths back, the last kept first, and drops the frame. No room is left.
@@ -219,17 +238,18 @@ impl UndoStack {
         self.pixels_left = 0;
         self.count -= 1;
         if let Some(top) = take_numbered(&mut self.stored, self.count) {
-            let colours = self.colours.len() - top.first;
+            let colours = self.colours.len() - top.first_colour;
             let depths = self.depths.len() - top.first_depth;
             put_back(
                 &self.spans.piece_from(top.first_span)[..top.spans],
-                &self.colours.piece_from(top.first)[..colours],
+                &self.colours.piece_from(top.first_colour)[..colours],
                 &self.depths.piece_from(top.first_depth)[..depths],
                 tile,
             );
             self.spans.truncate(top.first_span);
-            self.colours.truncate(top.first);
+            self.colours.truncate(top.first_colour);
             self.depths.truncate(top.first_depth);
+            self.recorded = top.first;
         }
     }
 
@@ -257,6 +277,7 @@ impl UndoStack {
         self.spans.truncate(0);
         self.colours.truncate(0);
         self.depths.truncate(0);
+        self.recorded = 0;
     }
 
     /// How many frames there are.
@@ -270,7 +291,7 @@ impl UndoStack {
     pub fn recorded(&self) -> u64
         ensures { result ≡ recorded_in self.now.frames }
     {
-        self.colours.len() as u64
+        self.recorded as u64
     }
 
     /// The n-th colour and depth, from 0, that a frame keeps of pixel (x, y), in the order in which they were kept. Frames are numbered from 0.
@@ -303,13 +324,13 @@ impl UndoStack {
 
     /// The spans of a stored frame, and colours and depths that begin with its own.
     fn stored_parts(&self, frame: usize) -> Option<(&[Span], &[Colour], &[u16])>
-        ensures found { IfSome result (λ r. (pixel_count r.0.now ≤ length r.1.now) × (depth_count r.0.now ≤ length r.2.now) × (kept_of r.0.now (zip r.1.now (depths_of r.0.now r.2.now)) ≡ slice_index_or self.now.frames frame [])) }
+        ensures found { IfSome result (λ r. (listed_count by_colour r.0.now ≤ length r.1.now) × (listed_count by_depth r.0.now ≤ length r.2.now) × (kept_of r.0.now (pixels_of r.0.now r.1.now r.2.now) ≡ slice_index_or self.now.frames frame [])) }
         ensures absent { result ≡ None → slice_index_or self.now.frames frame [] ≡ [] }
     {
         let stored = self.stored[place_of(&self.stored, frame)?];
         Some((
             &self.spans.piece_from(stored.first_span)[..stored.spans],
-            self.colours.piece_from(stored.first),
+            self.colours.piece_from(stored.first_colour),
             self.depths.piece_from(stored.first_depth),
         ))
     }

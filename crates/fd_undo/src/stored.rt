@@ -1,11 +1,13 @@
 ghost use Rattle.std.specs.Prelude.{◌≡◌, ◌≢◌, ℕ, ◌+◌, ◌^◌, ◌<◌, [], ◌∷◌, ◌++◌, length, None, IfSome, vec_capacity};
 ghost use Rattle.fd_undo.specs.Stored.{NumbersRise, number_at, newest};
 
-/// The number of one frame from 0, where its colours, its depths and its spans begin in the stack's lists, and how many spans it has.
+/// The number of one frame from 0, how many pixels the frames before it keep, where its colours, its depths and its spans begin in the stack's
+/// lists, and how many spans it has.
 #[derive(Clone, Copy)]
 pub(crate) struct StoredFrame {
     pub(crate) number: usize,
     pub(crate) first: usize,
+    pub(crate) first_colour: usize,
     pub(crate) first_depth: usize,
     pub(crate) first_span: usize,
     pub(crate) spans: usize,

@@ -158,6 +158,20 @@ fn what_is_kept_is_added(rt: HostRuntime) -> Result<(), Fail> {
 }
 
 #[test]
+fn equal_colours_are_kept_once(rt: HostRuntime) -> Result<(), Fail> {
+    let mut undo = UndoStack::new(rt.alloc());
+    undo.reserve(2, 5)?;
+    undo.begin();
+    undo.keep(0, 0, &[RED, RED, RED], &[DEEP, 7, DEEP]);
+    undo.keep(0, 1, &[RED, FRESH], &[DEEP, DEEP]);
+    assert_eq!(rt; undo.colours.piece_from(0), [RED, RED, FRESH].as_slice());
+    expect_counts(&rt, &undo, 5, 1)?;
+    assert_eq!(rt; undo.kept(0, 1, 0, 0), Some((RED, 7)));
+    assert_eq!(rt; undo.kept(0, 1, 1, 0), Some((FRESH, DEEP)));
+    Ok(())
+}
+
+#[test]
 fn equal_depths_are_kept_once(rt: HostRuntime) -> Result<(), Fail> {
     let mut undo = UndoStack::new(rt.alloc());
     undo.reserve(2, 5)?;

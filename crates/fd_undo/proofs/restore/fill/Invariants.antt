@@ -4,7 +4,7 @@ use Rattle.fd_undo.proofs.restore.fill.Given as goal
 
 -- so many are written
 abbrev pub invariant-loop-each : goal.invariant-loop-each
-invariant-loop-each l = record {
+invariant-loop-each q l = record {
   long : length l.row ≡ length l.initial.row;
-  written : take l.each-index l.row ≡ replicate l.each-index l.depth;
+  written : take l.each-index l.row ≡ replicate l.each-index l.value;
 }

@@ -59,34 +59,34 @@ put_colours-requires-clause-first c =
     let l = c.loop-left in
     let i = c.loop-left.invariant in
     let deep = c.if-not-is_deep.ensures refl in
-    flat_first c.args.spans.now c.args.colours.now c.args.depths.now l.left l.end c.len.result c.in-Some.depth c.index-spans-left.result c.loop-left-test.true i.within c.index-spans-left.is
-    i.counted i.fits i.deep_counted c.len.ensures deep.0 deep.1 l.tile i.inside c.place-width.ensures.filled i.flat
+    flat_first c.args.spans.now c.args.colours.now c.args.depths.now l.left l.end c.listed_colours.result c.in-Some.depth c.index-spans-left.result c.loop-left-test.true i.within c.index-spans-left.is
+    i.counted i.fits i.deep_counted c.listed_colours.ensures deep.0 deep.1 l.tile i.inside c.place-width.ensures.filled i.flat
 
 pub put_colours-requires-clause-within : goal.put_colours-requires-clause-within
 put_colours-requires-clause-within c =
     let l = c.loop-left in
     let i = c.loop-left.invariant in
     let deep = c.if-not-is_deep.ensures refl in
-    flat_within c.args.spans.now c.args.colours.now c.args.depths.now l.left l.end c.len.result c.in-Some.depth c.index-spans-left.result c.loop-left-test.true i.within c.index-spans-left.is
-    i.counted i.fits i.deep_counted c.len.ensures deep.0 deep.1 l.tile i.inside c.place-width.ensures.filled i.flat
+    flat_within c.args.spans.now c.args.colours.now c.args.depths.now l.left l.end c.listed_colours.result c.in-Some.depth c.index-spans-left.result c.loop-left-test.true i.within c.index-spans-left.is
+    i.counted i.fits i.deep_counted c.listed_colours.ensures deep.0 deep.1 l.tile i.inside c.place-width.ensures.filled i.flat
 
 pub loop-left-preserved : goal.loop-left-preserved
 loop-left-preserved c =
     let l = c.loop-left in
     let i = c.loop-left.invariant in
     let deep = c.if-not-is_deep.ensures refl in
-    let counts = flat_counts c.args.spans.now c.args.colours.now c.args.depths.now l.left l.end c.len.result c.in-Some.depth c.index-spans-left.result c.loop-left-test.true i.within c.index-spans-left.is
-    i.counted i.fits i.deep_counted c.len.ensures deep.0 deep.1 in
+    let counts = flat_counts c.args.spans.now c.args.colours.now c.args.depths.now l.left l.end c.listed_colours.result c.in-Some.depth c.index-spans-left.result c.loop-left-test.true i.within c.index-spans-left.is
+    i.counted i.fits i.deep_counted c.listed_colours.ensures deep.0 deep.1 in
     record {
       within = omega (arith, i.within);
       counted = counts.0;
       fits = omega (arith, i.fits);
       deep_counted = counts.1;
-      flat = flat_left_flat c.args.spans.now c.args.colours.now c.args.depths.now l.left l.end c.len.result c.in-Some.depth c.index-spans-left.result c.loop-left-test.true i.within c.index-spans-left.is
-          i.counted i.fits i.deep_counted c.len.ensures deep.0 deep.1 l.tile i.inside c.place-width.ensures.filled i.flat c.put_colours.new.tile c.put_colours.ensures;
-      inside = flat_left_inside c.args.spans.now c.args.colours.now c.args.depths.now l.left l.end c.len.result c.in-Some.depth c.index-spans-left.result c.loop-left-test.true i.within c.index-spans-left.is
-          i.counted i.fits i.deep_counted c.len.ensures deep.0 deep.1 l.tile i.inside c.place-width.ensures.filled i.flat c.put_colours.new.tile c.put_colours.ensures;
-      rest = flat_left_restored c.args.spans.now c.args.colours.now c.args.depths.now l.left l.end c.len.result c.in-Some.depth c.index-spans-left.result c.loop-left-test.true i.within c.index-spans-left.is
-          i.counted i.fits i.deep_counted c.len.ensures deep.0 deep.1 l.tile i.inside c.place-width.ensures.filled i.flat c.put_colours.new.tile c.put_colours.ensures
+      flat = flat_left_flat c.args.spans.now c.args.colours.now c.args.depths.now l.left l.end c.listed_colours.result c.in-Some.depth c.index-spans-left.result c.loop-left-test.true i.within c.index-spans-left.is
+          i.counted i.fits i.deep_counted c.listed_colours.ensures deep.0 deep.1 l.tile i.inside c.place-width.ensures.filled i.flat c.put_colours.new.tile c.put_colours.ensures;
+      inside = flat_left_inside c.args.spans.now c.args.colours.now c.args.depths.now l.left l.end c.listed_colours.result c.in-Some.depth c.index-spans-left.result c.loop-left-test.true i.within c.index-spans-left.is
+          i.counted i.fits i.deep_counted c.listed_colours.ensures deep.0 deep.1 l.tile i.inside c.place-width.ensures.filled i.flat c.put_colours.new.tile c.put_colours.ensures;
+      rest = flat_left_restored c.args.spans.now c.args.colours.now c.args.depths.now l.left l.end c.listed_colours.result c.in-Some.depth c.index-spans-left.result c.loop-left-test.true i.within c.index-spans-left.is
+          i.counted i.fits i.deep_counted c.listed_colours.ensures deep.0 deep.1 l.tile i.inside c.place-width.ensures.filled i.flat c.put_colours.new.tile c.put_colours.ensures
           ∙ i.rest;
     }

@@ -1,13 +1,13 @@
 use Rattle.std.proofs.Common.{false, ℕ, ◌≡◌, ◌+◌, ◌-◌, ◌<◌, ◌≤◌, ◌∙◌, refl, sym, ap, subst, List, [], ◌∷◌, ◌++◌, length, take, arith}
 use Rattle.std.specs.Prelude.{vec_capacity}
 use Rattle.std.specs.List.{zip}
-use Rattle.std.proofs.lemmas.List.{length-take, length_push}
+use Rattle.std.proofs.lemmas.List.{length_push}
 use Rattle.fd_undo.specs.Span.{Span}
 use Rattle.fd_undo.specs.declared.stored.StoredFrame.{StoredFrame}
 use Rattle.fd_undo.specs.Frame.{KeptPixel}
-use Rattle.fd_undo.specs.Stored.{listed, depths_in, IsWholeFrame, HasOpenFrame}
+use Rattle.fd_undo.specs.Stored.{listed_colours, colours_in, listed_depths, depths_in, IsWholeFrame, HasOpenFrame}
 use Rattle.fd_undo.proofs.Zips.{length-zip_equal}
-use Rattle.fd_undo.proofs.Depths.{listed_at_most, depths_in-listed}
+use Rattle.fd_undo.proofs.Values.{listed_colours_at_most, colours_in-listed, depths_in-listed}
 use Rattle.fd_undo.proofs.FrameLemmas.{length-kept_row}
 use Rattle.fd_undo.proofs.Keeps.{kept_stack, kept_now}
 use Rattle.fd_undo.proofs.stack.UndoStack.keep_known.Goals as goal
@@ -31,27 +31,32 @@ invariant_of-self c =
     let pixels : length c.args.old.now ≤ c.self.inside.pixels_left = omega (arith, ap (λ u. u.pixels_left) c.self.view_is) in
     let opened : HasOpenFrame c.self.inside.count c.self.inside.stored.items c.self.inside.spans c.self.inside.colours c.self.inside.depths = c.self.invariant.begun begun span in
     let at : c.len-top.result ≡ length c.self.inside.stored.items = c.len-top.ensures ∙ c.self.inside.stored.ok.0 in
-    let s : Span = record { x = c.args.x; y = c.args.y; len = length c.args.old.now; same_depth = c.known_depth.result } in
+    let s : Span = record { x = c.args.x; y = c.args.y; len = length c.args.old.now; one_colour = c.is_one_colour.result; same_depth = c.known_depth.result } in
     let f : StoredFrame = c.index_mut.result.now in
     let g : StoredFrame = record {
       number = c.index_mut.result.now.number;
       first = c.index_mut.result.now.first;
+      first_colour = c.index_mut.result.now.first_colour;
       first_depth = c.index_mut.result.now.first_depth;
       first_span = c.index_mut.result.now.first_span;
       spans = c.index_mut.result.now.spans + 1;
     } in
-    let few : listed s ≤ length c.args.old.now = listed_at_most c.known_depth.result (length c.args.old.now) in
-    let own : length (take (listed s) c.args.depths.now) ≡ listed s = omega (arith, length-take (listed s) c.args.depths.now, few, c.requires.equal) in
-    let all_deep : depths_in s.same_depth s.len (take (listed s) c.args.depths.now) ≡ c.args.depths.now = depths_in-listed c.known_depth.result (length c.args.old.now) c.args.depths.now c.known_depth.ensures.alike (sym c.requires.equal) in
+    let all_row : colours_in s (take (listed_colours s) c.args.old.now) ≡ c.args.old.now = colours_in-listed s c.args.old.now c.is_one_colour.ensures.alike refl in
+    let short : listed_colours s ≤ s.len = listed_colours_at_most s (λ one. (c.is_one_colour.ensures.alike one).0) in
+    let all_deep : depths_in s (take (listed_depths s) c.args.depths.now) ≡ c.args.depths.now = depths_in-listed s c.args.depths.now c.known_depth.ensures.alike (sym c.requires.equal) in
     let a_is : c.push.new.self ≡ record { items = c.self.inside.spans.items ++ s ∷ []; starts = c.self.inside.spans.starts; room = c.self.inside.spans.room - 1 } =
     c.push.ensures.value ∙ ap (λ (t : Span). record { items = c.self.inside.spans.items ++ t ∷ []; starts = c.self.inside.spans.starts; room = c.self.inside.spans.room - 1 }) c.new-span.ensures in
+    let b_is : c.extend_from_slice.new.self
+    ≡ record { items = c.self.inside.colours.items ++ take (listed_colours s) c.args.old.now; starts = c.self.inside.colours.starts; room = c.self.inside.colours.room - length (take (listed_colours s) c.args.old.now) } =
+    c.extend_from_slice.ensures
+    ∙ ap (λ (k : ℕ). record { items = c.self.inside.colours.items ++ take k c.args.old.now; starts = c.self.inside.colours.starts; room = c.self.inside.colours.room - length (take k c.args.old.now) }) (c.listed_colours.ensures ∙ ap listed_colours c.new-span.ensures) in
     let c_is : c.extend_from_slice-2.new.self
-    ≡ record { items = c.self.inside.depths.items ++ take (listed s) c.args.depths.now; starts = c.self.inside.depths.starts; room = c.self.inside.depths.room - length (take (listed s) c.args.depths.now) } =
+    ≡ record { items = c.self.inside.depths.items ++ take (listed_depths s) c.args.depths.now; starts = c.self.inside.depths.starts; room = c.self.inside.depths.room - length (take (listed_depths s) c.args.depths.now) } =
     c.extend_from_slice-2.ensures
-    ∙ ap (λ (k : ℕ). record { items = c.self.inside.depths.items ++ take k c.args.depths.now; starts = c.self.inside.depths.starts; room = c.self.inside.depths.room - length (take k c.args.depths.now) }) (c.listed.ensures ∙ ap listed c.new-span.ensures) in
-    kept_stack c.self.inside.count n c.self.inside.stored.items c.self.inside.spans c.push.new.self c.self.inside.colours c.extend_from_slice.new.self c.self.inside.depths c.extend_from_slice-2.new.self (vec_capacity c.self.inside.stored) c.self.inside.frame_left c.self.inside.spans_left c.self.inside.pixels_left
-    c.self.invariant begun opened f g at c.index_mut.ensures.value refl s c.args.old.now c.args.depths.now refl c.requires.equal all_deep own a_is c.extend_from_slice.ensures c_is
-    span pixels few
+    ∙ ap (λ (k : ℕ). record { items = c.self.inside.depths.items ++ take k c.args.depths.now; starts = c.self.inside.depths.starts; room = c.self.inside.depths.room - length (take k c.args.depths.now) }) (c.listed_depths.ensures ∙ ap listed_depths c.new-span.ensures) in
+    kept_stack c.self.inside.count n c.self.inside.stored.items c.self.inside.spans c.push.new.self c.self.inside.colours c.extend_from_slice.new.self c.self.inside.depths c.extend_from_slice-2.new.self (vec_capacity c.self.inside.stored) c.self.inside.recorded c.self.inside.frame_left c.self.inside.spans_left c.self.inside.pixels_left
+    c.self.invariant begun opened f g at c.index_mut.ensures.value refl s c.args.old.now c.args.depths.now refl c.requires.equal short all_row all_deep a_is b_is c_is
+    span pixels
 
 pub returns : goal.returns
 returns c =
@@ -61,27 +66,32 @@ returns c =
     let pixels : length c.args.old.now ≤ c.self.inside.pixels_left = omega (arith, ap (λ u. u.pixels_left) c.self.view_is) in
     let opened : HasOpenFrame c.self.inside.count c.self.inside.stored.items c.self.inside.spans c.self.inside.colours c.self.inside.depths = c.self.invariant.begun begun span in
     let at : c.len-top.result ≡ length c.self.inside.stored.items = c.len-top.ensures ∙ c.self.inside.stored.ok.0 in
-    let s : Span = record { x = c.args.x; y = c.args.y; len = length c.args.old.now; same_depth = c.known_depth.result } in
+    let s : Span = record { x = c.args.x; y = c.args.y; len = length c.args.old.now; one_colour = c.is_one_colour.result; same_depth = c.known_depth.result } in
     let f : StoredFrame = c.index_mut.result.now in
     let g : StoredFrame = record {
       number = c.index_mut.result.now.number;
       first = c.index_mut.result.now.first;
+      first_colour = c.index_mut.result.now.first_colour;
       first_depth = c.index_mut.result.now.first_depth;
       first_span = c.index_mut.result.now.first_span;
       spans = c.index_mut.result.now.spans + 1;
     } in
-    let few : listed s ≤ length c.args.old.now = listed_at_most c.known_depth.result (length c.args.old.now) in
-    let own : length (take (listed s) c.args.depths.now) ≡ listed s = omega (arith, length-take (listed s) c.args.depths.now, few, c.requires.equal) in
-    let all_deep : depths_in s.same_depth s.len (take (listed s) c.args.depths.now) ≡ c.args.depths.now = depths_in-listed c.known_depth.result (length c.args.old.now) c.args.depths.now c.known_depth.ensures.alike (sym c.requires.equal) in
+    let all_row : colours_in s (take (listed_colours s) c.args.old.now) ≡ c.args.old.now = colours_in-listed s c.args.old.now c.is_one_colour.ensures.alike refl in
+    let short : listed_colours s ≤ s.len = listed_colours_at_most s (λ one. (c.is_one_colour.ensures.alike one).0) in
+    let all_deep : depths_in s (take (listed_depths s) c.args.depths.now) ≡ c.args.depths.now = depths_in-listed s c.args.depths.now c.known_depth.ensures.alike (sym c.requires.equal) in
     let a_is : c.push.new.self ≡ record { items = c.self.inside.spans.items ++ s ∷ []; starts = c.self.inside.spans.starts; room = c.self.inside.spans.room - 1 } =
     c.push.ensures.value ∙ ap (λ (t : Span). record { items = c.self.inside.spans.items ++ t ∷ []; starts = c.self.inside.spans.starts; room = c.self.inside.spans.room - 1 }) c.new-span.ensures in
+    let b_is : c.extend_from_slice.new.self
+    ≡ record { items = c.self.inside.colours.items ++ take (listed_colours s) c.args.old.now; starts = c.self.inside.colours.starts; room = c.self.inside.colours.room - length (take (listed_colours s) c.args.old.now) } =
+    c.extend_from_slice.ensures
+    ∙ ap (λ (k : ℕ). record { items = c.self.inside.colours.items ++ take k c.args.old.now; starts = c.self.inside.colours.starts; room = c.self.inside.colours.room - length (take k c.args.old.now) }) (c.listed_colours.ensures ∙ ap listed_colours c.new-span.ensures) in
     let c_is : c.extend_from_slice-2.new.self
-    ≡ record { items = c.self.inside.depths.items ++ take (listed s) c.args.depths.now; starts = c.self.inside.depths.starts; room = c.self.inside.depths.room - length (take (listed s) c.args.depths.now) } =
+    ≡ record { items = c.self.inside.depths.items ++ take (listed_depths s) c.args.depths.now; starts = c.self.inside.depths.starts; room = c.self.inside.depths.room - length (take (listed_depths s) c.args.depths.now) } =
     c.extend_from_slice-2.ensures
-    ∙ ap (λ (k : ℕ). record { items = c.self.inside.depths.items ++ take k c.args.depths.now; starts = c.self.inside.depths.starts; room = c.self.inside.depths.room - length (take k c.args.depths.now) }) (c.listed.ensures ∙ ap listed c.new-span.ensures) in
+    ∙ ap (λ (k : ℕ). record { items = c.self.inside.depths.items ++ take k c.args.depths.now; starts = c.self.inside.depths.starts; room = c.self.inside.depths.room - length (take k c.args.depths.now) }) (c.listed_depths.ensures ∙ ap listed_depths c.new-span.ensures) in
     let count : length c.args.old.now ≡ length (zip c.args.old.now c.args.depths.now) = sym (length-zip_equal c.args.old.now c.args.depths.now c.requires.equal) in
     rw (← c.self.view_is)
     (rw (length-kept_row c.args.x c.args.y (zip c.args.old.now c.args.depths.now), ← count)
     (ap (λ (fs : List (List KeptPixel)). record { frames = fs; frame_left = c.self.inside.frame_left; spans_left = c.self.inside.spans_left - 1; pixels_left = c.self.inside.pixels_left - length c.args.old.now })
-    (kept_now c.self.inside.count n c.self.inside.stored.items c.self.inside.spans c.push.new.self c.self.inside.colours c.extend_from_slice.new.self c.self.inside.depths c.extend_from_slice-2.new.self (vec_capacity c.self.inside.stored) c.self.inside.frame_left c.self.inside.spans_left c.self.inside.pixels_left
-    c.self.invariant begun opened f g at c.index_mut.ensures.value refl s c.args.old.now c.args.depths.now refl c.requires.equal all_deep own a_is c.extend_from_slice.ensures c_is)))
+    (kept_now c.self.inside.count n c.self.inside.stored.items c.self.inside.spans c.push.new.self c.self.inside.colours c.extend_from_slice.new.self c.self.inside.depths c.extend_from_slice-2.new.self (vec_capacity c.self.inside.stored) c.self.inside.recorded c.self.inside.frame_left c.self.inside.spans_left c.self.inside.pixels_left
+    c.self.invariant begun opened f g at c.index_mut.ensures.value refl s c.args.old.now c.args.depths.now refl c.requires.equal short all_row all_deep a_is b_is c_is)))

@@ -8,6 +8,6 @@ pub returns : goal.returns
 returns c =
     let fs : List SpannedFrame = spanned_frames c.self.inside.spans.items c.self.inside.stored.items in
     rw (← c.self.view_is)
-    (c.len.ensures.value ∙ pixels_len fs c.self.inside.colours.items c.self.inside.depths.items c.self.inside.count c.self.invariant.follow c.self.invariant.depths_follow
+    (pixels_len fs c.self.inside.colours.items c.self.inside.depths.items c.self.inside.count c.self.inside.recorded c.self.invariant.follow c.self.invariant.colours_follow c.self.invariant.depths_follow
     ∙ sym (recorded_in-frames_of c.self.inside.count fs (pixels_in fs c.self.inside.colours.items c.self.inside.depths.items)
-    (follow_pixels fs c.self.inside.colours.items c.self.inside.depths.items c.self.inside.count c.self.invariant.follow c.self.invariant.depths_follow)))
+    (follow_pixels fs c.self.inside.colours.items c.self.inside.depths.items c.self.inside.count c.self.inside.recorded c.self.invariant.follow c.self.invariant.colours_follow c.self.invariant.depths_follow)))
