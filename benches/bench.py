@@ -115,6 +115,18 @@ class Bench:
         times = [[float(word) for word in printed.split()] for *_, printed in runs]
         return min(forward for forward, _ in times), min(back for _, back in times), runs[0][2]
 
+    def plain_side_by_side(self, scene, number):
+        """Seconds of the clock that so many processes of plain C take together to draw this scene there and back, each by itself."""
+        path = self.capture(scene.numbers(), "triangles")
+        clocks = []
+        for _ in range(ROUNDS):
+            start = time.monotonic()
+            runs = [subprocess.Popen([self.folder / "plain", path], stdout=subprocess.DEVNULL) for _ in range(number)]
+            if any([run.wait() for run in runs]):
+                sys.exit("plain C failed")
+            clocks.append(time.monotonic() - start)
+        return min(clocks)
+
     def same_image(self, name, scene, per_draw=1):
         """Plain C must draw what the program draws: else the two aren't to be compared."""
         shown, colours = self.folder / "shown", self.folder / "colours"

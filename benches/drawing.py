@@ -46,15 +46,17 @@ def compare(bench, name, scene, per_draw, divisor, unit, forward_asked, back_ask
 
 
 def workers(bench):
-    """goto to the end with 1, 2 and 4 workers, by the clock; the machine must be idle"""
+    """goto to the end with 1, 2 and 4 workers, by the clock, beside as many processes of plain C; the machine must be idle"""
     side = bench.scaled(2048, 32)
     count = bench.scaled(65_536)
+    # what the machine gives: each process draws its share of the rows, and has nothing in common with the others
+    plain = {number: bench.plain_side_by_side(captures.large(side, side // number, 20), number) for number in [1, 2, 4]}
     makers = [
-        ("20 large triangles", captures.large(side, side, 20).capture(), 21, 3),
-        ("16,000 small triangles in 160 draws", captures.small(side, side, 16_000, False).capture(100), 161, None),
-        (f"{count:,} markers", captures.markers(side, side, count), count, None),
+        ("20 large triangles", captures.large(side, side, 20).capture(), 21, plain, 3),
+        ("16,000 small triangles in 160 draws", captures.small(side, side, 16_000, False).capture(100), 161, None, None),
+        (f"{count:,} markers", captures.markers(side, side, count), count, None, None),
     ]
-    for name, data, end, asked in makers:
+    for name, data, end, beside, asked in makers:
         path = bench.capture(data)
         alone = None
         for number in [1, 2, 4]:
@@ -62,7 +64,8 @@ def workers(bench):
             alone = alone or clock
             bench.figure(f"{name}, {number} {'worker' if number == 1 else 'workers'}", clock * 1e3, "ms")
             if number > 1:
-                bench.figure(f"{name}, {number} workers, speed-up", alone / clock, "times", least=asked if number == 4 else None)
+                given = beside and beside[1] / beside[number]
+                bench.figure(f"{name}, {number} workers, speed-up", alone / clock, "times", given, least=asked if number == 4 else None)
 
 
 def single_steps(bench):

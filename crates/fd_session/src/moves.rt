@@ -7,7 +7,7 @@ ghost use Rattle.fd_crew.specs.Lanes.{opening_position};
 ghost use Rattle.fd_session.specs.Held.{StandsAt};
 ghost use Rattle.fd_session.specs.Moves.{IsFresh, GoesOn, IsLeftAt};
 
-use crate::worth::{Area, Slice, next_slice};
+use crate::worth::{Area, MOVE_WORK, Slice, next_slice};
 use fd_crew::{Gate, Outcome, run_back, run_forward};
 use fd_events::EventTable;
 use fd_owner::Owner;
@@ -63,7 +63,7 @@ impl Pace {
     {
         match self {
             Pace::Whole | Pace::Slice => Slice { end: to, workers },
-            Pace::Slices => next_slice(table, from, to, area, workers),
+            Pace::Slices => next_slice(table, from, to, area, workers, MOVE_WORK),
             Pace::Events => Slice {
                 end: from + 1,
                 workers: 1,

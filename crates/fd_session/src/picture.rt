@@ -8,7 +8,7 @@ ghost use Rattle.fd_session.specs.Drawing.{ShowsAt, DrawsOn};
 use crate::answer::{Answer, SessionFault};
 use crate::moves::{common_position, fresh_owners};
 use crate::session::answer_to_jump;
-use crate::worth::{Area, Slice, next_slice};
+use crate::worth::{Area, PICTURE_WORK, Slice, next_slice};
 use fd_blend::Colour;
 use fd_crew::{Free, Outcome, run_forward};
 use fd_events::EventTable;
@@ -101,7 +101,7 @@ impl Picture {
             return Some(Answer::Moved { at: to });
         }
         let area = Area::of(&self.owners, self.table.width());
-        let slice = next_slice(&self.table, from, to, &area, self.workers);
+        let slice = next_slice(&self.table, from, to, &area, self.workers, PICTURE_WORK);
         let answer = self.draw(rt, slice);
         if let Answer::Moved { at } = answer {
             if at != to {

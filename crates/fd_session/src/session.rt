@@ -6,7 +6,7 @@ ghost use Rattle.fd_session.specs.Moves.{jump_answer};
 use crate::answer::{Answer, SessionFault};
 use crate::moves::{Pace, common_position, fresh_owners, go_back, go_on};
 use crate::redraw::go_again;
-use crate::worth::{Area, Slice, next_slice};
+use crate::worth::{Area, MOVE_WORK, Slice, next_slice};
 use fd_blend::Colour;
 use fd_crew::{Free, Gate, Outcome};
 use fd_events::{EventTable, Pipeline};
@@ -131,7 +131,7 @@ impl Session {
             return Slice { end: to, workers };
         }
         let area = Area::of(&self.owners, self.table.width());
-        next_slice(&self.table, from, to, &area, workers)
+        next_slice(&self.table, from, to, &area, workers, MOVE_WORK)
     }
 
     /// Makes the next slice of a jump, and gives the answer to the jump where it has ended; else there is more to go.

@@ -7,24 +7,27 @@ use fd_owner::Owner;
 use fd_tile::TILE_SIDE;
 
 /// The work that a worker must have to be worth its thread, in nanoseconds: a thread takes 30 to 50 microseconds to start.
-const WORKER_WORK: usize = 225_000;
+const WORKER_WORK: usize = 130_000;
 
-/// The work of a slice for each of its workers, in nanoseconds. A quarter of it made large triangles slower by half, as a tile then goes through
-/// fewer events while it is in the cache.
-const SLICE_WORK: usize = 30_000_000;
+/// The work of a slice of a session's move for each of its workers, in nanoseconds. With shorter ones more threads are started and waited for, and a tile
+/// goes through fewer events while it is in the cache.
+pub(crate) const MOVE_WORK: usize = 60_000_000;
+
+/// The same for a picture, whose records are gone after each slice, so that they take little memory.
+pub(crate) const PICTURE_WORK: usize = 17_000_000;
 
 /// The work of a slice for each tile beside that, in nanoseconds, so that on many tiles a slice does more than fetch them all.
 const FETCHED_WORK: usize = 500;
 
-/// The most work of a slice, in nanoseconds, by however many workers. In so long a time 33,554,432 pixels are written, whose colours take 128 MiB
-/// among the undo records: about so much is drawn in vain where memory runs out.
-const SLICE_MOST: usize = 235_000_000;
+/// The most work of a slice, in nanoseconds, by however many workers. In so long a time 67,108,864 pixels are written, whose colours take 256 MiB
+/// among the undo records at most: no more is drawn in vain where memory runs out.
+const SLICE_MOST: usize = 268_435_456;
 
 /// The events of a slice on a single tile. It is one worker's, whatever their work is, so that this is not estimated.
 const TILE_SLICE: u32 = 4096;
 
 /// The work of writing a pixel and keeping what it was, in nanoseconds. This and what follows is what `make bench` has measured.
-const PIXEL_WORK: usize = 7;
+const PIXEL_WORK: usize = 4;
 
 /// The work of a step on one tile that draws nothing there, in nanoseconds.
 const STEP_WORK: usize = 2;
@@ -145,9 +148,16 @@ pub(crate) struct Slice {
     pub workers: u32,
 }
 
-/// The next slice of a move from one position to another in an area: as many events as are worth their workers' time together, or all that are
-/// left. Each event is looked at once, but on a single tile none is.
-pub(crate) fn next_slice(table: &EventTable, from: u32, to: u32, area: &Area, workers: u32) -> Slice
+/// The next slice of a move from one position to another in an area: as many events as are worth so much work of each worker, or all that are left.
+/// Each event is looked at once, but on a single tile none is.
+pub(crate) fn next_slice(
+    table: &EventTable,
+    from: u32,
+    to: u32,
+    area: &Area,
+    workers: u32,
+    work_each: usize,
+) -> Slice
     requires ahead { from < to }
     requires within { to ≤ length table.now.events }
     requires some { 1 ≤ workers }
@@ -166,7 +176,7 @@ pub(crate) fn next_slice(table: &EventTable, from: u32, to: u32, area: &Area, wo
     let useful = area.tiles.clamp(1, workers as usize);
     let fetched = area.tiles.saturating_mul(FETCHED_WORK);
     let enough = fetched
-        .saturating_add(useful.saturating_mul(SLICE_WORK))
+        .saturating_add(useful.saturating_mul(work_each))
         .min(SLICE_MOST);
     let mut work: usize = 0;
     let mut end = from;
@@ -213,7 +223,7 @@ pub(crate) fn tiles_together(
             ..reach
         },
     };
-    let worth = next_slice(table, number - 1, to, &row, workers).workers;
+    let worth = next_slice(table, number - 1, to, &row, workers, MOVE_WORK).workers;
     if u64::from(reached) * u64::from(workers) < u64::from(columns) * u64::from(worth) {
         columns as usize
     } else {

@@ -18,6 +18,13 @@ use Rattle.fd_undo.proofs.Pixels.{pixels_len, follow_pixels, pixels_in-kept}
 use Rattle.fd_undo.proofs.Numbers.{kept_spans, kept_values, kept_follow, kept_frames}
 use Rattle.fd_undo.proofs.Spanned.{length-spanned_frames, spanned_frames-push, top-spanned, newest-push, newest-was, set_parts, set_follow, top_spans, read_frame, set_frames, whole_open, whole_frame-longer}
 
+-- what holds of the fields with one span more, and what the frames are then
+pub record IsKept (count n : ℕ) (stored : List StoredFrame) (a a' : Parts Span) (b b' : Parts Colour) (c c' : Parts ℕ) (room recorded : ℕ) (frame_left : Bool) (spans_left pixels_left : ℕ) (g : StoredFrame) (s : Span) (row : List Colour) (deep : List ℕ) : Type 0 where
+  pub stack : IsUndoStack count (slice_set stored (n - 1) g) a' b' c' room (recorded + length row) frame_left (spans_left - 1) (pixels_left - length row)
+  pub frames : frames_of count (spanned_frames a'.items (slice_set stored (n - 1) g)) (pixels_in (spanned_frames a'.items (slice_set stored (n - 1) g)) b'.items c'.items)
+      ≡ older (frames_of count (spanned_frames a.items stored) (pixels_in (spanned_frames a.items stored) b.items c.items))
+      ++ (top (frames_of count (spanned_frames a.items stored) (pixels_in (spanned_frames a.items stored) b.items c.items)) ++ kept_row s.x s.y (zip row deep)) ∷ []
+
 module _ (count n : ℕ) (stored : List StoredFrame) (a a' : Parts Span) (b b' : Parts Colour) (c c' : Parts ℕ) (room recorded : ℕ) (frame_left : Bool) (spans_left pixels_left : ℕ)
     (old : IsUndoStack count stored a b c room recorded frame_left spans_left pixels_left) (begun : frame_left ≡ false) (opened : HasOpenFrame count stored a b c) (f g : StoredFrame) (at : n ≡ length stored) (read : f ≡ get_or stored (n - 1) f)
     (g_is : g ≡ record { number = f.number; first = f.first; first_colour = f.first_colour; first_depth = f.first_depth; first_span = f.first_span; spans = f.spans + 1 })
@@ -148,7 +155,7 @@ module _ (count n : ℕ) (stored : List StoredFrame) (a a' : Parts Span) (b b' :
             (omega (arith, ends.1));
       })
 
-  pub kept_stack : 0 < spans_left → length row ≤ pixels_left → IsUndoStack count (slice_set stored (n - 1) g) a' b' c' room (recorded + length row) frame_left (spans_left - 1) (pixels_left - length row)
+  kept_stack : 0 < spans_left → length row ≤ pixels_left → IsUndoStack count (slice_set stored (n - 1) g) a' b' c' room (recorded + length row) frame_left (spans_left - 1) (pixels_left - length row)
   kept_stack span fits = record {
     follow = follow';
     spans_follow = subst (λ p. SpansFollow 0 (slice_set stored (n - 1) g) (length p.items)) (sym a_is) (set_follow n stored f g s a.items at opened.some read old.spans_follow first_span more);
@@ -173,7 +180,7 @@ module _ (count n : ℕ) (stored : List StoredFrame) (a a' : Parts Span) (b b' :
     countable = omega (arith, old.countable, fits);
   }
 
-  pub kept_now : frames_of count (spanned_frames a'.items (slice_set stored (n - 1) g)) (pixels_in (spanned_frames a'.items (slice_set stored (n - 1) g)) b'.items c'.items)
+  kept_now : frames_of count (spanned_frames a'.items (slice_set stored (n - 1) g)) (pixels_in (spanned_frames a'.items (slice_set stored (n - 1) g)) b'.items c'.items)
       ≡ older (frames_of count (spanned_frames a.items stored) (pixels_in (spanned_frames a.items stored) b.items c.items))
       ++ (top (frames_of count (spanned_frames a.items stored) (pixels_in (spanned_frames a.items stored) b.items c.items)) ++ kept_row s.x s.y (zip row deep)) ∷ []
   kept_now =
@@ -186,3 +193,6 @@ module _ (count n : ℕ) (stored : List StoredFrame) (a a' : Parts Span) (b b' :
       (pixels_in-kept (spanned_frames a.items stored) b.items c.items count recorded old.follow old.colours_follow old.depths_follow set s row deep
       (kept_spans count n (spanned_frames a.items stored) (spanned a.items f) (spanned (a.items ++ s ∷ []) g) s (pixels_in (spanned_frames a.items stored) b.items c.items) count_is some top_read youngest follow number first spans_more)
       all_row all_deep)
+
+  pub kept : 0 < spans_left → length row ≤ pixels_left → IsKept count n stored a a' b b' c c' room recorded frame_left spans_left pixels_left g s row deep
+  kept span fits = record { stack = kept_stack span fits; frames = kept_now }

@@ -1,7 +1,6 @@
 pub mod Zips
 pub mod Pixels
 pub mod Values
-pub mod Words
 pub mod FrameLemmas
 pub mod PieceLemmas
 pub mod Dropped

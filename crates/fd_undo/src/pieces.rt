@@ -1,4 +1,4 @@
-ghost use Rattle.std.specs.Prelude.{◌≡◌, ◌+◌, ◌-◌, ◌<◌, ◌≤◌, ℕ, [], ◌∷◌, ◌++◌, length, take, drop, All, OnOk, min, max, ◌^◌};
+ghost use Rattle.std.specs.Prelude.{◌≡◌, ◌+◌, ◌-◌, ◌<◌, ◌≤◌, ℕ, [], ◌∷◌, ◌++◌, length, take, drop, All, OnOk, IfOk, vec_capacity, min, max, ◌^◌};
 ghost use Rattle.fd_undo.specs.Parts.{IsWhole};
 ghost use Rattle.fd_undo.specs.Pieces.{Chain, IsFound};
 
@@ -92,7 +92,7 @@ impl<T: Copy> Pieces<T> {
         }
         self.truncate(start);
         self.pieces.reserve(1)?;
-        let items = Vec::with_capacity(alloc, room_of_piece(start.max(held), more))?;
+        let items = new_items(alloc, room_of_piece(start.max(held), more), more)?;
         self.room = items.capacity().min(usize::MAX - start);
         self.pieces.push_reserved(Piece { start, items });
         Ok(())
@@ -165,6 +165,15 @@ fn piece_of<T>(pieces: &[Piece<T>], place: usize) -> usize
         return last;
     }
     pieces.partition_point(|piece| piece.start <= place) - 1
+}
+
+/// A vector with room for so many items, or for just as many as are needed where there is no memory for more.
+fn new_items<T>(alloc: Global, wanted: usize, needed: usize) -> Result<Vec<T>, AllocError>
+    requires { needed ≤ wanted }
+    ensures empty { IfOk result (λ v. v.items ≡ []) }
+    ensures room { IfOk result (λ v. needed ≤ vec_capacity v) }
+{
+    Vec::with_capacity(alloc, wanted).or_else(|_| Vec::with_capacity(alloc, needed))
 }
 
 /// How many items a new piece has room for: as many as are held, within bounds, in whole steps of so many more, and those at least.

@@ -1,7 +1,6 @@
 ghost use Rattle.std.specs.Prelude.{◌≡◌, ◌+◌, ◌<◌, ◌≤◌, length, drop, slice_index_or, replicate, None, IfSome, ℕ, ◌≢◌, true, false};
 ghost use Rattle.fd_snap.specs.Limits.{most_pixels};
 ghost use Rattle.fd_blend.specs.Channel.{fresh};
-ghost use Rattle.fd_blend.specs.Packing.{word_of};
 ghost use Rattle.fd_undo.specs.Packed.{unmarked};
 ghost use Rattle.fd_undo.specs.Stored.{span_holds, listed_colours, colours_in, listed_depths, depths_in};
 
@@ -169,28 +168,9 @@ pub(crate) fn is_one_colour(colours: &[Colour]) -> bool
     let mut same = true;
     // without an early end, so that many are compared at once
     for colour in colours {
-        same &= is_same(*colour, first);
+        same &= colour.is_same(first);
     }
     same
-}
-
-/// Whether two colours are the same, each looked at as one number.
-fn is_same(one: Colour, other: Colour) -> bool
-    ensures yes { result ≡ true → one ≡ other }
-    ensures no { result ≡ false → one ≢ other }
-{
-    word_of(one) == word_of(other)
-}
-
-/// A colour's bytes as one number, red lowest.
-fn word_of(colour: Colour) -> u32
-    ensures value { result ≡ word_of colour }
-    ensures r { colour.r < 256 }
-    ensures g { colour.g < 256 }
-    ensures b { colour.b < 256 }
-    ensures a { colour.a < 256 }
-{
-    u32::from_le_bytes([colour.r, colour.g, colour.b, colour.a])
 }
 
 /// The depth that all of these are, if they are all alike.

@@ -116,9 +116,8 @@ impl UndoStack {
         if self.count == usize::MAX || usize::MAX - self.recorded < pixels {
             return Err(Full);
         }
-        if spans > 0 {
-            self.stored.reserve(1).map_err(|_| Full)?;
-        }
+        // a frame without spans is not stored
+        self.stored.reserve(spans.min(1)).map_err(|_| Full)?;
         self.spans.reserve(self.alloc, spans, 0).map_err(|_| Full)?;
         // most frames need few of the colours, and then what is left is room for the next one
         let twice = pixels.saturating_mul(2);

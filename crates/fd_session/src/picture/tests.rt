@@ -47,7 +47,7 @@ fn recorded(picture: &Picture) -> u64 {
     count
 }
 
-/// With one worker a slice takes 30 ms by estimate, which are 17 of these clears.
+/// With one worker a slice of a picture takes 17 ms by estimate, which are 17 of these clears.
 #[test]
 fn a_picture_keeps_nothing(rt: HostRuntime) -> Result<(), Fail> {
     let mut clears = Vec::new(rt.alloc());

@@ -66,7 +66,7 @@ fn expect_ends(rt: &impl Abort, session: &Session, position: u32, shown: Colour)
 /// How often each way of moving is tried with so many pieces given back: more often than a step has allocations.
 const TRIES: usize = 8;
 
-/// More pieces than the largest allocation of a step needs, which is for 2,048 colours.
+/// More pieces than all allocations of a step need together.
 const MOST_GIVEN: usize = 400;
 
 /// A step is refused where the crew's fence wants memory, and stops where a tile does. Either way nothing has changed. What a tile got it keeps, so each

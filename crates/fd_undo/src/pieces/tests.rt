@@ -1,4 +1,4 @@
-use crate::pieces::Pieces;
+use crate::pieces::{Pieces, new_items};
 use std::test::Fail;
 
 #[test]
@@ -40,5 +40,13 @@ fn room_is_made_as_if_more_were_held(rt: HostRuntime) -> Result<(), Fail> {
     list.reserve(rt.alloc(), 100, 300)?;
     list.push(5u16);
     assert!(rt; list.room >= 299);
+    Ok(())
+}
+
+#[test]
+fn a_smaller_piece_will_do(rt: HostRuntime) -> Result<(), Fail> {
+    let mut items = new_items(rt.alloc(), usize::MAX, 3)?;
+    items.push(5u16)?;
+    assert!(rt; items.capacity() >= 3);
     Ok(())
 }

@@ -29,9 +29,9 @@ invariant_of-self-2 g c =
     ap (λ v. v.items) c.self-2.view_is ∙ c.truncate.ensures.items ∙ take_all c.len-start.result c.args.self.now.items (omega (arith, c.len-start.ensures.value)) in
     let start : c.len-start.result ≡ length (items_of c.self-2.inside.pieces.items) = omega (arith, c.len-start.ensures.value, ap length same) in
     record {
-      chain = added-chain ps now p is c.self-2.invariant.chain start c.in_ok-items.ensures.items;
-      has_room = added-room ps now p is c.self-2.invariant.chain start c.in_ok-items.ensures.items c.min-self-inside.result (omega (arith, c.min-self-inside.ensures, c.capacity.ensures));
-      countable = omega (arith, c.min-self-inside.ensures, start, ap length (added-items ps now p is c.self-2.invariant.chain start c.in_ok-items.ensures.items), c.len-start.ensures.room, c.len-start.ensures.value);
+      chain = added-chain ps now p is c.self-2.invariant.chain start c.in_ok-items.ensures.empty;
+      has_room = added-room ps now p is c.self-2.invariant.chain start c.in_ok-items.ensures.empty c.min-self-inside.result (omega (arith, c.min-self-inside.ensures, c.capacity.ensures));
+      countable = omega (arith, c.min-self-inside.ensures, start, ap length (added-items ps now p is c.self-2.invariant.chain start c.in_ok-items.ensures.empty), c.len-start.ensures.room, c.len-start.ensures.value);
     }
 
 pub returns-clause-items : goal.returns-clause-items
@@ -43,7 +43,7 @@ returns-clause-items g c =
     let same : items_of c.self-2.inside.pieces.items ≡ c.args.self.now.items =
     ap (λ v. v.items) c.self-2.view_is ∙ c.truncate.ensures.items ∙ take_all c.len-start.result c.args.self.now.items (omega (arith, c.len-start.ensures.value)) in
     let start : c.len-start.result ≡ length (items_of c.self-2.inside.pieces.items) = omega (arith, c.len-start.ensures.value, ap length same) in
-    added-items ps now p is c.self-2.invariant.chain start c.in_ok-items.ensures.items ∙ same
+    added-items ps now p is c.self-2.invariant.chain start c.in_ok-items.ensures.empty ∙ same
 
 pub returns-clause-whole : goal.returns-clause-whole
 returns-clause-whole g c first n whole =
@@ -55,5 +55,5 @@ returns-clause-whole g c first n whole =
     ap (λ v. v.items) c.self-2.view_is ∙ c.truncate.ensures.items ∙ take_all c.len-start.result c.args.self.now.items (omega (arith, c.len-start.ensures.value)) in
     let start : c.len-start.result ≡ length (items_of c.self-2.inside.pieces.items) = omega (arith, c.len-start.ensures.value, ap length same) in
     whole-grown record { items = items_of c.self-2.inside.pieces.items; starts = starts_of c.self-2.inside.pieces.items; room = c.self-2.inside.room } _
-    (added-items ps now p is c.self-2.invariant.chain start c.in_ok-items.ensures.items) (added-starts ps now p is c.self-2.invariant.chain start c.in_ok-items.ensures.items) first n
+    (added-items ps now p is c.self-2.invariant.chain start c.in_ok-items.ensures.empty) (added-starts ps now p is c.self-2.invariant.chain start c.in_ok-items.ensures.empty) first n
     (subst (λ v. IsWhole v first n) (sym c.self-2.view_is) (c.truncate.ensures.whole first n whole (omega (arith, c.len-start.ensures.value, whole.within))))
