@@ -19,8 +19,8 @@ pub(crate) const PICTURE_WORK: usize = 17_000_000;
 /// The work of a slice for each tile beside that, in nanoseconds, so that on many tiles a slice does more than fetch them all.
 const FETCHED_WORK: usize = 500;
 
-/// The most work of a slice, in nanoseconds, by however many workers. In so long a time 67,108,864 pixels are written, whose colours take 256 MiB
-/// among the undo records at most: no more is drawn in vain where memory runs out.
+/// The work at which a slice ends, in nanoseconds, by however many workers. In so long a time 67,108,864 pixels are written, whose colours take up to
+/// 256 MiB among the undo records: about so much is drawn in vain at most where memory runs out, or one event where that is more.
 const SLICE_MOST: usize = 268_435_456;
 
 /// The events of a slice on a single tile. It is one worker's, whatever their work is, so that this is not estimated.
