@@ -11,7 +11,7 @@ ghost use denote.Param.Send.{IsSync, IsSend};
 ghost use Rattle.fd_owner.specs.Shown.{gone_back_to};
 ghost use Rattle.fd_crew.specs.Fence.{CanWork};
 ghost use Rattle.fd_crew.specs.Seats.{crew_of, target_of};
-ghost use Rattle.fd_crew.specs.Parts.{IsPart, lanes_of, lower_lanes, upper_lanes};
+ghost use Rattle.fd_crew.specs.Parts.{IsPart, lower_lanes, upper_lanes};
 ghost use Rattle.fd_crew.specs.Lanes.{CanRun, Drawn, RefusedAt, Worked, EndsAs, opening_position};
 
 use crate::fence::{Fence, Post};
@@ -94,8 +94,8 @@ fn run_both<R: Threads + Sync, L: Lane, G: Gate, S: Post>(
     fence: &Fence,
     gate: &G,
     table: &EventTable,
-    lower: &Part,
-    upper: &Part,
+    lower: &Part<'_>,
+    upper: &Part<'_>,
     seat: &mut S,
     other: &mut S,
     lanes: &mut [L],
@@ -103,8 +103,9 @@ fn run_both<R: Threads + Sync, L: Lane, G: Gate, S: Post>(
     requires seats { S.stands fence.now seat.old × S.stands fence.now other.old }
     requires can { CanWork (crew_of fence.now) (length table.now.events) (S.view seat.old) × CanWork (crew_of fence.now) (length table.now.events) (S.view other.old) }
     requires workers { ((S.view seat.old).share ≡ lower.now.workers) × ((S.view other.old).share ≡ upper.now.workers) }
-    requires parts { IsPart lower.now × IsPart upper.now × (lower.now.first_lane + lanes_of lower.now ≡ upper.now.first_lane) }
-    requires owned { length lanes.old ≡ lanes_of lower.now + lanes_of upper.now }
+    requires parts { IsPart lower.now × IsPart upper.now }
+    requires owned { (lower.now.first_lane ≤ upper.now.first_lane) × (upper.now.first_lane ≤ lower.now.first_lane + length lanes.old) }
+    requires room { lower.now.first_lane + length lanes.old < 2 ^ 64 }
     requires lanes { All (CanRun L.shown L.fits table.now (target_of fence.now)) lanes.old }
     ensures seats { S.stands fence.now seat.new × S.stands fence.now other.new }
     ensures lower { Worked L.shown L.fits table.now (target_of fence.now) (S.view seat.old) (S.view seat.new) (lower_lanes lower.now upper.now lanes.old) (lower_lanes lower.now upper.now lanes.new) }
@@ -119,7 +120,7 @@ fn run_both<R: Threads + Sync, L: Lane, G: Gate, S: Post>(
             requires can { CanWork (crew_of fence.now) (length table.now.events) (S.view seat.now) }
             requires workers { (S.view seat.now).share ≡ lower.now.workers }
             requires part { IsPart lower.now }
-            requires owned { length front.now ≡ lanes_of lower.now }
+            requires room { lower.now.first_lane + length front.now < 2 ^ 64 }
             requires lanes { All (CanRun L.shown L.fits table.now (target_of fence.now)) front.now }
             ensures seat { S.stands fence.entry.now seat.exit.now }
             ensures worked { Worked L.shown L.fits table.entry.now (target_of fence.entry.now) (S.view seat.entry.now) (S.view seat.exit.now) front.entry.now front.exit.now }
@@ -130,7 +131,7 @@ fn run_both<R: Threads + Sync, L: Lane, G: Gate, S: Post>(
             requires can { CanWork (crew_of fence.now) (length table.now.events) (S.view other.now) }
             requires workers { (S.view other.now).share ≡ upper.now.workers }
             requires part { IsPart upper.now }
-            requires owned { length back.now ≡ lanes_of upper.now }
+            requires room { upper.now.first_lane + length back.now < 2 ^ 64 }
             requires lanes { All (CanRun L.shown L.fits table.now (target_of fence.now)) back.now }
             ensures seat { S.stands fence.entry.now other.exit.now }
             ensures worked { Worked L.shown L.fits table.entry.now (target_of fence.entry.now) (S.view other.entry.now) (S.view other.exit.now) back.entry.now back.exit.now }
@@ -145,7 +146,7 @@ fn run_range<R: Threads + Sync, L: Lane, G: Gate, S: Post>(
     fence: &Fence,
     gate: &G,
     table: &EventTable,
-    part: &Part,
+    part: &Part<'_>,
     seat: &mut S,
     lanes: &mut [L],
 )
@@ -153,7 +154,7 @@ fn run_range<R: Threads + Sync, L: Lane, G: Gate, S: Post>(
     requires can { CanWork (crew_of fence.now) (length table.now.events) (S.view seat.old) }
     requires workers { (S.view seat.old).share ≡ part.now.workers }
     requires part { IsPart part.now }
-    requires owned { length lanes.old ≡ lanes_of part.now }
+    requires room { part.now.first_lane + length lanes.old < 2 ^ 64 }
     requires lanes { All (CanRun L.shown L.fits table.now (target_of fence.now)) lanes.old }
     ensures seat { S.stands fence.now seat.new }
     ensures worked { Worked L.shown L.fits table.now (target_of fence.now) (S.view seat.old) (S.view seat.new) lanes.old lanes.new }
@@ -162,7 +163,7 @@ fn run_range<R: Threads + Sync, L: Lane, G: Gate, S: Post>(
         draw_lanes(fence, gate, table, part.first_lane, seat, lanes);
         return;
     }
-    let (lower, upper) = part.halves();
+    let (lower, upper) = part.halves(lanes.len());
     let mut other = seat.split(fence);
     run_both(
         rt, fence, gate, table, &lower, &upper, seat, &mut other, lanes,
@@ -206,12 +207,42 @@ pub fn run_back<L: Lane>(lanes: &mut [L], to: u32)
     }
 }
 
-/// Takes all lanes, which stand at one position, forward to the target. Of `workers` workers, worker w owns the lanes from number
-/// `w * lanes.len() / workers` up to the next worker's first one. Where a lane refuses, all lanes end at the least position at which one refused.
-/// An `Err` says that there was no memory for the fence; then no lane has moved.
+/// Takes all lanes, which stand at one position, forward to the target, each worker those from the lane of its own number in `firsts` up to the next
+/// worker's first one. Where `firsts` has no lane for a worker, or one that lies among another worker's, the lanes are shared out by the workers that are left.
+/// Where a lane refuses, all lanes end at the least position at which one refused. An `Err` says that there was no memory for the fence; then no lane has moved.
 ///
-/// So it ends for every number of workers and every schedule. Which lanes refuse may differ from run to run, as memory may.
+/// So it ends for every number of workers, however the lanes are shared out, and every schedule. Which lanes refuse may differ from run to run, as memory may.
 /// The bound is `Threads` without `Wait`: nothing waits but the join of a thread, so the call returns if the lanes and the gate do.
+pub fn run_shared<R: Threads + Sync, L: Lane, G: Gate>(
+    rt: &R,
+    alloc: Global,
+    lanes: &mut [L],
+    table: &EventTable,
+    target: u32,
+    workers: u32,
+    firsts: &[usize],
+    gate: &G,
+) -> Result<Outcome, AllocError>
+    requires together { All (λ l. position (L.shown l).history ≡ opening_position (map L.shown lanes.old)) lanes.old }
+    requires target { (opening_position (map L.shown lanes.old) ≤ target) × (target ≤ length table.now.events) }
+    requires workers { (1 ≤ workers) × (workers ≤ 64) }
+    requires fits { All (λ l. L.fits l table.now) lanes.old }
+    ensures ended { MatchResult result (λ outcome. EndsAs L.shown table.now target lanes.old lanes.new outcome) (λ _. lanes.new ≡ lanes.old) }
+    ensures fits { All (λ l. L.fits l table.now) lanes.new }
+{
+    let (fence, mut seat) = Fence::raise(alloc, target, workers)?;
+    let part = Part::whole(workers, firsts);
+    run_range(rt, &fence, gate, table, &part, &mut seat, lanes);
+    let at = fence.close(seat) as u32;
+    run_back(lanes, at);
+    Ok(if at == target {
+        Outcome::Reached
+    } else {
+        Outcome::Stopped { at }
+    })
+}
+
+/// The same with the lanes shared out evenly: each worker owns as many as any other, or one more.
 pub fn run_forward<R: Threads + Sync, L: Lane, G: Gate>(
     rt: &R,
     alloc: Global,
@@ -228,14 +259,5 @@ pub fn run_forward<R: Threads + Sync, L: Lane, G: Gate>(
     ensures ended { MatchResult result (λ outcome. EndsAs L.shown table.now target lanes.old lanes.new outcome) (λ _. lanes.new ≡ lanes.old) }
     ensures fits { All (λ l. L.fits l table.now) lanes.new }
 {
-    let (fence, mut seat) = Fence::raise(alloc, target, workers)?;
-    let part = Part::whole(lanes.len(), workers);
-    run_range(rt, &fence, gate, table, &part, &mut seat, lanes);
-    let at = fence.close(seat) as u32;
-    run_back(lanes, at);
-    Ok(if at == target {
-        Outcome::Reached
-    } else {
-        Outcome::Stopped { at }
-    })
+    run_shared(rt, alloc, lanes, table, target, workers, &[], gate)
 }

@@ -1,63 +1,68 @@
 //! Which worker owns which lanes. A lane has one owner for the whole run.
-ghost use Rattle.std.specs.Prelude.{◌≡◌, ◌≤◌, ◌<◌, ◌+◌, ◌-◌, ◌*◌, ◌/◌};
-ghost use Rattle.fd_crew.specs.Parts.{IsPart, IsCutIn, first_lane_of, lanes_of, lower_half, upper_half};
+ghost use Rattle.std.specs.Prelude.{◌≡◌, ◌≤◌, ◌<◌, ◌^◌, ◌+◌, ◌-◌, ◌*◌, ◌/◌};
+ghost use Rattle.fd_crew.specs.Parts.{IsPart};
 
-/// Neighbouring workers of a crew, and the lanes that they own.
-/// Worker w of the crew owns the lanes from number `w * all_lanes / all_workers` up to the next worker's first one.
+/// Neighbouring workers of a crew, and where the lanes begin that they own together.
 #[derive(Clone, Copy)]
-pub struct Part {
+pub struct Part<'a> {
     pub first_lane: usize,
     pub first_worker: u32,
     pub workers: u32,
-    pub all_lanes: usize,
-    pub all_workers: u32,
+    /// The lane at which each worker of the crew is to begin. Where there is none for a worker, the lanes are shared out evenly.
+    pub firsts: &'a [usize],
 }
 
-/// The first lane of a worker, `worker * lanes / workers`. It is the number of lanes for the worker after the last.
-/// Computed from quotient and remainder, since the product may not fit.
-fn first_lane(lanes: usize, workers: u32, worker: u32) -> usize
+/// How many of these lanes `count` of so many workers own where each of them owns as many as any other, or one more: `count * lanes / workers`,
+/// computed from quotient and remainder, since the product may not fit.
+fn even_share(lanes: usize, workers: u32, count: u32) -> usize
     requires some { 0 < workers }
-    requires within { worker ≤ workers }
-    ensures { result ≡ first_lane_of lanes workers worker }
+    requires count { count ≤ workers }
+    ensures value { result ≡ count * lanes / workers }
+    ensures within { result ≤ lanes }
 {
     let workers = workers as usize;
-    let worker = worker as usize;
-    lanes / workers * worker + lanes % workers * worker / workers
+    let count = count as usize;
+    lanes / workers * count + lanes % workers * count / workers
 }
 
-impl Part {
+impl<'a> Part<'a> {
     /// The whole crew.
-    pub fn whole(lanes: usize, workers: u32) -> Part
-        requires { 0 < workers }
-        ensures value { result ≡ record { first_lane = 0; first_worker = 0; workers = workers; all_lanes = lanes; all_workers = workers } }
+    pub fn whole(workers: u32, firsts: &'a [usize]) -> Part<'a>
+        requires workers { (1 ≤ workers) × (workers ≤ 64) }
+        ensures first { result.first_lane ≡ 0 }
+        ensures workers { result.workers ≡ workers }
         ensures part { IsPart result }
-        ensures lanes { lanes_of result ≡ lanes }
     {
         Part {
             first_lane: 0,
             first_worker: 0,
             workers,
-            all_lanes: lanes,
-            all_workers: workers,
+            firsts,
         }
     }
 
-    /// The first half of the workers, and the others.
-    pub fn halves(&self) -> (Part, Part)
+    /// The first half of the workers, and the others, which begin among these lanes of the part, or behind the last of them.
+    pub fn halves(&self, lanes: usize) -> (Part<'a>, Part<'a>)
         requires part { IsPart self.now }
         requires two { 2 ≤ self.now.workers }
-        ensures lower { result.0 ≡ lower_half self.now }
-        ensures upper { result.1 ≡ upper_half self.now }
-        ensures cut { IsCutIn self.now result.0 result.1 }
+        requires room { self.now.first_lane + lanes < 2 ^ 64 }
+        ensures parts { IsPart result.0 × IsPart result.1 }
+        ensures workers { (result.0.workers ≡ self.now.workers / 2) × (result.1.workers ≡ self.now.workers - self.now.workers / 2) }
+        ensures lower { result.0.first_lane ≡ self.now.first_lane }
+        ensures upper { (self.now.first_lane ≤ result.1.first_lane) × (result.1.first_lane ≤ self.now.first_lane + lanes) }
     {
         let half = self.workers / 2;
         let middle = self.first_worker + half;
+        let owned = match self.firsts.get(middle as usize) {
+            Some(first) => first.saturating_sub(self.first_lane).min(lanes),
+            None => even_share(lanes, self.workers, half),
+        };
         let lower = Part {
             workers: half,
             ..*self
         };
         let upper = Part {
-            first_lane: first_lane(self.all_lanes, self.all_workers, middle),
+            first_lane: self.first_lane + owned,
             first_worker: middle,
             workers: self.workers - half,
             ..*self

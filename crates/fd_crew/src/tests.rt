@@ -2,7 +2,7 @@
 ghost use Rattle.std.specs.Prelude.{◌≡◌, ◌≤◌, length, IfOk};
 ghost use Rattle.fd_owner.specs.History.{position};
 
-use crate::{Free, Gate, Lane, Outcome, run_back, run_forward};
+use crate::{Free, Gate, Lane, Outcome, run_back, run_forward, run_shared};
 use fd_blend::Colour;
 use fd_events::{Event, EventTable, Label};
 use fd_owner::{Owner, Refused};
@@ -242,6 +242,47 @@ fn every_worker_is_in_a_lane_at_once(rt: HostRuntime) -> Result<(), Fail> {
         four.iter()
             .all(|lane| lane.position == 1 && !lane.went_early)
     );
+    Ok(())
+}
+
+/// The second worker begins at lane 1, so that lanes 0 and 1 meet. Shared out evenly both were the first worker's.
+#[test]
+fn a_worker_begins_at_the_lane_that_it_is_given(rt: HostRuntime) -> Result<(), Fail> {
+    let table = markers(rt.alloc(), 1)?;
+    let flags = [AtomicU64::new(0), AtomicU64::new(0)];
+    let gate = Meets {
+        flags: &flags,
+        gave_up: AtomicU64::new(0),
+    };
+    let mut lanes = [
+        Fake::flagged(&flags[0]),
+        Fake::flagged(&flags[1]),
+        Fake::new(None),
+        Fake::new(None),
+    ];
+    let outcome = run_shared(&rt, rt.alloc(), &mut lanes, &table, 1, 2, &[0, 1], &gate)?;
+    assert!(rt; outcome == Outcome::Reached && gate.gave_up.load(Ordering::SeqCst) == 0);
+    assert!(rt;
+        lanes
+            .iter()
+            .all(|lane| lane.position == 1 && !lane.went_early)
+    );
+    Ok(())
+}
+
+/// Workers that begin behind the last lane, at one lane, out of order, or nowhere.
+#[test]
+fn all_lanes_go_wherever_workers_begin(rt: HostRuntime) -> Result<(), Fail> {
+    let table = markers(rt.alloc(), 9)?;
+    for firsts in [[0, 9, 9], [2, 2, 2], [2, 1, 0], [9, 0, 9]] {
+        for known in 0..4 {
+            let mut lanes = [Fake::new(None), Fake::new(None), Fake::new(Some(4))];
+            let firsts = &firsts[..known];
+            let outcome = run_shared(&rt, rt.alloc(), &mut lanes, &table, 9, 3, firsts, &Free)?;
+            assert!(rt; outcome == Outcome::Stopped { at: 3 });
+            assert!(rt; lanes.iter().all(|lane| lane.position == 3));
+        }
+    }
     Ok(())
 }
 

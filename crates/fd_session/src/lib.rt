@@ -7,6 +7,7 @@ pub use session::Session;
 pub use shows::Shows;
 
 mod answer;
+mod estimate;
 pub mod laws;
 mod moves;
 mod picture;

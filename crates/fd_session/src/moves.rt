@@ -7,8 +7,9 @@ ghost use Rattle.fd_crew.specs.Lanes.{opening_position};
 ghost use Rattle.fd_session.specs.Held.{StandsAt};
 ghost use Rattle.fd_session.specs.Moves.{IsFresh, GoesOn, IsLeftAt};
 
-use crate::worth::{Area, MOVE_WORK, Slice, next_slice};
-use fd_crew::{Gate, Outcome, run_back, run_forward};
+use crate::estimate::Area;
+use crate::worth::{MOVE_WORK, Slice, next_slice};
+use fd_crew::{Gate, Outcome, run_back, run_shared};
 use fd_events::EventTable;
 use fd_owner::Owner;
 use fd_tile::{Grid, Tile};
@@ -40,10 +41,8 @@ pub(crate) fn fresh_owners(alloc: Global, grid: &Grid) -> Result<Vec<Owner>, All
 /// How a move forward is handed to the crew.
 #[derive(Clone, Copy, PartialEq, Eq, Debug)]
 pub(crate) enum Pace {
-    /// All at once, by all these workers.
+    /// All at once, by all these workers, among whom the tiles are shared out evenly.
     Whole,
-    /// The same; where memory runs out, the rest event by event.
-    Slice,
     /// Slice by slice, each by as many workers as it is worth; where memory runs out, the rest event by event. All that was done stays.
     Slices,
     /// Event by event, by one worker, which wants the least memory.
@@ -62,32 +61,29 @@ impl Pace {
         ensures most { result.workers ≤ workers }
     {
         match self {
-            Pace::Whole | Pace::Slice => Slice { end: to, workers },
+            Pace::Whole => Slice::even(to, workers),
             Pace::Slices => next_slice(table, from, to, area, workers, MOVE_WORK),
-            Pace::Events => Slice {
-                end: from + 1,
-                workers: 1,
-            },
+            Pace::Events => Slice::even(from + 1, 1),
         }
     }
 }
 
-/// Takes all owners on to a position at once, or to the one before the first event that one of them refuses.
+/// Takes all owners on over a slice, or to the position before the first event that one of them refuses.
 fn run_on<R: Threads + Sync, G: Gate>(
     rt: &R,
     alloc: Global,
     owners: &mut [Owner],
     table: &EventTable,
-    to: u32,
-    workers: u32,
+    slice: &Slice,
     gate: &G,
 ) -> Result<Outcome, AllocError>
     requires stand { All (StandsAt table.now (opening_position owners.old)) owners.old }
-    requires target { (opening_position owners.old ≤ to) × (to ≤ length table.now.events) }
-    requires workers { (1 ≤ workers) × (workers ≤ 64) }
-    ensures { MatchResult result (λ outcome. GoesOn table.now to owners.old owners.new outcome) (λ _. owners.new ≡ owners.old) }
+    requires target { (opening_position owners.old ≤ slice.now.end) × (slice.now.end ≤ length table.now.events) }
+    requires workers { (1 ≤ slice.now.workers) × (slice.now.workers ≤ 64) }
+    ensures { MatchResult result (λ outcome. GoesOn table.now slice.now.end owners.old owners.new outcome) (λ _. owners.new ≡ owners.old) }
 {
-    run_forward(rt, alloc, owners, table, to, workers, gate)
+    let (end, workers) = (slice.end, slice.workers);
+    run_shared(rt, alloc, owners, table, end, workers, &slice.firsts, gate)
 }
 
 /// Takes all owners on to a position at some pace, or to the one before the first event that one of them refuses. It is refused itself only
@@ -112,7 +108,7 @@ fn go_at_pace<R: Threads + Sync, G: Gate>(
     let mut at = from;
     while at < to {
         let slice = pace.next(table, at, to, &area, workers);
-        let run = run_on(rt, alloc, owners, table, slice.end, slice.workers, gate);
+        let run = run_on(rt, alloc, owners, table, &slice, gate);
         match run {
             Ok(outcome) => {
                 if let Outcome::Stopped { .. } = outcome {

@@ -6,11 +6,12 @@ ghost use Rattle.fd_crew.specs.Lanes.{opening_position};
 ghost use Rattle.fd_session.specs.Drawing.{ShowsAt, DrawsOn};
 
 use crate::answer::{Answer, SessionFault};
+use crate::estimate::Area;
 use crate::moves::{common_position, fresh_owners};
 use crate::session::answer_to_jump;
-use crate::worth::{Area, PICTURE_WORK, Slice, next_slice};
+use crate::worth::{PICTURE_WORK, Slice, next_slice};
 use fd_blend::Colour;
-use fd_crew::{Free, Outcome, run_forward};
+use fd_crew::{Free, Outcome, run_shared};
 use fd_events::EventTable;
 use fd_owner::Owner;
 use fd_tile::Grid;
@@ -71,20 +72,13 @@ impl Picture {
     }
 
     /// Draws a slice.
-    fn draw<R: Threads + Sync>(&mut self, rt: &R, slice: Slice) -> Answer
-        requires ahead { self.old.position < slice.end }
-        requires within { slice.end ≤ length self.old.table.events }
-        requires workers { (1 ≤ slice.workers) × (slice.workers ≤ 64) }
-        ensures { Jumps self.old slice.end result self.new }
+    fn draw<R: Threads + Sync>(&mut self, rt: &R, slice: &Slice) -> Answer
+        requires ahead { self.old.position < slice.now.end }
+        requires within { slice.now.end ≤ length self.old.table.events }
+        requires workers { (1 ≤ slice.now.workers) × (slice.now.workers ≤ 64) }
+        ensures { Jumps self.old slice.now.end result self.new }
     {
-        let run = draw_on(
-            rt,
-            self.alloc,
-            &mut self.owners,
-            &self.table,
-            slice.end,
-            slice.workers,
-        );
+        let run = draw_on(rt, self.alloc, &mut self.owners, &self.table, slice);
         answer_to_jump(slice.end, run)
     }
 
@@ -102,7 +96,7 @@ impl Picture {
         }
         let area = Area::of(&self.owners, self.table.width());
         let slice = next_slice(&self.table, from, to, &area, self.workers, PICTURE_WORK);
-        let answer = self.draw(rt, slice);
+        let answer = self.draw(rt, &slice);
         if let Answer::Moved { at } = answer {
             if at != to {
                 return None;
@@ -141,21 +135,21 @@ impl Picture {
     }
 }
 
-/// Takes all owners on to a position, or to the one before the first event that one of them refuses, and lets them forget what was overwritten.
+/// Takes all owners on over a slice, or to the position before the first event that one of them refuses, and lets them forget what was overwritten.
 fn draw_on<R: Threads + Sync>(
     rt: &R,
     alloc: Global,
     owners: &mut [Owner],
     table: &EventTable,
-    to: u32,
-    workers: u32,
+    slice: &Slice,
 ) -> Result<Outcome, AllocError>
     requires shown { All (ShowsAt table.now (opening_position owners.old)) owners.old }
-    requires target { (opening_position owners.old ≤ to) × (to ≤ length table.now.events) }
-    requires workers { (1 ≤ workers) × (workers ≤ 64) }
-    ensures { DrawsOn table.now to owners.old owners.new result }
+    requires target { (opening_position owners.old ≤ slice.now.end) × (slice.now.end ≤ length table.now.events) }
+    requires workers { (1 ≤ slice.now.workers) × (slice.now.workers ≤ 64) }
+    ensures { DrawsOn table.now slice.now.end owners.old owners.new result }
 {
-    let run = run_forward(rt, alloc, owners, table, to, workers, &Free);
+    let (end, workers) = (slice.end, slice.workers);
+    let run = run_shared(rt, alloc, owners, table, end, workers, &slice.firsts, &Free);
     forget_all(owners);
     run
 }

@@ -4,9 +4,10 @@ ghost use Rattle.fd_session.specs.declared.answer.Answer.TheVariants.{Moved, Sto
 ghost use Rattle.fd_session.specs.Moves.{jump_answer};
 
 use crate::answer::{Answer, SessionFault};
+use crate::estimate::Area;
 use crate::moves::{Pace, common_position, fresh_owners, go_back, go_on};
 use crate::redraw::go_again;
-use crate::worth::{Area, MOVE_WORK, Slice, next_slice};
+use crate::worth::{MOVE_WORK, next_slice};
 use fd_blend::Colour;
 use fd_crew::{Free, Gate, Outcome};
 use fd_events::{EventTable, Pipeline};
@@ -120,26 +121,24 @@ impl Session {
         self.jump(rt, to, self.workers, Pace::Slices, &Free)
     }
 
-    /// The next slice of a jump. A jump back, or to no position, has one slice.
-    fn next_part(&self, to: u32) -> Slice
-        ensures end { result.end ≢ to → (self.now.position < result.end) × (result.end < to) × (to ≤ length self.now.table.events) }
-        ensures workers { (1 ≤ result.workers) × (result.workers ≤ 64) }
+    /// The end of the next slice of a jump. A jump back, or to no position, has one slice.
+    fn next_end(&self, to: u32) -> u32
+        ensures { result ≢ to → (self.now.position < result) × (result < to) × (to ≤ length self.now.table.events) }
     {
         let from = self.position();
-        let workers = self.workers;
         if to <= from || to > self.table.len() {
-            return Slice { end: to, workers };
+            return to;
         }
         let area = Area::of(&self.owners, self.table.width());
-        next_slice(&self.table, from, to, &area, workers, MOVE_WORK)
+        next_slice(&self.table, from, to, &area, self.workers, MOVE_WORK).end
     }
 
     /// Makes the next slice of a jump, and gives the answer to the jump where it has ended; else there is more to go.
     pub fn goto_part<R: Threads + Sync>(&mut self, rt: &R, to: u32) -> Option<Answer>
         ensures { JumpsPart self.old to result self.new }
     {
-        let part = self.next_part(to);
-        let answer = self.jump(rt, part.end, part.workers, Pace::Slice, &Free);
+        let end = self.next_end(to);
+        let answer = self.goto(rt, end);
         if let Answer::Moved { at } = answer {
             if at != to {
                 return None;

@@ -12,7 +12,7 @@ pub invariant_of-self : goal.invariant_of-self
 invariant_of-self g c =
     let owners = c.self.inside.owners.items in
     let table = c.self.inside.table in
-    let to = c.args.slice.end in
+    let to = c.args.slice.now.end in
     let below : opening_position owners < to = omega (arith, c.requires.ahead, ap (λ (s : State). s.position) c.self.view_is) in
     let within : to ≤ length table.events = omega (arith, c.requires.within, ap (λ (s : State). length s.table.events) c.self.view_is) in
     let drew : DrawsOn table to owners c.draw_on-run.new.owners c.draw_on-run.result =
@@ -26,7 +26,7 @@ pub returns : goal.returns
 returns g c =
     let owners = c.self.inside.owners.items in
     let table = c.self.inside.table in
-    let to = c.args.slice.end in
+    let to = c.args.slice.now.end in
     let below : opening_position owners < to = omega (arith, c.requires.ahead, ap (λ (s : State). s.position) c.self.view_is) in
     let within : to ≤ length table.events = omega (arith, c.requires.within, ap (λ (s : State). length s.table.events) c.self.view_is) in
     let drew : DrawsOn table to owners c.draw_on-run.new.owners c.draw_on-run.result =

@@ -2,7 +2,7 @@ use Rattle.std.proofs.Common.{ℕ, ap, subst, map}
 use Rattle.fd_crew.specs.declared.fence.View.{View}
 use Rattle.fd_crew.specs.Lanes.{Worked, opening_position}
 use Rattle.fd_crew.proofs.Ending.{above_all, fits_all, ends_reached, ends_stopped}
-use Rattle.fd_crew.proofs.crew.run_forward.Goals as goal
+use Rattle.fd_crew.proofs.crew.run_shared.Goals as goal
 
 pub run_back-requires-after_bounds : goal.run_back-requires-after_bounds
 run_back-requires-after_bounds g c κs within =
