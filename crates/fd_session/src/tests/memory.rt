@@ -33,6 +33,9 @@ const PIECES: [usize; 11] = [
 /// No piece of memory is smaller.
 const SMALLEST: usize = 24;
 
+/// Memory that lies side by side, and is taken in the smallest pieces last of all. They take 32 bytes each of it, so that it makes some 2,000.
+const LAST: usize = 1 << 16;
+
 /// Takes pieces of this size until there is no more of them.
 fn take_all(alloc: Global, pieces: &mut Vec<Vec<u8>>, size: usize) {
     for _ in pieces.len()..pieces.capacity() {
@@ -45,12 +48,15 @@ fn take_all(alloc: Global, pieces: &mut Vec<Vec<u8>>, size: usize) {
     }
 }
 
-/// Takes all memory, the last of it in small pieces.
+/// Takes all memory, the last of it in small pieces side by side, so that what some of them give back is one piece again.
 fn exhaust(alloc: Global) -> Result<Vec<Vec<u8>>, AllocError> {
     let mut pieces = Vec::with_capacity(alloc, 200_000)?;
+    let last: Vec<u8> = Vec::with_capacity(alloc, LAST)?;
     for size in PIECES {
         take_all(alloc, &mut pieces, size);
     }
+    take_all(alloc, &mut pieces, SMALLEST);
+    drop(last);
     take_all(alloc, &mut pieces, SMALLEST);
     Ok(pieces)
 }
@@ -66,8 +72,8 @@ fn expect_ends(rt: &impl Abort, session: &Session, position: u32, shown: Colour)
 /// How often each way of moving is tried with so many pieces given back: more often than a step has allocations.
 const TRIES: usize = 8;
 
-/// More pieces than all allocations of a step need together.
-const MOST_GIVEN: usize = 400;
+/// More pieces than all allocations of a step need together, which take 12 KB, and fewer than lie side by side.
+const MOST_GIVEN: usize = 800;
 
 /// A step is refused where the crew's fence wants memory, and stops where a tile does. Either way nothing has changed. What a tile got it keeps, so each
 /// try gets a little further, though all memory is taken again before it. By the gate two workers are asked for, and the thread can't be started.
