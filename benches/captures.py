@@ -92,6 +92,19 @@ def small(width, height, count, scattered):
     return Scene(width, height, triangles)
 
 
+def in_the_middle(side, count):
+    """Linear triangles whose legs are a twentieth of the target's side long, over one another in its middle fifth."""
+    generator = random.Random(1)
+    leg = side // 20
+    triangles = []
+    for number in range(count):
+        x, y = (generator.randrange(2 * side // 5, 3 * side // 5 - leg + 1) for _ in range(2))
+        colours = [(number % 256, 128, 99, 128), (255, number % 256, 0, 64), (x % 256, y % 256, 99, 128)]
+        places = [(x, y), (x + leg, y), (x, y + leg)]
+        triangles.append([(x, y, 0, colour) for (x, y), colour in zip(places, colours)])
+    return Scene(side, side, triangles, "linear")
+
+
 def one_pixel(count):
     """Triangles that cover the first pixel alone."""
     colours = [(number % 256, 1, 2, 128) for number in range(count)]

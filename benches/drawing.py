@@ -54,6 +54,7 @@ def workers(bench):
     makers = [
         ("20 large triangles", captures.large(side, side, 20).capture(), 21, plain, 3),
         ("16,000 small triangles in 160 draws", captures.small(side, side, 16_000, False).capture(100), 161, None, None),
+        ("3,000 triangles in the middle", captures.in_the_middle(side, 3_000).capture(), 3_001, None, None),
         (f"{count:,} markers", captures.markers(side, side, count), count, None, None),
     ]
     for name, data, end, beside, asked in makers:

@@ -2,8 +2,8 @@
 use clap::{Arg, Command, value_parser};
 use std::alloc::{AllocError, Global};
 
-/// The version, and the toolchain that it is proved with, as `rt version` says it.
-const VERSION: &str = "0.4.0 (proved with rattle-kit-13b logic dac8208d650f15bf)";
+/// The version, and the program logic that it is proved with, as `rt version` says it behind the name of the kit.
+const VERSION: &str = "0.4.0 (proved with logic dac8208d650f15bf)";
 
 /// What stands behind the help of the program.
 const STATUSES: &str =
