@@ -9,32 +9,20 @@ use std::alloc::Global;
 use std::process::Abort;
 use std::test::Fail;
 
-/// A draw of a triangle of 8 by 8 pixels.
-fn small(alloc: Global, left: i16, top: i16) -> Result<Event, Fail>
-    requires left { left ≤ 80 }
-    requires top { top ≤ 80 }
-{
-    flat(
-        alloc,
-        [(left, top), (left + 8, top), (left, top + 8)],
-        grey(9),
-    )
-}
-
 /// On a target of 96 by 96 pixels: additive blending, a draw in one corner and one in the middle, the same blending again, a draw towards another corner,
-/// blending off, a clear, and a draw in the upper right.
+/// blending off, a clear, and a draw in the upper right. Each draw is of 8 by 8 pixels.
 fn table(alloc: Global) -> Result<EventTable, Fail>
     ensures { IfOk result (λ table. length table.events ≡ 8) }
 {
     let mut events = Vec::new(alloc);
     events.push(blend(true, Factor::One, Factor::One, 15)?)?;
-    events.push(small(alloc, 0, 0)?)?;
-    events.push(small(alloc, 40, 40)?)?;
+    events.push(flat(alloc, [(0, 0), (8, 0), (0, 8)], grey(9))?)?;
+    events.push(flat(alloc, [(40, 40), (48, 40), (40, 48)], grey(9))?)?;
     events.push(blend(true, Factor::One, Factor::One, 15)?)?;
-    events.push(small(alloc, 70, 70)?)?;
+    events.push(flat(alloc, [(70, 70), (78, 70), (70, 78)], grey(9))?)?;
     events.push(blend(false, Factor::One, Factor::Zero, 15)?)?;
     events.push(Event::Clear(grey(1)))?;
-    events.push(small(alloc, 80, 0)?)?;
+    events.push(flat(alloc, [(80, 0), (88, 0), (80, 8)], grey(9))?)?;
     Ok(EventTable::start(alloc, 2, 96, 96, events)?)
 }
 
@@ -65,14 +53,10 @@ fn expect_reach(
 #[test]
 fn a_state_reaches_as_far_as_it_is_another_one(rt: HostRuntime) -> Result<(), Fail> {
     let mut table = table(rt.alloc())?;
-    for (position, sides) in [
-        (1, (0, 0, 0, 0)),
-        (2, (0, 0, 8, 8)),
-        (3, (0, 0, 48, 48)),
-        (8, (0, 0, 48, 48)),
-    ] {
-        expect_reach(&rt, &mut table, 1, position, sides);
-    }
+    expect_reach(&rt, &mut table, 1, 1, (0, 0, 0, 0));
+    expect_reach(&rt, &mut table, 1, 2, (0, 0, 8, 8));
+    expect_reach(&rt, &mut table, 1, 3, (0, 0, 48, 48));
+    expect_reach(&rt, &mut table, 1, 8, (0, 0, 48, 48));
     // the blending that is set again sets nothing, until the first is off
     expect_reach(&rt, &mut table, 4, 8, (0, 0, 0, 0));
     expect_reach(&rt, &mut table, 1, 8, (0, 0, 78, 78));

@@ -85,14 +85,6 @@ fn depth_test(enable: bool) -> Event {
     })
 }
 
-/// The corners of a triangle of 20 by 20 pixels.
-fn corner(left: i16, top: i16) -> [(i16, i16); 3]
-    requires left { left ≤ 64 }
-    requires top { top ≤ 64 }
-{
-    [(left, top), (left + 20, top), (left, top + 20)]
-}
-
 /// On nine tiles each kind of state, set before a draw and set otherwise after it: the depth test on one tile, two blend factors on two others, and on the
 /// three of the last row a scissor. The last draw, on the tile above them, is culled.
 fn states(alloc: Global, workers: u32) -> Result<Session, Fail>
@@ -101,14 +93,14 @@ fn states(alloc: Global, workers: u32) -> Result<Session, Fail>
     let mut events = Vec::new(alloc);
     events.push(Event::Clear(grey(100)))?;
     events.push(depth_test(true))?;
-    events.push(flat_at(alloc, corner(0, 0), grey(5), 1000)?)?;
-    events.push(flat_at(alloc, corner(0, 0), grey(7), 2000)?)?;
+    events.push(flat_at(alloc, [(0, 0), (20, 0), (0, 20)], grey(5), 1000)?)?;
+    events.push(flat_at(alloc, [(0, 0), (20, 0), (0, 20)], grey(7), 2000)?)?;
     events.push(depth_test(false))?;
     events.push(Event::SetFactor(grey(128)))?;
     events.push(blend(true, Factor::BlendFactor, Factor::Zero, 15)?)?;
-    events.push(flat(alloc, corner(32, 32), grey(200))?)?;
+    events.push(flat(alloc, [(32, 32), (52, 32), (32, 52)], grey(200))?)?;
     events.push(Event::SetFactor(grey(64)))?;
-    events.push(flat(alloc, corner(64, 32), grey(201))?)?;
+    events.push(flat(alloc, [(64, 32), (84, 32), (64, 52)], grey(201))?)?;
     events.push(blend(false, Factor::One, Factor::Zero, 15)?)?;
     events.push(scissor(0, 32, 10, 96))?;
     events.push(raster(Cull::None, true))?;

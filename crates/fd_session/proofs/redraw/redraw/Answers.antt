@@ -1,7 +1,7 @@
 use Rattle.std.proofs.Common.{◌-◌, arith}
 use Rattle.fd_session.specs.Moves.{IsLeftAt}
 use Rattle.fd_session.proofs.Redrawing.{all_before, run_redraws, run_no_lower}
-use Rattle.fd_session.proofs.Slices.{all_opening}
+use Rattle.fd_session.proofs.Slices.{all_opening, opening_below}
 use Rattle.fd_session.proofs.redraw.redraw.Goals as goal
 
 pub go_on-run-requires-clause-stand : goal.go_on-run-requires-clause-stand
@@ -10,6 +10,13 @@ go_on-run-requires-clause-stand g c κs within =
     let left : IsLeftAt table (c.args.switch.now.number - 1) c.args.owners.now c.run_back.new.lanes =
     all_before table c.args.switch.now c.args.to c.args.owners.now c.run_back.new.lanes c.requires.number.0 c.requires.number.1 c.requires.stood c.run_back.ensures.moved in
     all_opening table (c.args.switch.now.number - 1) c.run_back.new.lanes left.stand
+
+pub go_on-run-requires-clause-target : goal.go_on-run-requires-clause-target
+go_on-run-requires-clause-target g c κs within =
+    let table = c.args.table.now in
+    let left : IsLeftAt table (c.args.switch.now.number - 1) c.args.owners.now c.run_back.new.lanes =
+    all_before table c.args.switch.now c.args.to c.args.owners.now c.run_back.new.lanes c.requires.number.0 c.requires.number.1 c.requires.stood c.run_back.ensures.moved in
+    (omega (arith, opening_below table (c.args.switch.now.number - 1) c.run_back.new.lanes left.stand, c.requires.number.0, c.requires.number.1), c.requires.number.2)
 
 pub returns-clause-low : goal.returns-clause-low
 returns-clause-low g c =
