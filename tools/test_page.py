@@ -16,6 +16,7 @@ import unittest
 from unittest import mock
 
 import browser
+import passed_over
 import test_viewer_page
 from viewer_testing import DEPTH, EXAMPLES, PROGRAM, TOOLS, capture_of, image, png
 from viewer import image as viewer_image
@@ -57,8 +58,7 @@ def setUpModule():
     except kit.Failed as fault:
         if tried_kit():
             raise
-        print(f"The page alone can't be made with this kit, so it wasn't tried: {fault}", flush=True)
-        raise unittest.SkipTest("no page") from None
+        raise unittest.SkipTest(f"the page alone can't be made with this kit: {fault}") from None
     PAGE.write_text(packing.page(made, HOUSE))
     PACKED.write_text(packing.page(made, HOUSE, opens=True))
 
@@ -337,7 +337,7 @@ for test in [name for name in dir(test_viewer_page.Page) if name.startswith("tes
 
 
 if __name__ == "__main__":
-    if not browser.is_installed():
-        print("Chromium and chromedriver aren't installed here: the page alone wasn't tried", flush=True)
+    if browser.is_installed():
+        passed_over.run_tests("test_page")
     else:
-        unittest.main()
+        passed_over.note("test_page", "Chromium and chromedriver aren't installed")

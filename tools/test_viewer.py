@@ -5,13 +5,9 @@
 
 FRAMEDBG names another program, EXAMPLES another folder of examples, VIEWER another folder that the viewer is taken from.
 """
-import unittest
-
-import browser
+import passed_over
 from test_viewer_page import *     # noqa: F401, F403
 from test_viewer_server import *   # noqa: F401, F403
 
 if __name__ == "__main__":
-    if not browser.is_installed():
-        print("Chromium and chromedriver aren't installed here: the page wasn't tried", flush=True)
-    unittest.main()
+    passed_over.run_tests("test_viewer")
