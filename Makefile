@@ -71,7 +71,7 @@ test:
 	tools/check_program
 
 install: program
-	tools/install $(HOME_OF)
+	tools/install '$(HOME_OF)'
 
 uninstall:
-	tools/install --remove $(HOME_OF)
+	tools/install --remove '$(HOME_OF)'
