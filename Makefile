@@ -2,8 +2,9 @@
 # make demo     proves and builds framedbg, finds the wrong colour of examples/house.json, and writes its image to demo.pam and demo.png
 # make view     shows the sample capture in the browser, step by step
 # make page     makes out/framedbg.html, the viewer with the program inside, as one file for a browser; with CAPTURE=.. another with that capture inside
-# make test     checks documents, examples and captures, and then the gate: every proof from nothing, the must-fail edits, the tests, the
-#               programs; and then what only the built program shows: its endings, its threads, and each of its allocations refused
+# make test     checks documents and examples, and then the gate: every proof from nothing, the must-fail edits, the tests, the programs; and then
+#               what only the built program shows: its endings, its threads, its limits, each of its allocations refused, viewer, page, tools, its
+#               installation. tools/test_parts.txt has the parts; at the end stand their minutes, and what was passed over since something isn't there
 # make bench    measures the program beside a plain loop in C, and prints ratios; no part of the gate
 # make install  puts the program, its page, completions, viewer and documents below PREFIX; make uninstall takes them away
 
@@ -46,7 +47,6 @@ test-page: $(PROGRAM)
 	tools/test_page.py
 
 test-viewer: $(PROGRAM)
-	tools/check_hunts
 	tools/test_explain.py
 	tools/test_mesh_to_capture.py
 	tools/test_viewer.py
@@ -57,18 +57,7 @@ bench: program
 	benches/measure.py
 
 test:
-	tools/check_guide
-	tools/check_images
-	rt ci
-	tools/check_help
-	tools/check_captures $(PROGRAM)
-	tools/test_fuzz_captures.py
-	tools/fuzz_captures --seed 1
-	tools/check_recipes
-	$(MAKE) --no-print-directory test-viewer
-	$(MAKE) --no-print-directory test-page
-	tools/refuse_allocations
-	tools/check_program
+	tools/run_tests
 
 install: program
 	tools/install '$(HOME_OF)'
