@@ -5,7 +5,7 @@ import sys
 def exchanged(text, old, new):
     """The text with a piece of it exchanged, which stands there."""
     if old not in text:
-        sys.exit(f"a wrong version wants '{old}', which isn't there")
+        sys.exit(f"a wrong version wants {old!r}, which isn't there")
     return text.replace(old, new, 1)
 
 
