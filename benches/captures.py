@@ -58,6 +58,13 @@ def large(width, height, count, interp="flat"):
     return Scene(width, height, [whole(width, height, number, interp, (0, 0, 0)) for number in range(count)], interp)
 
 
+def dots(side, count):
+    """Draws of triangles that cover a pixel each, in every other column, so that no two of a draw lie side by side in a row."""
+    places = [(x, y) for y in range(side) for x in range(0, side, 2)]
+    triangles = [[(x + right, y + down, 0, [number % 256, 128, 0, 128]) for right, down in ((0, 0), (2, 0), (0, 2))] for number in range(count) for x, y in places]
+    return Scene(side, side, triangles).capture(len(places)), len(places)
+
+
 def whole(width, height, number, interp, depths):
     colour = [(40 * number + 10) % 256, 128, (90 * number) % 256, 128]
     other = [255, colour[0], 0, 64] if interp == "linear" else colour

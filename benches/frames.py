@@ -101,7 +101,14 @@ def memory(bench):
                 sizes.append(session.memory())
         bench.figure(f"a recorded pixel, {name}", (sizes[2] - sizes[0]) / (side * side * count), "bytes", most=asked)
         bench.figure(f"a recorded pixel, {name}, second half alone", (sizes[2] - sizes[1]) / (side * side * (count // 2)), "bytes")
-    count = bench.scaled(65_536)
+    side, count = bench.scaled(128, 32), 40
+    data, dots = captures.dots(side, count)
+    with Session(bench.capture(data)) as session:
+        session.ask(["goto 1"])
+        fresh = session.memory()
+        session.ask([f"goto {count + 1}"])
+        bench.figure("a recorded pixel, each a span of its own", (session.memory() - fresh) / (dots * count), "bytes", most=14)
+    side, count = bench.scaled(1024, 32), bench.scaled(65_536)
     with Session(bench.capture(captures.markers(side, side, count))) as session:
         fresh = session.memory()
         session.ask([f"goto {count}"])
