@@ -123,7 +123,7 @@ def check_screen(check):
     try:
         for command, reply in asked.items():
             subprocess.run([*tmux, "send-keys", command, "Enter"], check=True)
-            lines = until(lambda: screen(tmux), lambda lines, reply=reply: reply in lines)
+            lines = until(lambda: screen(tmux), lambda lines, reply=reply: any(line.endswith(reply) for line in lines))
     finally:
         subprocess.run([*tmux, "kill-server"], check=False)
     check.expect(lines == [line for both in asked.items() for line in both], f"the screen shows {lines}")
