@@ -6,7 +6,7 @@ ghost use Rattle.std.specs.Prelude.{◌≤◌};
 use clap::error::ErrorKind;
 use clap::{ArgMatches, Error};
 use fd_cli::{Ending, image, list_events, serve};
-use fd_pam::Device;
+use fd_pam::{Device, send};
 use screen::Screen;
 use std::alloc::Global;
 use std::io::{IsTerminal, Read};
@@ -103,13 +103,29 @@ fn refuse_words(rt: &HostRuntime, error: &io::Error) -> u8 {
     USAGE
 }
 
-/// Says what is wrong with the words, or prints the help that they ask for, and gives the status.
+/// Writes the help or the version that the words ask for to standard output.
+fn write_help(rt: &HostRuntime, help: &Error) -> Ending {
+    let Ok(text) = format!(in rt.alloc(); "{help}") else {
+        return Ending::Memory;
+    };
+    let mut output = Device::new(io::writer(rt));
+    let mut sent = 0;
+    match send(&mut output, &mut sent, text.as_bytes()) {
+        Ok(()) => Ending::Done,
+        Err(_) => Ending::Write { sent },
+    }
+}
+
+/// Says what is wrong with the words, or gives the help that they ask for, and gives the status.
 fn explain(rt: &HostRuntime, error: &Error) -> u8 {
     if error.kind() == ErrorKind::OutOfMemory {
         return report(rt, &Ending::Memory);
     }
+    if !error.use_stderr() {
+        return report(rt, &write_help(rt, error));
+    }
     let _ = error.print(rt);
-    if error.exit_code() == 0 { 0 } else { USAGE }
+    USAGE
 }
 
 /// Reads the words and then the file, does what they ask for, and gives the status.
