@@ -59,7 +59,8 @@ class RunsTests(unittest.TestCase):
         made = (TOOLS.parent / "Makefile").read_text()
         for path in sorted([*TOOLS.glob("check_*"), *TOOLS.glob("test_*.py")]):
             if os.access(path, os.X_OK):
-                self.assertRegex(lines + made, rf"(?m)^\t?tools/{re.escape(path.name)}\b", path.name)
+                is_part = re.search(rf"^\t?tools/{re.escape(path.name)}\b", lines + made, re.M)
+                self.assertTrue(is_part, f"{path.name} is no part of make test")
         for line in lines.splitlines():
             if line.startswith("tools/"):
                 self.assertTrue(os.access(TOOLS.parent / line.split()[0], os.X_OK), line)
