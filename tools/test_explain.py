@@ -4,22 +4,27 @@
     tools/test_explain.py [--seed N] [--cases N] [TEST ..]
 
 Captures are changed by chance, as values and as bytes: all are compared with tools/reference.py, and some with the program (FRAMEDBG names another).
+VIEWER names another folder that explain is taken from.
 """
 import copy
 import json
 import os
 import pathlib
 import random
+import resource
 import subprocess
 import sys
 import tempfile
 import unittest
 
 import reference
-from explaining import json_text
-from explaining.verdict import explained
 
 TOOLS = pathlib.Path(__file__).resolve().parent
+TRIED = pathlib.Path(os.environ.get("VIEWER", TOOLS))
+sys.path.insert(0, str(TRIED))          # a wrong version, where one is tried
+from explaining import json_text            # noqa: E402
+from explaining.verdict import explained    # noqa: E402
+
 EXAMPLES = TOOLS.parent / "examples"
 PROGRAM = os.path.abspath(os.environ.get("FRAMEDBG", TOOLS.parent / "crates/framedbg/out/framedbg"))
 
@@ -100,6 +105,11 @@ def told_by_reference(data):
     return " ".join(map(str, found)) if found else "accepted"
 
 
+def told_by_tool(file, memory=resource.RLIM_INFINITY, **environment):
+    limit = lambda: resource.setrlimit(resource.RLIMIT_AS, (memory, memory))
+    return subprocess.run([sys.executable, TRIED / "explain", file], capture_output=True, timeout=60, preexec_fn=limit, env={**os.environ, **environment})
+
+
 class Explained(unittest.TestCase):
     def test_never_otherwise_than_the_reference(self):
         accepted = 0
@@ -145,8 +155,40 @@ class Explained(unittest.TestCase):
             file = pathlib.Path(folder) / "frame.json"
             for data, status in ((json.dumps(FRAME).encode(), 0), (b"[]", 2)):
                 file.write_bytes(data)
-                self.assertEqual(subprocess.run([sys.executable, TOOLS / "explain", file], capture_output=True).returncode, status)
-            self.assertEqual(subprocess.run([sys.executable, TOOLS / "explain", folder], capture_output=True).returncode, 3)
+                self.assertEqual(told_by_tool(file).returncode, status)
+            self.assertEqual(told_by_tool(folder).returncode, 3)
+
+    def test_nothing_steers_the_terminal(self):
+        """Texts of a capture that come to be shown: a kind, values, a name that is like the one that is wanted, numbers; and the file's own name."""
+        steering = "\x1b[31m\x9b2J\u202e\r\n\x07\x7f\u2028"
+        blank = {"format": "framedbg", "version": 1, "width": 1, "height": 1}
+        captures = [{**blank, "events": [{"kind": steering}]}, {**blank, "version": steering, "events": []}, {**blank, "format": steering, "events": []},
+                    {**blank, "events": [{"kind": "clear", "col\x1bor": [0, 0, 0, 0]}]}, {**blank, "events": [{"kind": "raster", "cull": "non\x1be"}]},
+                    {**blank, "events": [{"kind": "blend", "enable": True, "rgb": ["ONE\x1b", "ONE", "ADD"]}]}, {**blank, "events": [{"kind": "x" * 5_000_000}]}]
+        with tempfile.TemporaryDirectory() as folder:
+            for number, capture in enumerate(captures):
+                for name in ("frame.json", f"{number}\x1b[2J\n.json", os.fsdecode(b"\xff.json")):
+                    file = pathlib.Path(folder) / name
+                    file.write_text(json.dumps(capture, ensure_ascii=False))
+                    run = told_by_tool(file)
+                    lines = run.stdout.decode().split("\n")
+                    self.assertEqual((run.returncode, run.stderr, len(lines), lines[2]), (2, b"", 3, ""), capture)
+                    self.assertTrue(all(line.isprintable() and len(line) < 400 for line in lines), lines)
+            self.assertIn(rb'there is no kind "\x1b[31m\x9b2J\u202e\r\n', told_by_tool(self.written(folder, captures[0])).stdout)
+            narrow = told_by_tool(self.written(folder, {**blank, "events": [{"kind": "\u00e9"}]}), PYTHONIOENCODING="ascii")
+            self.assertEqual((narrow.returncode, narrow.stderr), (2, b""))
+            self.assertIn(b'there is no kind "\\xe9"', narrow.stdout)
+
+    def written(self, folder, capture):
+        file = pathlib.Path(folder) / "frame.json"
+        file.write_text(json.dumps(capture))
+        return file
+
+    def test_a_file_without_end(self):
+        run = told_by_tool("/dev/zero", memory=1 << 30)
+        self.assertEqual((run.returncode, run.stdout, run.stderr), (2, b"/dev/zero: refused, 1 too long\nit has more than 67108864 bytes\n", b""))
+        longest = b"[" + b" " * 67_108_862 + b"]"
+        self.assertEqual([explained(data)[1] for data in (longest, longest + b" ")], ["3 not a capture", "1 too long"])
 
 
 if __name__ == "__main__":

@@ -1,21 +1,28 @@
 #!/usr/bin/env python3
-"""test_mesh_to_capture: models in each format, whole, cut at every place and with wrong bytes; and each bug that may be planted."""
+"""test_mesh_to_capture: models in each format, whole, cut at every place and with wrong bytes; and each bug that may be planted.
+
+VIEWER names another folder that mesh_to_capture is taken from.
+"""
 import json
 import os
 import pathlib
 import random
+import resource
 import struct
 import subprocess
 import sys
 import tempfile
 import unittest
-
-from explaining.verdict import explained
-from meshes import gltf, obj, ply
-from meshes.frame import BUGS, Look, capture
-from meshes.model import Fault
+from unittest import mock
 
 TOOLS = pathlib.Path(__file__).resolve().parent
+TRIED = pathlib.Path(os.environ.get("VIEWER", TOOLS))
+sys.path.insert(0, str(TRIED))          # a wrong version, where one is tried
+from explaining.verdict import explained    # noqa: E402
+from meshes import gltf, model, obj, ply, text  # noqa: E402
+from meshes.frame import BUGS, Look, capture    # noqa: E402
+from meshes.model import Fault                  # noqa: E402
+
 PROGRAM = os.path.abspath(os.environ.get("FRAMEDBG", TOOLS.parent / "crates/framedbg/out/framedbg"))
 
 # A cube, and a smaller one on top of it that is of glass
@@ -141,15 +148,111 @@ class Meshes(unittest.TestCase):
                  "g.glb": ("no glTF at all, but long", "a .glb begins with glTF"), "h.stl": ("", "none of .obj, .ply, .glb")}
         for name, (text, why) in cases.items():
             (folder / name).write_text(text)
-            run = subprocess.run([sys.executable, TOOLS / "mesh_to_capture", folder / name], capture_output=True, text=True)
+            run = subprocess.run([sys.executable, TRIED / "mesh_to_capture", folder / name], capture_output=True, text=True)
             self.assertEqual((run.returncode, run.stdout), (1, ""), name)
             self.assertIn(why, run.stderr)
         for changed, why in (({"extensionsRequired": ["KHR_draco_mesh_compression"]}, "needs the extension KHR_draco"),
-                             ({"nodes": [{"children": [0]}, {}, {}]}, "the nodes go round"), ({"meshes": []}, "doesn't fit the buffer"),
+                             ({"nodes": [{"children": [0]}, {}, {}]}, "the nodes go round"), ({"meshes": []}, "number 0 of 0 is named"),
                              ({"bufferViews": [{"buffer": 0, "byteLength": 90}] * 2}, "reads behind the end"),
                              ({"accessors": [{"type": "VEC2"}] * 2}, "a plain VEC3 is wanted")):
             with self.assertRaisesRegex(Fault, why):
                 read(as_glb(folder, "changed.glb", **changed))
+
+    def converted(self, path, *words):
+        """A run of the tool, with 2 GiB of memory, which ends within a minute."""
+        limits = lambda: resource.setrlimit(resource.RLIMIT_AS, (2 << 30, 2 << 30))
+        return subprocess.run([sys.executable, TRIED / "mesh_to_capture", *words, path], capture_output=True, timeout=60, preexec_fn=limits)
+
+    def refused(self, path, why):
+        run = self.converted(path)
+        self.assertEqual((run.returncode, run.stdout), (1, b""), run.stderr[-300:])
+        self.assertRegex(run.stderr.decode(), rf"^mesh_to_capture: \S*: .*{why}.*\n$")
+        self.assertTrue(run.stderr[:-1].decode().isprintable(), run.stderr)
+
+    def test_what_is_declared_without_end(self):
+        folder = pathlib.Path(self.folder.name)
+        plain, many = "property float x\nproperty float y\nproperty float z\n", 10 ** 18
+        for name, (head, why) in {"rows": (f"element edge {many}\n", "has 1000000000000000000 rows of 0 properties"),
+                                  "long": (f"element edge {many}\nproperty char a\n", "edge: 1000000000000000000 rows are declared"),
+                                  "below": ("element edge -1\nproperty char a\n", "has -1 rows"),
+                                  "list": (f"element vertex 1\n{plain}element face 1\nproperty list double int vertex_indices\n", "a list of 1000000000000000000 is declared")}.items():
+            path = folder / f"{name}.ply"
+            path.write_text(f"ply\nformat ascii 1.0\n{head}end_header\n0 0 0 {many}\n")
+            self.refused(path, why)
+        endless = folder / "endless.ply"
+        endless.symlink_to("/dev/zero")
+        self.refused(endless, "it has more than 268435456 bytes")
+
+    def test_nodes_and_copies(self):
+        folder = pathlib.Path(self.folder.name)
+        scene = lambda nodes: [{"nodes": list(range(len(nodes)))}]
+        of_itself = [{"mesh": 0, "children": [0]}]
+        self.refused(as_glb(folder, "ring.glb", nodes=of_itself, scenes=scene(of_itself)), "the nodes go round in a ring")
+        twice = [{"children": [1, 1]}, {"mesh": 0}]
+        self.refused(as_glb(folder, "twice.glb", nodes=twice, scenes=[{"nodes": [0]}]), "node 1 hangs below two")
+        copies = [{"mesh": 0}] * 90_000
+        self.refused(as_glb(folder, "copies.glb", nodes=copies, scenes=scene(copies)), "more than 700000 triangles")
+        empty = [{"primitives": [{"attributes": {"POSITION": 2}}] * 3000}]
+        none = [{"bufferView": 0, "componentType": 5126, "type": "VEC3", "count": 0}]
+        self.refused(as_glb(folder, "empty.glb", nodes=copies, scenes=scene(copies), meshes=empty, accessors=[*none * 3]), "more than 200000 primitives")
+
+    def test_names_that_are_none(self):
+        folder = pathlib.Path(self.folder.name)
+        mesh = {"primitives": [{"attributes": {"POSITION": 0}, "indices": 1, "material": 0}]}
+        for name, shown in ((None, "mesh 0"), (7, "mesh 0"), (["a"], "mesh 0"), ({}, "mesh 0"), ("\ud800", "?"), ("a\x1b[31m\n", "a[31m"), ("\u00e9" * 99, "\u00e9" * 32)):
+            path = as_glb(folder, "named.glb", materials=[{"name": name}], meshes=[{**mesh, "name": name}] * 2)
+            run = self.converted(path)
+            self.assertEqual((run.returncode, run.stderr), (0, b""), name)
+            markers = [event["name"] for event in json.loads(run.stdout)["events"] if event["kind"] == "marker"]
+            self.assertIn(shown, markers)
+            self.assertTrue(explained(run.stdout)[0], name)
+        odd = folder / os.fsdecode(b"odd\xff.ply")
+        odd.write_bytes(self.files[1].read_bytes())
+        run = self.converted(odd)
+        self.assertEqual((run.returncode, explained(run.stdout)[0]), (0, True), run.stderr)
+
+    def test_numbers_that_are_none(self):
+        folder = pathlib.Path(self.folder.name)
+        far = lambda value: [{"mesh": 0, "scale": [value] * 3, "children": [1]}, {"mesh": 1, "scale": [value] * 3}]
+        cases = {"matrix": ({"nodes": [{"mesh": 0, "matrix": [1e999] * 16}]}, "inf is no finite number"), "product": ({"nodes": far(1e200)}, "endlessly far away"),
+                 "far": ({"nodes": far(1e100)}, ""), "apart": ({"nodes": [{"mesh": 0, "matrix": [1.7e308 * (at % 5 == 0) for at in range(16)]}]}, "too far from each other"),
+                 "list": ({"nodes": [{"mesh": 0, "scale": [[1], 1, 1]}]}, "is no number"), "mesh": ({"nodes": [{"mesh": [0]}]}, "is no count and no place"),
+                 "steering": ({"extensionsRequired": ["\x1b[31m" + "x" * 9999]}, "needs the extension"), "huge": ({"nodes": [{"mesh": 0, "translation": [10 ** 400, 0, 0]}]}, "is no number")}
+        for name, (changed, why) in cases.items():
+            path = as_glb(folder, f"{name}.glb", **{"scenes": [{"nodes": [0]}], **changed})
+            if why:
+                self.refused(path, why)
+            else:
+                self.assertTrue(explained(self.converted(path).stdout)[0], name)
+        head = "ply\nformat {} 1.0\nelement vertex 1\n{}end_header\n{}"
+        plain = "property float x\nproperty float y\nproperty float z\n"
+        for name, properties, rest, why in (("x", "property list uchar float x\nproperty float y\nproperty float z\n", "1 0 0 0\n", "the property x of a vertex is a list"),
+                                            ("red", plain + "property list uchar uchar red\n", "0 0 0 1 1\n", "the property red of a vertex is a list"),
+                                            ("face", plain + "element face 1\nproperty int vertex_indices\n", "0 0 0 0\n", "the property vertex_indices of a face is one number")):
+            path = folder / f"{name}.ply"
+            path.write_text(head.format("ascii", properties, rest))
+            self.refused(path, why)
+        for value in (float("inf"), float("nan"), -1.0, 0.5):
+            path = folder / "counted.ply"
+            path.write_bytes(head.format("binary_little_endian", plain + "element face 1\nproperty list float int vertex_indices\n", "").encode() + struct.pack("<ffff", 0, 0, 0, value))
+            self.refused(path, "is no count and no point's number")
+
+    def test_more_than_a_capture_holds(self):
+        """A text that is longer than framedbg reads, or has more events, isn't written."""
+        made = capture(read(self.files[0]), Look((64, 48), (30, 20)))
+        whole = text.text_of(made, 24)
+        size, count = len(whole.encode()), len(made["events"])
+        self.assertTrue(explained(whole.encode())[0])
+        self.assertEqual((text.MOST_BYTES, text.MOST_EVENTS), (67_108_864, 1_000_000))
+        for most_bytes, most_events in ((size - 1, count), (size + text.MOST_HEAD, count - 1)):
+            with mock.patch.object(text, "MOST_BYTES", most_bytes), mock.patch.object(text, "MOST_EVENTS", most_events):
+                self.assertRaisesRegex(Fault, "its 24 triangles take more", text.text_of, made, 24)
+        with mock.patch.object(text, "MOST_BYTES", size + text.MOST_HEAD), mock.patch.object(text, "MOST_EVENTS", count):
+            self.assertEqual(text.text_of(made, 24), whole)
+        for most in ("MOST_FACES", "MOST_POINTS"):
+            for path in self.files:
+                with mock.patch.object(model, most, 11 if most == "MOST_FACES" else 7):
+                    self.assertRaisesRegex(Fault, "which no capture has room for", read, path)
 
     @unittest.skipUnless(pathlib.Path(PROGRAM).exists(), "the program isn't built")
     def test_the_cube_is_seen(self):
@@ -157,7 +260,7 @@ class Meshes(unittest.TestCase):
         folder = pathlib.Path(self.folder.name)
         for path in self.files:
             for words in ([], ["--depth"], ["--smooth", "--by", "depth"]):
-                made = subprocess.run([sys.executable, TOOLS / "mesh_to_capture", "--size", "64x48", *words, path], capture_output=True, check=True).stdout
+                made = subprocess.run([sys.executable, TRIED / "mesh_to_capture", "--size", "64x48", *words, path], capture_output=True, check=True).stdout
                 (folder / "made.json").write_bytes(made)
                 samples = subprocess.run([PROGRAM, "image", folder / "made.json"], capture_output=True, check=True).stdout.partition(b"ENDHDR\n")[2]
                 pixels = [samples[i:i + 3] for i in range(0, len(samples), 4)]

@@ -1,9 +1,9 @@
 #!/usr/bin/env python3
-"""viewer_mutations: wrong versions of the viewer, each of which the tests must see.
+"""viewer_mutations: wrong versions of the viewer, of explain and of mesh_to_capture, each of which the tests must see.
 
     tools/viewer_mutations.py [WORD ..]
 
-Each is a copy of the viewer with one text exchanged, and the test that has to fail on it (and to pass on the viewer as it is). With words, only
+Each is a copy of the tools with one text exchanged, and the test that has to fail on it (and to pass on the tools as they are). With words, only
 those whose name has one of them are tried. Those of the page want Chromium.
 """
 import os
@@ -16,6 +16,10 @@ import tempfile
 import browser
 
 TOOLS = pathlib.Path(__file__).resolve().parent
+PARTS = ("view", "viewer", "explain", "explaining", "mesh_to_capture", "meshes")
+# By a name's first word: where its file lies, and the tests
+KINDS = {"door": ("viewer", "test_viewer.py"), "server": ("viewer", "test_viewer.py"), "page": ("viewer", "test_viewer.py"), "view": ("", "test_viewer.py"),
+         "explain": ("", "test_explain.py"), "mesh": ("", "test_mesh_to_capture.py")}
 MUTATIONS = [   # name, file, text, what stands there instead, test
     ("door: any address", "server.py", '("127.0.0.1", port)', '("", port)', "Doors.test_loopback"),
     ("door: any host", "doors.py", 'if headers.get_all("Host", []) != [host]:', "if False:", "Doors.test_host"),
@@ -62,6 +66,32 @@ MUTATIONS = [   # name, file, text, what stands there instead, test
     ("page: parts at the wrong place", "page/picture.js", "this.place(this.canvas, [left, top,", "this.place(this.canvas, [left + every, top,", "Page.test_a_target_that_is_too_large_at_once"),
     ("page: depths of before and after exchanged", "page/replies.js", "const [source, before, after] = numbers", "const [source, after, before] = numbers", "Page.test_depths"),
     ("page: far is light", "page/depths.js", "240 - 180 *", "60 + 180 *", "Page.test_depths"),
+    ("explain: texts as they are", "explain", "{printable(why)}", "{why}", "Explained.test_nothing_steers_the_terminal"),
+    ("explain: the file's name as it is", "explain", "{printable(path)}", "{path}", "Explained.test_nothing_steers_the_terminal"),
+    ("explain: control characters alone", "explaining/printable.py", "letter.isprintable()", "ord(letter) >= 32", "Explained.test_nothing_steers_the_terminal"),
+    ("explain: letters that the terminal lacks", "explain", 'errors="backslashreplace"', 'errors="strict"', "Explained.test_nothing_steers_the_terminal"),
+    ("explain: a kind of any length", "explaining/rules.py", "{short(kind)}", "{kind}", "Explained.test_nothing_steers_the_terminal"),
+    ("explain: read to its end", "explain", "file.read(MOST_BYTES + 1)", "file.read()", "Explained.test_a_file_without_end"),
+    ("explain: a byte too few is read", "explain", "file.read(MOST_BYTES + 1)", "file.read(MOST_BYTES)", "Explained.test_a_file_without_end"),
+    ("mesh: rows without properties", "meshes/ply.py", "(count and not properties)", "False", "Meshes.test_what_is_declared_without_end"),
+    ("mesh: rows below zero", "meshes/ply.py", "count < 0 or ", "", "Meshes.test_what_is_declared_without_end"),
+    ("mesh: rows behind the end", "meshes/ply.py", "if count > len(body):", "if False:", "Meshes.test_what_is_declared_without_end"),
+    ("mesh: a list behind the end", "meshes/ply.py", "if count > most:", "if False:", "Meshes.test_what_is_declared_without_end"),
+    ("mesh: a file without end", "meshes/model.py", "file.read(MOST_FILE + 1)", "file.read()", "Meshes.test_what_is_declared_without_end"),
+    ("mesh: a node below itself", "meshes/gltf.py", "            if index in seen:", "            if False:", "Meshes.test_nodes_and_copies"),
+    ("mesh: copies without end", "meshes/model.py", "len(self.faces) + len(corners) - 2 > MOST_FACES", "False", "Meshes.test_more_than_a_capture_holds"),
+    ("mesh: points without end", "meshes/model.py", "len(self.points) == MOST_POINTS", "False", "Meshes.test_more_than_a_capture_holds"),
+    ("mesh: primitives without end", "meshes/gltf.py", "self.placed_primitives > MOST_PLACED", "False", "Meshes.test_nodes_and_copies"),
+    ("mesh: more bytes than are read", "meshes/text.py", "length > MOST_BYTES - MOST_HEAD or ", "", "Meshes.test_more_than_a_capture_holds"),
+    ("mesh: more events than are read", "meshes/text.py", " or len(lines) > MOST_EVENTS", "", "Meshes.test_more_than_a_capture_holds"),
+    ("mesh: a name of any kind", "meshes/gltf.py", "value if isinstance(value, str) else other", "other if value is None else value", "Meshes.test_names_that_are_none"),
+    ("mesh: half a surrogate pair", "meshes/frame.py", 'name.encode(errors="replace")', "name.encode()", "Meshes.test_names_that_are_none"),
+    ("mesh: points at no place", "meshes/model.py", "        if not all(map(math.isfinite, point)):", "        if False:", "Meshes.test_numbers_that_are_none"),
+    ("mesh: points too far apart", "meshes/camera.py", "if not math.isfinite(radius):", "if False:", "Meshes.test_numbers_that_are_none"),
+    ("mesh: any number", "meshes/model.py", "    if not math.isfinite(value):", "    if False:", "Meshes.test_numbers_that_are_none"),
+    ("mesh: a list for a number", "meshes/ply.py", "if wanted.get(name, listed) != listed:", "if False:", "Meshes.test_numbers_that_are_none"),
+    ("mesh: any count", "meshes/ply.py", "not math.isfinite(value) or value < 0 or ", "", "Meshes.test_numbers_that_are_none"),
+    ("mesh: what is wrong as it stands there", "mesh_to_capture", "{printable(str(fault) or 'it takes more memory than there is')}", "{fault}", "Meshes.test_numbers_that_are_none"),
     ("page: an older picture of depths", "page/frame.js", "  await readDepths();\n  show(\"position\");", "  show(\"position\");", "Page.test_depths"),
 ]
 
@@ -70,15 +100,16 @@ def seen(mutation):
     """Whether the test fails on the wrong version."""
     name, file, old, new, test = mutation
     with tempfile.TemporaryDirectory() as folder:
-        for part in ("view", "viewer"):
-            copy = shutil.copytree if part == "viewer" else shutil.copy
+        for part in PARTS:
+            copy = shutil.copytree if (TOOLS / part).is_dir() else shutil.copy
             copy(TOOLS / part, pathlib.Path(folder) / part)
-        path = pathlib.Path(folder) / "viewer" / file
+        below, tests = KINDS[name.partition(":")[0]]
+        path = pathlib.Path(folder) / below / file
         text = path.read_text()
         if text.count(old) != 1:
             sys.exit(f"viewer_mutations: {name}: its text stands {text.count(old)} times in {file}")
         path.write_text(text.replace(old, new))
-        run = subprocess.run([sys.executable, TOOLS / "test_viewer.py", "-f", test], env={**os.environ, "VIEWER": folder}, capture_output=True, text=True)
+        run = subprocess.run([sys.executable, TOOLS / tests, "-f", test], env={**os.environ, "VIEWER": folder}, capture_output=True, text=True)
         return "skipped" if "skipped=" in run.stderr else "seen" if run.returncode else "MISSED"
 
 

@@ -1,5 +1,6 @@
 """What framedbg wants of a capture, and the first member that isn't so, in the order in which framedbg looks."""
 import difflib
+import itertools
 
 from .json_text import Other
 
@@ -9,6 +10,7 @@ MOST_SIDE = 16_384
 MOST_CORNERS = 196_608        # vertices of a draw, and indices
 MOST_NAME = 64                # bytes of a marker's name
 MOST_POSITION = 1 << 30       # in 1/65536 pixel, to both sides
+MOST_COMPARED = 1000          # names that a misspelt one is compared with
 FAULTS = {1: "too long", 2: "not json", 3: "not a capture", 4: "version", 5: "size", 6: "too many events", 7: "unknown event", 8: "bad field"}
 FACTORS = ("ZERO", "ONE", "SRC_COLOR", "INV_SRC_COLOR", "SRC_ALPHA", "INV_SRC_ALPHA", "DEST_ALPHA", "INV_DEST_ALPHA", "DEST_COLOR",
            "INV_DEST_COLOR", "BLEND_FACTOR", "INV_BLEND_FACTOR")
@@ -58,7 +60,7 @@ def check_event(event, version, path):
         raise missing_or(8, event, path, "kind", "a text is wanted")
     kinds = KINDS if version == 2 else {name: rule for name, rule in KINDS.items() if name not in ONLY_IN_TWO}
     if kind not in kinds:
-        why = f'"{kind}" comes with version 2 only' if kind in ONLY_IN_TWO else f'there is no kind "{kind}"{near(kind, kinds)}'
+        why = f'"{kind}" comes with version 2 only' if kind in ONLY_IN_TWO else f'there is no kind "{short(kind)}"{near(kind, kinds)}'
         raise Wrong(7, (*path, "kind"), why)
     kinds[kind](event, version, path)
 
@@ -196,8 +198,16 @@ def missing_or(fault, owner, path, name, wanted):
 
 
 def near(value, allowed):
-    found = difflib.get_close_matches(value.lower(), {name.lower(): name for name in allowed}, 1) if isinstance(value, str) else []
-    return f" ({next(name for name in allowed if name.lower() == found[0])}?)" if found else ""
+    """The name that was meant perhaps, looked for among the first of them."""
+    if not isinstance(value, str) or len(value) > MOST_NAME:
+        return ""
+    names = {name.lower(): name for name in itertools.islice(allowed, MOST_COMPARED)}
+    found = difflib.get_close_matches(value.lower(), names, 1)
+    return f" ({names[found[0]]}?)" if found else ""
+
+
+def short(text):
+    return text if len(text) <= 24 else text[:20] + " .."
 
 
 def told(value):
@@ -206,7 +216,7 @@ def told(value):
     if isinstance(value, bool):
         return str(value).lower()
     if isinstance(value, str):
-        return f'the text "{value if len(value) <= 24 else value[:20] + " .."}"'
+        return f'the text "{short(value)}"'
     if isinstance(value, list):
         return f"an array of {len(value)}"
     if isinstance(value, dict):

@@ -5,7 +5,7 @@ from . import json_text, rules
 def explained(data):
     """Whether a capture of these bytes is accepted, framedbg's own word for it, and the explanation."""
     if len(data) > rules.MOST_BYTES:
-        return False, "1 too long", f"{len(data)} bytes are more than {rules.MOST_BYTES}"
+        return False, "1 too long", f"it has more than {rules.MOST_BYTES} bytes"
     text = data.decode("utf-8", "replace")
     try:
         text = json_text.decoded(data)

@@ -1,6 +1,8 @@
 """The camera, in floats: where a model's points come to lie on the target, and how far away."""
 import math
 
+from .model import Fault
+
 EYE = 4.0                    # from the model's middle, in radii of the model
 FILLED = 0.88                # of the target, by the model
 LIGHT = (-0.45, 0.75, 0.48)
@@ -9,8 +11,10 @@ LIGHT = (-0.45, 0.75, 0.48)
 def looked_at(points, width, height, azimuth, elevation):
     """Each point as the eye has it, and as (x, y, distance): x and y in pixels, the whole model in the picture."""
     low, high = ([f(p[i] for p in points) for i in range(3)] for f in (min, max))
-    middle = [(a + b) / 2 for a, b in zip(low, high)]
+    middle = [a / 2 + b / 2 for a, b in zip(low, high)]
     radius = math.dist(low, high) / 2 or 1
+    if not math.isfinite(radius):
+        raise Fault("its points lie too far from each other")
     ca, sa, ce, se = (f(math.radians(a)) for a in (azimuth, elevation) for f in (math.cos, math.sin))
     seen = []
     for p in points:

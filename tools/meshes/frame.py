@@ -139,7 +139,7 @@ def vertex(x, y, distance, colour, deep):
 
 def marker(name):
     name = "".join(c for c in name if ord(c) >= 32 and ord(c) != 127)
-    return {"kind": "marker", "name": name.encode()[:64].decode(errors="ignore")}
+    return {"kind": "marker", "name": name.encode(errors="replace")[:64].decode(errors="ignore")}
 
 
 def backdrop(width, height, deep):

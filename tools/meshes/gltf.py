@@ -1,27 +1,28 @@
 """glTF 2.0 in its binary form (.glb): triangles, base colours, node transforms."""
+import collections
 import json
 import math
 import struct
 
-from .model import GREY, Fault, Model, number
+from .model import GREY, MOST_POINTS, Fault, Model, number, read_bytes
 
 MAGIC, JSON_CHUNK, BINARY_CHUNK = 0x46546C67, 0x4E4F534A, 0x004E4942
 COMPONENTS = {5120: "b", 5121: "B", 5122: "h", 5123: "H", 5125: "I", 5126: "f"}
 WIDE = {"SCALAR": 1, "VEC2": 2, "VEC3": 3, "VEC4": 4, "MAT4": 16}
 TRIANGLES, STRIP, FAN = 4, 5, 6
-MOST_NODES = 100_000
+MOST_PLACED = 200_000        # primitives, counted at each node that has them
 ONE = (1, 0, 0, 0, 0, 1, 0, 0, 0, 0, 1, 0, 0, 0, 0, 1)       # columns one after another, as glTF has them
 
 
 def read(path):
-    tree, binary = chunks(path.read_bytes())
+    tree, binary = chunks(read_bytes(path))
     try:
         file = File(tree, binary)
         model = Model()
         for mesh, matrix in file.placed():
             file.add_mesh(model, mesh, matrix)
         return model
-    except (KeyError, IndexError, TypeError, AttributeError, ValueError, struct.error) as fault:
+    except (KeyError, IndexError, TypeError, AttributeError, ValueError, OverflowError, struct.error) as fault:
         raise Fault(f"the JSON doesn't fit the buffer: {type(fault).__name__} {fault}") from None
 
 
@@ -52,7 +53,7 @@ def chunks(data):
 
 class File:
     def __init__(self, tree, binary):
-        self.tree, self.binary = tree, binary
+        self.tree, self.binary, self.placed_primitives = tree, binary, 0
         needed = tree.get("extensionsRequired", [])
         if needed:
             raise Fault(f"it needs the extension {needed[0]}")
@@ -63,59 +64,83 @@ class File:
         if not scenes:
             yield from ((mesh, ONE) for mesh in range(len(self.tree.get("meshes", []))))
             return
-        waiting, seen = [(node, ONE) for node in scenes[self.tree.get("scene", 0)].get("nodes", [])], 0
+        waiting, seen = collections.deque((node, ONE) for node in item(scenes, self.tree.get("scene", 0)).get("nodes", [])), set()
         while waiting:
-            index, above = waiting.pop(0)
-            seen += 1
-            if seen > MOST_NODES:
-                raise Fault("the nodes go round in a ring")
-            node = self.tree["nodes"][index]
+            index, above = waiting.popleft()
+            node = item(self.tree["nodes"], index)
+            if index in seen:
+                raise Fault(f"the nodes go round in a ring, or node {index} hangs below two")
+            seen.add(index)
             matrix = times(above, matrix_of(node))
             if "mesh" in node:
                 yield node["mesh"], matrix
             waiting += [(child, matrix) for child in node.get("children", [])]
 
     def add_mesh(self, model, index, matrix):
-        mesh = self.tree["meshes"][index]
+        mesh = item(self.tree["meshes"], index)
         for primitive in mesh["primitives"]:
-            mode = primitive.get("mode", TRIANGLES)
-            if mode not in (TRIANGLES, STRIP, FAN):
-                continue                                # points and lines aren't drawn
-            first = len(model.points)
-            model.points += [applied(matrix, point) for point in self.values(primitive["attributes"]["POSITION"], "VEC3")]
-            count = len(model.points) - first
-            order = [i for i, in self.values(primitive["indices"], "SCALAR")] if "indices" in primitive else list(range(count))
-            name, colour = self.material(primitive, mesh.get("name", f"mesh {index}"))
-            turned = determinant(matrix) < 0            # a mirror turns the winding
-            for a, b, c in triangles(order, mode):
-                if max(a, b, c) >= count:
-                    raise Fault(f"an index names point {max(a, b, c)} of {count}")
-                model.add_polygon([first + a, first + c, first + b] if turned else [first + a, first + b, first + c], name, colour)
+            self.placed_primitives += 1
+            if self.placed_primitives > MOST_PLACED:
+                raise Fault(f"more than {MOST_PLACED} primitives are placed")
+            if primitive.get("mode", TRIANGLES) in (TRIANGLES, STRIP, FAN):      # points and lines aren't drawn
+                self.add_primitive(model, primitive, text_or(mesh.get("name"), f"mesh {index}"), matrix)
+
+    def add_primitive(self, model, primitive, name, matrix):
+        first, positions = len(model.points), self.values(primitive["attributes"]["POSITION"], "VEC3")
+        for point in positions:
+            model.add_point(applied(matrix, point))
+        count = len(positions)
+        order = [whole(i) for i, in self.values(primitive["indices"], "SCALAR")] if "indices" in primitive else list(range(count))
+        name, colour = self.material(primitive, name)
+        turned = determinant(matrix) < 0                # a mirror turns the winding
+        for a, b, c in triangles(order, primitive.get("mode", TRIANGLES)):
+            if max(a, b, c) >= count:
+                raise Fault(f"an index names point {max(a, b, c)} of {count}")
+            model.add_polygon([first + a, first + c, first + b] if turned else [first + a, first + b, first + c], name, colour)
 
     def material(self, primitive, name):
         if "material" not in primitive:
             return name, GREY
-        material = self.tree["materials"][primitive["material"]]
+        material = item(self.tree["materials"], primitive["material"])
         base = material.get("pbrMetallicRoughness", {}).get("baseColorFactor", [1, 1, 1, 1])
         red, green, blue, alpha = (number(channel) for channel in base)
         opaque = material.get("alphaMode", "OPAQUE") == "OPAQUE"
-        return material.get("name", name), (*(encoded(c) for c in (red, green, blue)), 1.0 if opaque else alpha)
+        return text_or(material.get("name"), name), (*(encoded(c) for c in (red, green, blue)), 1.0 if opaque else alpha)
 
     def values(self, index, kind):
         """The rows of an accessor."""
-        accessor = self.tree["accessors"][index]
+        accessor = item(self.tree["accessors"], index)
         if accessor["type"] != kind or "sparse" in accessor:
             raise Fault(f"accessor {index} is {'sparse' if 'sparse' in accessor else accessor['type']}, and a plain {kind} is wanted")
-        view = self.tree["bufferViews"][accessor["bufferView"]]
-        if self.tree["buffers"][view["buffer"]].get("uri") is not None:
+        view = item(self.tree["bufferViews"], accessor["bufferView"])
+        if item(self.tree["buffers"], view["buffer"]).get("uri") is not None:
             raise Fault("its buffer is another file; only a .glb that has all is read")
         row = struct.Struct("<" + str(WIDE[kind]) + COMPONENTS[accessor["componentType"]])
-        start, stride = view.get("byteOffset", 0) + accessor.get("byteOffset", 0), view.get("byteStride") or row.size
+        start, stride = whole(view.get("byteOffset", 0)) + whole(accessor.get("byteOffset", 0)), whole(view.get("byteStride", 0)) or row.size
         end = start + stride * (accessor["count"] - 1) + row.size
-        if accessor["count"] < 0 or start < 0 or (accessor["count"] and end > min(len(self.binary), view.get("byteOffset", 0) + view["byteLength"])):
+        if whole(accessor["count"]) > MOST_POINTS:
+            raise Fault(f"accessor {index} has more than {MOST_POINTS} rows, which no capture has room for")
+        if accessor["count"] and end > min(len(self.binary), view.get("byteOffset", 0) + view["byteLength"]):
             raise Fault(f"accessor {index} reads behind the end of its buffer: the file is cut short")
         rows = [row.unpack_from(self.binary, start + stride * i) for i in range(accessor["count"])]
         return [tuple(map(number, some)) for some in rows] if kind != "SCALAR" else rows
+
+
+def item(some, index):
+    if not 0 <= whole(index) < len(some):
+        raise Fault(f"number {index} of {len(some)} is named, counted from 0")
+    return some[index]
+
+
+def whole(value):
+    if type(value) is not int or value < 0:
+        raise Fault(f"{str(value)[:20]!r} is no count and no place")
+    return value
+
+
+def text_or(value, other):
+    """A name, or another one where it is none."""
+    return value if isinstance(value, str) else other
 
 
 def triangles(order, mode):

@@ -1,7 +1,11 @@
 """A model: points, and faces with a name and a colour; and what is wrong with a file that has none."""
+import math
 from dataclasses import dataclass, field
 
 GREY = (0.75, 0.74, 0.72, 1.0)
+MOST_FILE = 1 << 28          # bytes of a model that are read
+MOST_FACES = 700_000         # triangles: a capture's 67,108,864 bytes have room for fewer
+MOST_POINTS = 3 * MOST_FACES
 
 
 class Fault(Exception):
@@ -13,6 +17,13 @@ class Model:
     points: list = field(default_factory=list)       # (x, y, z)
     faces: list = field(default_factory=list)        # (three corners, the part's name, its colour as red, green, blue, alpha from 0 to 1)
 
+    def add_point(self, point):
+        if not all(map(math.isfinite, point)):
+            raise Fault("a point lies endlessly far away")
+        if len(self.points) == MOST_POINTS:
+            raise Fault(f"it has more than {MOST_POINTS} points, which no capture has room for")
+        self.points.append(point)
+
     def add_polygon(self, corners, name, colour):
         """As triangles round its first corner."""
         if len(corners) < 3:
@@ -20,14 +31,25 @@ class Model:
         for corner in corners:
             if not 0 <= corner < len(self.points):
                 raise Fault(f"a face names point {corner} of {len(self.points)}, counted from 0")
+        if len(self.faces) + len(corners) - 2 > MOST_FACES:
+            raise Fault(f"it has more than {MOST_FACES} triangles, which no capture has room for")
         self.faces += [((corners[0], b, c), name, colour) for b, c in zip(corners[1:], corners[2:])]
+
+
+def read_bytes(path):
+    """The whole of a file, unless it is too long or has no end."""
+    with open(path, "rb") as file:
+        data = file.read(MOST_FILE + 1)
+    if len(data) > MOST_FILE:
+        raise Fault(f"it has more than {MOST_FILE} bytes")
+    return data
 
 
 def number(text):
     try:
         value = float(text)
-    except ValueError:
+    except (ValueError, TypeError, OverflowError):
         raise Fault(f"{str(text)[:20]!r} is no number") from None
-    if value != value or value in (float("inf"), float("-inf")):
-        raise Fault(f"{text} is no finite number")
+    if not math.isfinite(value):
+        raise Fault(f"{str(text)[:20]} is no finite number")
     return value

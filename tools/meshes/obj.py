@@ -1,15 +1,16 @@
 """Wavefront OBJ, with the colours of its MTL."""
-from .model import GREY, Fault, Model, number
+from .model import GREY, Fault, Model, number, read_bytes
 
 
 def read(path):
-    model, colours, name = Model(), {}, path.stem
+    model, colours, name, libraries = Model(), {}, path.stem, set()
     for at, line in lines_of(path):
         word, _, rest = line.partition(" ")
         try:
             if word == "v":
-                model.points.append(three(rest))
-            elif word == "mtllib":
+                model.add_point(three(rest))
+            elif word == "mtllib" and rest not in libraries:
+                libraries.add(rest)
                 colours.update(read_materials(path.parent / rest.strip()))
             elif word == "usemtl":
                 name = rest.strip()
@@ -40,7 +41,7 @@ def read_materials(path):
 
 
 def lines_of(path):
-    text = path.read_text(errors="replace").replace("\\\r\n", " ").replace("\\\n", " ")
+    text = read_bytes(path).decode(errors="replace").replace("\\\r\n", " ").replace("\\\n", " ")
     return ((at, line.strip()) for at, line in enumerate(text.splitlines(), 1))
 
 

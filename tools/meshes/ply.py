@@ -1,16 +1,18 @@
 """PLY, in text and in both orders of bytes."""
+import math
 import struct
 
-from .model import GREY, Fault, Model, number
+from .model import GREY, Fault, Model, number, read_bytes
 
 TYPES = {"char": "b", "int8": "b", "uchar": "B", "uint8": "B", "short": "h", "int16": "h", "ushort": "H", "uint16": "H",
          "int": "i", "int32": "i", "uint": "I", "uint32": "I", "float": "f", "float32": "f", "double": "d", "float64": "d"}
 FLOATS = ("float", "float32", "double", "float64")
+SCALARS, CORNERS = ("x", "y", "z", "red", "green", "blue", "alpha"), ("vertex_indices", "vertex_index")
 FORMATS = {"ascii": None, "binary_little_endian": "<", "binary_big_endian": ">"}
 
 
 def read(path):
-    data = path.read_bytes()
+    data = read_bytes(path)
     head, mark, body = data.partition(b"end_header")
     if not data.startswith(b"ply") or not mark or b"\n" not in body:
         raise Fault("a PLY begins with ply and has an end_header")
@@ -19,10 +21,13 @@ def read(path):
     take = text_taker(body) if FORMATS[form] is None else byte_taker(body, FORMATS[form])
     model, colours = Model(), []
     for kind, count, properties in elements:
+        kinds = {name: kind_of for name, _, kind_of in properties}
+        if count > len(body):
+            raise Fault(f"{kind}: {count} rows are declared, and the file ends too early")
         for at in range(count):
             try:
-                row = {name: [take(kind_of) for _ in range(length(take(counted)))] if counted else take(kind_of) for name, counted, kind_of in properties}
-                add_row(model, colours, kind, row, dict((name, kind_of) for name, _, kind_of in properties), path.stem)
+                row = {name: value(take, counted, kind_of, len(body)) for name, counted, kind_of in properties}
+                add_row(model, colours, kind, row, kinds, path.stem)
             except Fault as fault:
                 raise Fault(f"{kind} {at} of {count}: {fault}") from None
     return model
@@ -45,31 +50,52 @@ def header(lines):
             raise Fault(f"line {at} of the header: {line[:40]!r}") from None
     if form not in FORMATS:
         raise Fault(f"the format is {form}")
-    for _, _, properties in elements:
+    for name, count, properties in elements:
+        if count < 0 or (count and not properties):
+            raise Fault(f"the element {name} has {count} rows of {len(properties)} properties")
         for _, counted, kind in properties:
             if kind not in TYPES or counted not in (None, *TYPES):
                 raise Fault(f"there is no type {kind if kind not in TYPES else counted}")
+        check_forms(name, {name: counted is not None for name, counted, _ in properties})
     return elements, form
+
+
+def check_forms(element, is_list):
+    """Of the properties that are read each is a list, or one number, as it should be."""
+    wanted = {"vertex": dict.fromkeys(SCALARS, False), "face": dict.fromkeys(CORNERS, True)}.get(element, {})
+    for name, listed in is_list.items():
+        if wanted.get(name, listed) != listed:
+            raise Fault(f"the property {name} of a {element} is {'a list' if listed else 'one number'}")
 
 
 def add_row(model, colours, kind, row, kinds, name):
     if kind == "vertex":
         if not {"x", "y", "z"} <= set(row):
             raise Fault("a vertex has x, y and z")
-        model.points.append(tuple(number(row[axis]) for axis in "xyz"))
+        model.add_point(tuple(number(row[axis]) for axis in "xyz"))
         scale = 1 if kinds.get("red") in FLOATS else 255
         has_colour = {"red", "green", "blue"} <= set(row)
         colours.append((*(row[c] / scale for c in ("red", "green", "blue")), row.get("alpha", scale) / scale) if has_colour else GREY)
     elif kind == "face":
-        corners = [length(c) for c in row.get("vertex_indices", row.get("vertex_index", []))]
+        corners = [length(c) for c in next((row[name] for name in CORNERS if name in row), [])]
         if corners and corners[0] < len(colours):
             model.add_polygon(corners, name, colours[corners[0]])
         elif corners:
             raise Fault(f"a face names point {corners[0]} of {len(colours)}, counted from 0")
 
 
+def value(take, counted, kind, most):
+    """The next one of a row: a number, or a list of at most so many."""
+    if counted is None:
+        return take(kind)
+    count = length(take(counted))
+    if count > most:
+        raise Fault(f"a list of {count} is declared, and the file ends too early")
+    return [take(kind) for _ in range(count)]
+
+
 def length(value):
-    if value < 0 or value != int(value):
+    if not math.isfinite(value) or value < 0 or value != int(value):
         raise Fault(f"{value} is no count and no point's number")
     return int(value)
 
