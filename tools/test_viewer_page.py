@@ -7,7 +7,7 @@ import unittest
 from unittest import mock
 
 import browser
-from viewer_testing import DEPTH, EXAMPLES, SLOPE, STOPPING, WINDOW, Viewer, image, png, replies
+from viewer_testing import DEPTH, EXAMPLES, HOLDING, SLOPE, STOPPING, WINDOW, Viewer, image, png, program_of, replies
 from viewer import image as viewer_image
 from viewer.handover import Handover
 
@@ -475,10 +475,7 @@ class Page(unittest.TestCase):
 
     def test_stopped_and_ended(self):
         with tempfile.TemporaryDirectory() as folder:
-            program = pathlib.Path(folder) / "stopping"
-            program.write_text(STOPPING)
-            program.chmod(0o755)
-            with Viewer(EXAMPLES / "row01.json", str(program)) as viewer:
+            with Viewer(EXAMPLES / "row01.json", program_of(STOPPING, folder)) as viewer:
                 self.open(viewer)
                 self.at(2)
                 self.reads("#notice", "stopped 2")
@@ -494,6 +491,75 @@ class Page(unittest.TestCase):
                 self.browser.until("return document.getElementById('notice').hidden")
                 self.browser.press("Left")
                 self.at(1)
+        self.assertEqual([c for c in self.browser.complaints() if "410 (Gone)" not in c], [])
+
+    def stop(self):
+        """The button, as soon as it can be pressed."""
+        self.browser.until("return document.getElementById('stop').getAttribute('aria-disabled') === 'false'", seconds=20)
+        self.browser.click("#stop")
+
+    def stopped_at(self, position):
+        self.reads("#notice", f"Stopped: at {position}")
+        self.at(position)
+        self.assertEqual(self.browser.run("return document.getElementById('stop').getAttribute('aria-disabled')"), "true")
+
+    def test_a_long_move_is_stopped(self):
+        """The page stays where it stood, with the events off that were off, and what waited is dropped."""
+        with tempfile.TemporaryDirectory() as folder:
+            hold = pathlib.Path(folder) / "hold"
+            with Viewer(EXAMPLES / "row01.json", program_of(HOLDING, folder)) as viewer:
+                self.open(viewer)
+                self.at(3)
+                self.browser.click(self.row(3) + " input")
+                self.browser.until(f"return document.querySelector(\"{self.row(3)}\").classList.contains('off')")
+                self.browser.press("Escape", "Home")
+                self.at(0)
+                hold.touch()
+                self.browser.press("End")
+                self.browser.until("return document.getElementById('stop').getAttribute('aria-disabled') === 'false'", seconds=20)
+                self.browser.press("Left")                                  # waits, and is dropped
+                self.stop()
+                self.stopped_at(0)
+                self.assertEqual(self.browser.run("return [...document.querySelectorAll('#event-list .off')].map(e => e.dataset.number)"), ["3"])
+                self.assertEqual(viewer.ask("events")[0]["replies"][0], {"text": "events 3 at 0", "lines": ["1 on clear 1 2 3 4", "2 on clear 1 2 3 4", "3 off clear 1 2 3 4"], "left_out": 0})
+                self.browser.press("Right")
+                self.at(1)
+                hold.unlink()
+                self.browser.press("End")
+                self.at(3)
+                hold.touch()
+                self.browser.press("Left")                                  # on the way to 2 it is held, and on the way back to 3 too
+                self.stop()
+                self.browser.until("return document.getElementById('stop').getAttribute('aria-disabled') === 'true'")
+                self.stop()
+                self.stopped_at(0)
+                asked = self.browser.run("return [...document.querySelectorAll('#log .asked')].map(e => e.innerText)")
+                self.assertEqual(asked, ["goto 3", "off 3", "goto 0", "step", "goto 3", "goto 0"])
+        self.assertEqual([c for c in self.browser.complaints() if "410 (Gone)" not in c], [])
+
+    def test_a_long_history_is_stopped(self):
+        """The pixel that was chosen stays chosen, with its history."""
+        with tempfile.TemporaryDirectory() as folder:
+            hold = pathlib.Path(folder) / "hold"
+            with Viewer(EXAMPLES / "row01.json", program_of(HOLDING, folder)) as viewer:
+                self.open(viewer)
+                self.at(3)
+                self.browser.press("Escape", "Home")
+                self.at(0)
+                hold.touch()
+                self.click_pixel(0, 0, 1)
+                self.stop()
+                self.stopped_at(0)
+                self.assertTrue(self.browser.run("return document.getElementById('history').hidden"))
+                hold.unlink()
+                self.click_pixel(0, 0, 1)
+                self.browser.until("return document.querySelectorAll('#history .entry').length === 1")
+                hold.touch()
+                self.browser.press("End")
+                self.stop()
+                self.stopped_at(0)
+                self.assertEqual(self.browser.run("return document.querySelectorAll('#history .entry').length"), 1)
+                self.reads("#value", "0 2 3 4")
         self.assertEqual([c for c in self.browser.complaints() if "410 (Gone)" not in c], [])
 
 

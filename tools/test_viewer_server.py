@@ -2,21 +2,23 @@
 import json
 import os
 import pathlib
+import signal
 import socket
 import stat
 import struct
 import subprocess
 import sys
 import tempfile
+import threading
 import time
 import unittest
 from unittest import mock
 
-from viewer_testing import EXAMPLES, PROGRAM, TOOLS, Viewer, image, replies
+from viewer_testing import EXAMPLES, HOLDING, PROGRAM, TOOLS, Viewer, image, program_of, replies
 from viewer import image as viewer_image
 from viewer.doors import MAX_BODY
 from viewer.handover import Handover
-from viewer.session import Ended, Session
+from viewer.session import Ended, Session, Stopped
 
 HOUSE = EXAMPLES / "house.json"
 
@@ -63,7 +65,7 @@ class Doors(unittest.TestCase):
         own = self.viewer.server.token
         self.assertGreaterEqual(len(own), 43)            # 256 bits in letters of six bits
         for token in (None, "", "x", own[:-1], own + "x", own.swapcase()):
-            for call in ({}, {"path": "/triangle", "body": b"11 0"}, {"path": "/restart", "body": b""}, {"method": "GET", "path": "/capture"}):
+            for call in ({}, {"path": "/triangle", "body": b"11 0"}, {"path": "/restart", "body": b""}, {"path": "/stop", "body": b""}, {"method": "GET", "path": "/capture"}):
                 self.assertEqual(self.status(X_Token=token, **call), 403, (token, call))
         self.assertEqual(self.status(more=[("X-Token", own)]), 403)
 
@@ -155,6 +157,101 @@ class Run(unittest.TestCase):
             self.assertEqual(viewer.ask("state")[0]["switches"], [5, 5])
 
 
+class Stops(unittest.TestCase):
+    """A run that is held in the midst of an answer."""
+
+    def setUp(self):
+        self.folder = tempfile.TemporaryDirectory()
+        self.hold, self.held = (pathlib.Path(self.folder.name) / name for name in ("hold", "held"))
+        self.hold.touch()
+        self.session = Session(program_of(HOLDING, self.folder.name), "no capture", 1)
+
+    def tearDown(self):
+        self.within(self.session.close)
+        self.folder.cleanup()
+
+    def within(self, job, *given):
+        """What a job gives or raises; it may not wait for ever."""
+        done = []
+
+        def attempt():
+            try:
+                done.append(job(*given))
+            except Ended as ended:
+                done.append(type(ended))
+        thread = threading.Thread(target=attempt, daemon=True)
+        thread.start()
+        thread.join(20)
+        self.assertTrue(done, "it waits for ever")
+        return done[0]
+
+    def in_the_midst_of(self, lines, job):
+        """What a job gives while a call is answered, and what the call comes to."""
+        found = []
+        caller = threading.Thread(target=lambda: found.append(self.within(self.session.answer, lines)), daemon=True)
+        caller.start()
+        end = time.time() + 20
+        while not self.held.exists() and time.time() < end:
+            time.sleep(0.01)
+        self.assertTrue(self.held.exists())
+        given = self.within(job)
+        caller.join(20)
+        self.held.unlink()
+        return given, found[0]
+
+    def events(self):
+        replies, *_ = self.within(self.session.answer, [b"events"])
+        return [replies[0]["text"], *(line.split()[1] for line in replies[0]["lines"])]
+
+    def test_a_stop_waits_for_nobody(self):
+        self.within(self.session.answer, [b"off 2", b"off 3", b"on 2", b"goto 1"])
+        _, call = self.in_the_midst_of([b"goto 3"], self.session.stop)
+        self.assertEqual(call, Stopped)
+        self.assertEqual(self.events(), ["events 3 at 0", "on", "on", "off"])
+
+    def test_what_the_stopped_call_switched_is_as_it_was(self):
+        self.within(self.session.answer, [b"off 3"])
+        _, call = self.in_the_midst_of([b"off 1", b"on 3", b"goto 3"], self.session.stop)
+        self.assertEqual((call, self.events()), (Stopped, ["events 3 at 0", "on", "on", "off"]))
+        self.within(self.session.start)
+        self.assertEqual(self.events(), ["events 3 at 0", "on", "on", "on"])
+        self.within(self.session.stop)
+        self.assertEqual(self.events(), ["events 3 at 0", "on", "on", "on"])
+
+    def test_a_call_that_waits_finds_the_flags(self):
+        """Whoever comes first after a stop finds the other run whole."""
+        self.within(self.session.answer, [b"off 1"])
+        others = []
+
+        def stop():
+            waiting = threading.Thread(target=lambda: others.append(self.events()), daemon=True)
+            waiting.start()
+            self.session.stop()
+            waiting.join(20)
+        self.in_the_midst_of([b"goto 3"], stop)
+        self.assertEqual(others, [["events 3 at 0", "off", "on", "on"]])
+
+    def test_the_end_waits_for_nobody(self):
+        _, call = self.in_the_midst_of([b"goto 3"], self.session.close)
+        self.assertEqual(call, Ended)
+
+    def test_the_call_of_the_page(self):
+        with Viewer("no capture", program_of(HOLDING, self.folder.name)) as viewer:
+            answers = []
+            caller = threading.Thread(target=lambda: answers.append(viewer.request(body=b"goto 3\n")), daemon=True)
+            caller.start()
+            while not self.held.exists() and caller.is_alive():
+                time.sleep(0.01)
+            self.assertEqual(viewer.request(path="/stop", body=b"")[0], 200)
+            caller.join(20)
+            (status, _, told), = answers
+            self.assertEqual((status, json.loads(told)), (410, {"ended": "stopped", "stopped": True}))
+            viewer.session.run.kill()
+            viewer.session.run.wait()
+            self.assertFalse(json.loads(viewer.request()[2])["stopped"])
+            self.assertEqual(viewer.request(path="/stop", body=b"", X_Token="")[0], 403)
+
+
 class Rows:
     """A PAM of a square target, made row by row as it is read: at each pixel its column and its row, of 16 bits each."""
 
@@ -213,6 +310,17 @@ class Parts(unittest.TestCase):
         self.assertEqual((part["left"], part["top"], part["columns"], part["rows"], part["every"]), (16000, 3000, 384, 500, 1))
 
 
+# A browser that tells what it was given and what it was answered, and then stays
+BROWSER = """
+import os, signal, sys, urllib.request
+page = open(sys.argv[1].removeprefix("file://")).read().replace("\\n", " ")
+with open(os.environ["TOLD"], "w") as told:
+    print(os.getpid(), " ".join(sys.argv[1:]), page, sep="\\n", file=told, flush=True)
+    print(urllib.request.urlopen(page.split("url=")[1].split("#")[0]).status, file=told, flush=True)
+signal.pause()
+"""
+
+
 class AddressForTheBrowser(unittest.TestCase):
     def test_only_the_user_reads_the_file(self):
         handover = Handover("http://127.0.0.1:1/#secret")
@@ -222,28 +330,72 @@ class AddressForTheBrowser(unittest.TestCase):
         handover.close()
         self.assertFalse(handover.folder.exists())
 
-    def test_the_words_of_the_browser_have_no_token(self):
-        with tempfile.TemporaryDirectory() as folder:
-            told, browser = pathlib.Path(folder) / "told", pathlib.Path(folder) / "browser"
-            browser.write_text(f'#!/bin/sh\necho "$@" > {told}\ncat "${{1#file://}}" >> {told}\n')
-            browser.chmod(0o755)
-            environment = {**os.environ, "BROWSER": f"{browser} %s", "TMPDIR": folder}
-            launcher = pathlib.Path(os.environ.get("VIEWER", TOOLS)) / "view"
-            run = subprocess.Popen([sys.executable, launcher, "--program", PROGRAM, HOUSE], stdout=subprocess.PIPE, env=environment, text=True)
+    def opened(self, script):
+        """The launcher with a browser that is a script: its first lines on both outputs, and what the browser told."""
+        folder = pathlib.Path(self.folder.name)
+        told, browser = folder / "told", folder / "browser"
+        browser.write_text(f"#!{sys.executable}\n{script}")
+        browser.chmod(0o755)
+        environment = {**os.environ, "BROWSER": f"{browser} %s", "TMPDIR": str(folder), "TOLD": str(told)}
+        words = [sys.executable, pathlib.Path(os.environ.get("VIEWER", TOOLS)) / "view", "--program", program_of(HOLDING, folder), HOUSE]
+        run = subprocess.Popen(words, stdout=subprocess.PIPE, stderr=subprocess.PIPE, env=environment, text=True)
+        self.addCleanup(self.ended, run, told)
+        return run, told
+
+    def ended(self, run, told):
+        run.terminate()
+        run.wait(20)
+        run.stdout.close()
+        run.stderr.close()
+        if told.exists():
             try:
-                address = run.stdout.readline().strip()
-                token = address.partition("#")[2]
-                end = time.time() + 10
-                while time.time() < end and not (told.exists() and token in told.read_text()):
-                    time.sleep(0.02)
-                words, _, page = told.read_text().partition("\n")
-                self.assertNotIn(token, words)
-                self.assertIn(address, page)
-            finally:
-                run.terminate()
-                run.wait(10)
-                run.stdout.close()
-            self.assertEqual([p.name for p in pathlib.Path(folder).iterdir() if p.name.startswith("framedbg-view")], [])
+                os.kill(int(told.read_text().split("\n")[0]), signal.SIGKILL)
+            except ProcessLookupError:
+                pass
+        self.assertEqual([p.name for p in pathlib.Path(self.folder.name).iterdir() if p.name.startswith("framedbg-view")], [])
+
+    def setUp(self):
+        self.folder = tempfile.TemporaryDirectory()
+        self.addCleanup(self.folder.cleanup)
+
+    def tells(self, told, lines):
+        """What the browser has told, as soon as there are so many lines."""
+        end = time.time() + 20
+        while time.time() < end and not (told.exists() and told.read_text().count("\n") >= lines):
+            time.sleep(0.02)
+        return told.read_text().split("\n") if told.exists() else []
+
+    def test_the_words_of_the_browser_have_no_token(self):
+        run, told = self.opened(BROWSER)
+        address = run.stdout.readline().strip()
+        token = address.partition("#")[2]
+        _, words, page, *_ = self.tells(told, 4)
+        self.assertNotIn(token, words)
+        self.assertIn(address, page)
+
+    def test_a_browser_that_stays_in_the_foreground(self):
+        """The page is served while a browser runs that Python doesn't know."""
+        _, told = self.opened(BROWSER)
+        self.assertEqual(self.tells(told, 4)[3:4], ["200"])
+
+    def test_a_browser_that_does_not_come(self):
+        """One that ends at once with a fault, and one that ends and never asks."""
+        run, _ = self.opened("raise SystemExit(1)")
+        root = " (as root most refuse to start)" if os.geteuid() == 0 else ""
+        self.assertEqual(run.stderr.readline(), f"view: no browser could be opened{root}: open the address above in one\n")
+        for comes, opener, expected in ((False, "pass", ["no browser has come yet"]), (True, "pass", []), (False, "raise SystemExit(1)", ["no browser could be opened"]),
+                                        (False, "import time; time.sleep(600)", ["no browser has come yet"]), (True, "raise SystemExit(1)", [])):
+            handover, trouble = Handover("http://127.0.0.1:1/#secret"), []
+            if comes:
+                handover.close()
+            opened = subprocess.Popen([sys.executable, "-c", opener])
+            if "sleep" not in opener:
+                opened.wait()
+            handover.watch(opened, trouble.append, 0.01)
+            opened.kill()
+            opened.wait()
+            handover.close()
+            self.assertEqual(trouble, expected)
 
 
 if __name__ == "__main__":

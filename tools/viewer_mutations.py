@@ -70,7 +70,7 @@ MUTATIONS = [   # name, file, text, what stands there instead, test
     ("explain: the file's name as it is", "explain", "{printable(path)}", "{path}", "Explained.test_nothing_steers_the_terminal"),
     ("explain: control characters alone", "explaining/printable.py", "letter.isprintable()", "ord(letter) >= 32", "Explained.test_nothing_steers_the_terminal"),
     ("explain: letters that the terminal lacks", "explain", 'errors="backslashreplace"', 'errors="strict"', "Explained.test_nothing_steers_the_terminal"),
-    ("explain: a kind of any length", "explaining/rules.py", "{short(kind)}", "{kind}", "Explained.test_nothing_steers_the_terminal"),
+    ("explain: a kind of any length", "explaining/printable.py", "len(text) <= MOST_SHOWN", "True", "Explained.test_nothing_steers_the_terminal"),
     ("explain: read to its end", "explain", "file.read(MOST_BYTES + 1)", "file.read()", "Explained.test_a_file_without_end"),
     ("explain: a byte too few is read", "explain", "file.read(MOST_BYTES + 1)", "file.read(MOST_BYTES)", "Explained.test_a_file_without_end"),
     ("mesh: rows without properties", "meshes/ply.py", "(count and not properties)", "False", "Meshes.test_what_is_declared_without_end"),

@@ -66,6 +66,46 @@ for line in sys.stdin:
     sys.stdout.flush()
 """
 
+# Answers for three clears, and goes to no position from 2 on while the file beside it is there: then it says so in another file, and stays silent
+HOLDING = """#!/usr/bin/env python3
+import pathlib
+import signal
+import sys
+here = pathlib.Path(__file__).parent
+position, on = 0, [True] * 3
+for line in sys.stdin:
+    word, *rest = line.split()
+    if word == "events":
+        reply = f"events 3 at {position}\\n" + "".join(f"{i + 1} {'on' if on[i] else 'off'} clear 1 2 3 4\\n" for i in range(3))
+    elif word in ("on", "off"):
+        on[int(rest[0]) - 1] = word == "on"
+        reply = f"at {position}\\n"
+    elif word == "goto":
+        position = int(rest[0])
+        if position > 1 and (here / "hold").exists():
+            (here / "held").touch()
+            signal.pause()
+        reply = f"at {position}\\n"
+    elif word == "show":
+        reply = "pam 69\\nP7\\nWIDTH 1\\nHEIGHT 1\\nDEPTH 4\\nMAXVAL 255\\nTUPLTYPE RGB_ALPHA\\nENDHDR\\n" + chr(position) * 4
+    elif word == "pixel":
+        reply = f"pixel {position} 2 3 4\\n"
+    elif word == "history":
+        reply = f"history 1\\n1 - drawn 1 2 3 4 0 0 0 0 1 2 3 4\\n"
+    else:
+        reply = "state cull back ccw 0 scissor 0 rect 0 0 0 0 blend 0 ONE ZERO ADD ONE ZERO ADD mask 15 factor 255 255 255 255\\n"
+    sys.stdout.write(reply)
+    sys.stdout.flush()
+"""
+
+
+def program_of(text, folder):
+    """A program in a folder that a test has for itself."""
+    program = pathlib.Path(folder) / "program"
+    program.write_text(text)
+    program.chmod(0o755)
+    return str(program)
+
 
 def asked(program, capture, commands):
     return subprocess.run([program, "run", str(capture)], input="".join(c + "\n" for c in commands).encode(), capture_output=True)

@@ -60,7 +60,7 @@ def check_event(event, version, path):
         raise missing_or(8, event, path, "kind", "a text is wanted")
     kinds = KINDS if version == 2 else {name: rule for name, rule in KINDS.items() if name not in ONLY_IN_TWO}
     if kind not in kinds:
-        why = f'"{kind}" comes with version 2 only' if kind in ONLY_IN_TWO else f'there is no kind "{short(kind)}"{near(kind, kinds)}'
+        why = f'"{kind}" comes with version 2 only' if kind in ONLY_IN_TWO else f'there is no kind "{kind}"{near(kind, kinds)}'
         raise Wrong(7, (*path, "kind"), why)
     kinds[kind](event, version, path)
 
@@ -206,17 +206,13 @@ def near(value, allowed):
     return f" ({names[found[0]]}?)" if found else ""
 
 
-def short(text):
-    return text if len(text) <= 24 else text[:20] + " .."
-
-
 def told(value):
     if value is None:
         return "null"
     if isinstance(value, bool):
         return str(value).lower()
     if isinstance(value, str):
-        return f'the text "{short(value)}"'
+        return f'the text "{value if len(value) <= 24 else value[:20] + " .."}"'
     if isinstance(value, list):
         return f"an array of {len(value)}"
     if isinstance(value, dict):

@@ -10,10 +10,12 @@ const MAX_OUTLINED = 32 << 20;     // bytes of a capture that is read for outlin
 const PIXEL = 65536;               // positions are in 1/65536 pixel
 
 export class Ended extends Error {}
+export class Stopped extends Error {}
 
 const text = name => document.getElementById(name).textContent;
 const program = unpack(text("module")).then(bytes => WebAssembly.compile(bytes));
-let worker = null, output = null, turn = Promise.resolve(), events = null, capture, tellCapture = () => {};
+const off = new Set();              // the events that are off
+let worker = null, output = null, turn = Promise.resolve(), events = null, capture, stops = 0, tellCapture = () => {};
 
 // Nobody else switches events here
 export const onForeign = () => {};
@@ -25,19 +27,22 @@ const chosen = new Promise(resolve => chooseCaptures(other => {
   const isFirst = !capture;
   [capture, events] = [other, null];
   if (isFirst) return resolve();
-  stop(new Error(`${capture.name} is shown now`));
+  off.clear();
+  end(new Error(`${capture.name} is shown now`));
   tellCapture();
 }));
 
-function stop(why) {
+function end(why) {
   worker?.terminate();
   output?.end(why);
   worker = null;
 }
 
 async function start() {
-  stop(new Ended("started again"));
-  const [compiled] = await Promise.all([program, chosen]), its = output = new Output();
+  end(new Ended("started again"));
+  const before = stops, [compiled] = await Promise.all([program, chosen]);
+  if (before !== stops) throw new Stopped();
+  const its = output = new Output();
   worker = new Worker(URL.createObjectURL(new Blob([text("program")], { type: "text/javascript" })));
   worker.onmessage = ({ data: { pieces, ended } }) => pieces ? its.add(pieces) : its.end(new Ended(`${ended.errors.trim() || "framedbg has ended"} (${ended.ending})`));
   worker.onerror = fault => its.end(new Ended(fault.message));
@@ -52,15 +57,34 @@ const inTurn = job => {
 
 // The replies to some lines, with no other caller's between: { text, lines?, left_out?, image? }. Of an image the part in the window comes
 export const ask = (lines, window = null) => inTurn(async () => {
-  if (!worker) await start();
+  if (!worker) {
+    await start();
+    await answer([...off].map(number => `off ${number}`), null);
+  }
+  const replies = await answer(lines, window);
+  for (const [i, { text }] of replies.entries()) {
+    const [word, number] = lines[i].trim().split(/ +/);
+    if (/^(at|stopped) /.test(text) && word === "off") off.add(+number);
+    if (/^(at|stopped) /.test(text) && word === "on") off.delete(+number);
+  }
+  return replies;
+});
+
+async function answer(lines, window) {
   worker?.postMessage({ lines: new TextEncoder().encode(lines.map(line => line + "\n").join("")) });
   const replies = [];
   for (const _ of lines) replies.push(await output.reply(window));
   return replies;
-});
+}
 
 export const captureName = async () => { await chosen; return capture.name; };
-export const restart = () => inTurn(start);
+export const restart = () => inTurn(() => { off.clear(); return start(); });
+
+// Ends the run in the midst of what it is at; another begins with the same events off where something is asked
+export async function stop() {
+  stops++;
+  end(new Stopped());
+}
 
 // The corners of a triangle in pixels, as the capture has them, or null where that is too large to be read for it
 export async function triangle(event, number) {

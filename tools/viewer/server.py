@@ -7,6 +7,7 @@ are read once at the start and found by exact name, and a call is a few lines fo
                      and then the bytes of the images in their order. The header X-Window, four numbers, names the part of the images that is wanted
     POST /triangle   an event's and a triangle's number; the answer is its three corners in pixels, as JSON
     POST /restart    a new run of the same capture, after one that has ended
+    POST /stop       a new run with the same events off, in the place of one that takes long: the call that it was at is answered with "stopped"
     GET  /capture    the capture's name, as JSON
 """
 import http.server
@@ -16,7 +17,7 @@ import secrets
 
 from . import doors
 from .doors import Refused
-from .session import Ended
+from .session import Ended, Stopped
 
 PAGE = pathlib.Path(__file__).parent / "page"
 TYPES = {".html": "text/html; charset=utf-8", ".css": "text/css; charset=utf-8", ".js": "text/javascript; charset=utf-8"}
@@ -60,7 +61,7 @@ class Handler(http.server.BaseHTTPRequestHandler):
             self.close_connection = True
             self.send(refusal.status, "text/plain; charset=utf-8", f"{refusal}\n".encode())
         except Ended as ended:
-            self.send_json({"ended": str(ended)}, 410)
+            self.send_json({"ended": str(ended), "stopped": isinstance(ended, Stopped)}, 410)
 
     def check_token(self):
         doors.check_token(self.headers, self.server.token)
@@ -76,7 +77,7 @@ class Handler(http.server.BaseHTTPRequestHandler):
 
     def post(self):
         self.check_token()
-        calls = {"/commands": self.commands, "/triangle": self.triangle, "/restart": self.restart}
+        calls = {"/commands": self.commands, "/triangle": self.triangle, "/restart": self.restart, "/stop": self.stop}
         if self.path not in calls:
             raise Refused(404, "no such call")
         calls[self.path](self.rfile.read(doors.body_length(self.headers)))
@@ -93,6 +94,10 @@ class Handler(http.server.BaseHTTPRequestHandler):
 
     def restart(self, _):
         self.server.session.start()
+        self.send_json({})
+
+    def stop(self, _):
+        self.server.session.stop()
         self.send_json({})
 
     def send_json(self, told, status=200):

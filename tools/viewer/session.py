@@ -14,36 +14,77 @@ class Ended(Exception):
     """The run is over; the text says how framedbg ended it."""
 
 
+class Stopped(Ended):
+    """The run was stopped in the midst of a call, and another stands in its place, with the events off that were off before."""
+
+    def __init__(self):
+        super().__init__("stopped")
+
+
 class Session:
     def __init__(self, program, capture, workers):
         self.words = [program, "run", "--workers", str(workers), capture]
         self.lock = threading.Lock()
         self.run, self.ending = None, ""
         self.switches = 0        # how often events were switched, or all of them on by a new start
+        self.off, self.flipped = set(), []       # the events that are off, and the switches of the call that is answered
+        self.stopping = False
         self.start()
 
     def start(self):
         """Starts the run, or starts it again, at position 0 with all events on."""
         with self.lock:
-            self._close()
-            self.run = subprocess.Popen(self.words, stdin=subprocess.PIPE, stdout=subprocess.PIPE, stderr=subprocess.PIPE, bufsize=1 << 20)
-            widen(self.run.stdout)
+            self.off.clear()
+            self._start()
             self.switches += 1
+
+    def stop(self):
+        """Ends the run in the midst of what it does, without waiting for it, and starts another with the same events off."""
+        self.stopping = True
+        self.run.kill()
+        with self.lock:
+            if self.stopping:
+                self._start_again()
 
     def answer(self, lines, window=None):
         """The replies to some commands, the images among them, and the count of switches before and after. No other caller's commands
         come between. Of an image the part in the window is kept."""
-        replies, images = [], []
         with self.lock:
-            before = self.switches
-            for bundle in bundles(lines):
-                self._write(bundle)
-                replies += [self._reply(line, images, window) for line in bundle]
+            before, images = self.switches, []
+            try:
+                replies = self._answer(lines, images, window)
+            except Ended:
+                if not self.stopping:
+                    raise
+                self._start_again()
+                raise Stopped from None
             return replies, images, (before, self.switches)
 
     def close(self):
+        """Ends the run for good, whatever it is at."""
+        self.run.kill()
         with self.lock:
             self._close()
+
+    def _start(self):
+        self._close()
+        self.run = subprocess.Popen(self.words, stdin=subprocess.PIPE, stdout=subprocess.PIPE, stderr=subprocess.PIPE, bufsize=1 << 20)
+        widen(self.run.stdout)
+
+    def _start_again(self):
+        self._start()
+        self.stopping = False
+        self._answer([b"off %d" % number for number in sorted(self.off)], [], None)
+
+    def _answer(self, lines, images, window):
+        """The replies. What the lines switched counts when all of them are answered."""
+        replies, self.flipped = [], []
+        for bundle in bundles(lines):
+            self._write(bundle)
+            replies += [self._reply(line, images, window) for line in bundle]
+        for word, number in self.flipped:
+            (self.off.add if word == b"off" else self.off.discard)(int(number))
+        return replies
 
     def _write(self, lines):
         try:
@@ -66,6 +107,7 @@ class Session:
             self._list(reply, int(rest[0]))
         elif word in ("at", "stopped") and line.split()[:1] in ([b"on"], [b"off"]):
             self.switches += 1
+            self.flipped.append(line.split())
         return reply
 
     def _list(self, reply, count):

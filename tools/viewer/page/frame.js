@@ -1,6 +1,7 @@
 // The frame at a position: what framedbg said of it, and the moves that ask for more. Every move is one call of a few commands.
 
-import { ask, restart, triangle, switchedElsewhere, onForeign, Ended } from "./run.js";
+import { restart, triangle, switchedElsewhere, onForeign, Ended, Stopped } from "./run.js";
+import { ask, stop as stopAnswer } from "./working.js";
 import { readEvent, readEntry, readPixel, readState, positionIn, isRefusal } from "./replies.js";
 import { askDepths, depthPart, greyOf, tooManyDepths } from "./depths.js";
 import { tell, notice } from "./log.js";
@@ -22,13 +23,40 @@ export const frame = unset();
 
 const IMAGES = 6;                     // positions whose images are kept here
 const images = new Map();
-let wanted = null, queue = Promise.resolve(), show = () => {}, sight = null;
+let wanted = null, queue = Promise.resolve(), round = 0, isReturning = false, show = () => {}, sight = null;
 
 export const onShow = draw => { show = draw; };
 export const last = () => frame.events.length;
 
-// One thing after another, so that each finds the run where the page says it is
-export const inTurn = job => (queue = queue.then(job).catch(fail));
+// One thing after another, so that each finds the run where the page says it is. What waits when something is stopped is dropped
+export const inTurn = job => {
+  const its = round;
+  return (queue = queue.then(() => its === round ? job() : undefined).catch(fail));
+};
+
+// Stops what the run is at, and takes back what waits for it
+export function stop() {
+  const stopped = stopAnswer();
+  if (!stopped) return;
+  round++;
+  wanted = null;
+  frame.target = frame.position;
+  stopped.catch(fail);
+}
+
+// After a stop: to where the page stood, or to the start where the way back was stopped too
+const goBack = () => inTurn(async () => {
+  const to = isReturning ? 0 : frame.position;
+  isReturning = true;
+  try {
+    await refresh(to, false);
+    isReturning = false;
+    notice(`Stopped: at ${frame.position}`);
+  } catch (fault) {
+    isReturning = fault instanceof Stopped;
+    throw fault;
+  }
+});
 
 // Of the moves asked for meanwhile only the newest counts
 export function goTo(position) {
@@ -90,16 +118,23 @@ function keep(position, image) {
   while (images.size > IMAGES) images.delete(images.keys().next().value);
 }
 
-// All events, and the position where the run stands: at first, and after a switch, when images and histories are others
-async function refresh(position = frame.position) {
+// All events, and the position where the run stands: at first, and after a switch, when images and histories are others.
+// Without a history, which the way to the end is wanted for, the pixel's stays where nothing was switched meanwhile
+async function refresh(position = frame.position, withHistory = true) {
   images.clear();
-  const [events] = await ask(["events"]);
+  const [events] = await ask(["events"]), flags = frame.events.map(({ on }) => on).join();
   switchedElsewhere();
   frame.events = events.lines.map(readEvent);
   if (events.left_out) notice(`${events.left_out} more events aren't listed here`);
+  if (!withHistory && flags !== frame.events.map(({ on }) => on).join()) forgetPixel();
   show("events");
-  await arrive(Math.min(position, last()));
-  if (frame.pixel) await readHistory();
+  await arrive(Math.min(position, last()), withHistory || position === frame.position ? "" : `goto ${position}`);
+  if (withHistory && frame.pixel) await readHistory(frame.pixel);
+}
+
+function forgetPixel() {
+  const { pixel, value, entries, writers, outlined, corners } = unset();
+  Object.assign(frame, { pixel, value, entries, writers, outlined, corners });
 }
 
 // The run's capture, from its end
@@ -161,16 +196,16 @@ export const switchOver = (numbers, on) => inTurn(async () => {
 });
 
 export const pick = ({ x, y }) => inTurn(() => {
-  frame.pixel = { x, y };
   outline(null);
-  return readHistory(true);
+  return readHistory({ x, y }, true);
 });
 
 // The pixel here, and the whole frame's history, so that it stays while one walks through it. Another page may have moved the run
-async function readHistory(told = false) {
-  const { x, y } = frame.pixel, there = `goto ${last()}`, here = `goto ${frame.position}`;
-  const lines = [here, `pixel ${x} ${y}`, there, `history ${x} ${y}`, here];
-  for (const [i, { text, lines: listed, left_out }] of (await ask(lines)).entries()) {
+async function readHistory({ x, y }, told = false) {
+  const there = `goto ${last()}`, here = `goto ${frame.position}`;
+  const lines = [here, `pixel ${x} ${y}`, there, `history ${x} ${y}`, here], replies = await ask(lines);
+  frame.pixel = { x, y };
+  for (const [i, { text, lines: listed, left_out }] of replies.entries()) {
     if (told && i > 0 && !(here === there && lines[i] === here)) tell(lines[i], text);
     if (isRefusal(text)) notice(text, true);
     if (text.startsWith("pixel ")) frame.value = readPixel(text);
@@ -210,12 +245,12 @@ export const command = line => inTurn(async () => {
   const position = positionIn(reply.text);
   if (position !== null) await (word === "on" || word === "off" ? refresh(position) : arrive(position));
   else if (reply.text.startsWith("pixel ") || reply.text.startsWith("history ")) {
-    frame.pixel = { x: +x, y: +y };
-    await readHistory();
+    await readHistory({ x: +x, y: +y });
   }
 });
 
 function fail(fault) {
+  if (fault instanceof Stopped) return void goBack();
   if (!(fault instanceof Ended)) return notice(String(fault.message ?? fault), true);
   notice(`The run has ended: ${fault.message}`, true, "Start again", () => {
     const off = frame.events.filter(event => !event.on).map(event => `off ${event.number}`);

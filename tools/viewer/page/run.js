@@ -5,6 +5,7 @@ sessionStorage.setItem("token", token);
 history.replaceState(null, "", location.pathname);
 
 export class Ended extends Error {}
+export class Stopped extends Error {}
 
 // Pages of one run tell each other of switches; those in another browser are noticed by the count that comes with each answer
 const others = new BroadcastChannel("switches");
@@ -14,7 +15,10 @@ export const onCapture = () => {};        // this run has one capture; that of t
 
 async function call(path, body, headers = {}) {
   const answer = await fetch(path, { method: body === undefined ? "GET" : "POST", body, headers: { "X-Token": token, ...headers }, cache: "no-store" });
-  if (answer.status === 410) throw new Ended((await answer.json()).ended);
+  if (answer.status === 410) {
+    const { ended, stopped } = await answer.json();
+    throw stopped ? new Stopped() : new Ended(ended);
+  }
   if (!answer.ok) throw new Error(`${answer.status} ${(await answer.text()).trim()}`);
   return answer;
 }
@@ -52,6 +56,9 @@ export async function restart() {
   switches = null;
   others.postMessage(null);
 }
+
+// Ends the run in the midst of what it is at; another begins with the same events off
+export const stop = () => call("/stop", "");
 
 // The corners of a triangle in pixels, as the capture's file has them, or null where that is too large to be read for it
 export const triangle = async (event, number) => (await call("/triangle", `${event} ${number}`)).json();

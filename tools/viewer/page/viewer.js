@@ -1,7 +1,8 @@
 // The page: wires the panels to the frame, and hands to both.
 
 import { captureName, onCapture } from "./run.js";
-import { frame, onShow, inTurn, open, again, last, goTo, neighbour, switchOver, pick, command, fetchPart, wantDepths } from "./frame.js";
+import { onWorking } from "./working.js";
+import { frame, onShow, inTurn, open, again, last, stop, goTo, neighbour, switchOver, pick, command, fetchPart, wantDepths } from "./frame.js";
 import { WRITES, setFilter, listEvents, drawEvents, drawTicks } from "./events.js";
 import { drawPixel, drawState } from "./panels.js";
 import { Picture } from "./picture.js";
@@ -147,7 +148,7 @@ function nextDifferent() {
 const KEYS = {
   ArrowLeft: () => goTo(frame.target - 1), ArrowRight: () => goTo(frame.target + 1), ArrowUp: () => goToDraw(-1), ArrowDown: () => goToDraw(1),
   Home: () => goTo(0), End: () => goTo(last()), "[": () => goToWriter(-1), "]": () => goToWriter(1),
-  " ": switchLast,
+  " ": switchLast, ".": stop,
   a: () => setLook("after"), c: () => setLook(view.look === "changed" ? "after" : "changed"), d: () => setLook(view.look === "compared" ? "after" : "compared"),
   b: () => { view.held ??= view.look; setLook(view.held === "compared" && view.other ? "other" : "before"); },
   z: () => frame.hasDepth && setLook(view.look === "depth" ? "after" : "depth"), p: pin, n: nextDifferent, s: () => $("scissor-shown").click(),
@@ -173,7 +174,7 @@ function release(event) {
 
 function listen() {
   const clicks = {
-    first: KEYS.Home, back: KEYS.ArrowLeft, step: KEYS.ArrowRight, last: KEYS.End, fit: KEYS[0], larger: KEYS["+"], smaller: KEYS["-"], keys: KEYS["?"],
+    first: KEYS.Home, back: KEYS.ArrowLeft, step: KEYS.ArrowRight, last: KEYS.End, stop, fit: KEYS[0], larger: KEYS["+"], smaller: KEYS["-"], keys: KEYS["?"],
     "writer-before": KEYS["["], "writer-after": KEYS["]"], pin, load: () => $("file").click(), "next-different": nextDifferent,
     copy: async () => { await navigator.clipboard.writeText(session()); notice("Copied: a session for framedbg run"); },
   };
@@ -221,4 +222,5 @@ function begin() {
 
 listen();
 onCapture(begin);
+onWorking(isSlow => $("stop").setAttribute("aria-disabled", !isSlow));
 begin();

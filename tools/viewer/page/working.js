@@ -1,0 +1,29 @@
+// What the run is asked, one thing after another. An answer that takes a while can be stopped: then whoever waits for it gets Stopped.
+
+import { ask as askRun, stop as stopRun, Stopped } from "./run.js";
+
+const A_WHILE = 300;     // milliseconds
+let asked = null, tell = () => {};
+
+// Told true where an answer takes a while, and false when it is there
+export const onWorking = told => { tell = told; };
+
+export async function ask(lines, window = null) {
+  const its = asked = { stopped: false }, late = setTimeout(() => tell(true), A_WHILE);
+  try {
+    const replies = await askRun(lines, window);
+    if (its.stopped) throw new Stopped();
+    return replies;
+  } finally {
+    asked = null;
+    clearTimeout(late);
+    tell(false);
+  }
+}
+
+// Whether there was an answer to be stopped
+export function stop() {
+  if (!asked || asked.stopped) return null;
+  asked.stopped = true;
+  return stopRun();
+}
