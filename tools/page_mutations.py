@@ -18,7 +18,7 @@ import browser
 TOOLS = pathlib.Path(__file__).resolve().parent
 SESSIONS, CHANCE, WORKERS, MEMORY, LARGE = "test_sessions", "test_runs_by_chance", "test_more_workers_than_threads", "test_without_memory", "test_large_blocks_of_memory"
 SERVER, ANOTHER, INSIDE, REFUSED, ENDS = "test_answers_as_the_server_does", "test_another_capture", "test_a_capture_inside", "test_a_refused_capture", "test_it_ends_and_starts_again"
-HUNT = "test_who_painted_the_house_wrong"
+STOPPED = "test_a_move_without_end_is_stopped"
 MUTATIONS = [   # name, file, text, what stands there instead, test
     ("host: a thread is promised", "page/host.c", "{ return EAGAIN; }", "{ return 0; }", WORKERS),
     ("host: blocks too short", "page/host.c", "(n + HEAD + ALIGNMENT - 1)", "(n / 2 + HEAD + ALIGNMENT - 1)", SESSIONS),
@@ -49,7 +49,10 @@ MUTATIONS = [   # name, file, text, what stands there instead, test
     ("page: an empty window", "page/part.js", "Math.max(right, left + 1)", "right", SERVER),
     ("page: the last byte of a piece", "page/output.js", "subarray(0, count - at);", "subarray(0, Math.max(1, count - at - 1));\n      if (part.length > 99) part[0] ^= 1;", SERVER),
     ("page: the ending is lost", "page/run.js", "its.end(new Ended(`${ended.errors.trim() || \"framedbg has ended\"} (${ended.ending})`))", "its.end(new Ended(\"framedbg has ended\"))", REFUSED),
-    ("page: a restart keeps the run", "page/run.js", "export const restart = () => inTurn(start);", "export const restart = () => inTurn(async () => {});", ENDS),
+    ("page: a restart keeps the run", "page/run.js", "off.clear(); return start(); });", "off.clear(); });", ENDS),
+    ("page: a stop leaves the run", "page/run.js", "  stops++;\n  end(new Stopped());", "  stops++;", STOPPED),
+    ("page: a stop switches all on", "page/run.js", "    await answer([...off].map(number => `off ${number}`), null);\n", "", STOPPED),
+    ("page: another capture's events are off", "page/run.js", "  off.clear();\n  end(", "  end(", STOPPED),
     ("page: the first capture for ever", "page/run.js", "  [capture, events] = [other, null];", "  capture ??= other;", ANOTHER),
     ("page: triangles of another capture", "page/run.js", "  [capture, events] = [other, null];", "  capture = other;", "test_another_triangle"),
     ("page: nobody is told of another capture", "page/run.js", "  tellCapture();\n", "", ANOTHER),

@@ -48,6 +48,9 @@ HTMLAnchorElement.prototype.click = function () { window.savedAs = this.download
 document.getElementById("save-page").click();
 return [await (await made).text(), window.savedAs];
 """
+# A worker that never answers where the frame's end is asked for
+HELD_AT = "    const count = give(lines[0], place, room);\n"
+HELD = '    if (said.decode(lines[0]).includes("goto 13")) for (;;);\n' + HELD_AT
 WITHOUT = "delete WebAssembly.Suspending; WebAssembly.validate = () => false;"
 
 
@@ -258,6 +261,27 @@ class Alone:
         self.at(13)
         self.assertEqual(self.drawn(50, 50), [190, 60, 50, 255])     # event 8 is off as it was
 
+    def test_a_move_without_end_is_stopped(self):
+        """A run that never comes to the end of the frame is ended, and another has the same events off."""
+        with mock.patch.object(self, "page", exchanged("program.js", HELD_AT, HELD)):
+            self.show(HOUSE)
+            self.stopped_at_the_start()
+            self.browser.click(self.row(8) + " input")
+            self.browser.until(f"return document.querySelector(\"{self.row(8)}\").classList.contains('off')")
+            self.browser.press("Escape", "End")
+            self.stopped_at_the_start()
+            self.browser.click(self.row(12) + " .what")
+            self.at(12)
+            self.comes(lambda: self.drawn(50, 50), [190, 60, 50, 255])     # event 8 is off as it was
+            self.assertEqual(self.browser.run("return document.querySelectorAll('#event-list .event.off').length"), 1)
+            self.drop("depth.json", DEPTH.encode())
+            self.at(6)
+            self.assertEqual(self.browser.run("return document.querySelectorAll('#event-list .event.off').length"), 0)
+
+    def stopped_at_the_start(self):
+        self.stop()
+        self.stopped_at(0)
+
     def test_a_capture_inside(self):
         """A page with a capture shows it at once; saved with another, it shows that one."""
         with mock.patch.object(self, "page", PACKED):
@@ -289,8 +313,9 @@ class Alone:
         page = PAGE.with_stem("small")
         page.write_text(packing.page(linked(most_memory=SMALL), HOUSE))
         self.plain(page)
-        corners = [{"x": x << 16, "y": y << 16, "color": [x % 256, y % 256, 9, 99]} for x, y in ((0, 0), (4096, 0), (0, 4096))]
-        capture, steps = capture_of(1024, 1024, [{"kind": "draw", "interp": "linear", "vertices": corners}] * 12).encode(), 12
+        colours = [255, 0, 9, 99], [0, 255, 200, 0], [40, 90, 0, 255]       # a span of one colour takes no memory: these change every few pixels
+        corners = [{"x": x << 16, "y": y << 16, "color": colour} for (x, y), colour in zip(((0, 0), (2048, 0), (0, 2048)), colours)]
+        capture, steps = capture_of(1024, 1024, [{"kind": "draw", "interp": "linear", "vertices": corners}] * 24).encode(), 24
         then = b"pixel 3 3\nback\nstep\nhistory 3 3\ngoto 0\nstep\nquit\n"
         (out, errors, ending), = runs.in_page(self.browser, [runs.Run(["run", "CAPTURE"], capture, [b"step\n" * steps + then], 1 << 20)])
         stands = out.count(b"\n", 0, out.index(b"stopped"))
@@ -304,6 +329,7 @@ class Alone:
 class InChromium(Alone, test_viewer_page.Page):
     # Of the server alone
     test_two_pages_at_once = test_the_file_for_the_browser_leads_to_the_page = test_without_the_token = test_stopped_and_ended = None
+    test_a_long_move_is_stopped = test_a_long_history_is_stopped = None
 
     def test_dark_and_light(self):
         with mock.patch.object(self, "page", PACKED):
