@@ -274,8 +274,8 @@ class Alone:
             self.at(12)
             self.comes(lambda: self.drawn(50, 50), [190, 60, 50, 255])     # event 8 is off as it was
             self.assertEqual(self.browser.run("return document.querySelectorAll('#event-list .event.off').length"), 1)
-            self.drop("depth.json", DEPTH.encode())
-            self.at(6)
+            self.drop("chain.json", CHAIN.read_bytes())
+            self.at(9)
             self.assertEqual(self.browser.run("return document.querySelectorAll('#event-list .event.off').length"), 0)
 
     def stopped_at_the_start(self):

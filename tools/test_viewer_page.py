@@ -506,7 +506,7 @@ class Page(unittest.TestCase):
     def test_a_long_move_is_stopped(self):
         """The page stays where it stood, with the events off that were off, and what waited is dropped."""
         with tempfile.TemporaryDirectory() as folder:
-            hold = pathlib.Path(folder) / "hold"
+            hold, held = (pathlib.Path(folder) / name for name in ("hold", "held"))
             with Viewer(EXAMPLES / "row01.json", program_of(HOLDING, folder)) as viewer:
                 self.open(viewer)
                 self.at(3)
@@ -528,10 +528,12 @@ class Page(unittest.TestCase):
                 self.browser.press("End")
                 self.at(3)
                 hold.touch()
+                held.unlink()
                 self.browser.press("Left")                                  # on the way to 2 it is held, and on the way back to 3 too
-                self.stop()
-                self.browser.until("return document.getElementById('stop').getAttribute('aria-disabled') === 'true'")
-                self.stop()
+                for _ in range(2):
+                    self.comes(held.exists, True)
+                    held.unlink()
+                    self.stop()
                 self.stopped_at(0)
                 asked = self.browser.run("return [...document.querySelectorAll('#log .asked')].map(e => e.innerText)")
                 self.assertEqual(asked, ["goto 3", "off 3", "goto 0", "step", "goto 3", "goto 0"])

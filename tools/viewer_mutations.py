@@ -51,7 +51,7 @@ MUTATIONS = [   # name, file, text, what stands there instead, test
     ("server: a part one pixel off", "image.py", '[part["left"]:part["left"]', '[part["left"] + 1:part["left"] + 1', "Parts"),
     ("server: a row too many left out", "image.py", "(y - top) % every == 0", "(y - top) % every == every - 1", "Parts"),
     ("server: switches aren't counted", "session.py", "            self.switches += 1\n            self.flipped", "            self.flipped", "Run"),
-    ("server: a stop waits for the answer", "session.py", "        self.stopping = True\n        self.run.kill()\n        with self.lock:\n", "        self.stopping = True\n        with self.lock:\n            self.run.kill()\n",
+    ("server: a stop waits for the answer", "session.py", "        run.kill()\n        with self.lock:\n", "        with self.lock:\n            run.kill()\n",
      "Stops.test_a_stop_waits_for_nobody"),
     ("server: a stop switches all on", "session.py", 'self._answer([b"off %d" % number for number in sorted(self.off)], [], None)', "pass", "Stops.test_a_stop_waits_for_nobody"),
     ("server: a stopped call's switches stay", "session.py", "            self.flipped.append(line.split())", '            (self.off.add if line.split()[0] == b"off" else self.off.discard)(int(line.split()[1]))',

@@ -40,8 +40,8 @@ class Session:
 
     def stop(self):
         """Ends the run in the midst of what it does, without waiting for it, and starts another with the same events off."""
-        self.stopping = True
-        self.run.kill()
+        run, self.stopping = self.run, True
+        run.kill()
         with self.lock:
             if self.stopping:
                 self._start_again()
