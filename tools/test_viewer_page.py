@@ -304,11 +304,24 @@ class Page(unittest.TestCase):
                 self.comes(lambda: self.drawn(5, 5), [255, 0, 0, 255])
                 self.browser.press(*"+" * 6)
                 self.browser.until("return document.getElementById('difference').innerText.startsWith('depths ') && document.getElementById('image').width < 160")
-                (left, _, width, _), sheet, columns = self.box("#image"), self.box("#sheet"), self.browser.run("return document.getElementById('image').width")
-                across = round((left - sheet[0]) * 160 / sheet[2])
-                near, far = (100 * x + 50 for x in (across, across + columns - 1))
-                self.reads("#difference", f"depths {near} to {far}: nearer is lighter, and 65535 is black")
-                self.assertEqual([self.drawn(x, 3)[0] for x in (0, columns - 1)], [240, 60])
+                self.comes(self.slope, "depths from the first column to the last, light to dark")
+
+    def slope(self):
+        """What is told and drawn of the slope at one moment, in words where both are as they should be."""
+        across, columns, told, *greys = self.browser.run(
+            "const image = document.getElementById('image'), [a, b] = [image, document.getElementById('sheet')].map(e => e.getBoundingClientRect()), { width } = image;"
+            "const grey = x => image.getContext('2d').getImageData(x, 3, 1, 1).data[0];"
+            "return [Math.round((a.left - b.left) * 160 / b.width), width, document.getElementById('difference').innerText, grey(0), grey(width - 1)]")
+        near, far = (100 * x + 50 for x in (across, across + columns - 1))
+        is_right = columns < 160 and told == f"depths {near} to {far}: nearer is lighter, and 65535 is black" and greys == [240, 60]
+        return "depths from the first column to the last, light to dark" if is_right else (across, columns, told, greys)
+
+    def drawn_of(self, width, *places):
+        """What is drawn at pixels of the target of which a part is in sight, all at one moment."""
+        return self.browser.run(
+            "const [width, places] = arguments, image = document.getElementById('image'), [a, b] = [image, document.getElementById('sheet')].map(e => e.getBoundingClientRect());"
+            "const across = Math.round((a.left - b.left) * width / b.width), down = Math.round((a.top - b.top) * width / b.width);"
+            "return places.map(([x, y]) => [...image.getContext('2d').getImageData(x - across, y - down, 1, 1).data])", width, places)
 
     def test_a_target_that_is_too_large_at_once(self):
         samples, _ = image(HOUSE)
@@ -328,13 +341,12 @@ class Page(unittest.TestCase):
             self.browser.press("+", "+", "+")
             self.reads("#part", "Of the target's 96 × 64 pixels those in sight were fetched.")
             self.browser.until("return document.getElementById('zoom').innerText === '21×' && document.getElementById('image').width < 40")
-            (left, top, *_), sheet = self.box("#image"), self.box("#sheet")
-            across, down = (round((a - b) * 96 / sheet[2]) for a, b in ((left, sheet[0]), (top, sheet[1])))
-            self.assertEqual([self.drawn(x - across, y - down) for x, y in ((44, 40), (43, 40), (40, 30))], [at(44, 40), at(43, 40), at(40, 30)])
+            places = (44, 40), (43, 40), (40, 30)
+            self.comes(lambda: self.drawn_of(96, *places), [at(x, y) for x, y in places])
             self.browser.press("a", "Left")
             self.at(10)
             r, g, b, _ = map(int, replies(HOUSE, ["goto 10", "pixel 50 40"])[1].split()[1:])
-            self.comes(lambda: self.drawn(50 - across, 40 - down), [r, g, b, 255])
+            self.comes(lambda: self.drawn_of(96, (50, 40)), [[r, g, b, 255]])
             self.browser.press("0")
             self.browser.until("return document.getElementById('part').innerText.startsWith('Every 3rd')")
 

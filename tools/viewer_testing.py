@@ -166,7 +166,7 @@ class Viewer:
 
     def request(self, method="POST", path="/commands", body=b"state\n", more=(), **headers):
         """Status, headers and body of an answer. A header that is None isn't sent, one in `more` is sent once more."""
-        connection = http.client.HTTPConnection(self.server.host, timeout=10)
+        connection = http.client.HTTPConnection(self.server.host, timeout=60)
         given = {"Host": self.server.host, "X-Token": self.server.token, "Content-Length": str(len(body))}
         given.update((name.replace("_", "-"), value) for name, value in headers.items())
         connection.putrequest(method, path, skip_host=True)
