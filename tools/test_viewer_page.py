@@ -507,6 +507,7 @@ class Page(unittest.TestCase):
     def stop(self):
         """The button, as soon as it can be pressed."""
         self.browser.until("return document.getElementById('stop').getAttribute('aria-disabled') === 'false'", seconds=20)
+        self.browser.run("document.getElementById('notice').replaceChildren()")      # what is told from now on counts
         self.browser.click("#stop")
 
     def stopped_at(self, position):
