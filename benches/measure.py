@@ -12,6 +12,7 @@ import sys
 import tempfile
 
 import drawing
+import few_tiles
 import frames
 import reading
 import short_memory
@@ -24,6 +25,7 @@ PARTS = [
     frames.events_on_a_tile,
     frames.many_events,
     frames.largest_target,
+    few_tiles.few_tiles,
     frames.history,
     frames.memory,
     frames.growth,
