@@ -1,6 +1,7 @@
 """What the tests of fdb and of the client stand on: the program, one that stands in for it, and a terminal."""
 import codecs
 import fcntl
+import io
 import os
 import pathlib
 import pty
@@ -12,6 +13,7 @@ import subprocess
 import sys
 import termios
 import time
+from unittest import mock
 
 TOOLS = pathlib.Path(__file__).resolve().parent
 ROOT = TOOLS.parent
@@ -20,14 +22,14 @@ HUNTS = EXAMPLES / "hunts"
 PROGRAM = os.path.abspath(os.environ.get("FRAMEDBG", ROOT / "crates/framedbg/out/framedbg"))
 FOLDER = pathlib.Path(os.environ.get("FDB", TOOLS))          # of a wrong version, where one is tried
 FDB = FOLDER / "fdb"
-PATIENCE = 20            # seconds for what must come
+PATIENCE = 60            # seconds for what must come
 ESCAPES = re.compile(r"\x1b\[[0-9;?]*[A-Za-z]|\x01|\x02")
 PROMPT_SHOWN = re.compile(r"(?:\x1b\[1m)?\(\d+/\d+\) (?:\x1b\[0m)?$")
 
 
 # Answers as framedbg does over three clears of one pixel, by a rule of its own: in its words stand the command that it never answers, as long as
 # the file isn't there (which it makes), the command that it ends at, and the command that finds no memory past position 2
-STANDING_IN = """#!/usr/bin/env python3
+STANDING_IN = f"#!{sys.executable} -SE" + """
 import os, sys, time
 position, off = 0, set()
 for line in sys.stdin:
@@ -61,6 +63,8 @@ for line in sys.stdin:
 """
 
 sys.path.insert(0, str(FOLDER))
+import debugger.batch   # noqa: E402
+from debugger import command_line   # noqa: E402
 
 
 def stand_in(folder):
@@ -71,11 +75,19 @@ def stand_in(folder):
 
 
 def batch(capture, lines, *words, program=PROGRAM, **environment):
-    """What a run without a prompt told: (status, lines, standard error)."""
-    given = "".join(line + "\n" for line in lines)
-    ran = subprocess.run([sys.executable, FDB, str(capture), "--batch", "--program", str(program), *words], input=given.encode(), capture_output=True,
-                         env={**os.environ, **environment}, timeout=60, check=False)
-    return ran.returncode, ran.stdout.decode("utf-8", "surrogateescape").splitlines(), ran.stderr.decode()
+    """What a run without a prompt told, in this process: (status, lines, standard error)."""
+    given = io.TextIOWrapper(io.BytesIO("".join(line + "\n" for line in lines).encode()))
+    told, errors = io.TextIOWrapper(io.BytesIO(), "utf-8"), io.StringIO()
+    with mock.patch.multiple(sys, stdin=given, stdout=told, stderr=errors), mock.patch.dict(os.environ, environment):
+        status = debugger.batch.run(command_line.words([str(capture), "--batch", "--program", str(program), *words]))
+    told.flush()
+    return status, told.buffer.getvalue().decode().split("\n")[:-1], errors.getvalue()
+
+
+def launched(*words, given=b"", **how):
+    """What fdb did as a program of its own: (status, standard output, standard error)."""
+    ran = subprocess.run([sys.executable, FDB, *map(str, words)], input=given, capture_output=True, timeout=60, check=False, **how)
+    return ran.returncode, ran.stdout.decode(), ran.stderr.decode()
 
 
 class Terminal:
@@ -152,4 +164,5 @@ def own_terminal():
 
 
 def plain(lines):
-    return [ESCAPES.sub("", line) for line in lines]
+    """Without colours, and with one space for several."""
+    return [re.sub(" +", " ", ESCAPES.sub("", line)).strip() for line in lines]

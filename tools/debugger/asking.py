@@ -60,7 +60,7 @@ def tell_breakpoints(session):
 @WORDS.add("help", "help [WORD]", "the words, or more of one", also=("h",), takes=("word",))
 def tell_help(session, arguments):
     if arguments:
-        if arguments[0] in OWN:
+        if arguments[0] in OWN and arguments[0] not in WORDS.named:
             return session.tell("note", f"{arguments[0]}: a line of framedbg's own, with its own reply", f"  {OWN[arguments[0]]}")
         word = WORDS.find(arguments[0])
         also = f" (also {', '.join(word.also)})" if word.also else ""

@@ -6,7 +6,7 @@ import sys
 from framedbg_client import Client, Ended, Garbled, Refusal
 
 from . import moving, breaking, asking, switching, comparing, picturing, scripts, ending     # noqa: F401  each has words, which are listed in this order
-from .faults import Failed, Leave, Slip
+from .faults import Failed, Leave, Slip, status_of
 from .frame import Frame
 from .moving import here
 from .prompt import Prompt
@@ -30,9 +30,9 @@ def run(given):
     except KeyboardInterrupt:
         return told("interrupted", INTERRUPTED)
     except Ended as ended:
-        return told(ended.said or ("" if sys.stderr.isatty() else ended), ended.status if 0 < ended.status < 6 else FAULT, plain=True)
+        return told(ended.said or ("" if sys.stderr.isatty() else ended), status_of(ended), plain=True)
     except (Slip, Failed, Garbled, Refusal) as fault:
-        return told(fault, FAULT)
+        return told(fault, getattr(fault, "status", FAULT))
     except MemoryError:
         return told("memory", 5)
     finally:

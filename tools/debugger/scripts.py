@@ -3,7 +3,7 @@ import pathlib
 
 from framedbg_client import Ended, Garbled
 
-from .faults import Failed, Slip
+from .faults import Failed, Slip, status_of
 from .words import WORDS
 
 DEEPEST = 16             # scripts that run scripts
@@ -24,10 +24,13 @@ def run(session, lines, name):
     for number, line in enumerate(lines, 1):
         try:
             session.execute(line.removesuffix("\r"))
-        except (Slip, Ended, Garbled, Failed) as fault:
-            failed = fault if isinstance(fault, Failed) else Failed(str(fault))
+        except Failed as failed:
             failed.where = failed.where or f"{name}:{number}"
-            raise failed from None
+            raise
+        except Ended as ended:
+            raise Failed(str(ended), f"{name}:{number}", status_of(ended)) from None
+        except (Slip, Garbled) as fault:
+            raise Failed(str(fault), f"{name}:{number}") from None
 
 
 @WORDS.add("source", "source FILE", "runs the lines of a file", "Empty lines and lines that begin with # are left out. A line that can't be done ends it.", takes=("file",))

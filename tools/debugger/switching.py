@@ -10,11 +10,11 @@ def switch(session, arguments, on):
     session.tell("note", f"at {client.position}")
 
 
-@WORDS.add("off", "off I [J ..]", "switches events off, and draws anew from there", takes=("on", "on"))
+@WORDS.add("off", "off I [J ..]", "switches events off, and draws anew from there", "With one event it is framedbg's own line.", takes=("on", "on"))
 def switch_off(session, arguments):
     switch(session, arguments, False)
 
 
-@WORDS.add("on", "on I [J ..]", "switches events on again", takes=("off", "off"))
+@WORDS.add("on", "on I [J ..]", "switches events on again", "With one event it is framedbg's own line.", takes=("off", "off"))
 def switch_on(session, arguments):
     switch(session, arguments, True)

@@ -5,10 +5,9 @@ from typing import Callable
 
 from .faults import Slip
 
-OWN = {                  # framedbg's lines
+OWN = {                  # framedbg's lines, with their own replies
     "step": "step: goes through the next event", "back": "back: takes the last event back", "goto": "goto K: goes to position K",
-    "on": "on I: switches event I on, and draws anew from there; 'on I J ..' several of them",
-    "off": "off I: switches event I off, and draws anew from there; 'off I J ..' several of them",
+    "on": "on I: switches event I on", "off": "off I: switches event I off",
     "pixel": "pixel X Y: the pixel's colour, and its depth where the capture has depth", "history": "history X Y: what each event and triangle did to the pixel",
     "state": "state: the pipeline state before the next event", "events": "events: the events, and which of them are on",
     "show": "show: the image's size; look shows it here, and save FILE keeps it", "quit": "quit: ends the run",
