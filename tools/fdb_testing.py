@@ -24,7 +24,7 @@ FOLDER = pathlib.Path(os.environ.get("FDB", TOOLS))          # of a wrong versio
 FDB = FOLDER / "fdb"
 PATIENCE = 60            # seconds for what must come
 ESCAPES = re.compile(r"\x1b\[[0-9;?]*[A-Za-z]|\x01|\x02")
-PROMPT_SHOWN = re.compile(r"(?:\x1b\[1m)?\(\d+/\d+\) (?:\x1b\[0m)?$")
+PROMPT_SHOWN = re.compile(r"(?:\x1b\[1m\(\d+/\d+\) \x1b\[0m|(?<!m)\(\d+/\d+\) )$")
 
 
 # Answers as framedbg does over three clears of one pixel, by a rule of its own: in its words stand the command that it never answers, as long as
@@ -121,9 +121,9 @@ class Terminal:
     def type(self, text):
         os.write(self.ours, text.encode())
 
-    def until(self, wanted):
+    def until(self, wanted, patience=PATIENCE):
         """All that is shown up to a text or a pattern, and taken away from what is looked at next."""
-        pattern, end = wanted if hasattr(wanted, "search") else re.compile(re.escape(wanted)), time.monotonic() + PATIENCE
+        pattern, end = wanted if hasattr(wanted, "search") else re.compile(re.escape(wanted)), time.monotonic() + patience
         while not (found := pattern.search(self.shown)):
             left = end - time.monotonic()
             if left <= 0 or not select.select([self.ours], [], [], left)[0]:
@@ -134,6 +134,17 @@ class Terminal:
                 raise AssertionError(f"{pattern.pattern!r} wasn't shown before the end, but {self.shown!r}") from None
         told, self.shown = self.shown[:found.end()], self.shown[found.end():]
         return told
+
+    def interrupt(self):
+        """Ctrl-C at the prompt, until there is another one: Python may be about to wait for a key, and not see the first."""
+        end = time.monotonic() + PATIENCE
+        while time.monotonic() < end:
+            self.type("\x03")
+            try:
+                return self.until(PROMPT_SHOWN, 3)
+            except AssertionError:
+                pass
+        raise AssertionError("no prompt after Ctrl-C")
 
     def ask(self, line):
         """What comes between a typed line and the next prompt, as lines, with their colours."""

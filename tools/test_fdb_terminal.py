@@ -3,6 +3,7 @@ import os
 import re
 import signal
 import stat
+import subprocess
 import unittest
 
 from fdb_testing import EXAMPLES, Terminal, plain, stand_in
@@ -176,9 +177,12 @@ class Interrupted(Folder):
     def test_at_the_prompt(self):
         with Terminal(HOUSE) as terminal:
             terminal.prompt()
-            terminal.type("g 1\x03")
+            terminal.type("g 1")
+            terminal.until("g 1")
+            terminal.interrupt()
+            terminal.type("p 50 50\n")                           # what was begun is gone
+            terminal.until("125 95 55 128")
             self.assertEqual(terminal.prompt(), "(13/13) ")
-            self.assertEqual(plain(terminal.ask("p 50 50")), ["125 95 55 128"])
 
     def test_a_long_move(self):
         """It ends the run, and another one stands at the position before, with the same events off."""
@@ -267,9 +271,9 @@ class Interrupted(Folder):
     def test_a_run_that_is_killed(self):
         with Terminal(HOUSE) as terminal:
             terminal.prompt()
-            children = [int(pid) for pid in os.popen(f"ps -o pid= --ppid {terminal.run.pid}").read().split()]
-            for pid in children:
-                os.kill(pid, signal.SIGKILL)
+            children = subprocess.run(["ps", "-o", "pid=", "--ppid", str(terminal.run.pid)], capture_output=True, text=True, check=True).stdout
+            for pid in children.split():
+                os.kill(int(pid), signal.SIGKILL)
             self.assertIn("run starts another", terminal.ask("s")[0])
             terminal.ask("run")
             self.assertEqual(plain(terminal.ask("p 50 50")), ["125 95 55 128"])
