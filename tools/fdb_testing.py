@@ -22,7 +22,7 @@ HUNTS = EXAMPLES / "hunts"
 PROGRAM = os.path.abspath(os.environ.get("FRAMEDBG", ROOT / "crates/framedbg/out/framedbg"))
 FOLDER = pathlib.Path(os.environ.get("FDB", TOOLS))          # of a wrong version, where one is tried
 FDB = FOLDER / "fdb"
-PATIENCE = 60            # seconds for what must come
+PATIENCE = int(os.environ.get("FDB_PATIENCE", "60"))       # seconds for what must come
 ESCAPES = re.compile(r"\x1b\[[0-9;?]*[A-Za-z]|\x01|\x02")
 PROMPT_SHOWN = re.compile(r"(?:\x1b\[1m\(\d+/\d+\) \x1b\[0m|(?<!m)\(\d+/\d+\) )$")
 

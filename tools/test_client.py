@@ -195,7 +195,7 @@ class Asked(unittest.TestCase):
             with mock.patch.object(frame.connection, "line", side_effect=KeyboardInterrupt), self.assertRaises(KeyboardInterrupt):
                 frame.goto(13)
             with self.assertRaises(Garbled):
-                frame.pixel(0, 0)
+                frame.ask("state")
             frame.restart()
             self.assertEqual(frame.goto(2), 2)
 
