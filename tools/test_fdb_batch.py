@@ -16,8 +16,13 @@ from fdb_testing import EXAMPLES, FDB, HUNTS, PROGRAM, batch, launched, stand_in
 from test_client import sessions, shown_house
 
 from debugger import command_line, drawing, picturing
+from debugger.faults import Slip
+from debugger.frame import Frame
+from debugger.screen import Screen
+from debugger.session import Session
+from debugger.telling import PLAIN
 from debugger.words import WORDS
-from framedbg_client import Image, read_pam
+from framedbg_client import Client, Image, read_pam
 
 HOUSE = EXAMPLES / "house.json"
 # Two clears of a target of 4 by 2, and between them a draw that colours two of its pixels; the third clear has the second one's colour
@@ -79,6 +84,15 @@ class Moves(Folder):
         self.assertEqual(self.told(["g 5", "last 3 1", "first 3 1"])[2:4], ["at 4", "4 on clear 1 2 3 4"])
         self.assertEqual(self.told(["first 1 0"], "--at", "0")[0], "at 1")
         self.assertEqual(batch(self.steps(), ["last 0 0"], "--at", "0")[2], "fdb: standard input:1: nothing wrote that pixel up to 0\n")
+
+
+    def test_a_pixel_that_nothing_writes(self):
+        capture = dict(STEPS, events=STEPS["events"][1:3] + [{"kind": "marker", "name": "end"}])
+        with Client(self.written("draw.json", json.dumps(capture)), PROGRAM) as client:
+            session = Session(Frame(client), PLAIN, Screen(io.StringIO(), {}))
+            client.goto(1)
+            self.assertRaises(Slip, session.execute, "first 3 1")
+            self.assertEqual(client.position, 1)
 
 
 class Breakpoints(Folder):
@@ -160,8 +174,18 @@ class Answers(Folder):
         self.assertEqual(self.told(["i off", "off 2 4", "info off", "on 4 2", "i off"]), [
             "all events are on", "at 6", "2 off raster none 0 0", "4 off clear 1 2 3 4", "at 6", "all events are on"])
 
+    def test_several_switches(self):
+        with Client(self.steps(), PROGRAM) as client:
+            session = Session(Frame(client), PLAIN, Screen(io.StringIO(), {}))
+            session.execute("off 2 3 3")
+            for line in ("off 1 7", "off 4 0", "off 4 2", "on 2 5", "off 4 x"):
+                self.assertRaises(Slip, session.execute, line)
+                self.assertEqual(client.off, {2, 3}, line)
+            session.execute("on 3 2")
+            self.assertEqual(client.off, set())
+
     def test_differences(self):
-        self.assertEqual(self.told(["d 1 3", "d 3 1", "d 4 6", "s"]), [
+        self.assertEqual(self.told(["d 1 3", "d 3 1", "d 6 4", "s"]), [
             "raster: back 0 0 as at the start, and then none 0 0 set by 2", "images: 2 of 8 pixels differ, in the box 0 0 2 1", "most at 0 0: 10 20 30 40, and then 200 100 50 255",
             "raster: none 0 0 set by 2, and then back 0 0 as at the start", "images: 2 of 8 pixels differ, in the box 0 0 2 1", "most at 0 0: 200 100 50 255, and then 10 20 30 40",
             "states: the same", "images: the same", "refused 1 at end"])
@@ -313,7 +337,7 @@ class Scripts(Folder):
         for text in ("p 1 0\nexpect pixel 1 2 3 4\n", "p 1 0\nexpect 2 3\n", "p 1 0\nexpect not 2 4\nexpect not pixe", "# a note\n\np 1 0\n  \n# another\nexpect pixel\r\n",
                      "g 99\nexpect refused 3 no such position", "s\nexpect refused 1", "who 1 0\nexpect 3 1 drawn\nexpect 4 -"):
             self.assertEqual(self.ran(text)[0], 0, text)
-        for text, line in (("p 1 0\nexpect pixel 1 2 3 40\n", 2), ("p 1 0\nexpect not 2 3", 2), ("# x\np 1 0\np 3 1\nexpect not pixel", 4), ("expect at", 1), ("p 1 0\nexpect ixel", 2)):
+        for text, line in (("p 1 0\nexpect pixel 1 2 3 40\n", 2), ("p 1 0\nexpect not 2 3", 2), ("# x\np 1 0\np 3 1\nexpect not pixel", 4), ("expect at", 1), ("p 1 0\nexpect ixel", 2), ("p 1 0\ni\nexpect pixel", 3)):
             status, _, errors = self.ran(text)
             self.assertEqual((status, errors.startswith(f"fdb: {self.folder}/a.fdb:{line}: expected "), errors.count("\n")), (1, True, 1), (text, errors))
         self.assertEqual(self.ran("p 1 0\nexpect pixel 1 2 3 5")[2], f"fdb: {self.folder}/a.fdb:2: expected pixel 1 2 3 5, and was told pixel 1 2 3 4\n")

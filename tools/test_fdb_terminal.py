@@ -96,6 +96,17 @@ class Prompts(Folder):
             terminal.type("\x1b[A\x1b[A\n")                      # the line before the last
             terminal.until("11   draw")
 
+    def test_two_at_once(self):
+        """Neither loses what the other one kept."""
+        with Terminal(HOUSE, folder=self.folder) as one, Terminal(HOUSE, folder=self.folder) as other:
+            for terminal, line in ((one, "p 1 1"), (other, "p 2 2")):
+                terminal.prompt()
+                terminal.ask(line)
+            for terminal in (one, other):
+                terminal.type("\x04")
+                self.assertEqual(terminal.ended(), 0)
+        self.assertEqual((self.folder / "history").read_text().splitlines(), ["p 1 1", "p 2 2"])
+
     def test_scripts_before_the_prompt(self):
         script = self.written("a.fdb", "last 50 50\nexpect 11 on draw\nexpect 12 on draw\np 1 1\n")
         with Terminal(HOUSE, "-x", str(script), size=(24, 300)) as terminal:

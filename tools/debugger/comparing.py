@@ -51,7 +51,8 @@ def differences(session, arguments):
     for position in [number(text, "a position", len(frame)) for text in arguments]:
         reached = frame.client.goto(position)
         if reached != position:
-            raise Slip(f"stopped {reached}: no more memory")
+            frame.client.goto(home)
+            raise Slip(f"no more memory: framedbg came to {reached} alone")
         seen.append((state_parts(frame, frame.client.state()), frame.client.value("show", Image)))
     told = tell_states(seen[0][0], seen[1][0]) + tell_images(seen[0][1], seen[1][1])
     frame.client.goto(home)

@@ -1,12 +1,14 @@
 """The frame under the debugger: its events, what is off, and what is known of its pixels."""
+import re
 from itertools import groupby
 from operator import attrgetter
 from typing import NamedTuple
 
-from framedbg_client import Colour, Events, History
+from framedbg_client import Colour, Garbled, History
 
 WRITERS = ("draw", "clear", "depth_clear")
 KEPT = 64                # histories
+EVENT = re.compile(r"\d+ (?:on|off) ")
 
 
 class Change(NamedTuple):
@@ -19,8 +21,10 @@ class Change(NamedTuple):
 class Frame:
     def __init__(self, client):
         self.client = client
-        reply = client.reply("events", Events)
-        self.events = [line.split(" ", 2)[2] for line in reply.lines]      # "draw 2 flat" of "11 on draw 2 flat"
+        reply = client.ask("events")
+        self.events = [EVENT.sub("", line, 1) for line in reply.lines]     # "draw 2 flat" of "11 on draw 2 flat"; a million of them are no values yet
+        if not reply.text.startswith("events "):
+            raise Garbled(f"no reply of framedbg to events: {reply.text[:80]!r}")
         self.histories, self.switches = {}, client.switches
 
     def __len__(self):

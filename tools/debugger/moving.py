@@ -126,7 +126,9 @@ def to_last_write(session, arguments):
 def to_first_write(session, arguments):
     x, y = place(arguments, "first X Y")
     frame = session.frame
+    home = frame.position
     events = frame.written(x, y) or frame.written(x, y, whole=True)
     if not events:
+        frame.client.goto(home)
         raise Slip("nothing writes that pixel")
     to_write(session, x, y, events[0])

@@ -20,6 +20,7 @@ KEPT = 1000              # lines of the history
 class Prompt:
     def __init__(self, session):
         self.session, self.before, self.offered = session, "", []
+        self.kept = 0            # lines of the history that were there before
 
     def run(self):
         """Takes lines until the user has had enough."""
@@ -79,6 +80,7 @@ class Prompt:
             readline.read_history_file(history)
         except (OSError, ValueError):
             pass             # there is none yet, or none that can be read
+        self.kept = readline.get_current_history_length()
 
     def end(self, history):
         if not readline:
@@ -87,7 +89,10 @@ class Prompt:
             history.parent.mkdir(parents=True, exist_ok=True)
             if not history.exists():
                 history.touch(mode=0o600)
-            readline.write_history_file(history)
+            if hasattr(readline, "append_history_file"):     # so that two at once lose nothing of each other's
+                readline.append_history_file(max(0, readline.get_current_history_length() - self.kept), history)
+            else:
+                readline.write_history_file(history)
         except OSError as fault:
             print(f"fdb: the history isn't kept: {fault}", file=sys.stderr)
 

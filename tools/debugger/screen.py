@@ -24,6 +24,10 @@ class Screen:
         self.out.write(f"{line}\n")
         self.out.flush()
 
+    def clear_line(self):
+        if self.is_terminal:
+            self.out.write("\r\x1b[K" if self.paints else "\n")
+
     def size(self):
         """Columns and rows as they are now."""
         try:

@@ -63,9 +63,11 @@ class Session:
 
     def restore(self, position):
         """Another run at a position, or at the start of the frame where that is interrupted too."""
+        self.screen.clear_line()              # framedbg tells there how far a long move has come
         self.screen.write(f"  interrupted: a new run is brought to {position}")
         try:
             self.frame.client.restart(position)
         except KeyboardInterrupt:
             self.frame.client.restart(0)
+            self.screen.clear_line()
             self.screen.write("  interrupted again: the new run is at 0")

@@ -1,10 +1,15 @@
 """Several events switched at once. One alone is framedbg's own line."""
+from .faults import Slip
 from .words import WORDS, number
 
 
 def switch(session, arguments, on):
-    client = session.frame.client
-    numbers = [number(text, "I") for text in arguments]
+    client, numbers = session.frame.client, sorted({number(text, "I") for text in arguments})
+    for event in numbers:
+        if not 1 <= event <= len(session.frame):
+            raise Slip(f"there is no event {event}")
+        if (event not in client.off) == on:
+            raise Slip(f"event {event} is {'on' if on else 'off'} already")
     for event in numbers:
         client.switch(event, on)
     session.tell("note", f"at {client.position}")

@@ -83,7 +83,7 @@ class Laid(Plain):
 
     def event(self, frame, event):
         kind, _, rest = frame.events[event - 1].partition(" ")
-        swatch = self.swatch(list(map(int, rest.split()))) if kind in ("clear", "factor") else ""
+        swatch = self.swatch(rest.split()) if kind in ("clear", "factor") else ""
         text = f"{event:>5} {' ' if frame.is_on(event) else 'x'} {kind:<7} {swatch}{printable(rest)}"
         if event == frame.position:
             return [f"{self.bold('=>')} {self.bold(text)}"]
