@@ -56,6 +56,8 @@ for line in sys.stdin:
         reply = "pam 69\\nP7\\nWIDTH 1\\nHEIGHT 1\\nDEPTH 4\\nMAXVAL 255\\nTUPLTYPE RGB_ALPHA\\nENDHDR\\n" + chr(position) * 4
     elif word == "pixel":
         reply = f"pixel {position} 2 3 4\\n"
+    elif word == "state":
+        reply = "state cull back ccw 0 scissor 0 rect 0 0 0 0 blend 0 ONE ZERO ADD ONE ZERO ADD mask 15 factor 255 255 255 255\\n"
     else:
         reply = "bad 1 unknown command\\n"
     sys.stdout.write(reply)

@@ -416,6 +416,10 @@ class Endings(Folder):
         asked = {"ASKED": str(self.folder / "asked")}
         told = batch(self.steps(), ["g 3", "run"], program=stand_in(self.folder), MOST="2", **asked)
         self.assertEqual(told, (0, ["stopped 2", "2 on clear 2 2 3 4", "at 2", "2 on clear 2 2 3 4"], ""))
+        (self.folder / "asked").unlink()
+        told = batch(self.steps(), ["d 2 3"], "--at", "1", program=stand_in(self.folder), MOST="2", **asked)
+        self.assertEqual(told, (1, [], "fdb: standard input:1: no more memory: framedbg came to 2 alone\n"))
+        self.assertEqual((self.folder / "asked").read_text().splitlines()[-2:], ["goto 3", "goto 1"])
 
     def test_another_run(self):
         self.assertEqual(self.told(["off 4", "g 5", "run", "i off", "p 1 0"]), [

@@ -4,9 +4,10 @@ import re
 import signal
 import stat
 import subprocess
+import time
 import unittest
 
-from fdb_testing import EXAMPLES, Terminal, plain, stand_in
+from fdb_testing import EXAMPLES, PATIENCE, Terminal, plain, stand_in
 from test_fdb_batch import Folder, cells, unsixeled
 from test_client import shown_house
 
@@ -182,8 +183,11 @@ class Interrupted(Folder):
 
     def waits(self, terminal):
         """Until the run that stands in has got the command that it doesn't answer."""
+        end = time.monotonic() + PATIENCE
         while not (self.folder / "hung").exists():
             self.assertIsNone(terminal.run.poll())
+            self.assertLess(time.monotonic(), end, "framedbg didn't get the command")
+            time.sleep(0.01)
 
     def test_at_the_prompt(self):
         with Terminal(HOUSE) as terminal:
