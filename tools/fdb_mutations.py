@@ -106,10 +106,12 @@ MUTATIONS = [
     ("terminal: sixel by any 4", "debugger/screen.py", 'told.rstrip(b"c").split(b";")[1:]', "told", FDB, "Looks.test_half_blocks_where_it_does_not"),
     ("terminal: what was typed meanwhile is lost", "debugger/screen.py", 'self.typed += typed.decode("utf-8", "ignore")', "pass", FDB, "Looks.test_sixel_where_the_terminal_says_so"),
     ("terminal: Ctrl-C is framedbg's too", "framedbg_client/connection.py", ", start_new_session=True", "", FDB, "Interrupted.test_at_the_prompt"),
-    ("terminal: no other run after Ctrl-C", "debugger/session.py", "                self.restore(before)\n", "                pass\n", FDB, "Interrupted.test_a_long_move"),
-    ("terminal: the other run at the start", "debugger/session.py", "self.frame.client.restart(position)", "self.frame.client.restart(0)", FDB, "Interrupted.test_a_long_move"),
-    ("terminal: stays where a word was interrupted", "debugger/session.py", "before = self.frame.position", "before = None", FDB, "Interrupted.test_in_the_middle_of_a_word"),
-    ("terminal: Ctrl-C takes a script back", "debugger/session.py", 'not hasattr(interrupt, "restored") and ', "", FDB, "Interrupted.test_a_script"),
+    ("terminal: no other run after Ctrl-C", "debugger/session.py", "                self.restore(position, off)\n", "                pass\n", FDB, "Interrupted.test_a_long_move"),
+    ("terminal: the other run at the start", "debugger/session.py", "self.frame.client.restart(position, off)", "self.frame.client.restart(0, off)", FDB, "Interrupted.test_a_long_move"),
+    ("terminal: stays where a word was interrupted", "debugger/session.py", "self.restore(position, off)", "self.restore(client.position, off)", FDB, "Interrupted.test_in_the_middle_of_a_word"),
+    ("terminal: Ctrl-C takes a script back", "debugger/session.py", ' and not hasattr(interrupt, "restored")', "", FDB, "Interrupted.test_a_script"),
+    ("terminal: some of the switches stay", "debugger/session.py", "self.frame.client.restart(position, off)", "self.frame.client.restart(position)", FDB, "Interrupted.test_a_switch"),
+    ("terminal: another run before the end", "debugger/session.py", "if self.goes_on and is_other", "if is_other", FDB, "Interrupted.test_without_a_prompt"),
     ("terminal: a run that has ended ends fdb", "debugger/prompt.py", "        except Ended as ended:\n            self.session.screen.write(f\"  {ended}; run starts another\")\n", "", FDB, "Interrupted.test_a_run_that_ends"),
 ]
 

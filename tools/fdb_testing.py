@@ -11,6 +11,7 @@ import signal
 import struct
 import subprocess
 import sys
+import tempfile
 import termios
 import time
 from unittest import mock
@@ -96,10 +97,11 @@ class Terminal:
     """fdb at a terminal of a given size: it is typed to, and what it shows is read."""
 
     def __init__(self, capture, *words, program=PROGRAM, size=(24, 80), folder=None, **environment):
+        self.room = tempfile.TemporaryDirectory()
         self.ours, theirs = pty.openpty()
         self.resize(*size, tell=False)
         given = {name: value for name, value in os.environ.items() if name not in ("NO_COLOR", "TMUX", "STY", "KITTY_WINDOW_ID", "TERM_PROGRAM", "COLUMNS", "LINES")}
-        given |= {"TERM": "xterm-256color", "LC_ALL": "C.UTF-8", "FDB_HISTORY": str(pathlib.Path(folder) / "history") if folder else os.devnull,
+        given |= {"TERM": "xterm-256color", "LC_ALL": "C.UTF-8", "FDB_HISTORY": str(pathlib.Path(folder or self.room.name) / "history"),
                   "INPUTRC": os.devnull} | environment
         words = [sys.executable, FDB, str(capture), "--program", str(program), *words]
         self.run = subprocess.Popen(words, stdin=theirs, stdout=theirs, stderr=theirs, env=given, preexec_fn=own_terminal, close_fds=True)
@@ -114,6 +116,7 @@ class Terminal:
             os.killpg(self.run.pid, signal.SIGKILL)
         self.run.wait()
         os.close(self.ours)
+        self.room.cleanup()
 
     def resize(self, rows, columns, tell=True):
         fcntl.ioctl(self.ours, termios.TIOCSWINSZ, struct.pack("HHHH", rows, columns, 0, 0))

@@ -225,7 +225,7 @@ class Asked(unittest.TestCase):
                     path.write_text("#!/bin/sh\n")
                     path.chmod(0o755)
                     self.assertEqual(client_program.find_program(), str(path))
-        self.assertEqual(framedbg_client.program.PLACES[0], FOLDER.parent / "crates/framedbg/out/framedbg")
+        self.assertEqual(client_program.PLACES, (FOLDER.parent / "crates/framedbg/out/framedbg", FOLDER.parent.parent.parent / "bin/framedbg"))
 
 
 class Page(unittest.TestCase):

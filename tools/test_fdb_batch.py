@@ -145,6 +145,9 @@ class Breakpoints(Folder):
         self.assertEqual(lines[:5], ["events", "pixel 1 0", "goto 6", "history 1 0", "goto 1"])
         self.assertEqual(len([line for line in lines if line.startswith("pixel")]), 1)
         self.assertLessEqual(len(lines), 14)
+        asked.unlink()
+        self.told(["d 1 3", "look", "look 1 1", f"save {self.folder}/x.png"], program=counted)
+        self.assertEqual(asked.read_text().splitlines(), ["events", "goto 6", "goto 1", "state", "show", "goto 3", "state", "show", "goto 6"] + ["show"] * 3)
 
 
 class Answers(Folder):

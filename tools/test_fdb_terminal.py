@@ -74,6 +74,15 @@ class Prompts(Folder):
                 terminal.type(typed)
                 terminal.until(shows) if shows != "50  drawn" else terminal.until("drawn")
 
+    def test_a_resize_in_the_midst_of_a_line(self):
+        with Terminal(HOUSE, size=(24, 80)) as terminal:
+            terminal.prompt()
+            terminal.type("p 5")
+            terminal.until("p 5")
+            terminal.resize(10, 20)
+            terminal.type("0 50\n")
+            terminal.until("125 95 55 128")
+
     def test_files_are_completed(self):
         script = self.written("one_of_a_kind.fdb", "p 50 50\n")
         with Terminal(HOUSE, size=(40, 200)) as terminal:
@@ -220,14 +229,17 @@ class Interrupted(Folder):
         self.assertEqual((self.folder / "asked").read_text().splitlines()[:2], ["off 2", "goto 1"])
 
     def test_a_switch(self):
-        """The flag is as it was before the line that was interrupted."""
-        with Terminal(self.steps(), program=stand_in(self.folder), **self.environment(HANG="off 1")) as terminal:
-            terminal.prompt()
-            terminal.type("off 1\n")
-            self.waits(terminal)
-            terminal.type("\x03")
-            self.assertEqual(terminal.prompt(), "(3/3) ")
-            self.assertEqual(plain(terminal.ask("i off")), ["all events are on"])
+        """The flags are as they were before the line that was interrupted."""
+        for line in ("off 1", "off 1 2 3"):
+            with Terminal(self.steps(), program=stand_in(self.folder), **self.environment(HANG=line[:4] + line[-1])) as terminal:
+                terminal.prompt()
+                terminal.type(line + "\n")
+                self.waits(terminal)
+                terminal.type("\x03")
+                self.assertEqual(terminal.prompt(), "(3/3) ")
+                self.assertEqual(plain(terminal.ask("i off")), ["all events are on"])
+                self.assertEqual(plain(terminal.ask("events"))[1], "1 on clear 1 2 3 4")
+            (self.folder / "hung").unlink()
 
     def test_in_the_middle_of_a_word(self):
         """`d 1 2` is at 2 when it is interrupted, and is taken back to 3."""
@@ -272,6 +284,7 @@ class Interrupted(Folder):
             self.waits(terminal)
             terminal.type("\x03")
             self.assertEqual(terminal.ended(), 130)
+        self.assertEqual((self.folder / "asked").read_text(), "events\n")       # no other run for nobody
 
     def test_a_run_that_ends(self):
         with Terminal(self.steps(), program=stand_in(self.folder), **self.environment(END="back")) as terminal:

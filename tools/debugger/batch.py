@@ -49,7 +49,7 @@ def debugged(client, given):
     screen = Screen(sys.stdout)
     is_asked = not given.batch and screen.is_terminal and sys.stdin.isatty()
     screen.paints = screen.paints and is_asked
-    session = Session(Frame(client), Laid(screen.paints) if is_asked else PLAIN, screen)
+    session = Session(Frame(client), Laid(screen.paints) if is_asked else PLAIN, screen, is_asked)
     try:
         start(session, given, is_asked)
         for path in given.scripts:

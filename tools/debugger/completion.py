@@ -51,6 +51,6 @@ FOUND = {
     "breakpoint": lambda session, begun: named([*KINDS, "pixel"])(session, begun) if not begun[:1].isdigit() else events(session, begun),
     "info": named(["off", "b"]),
     "given": named(lambda session: map(str, session.breakpoints.numbered)),
-    "word": named(WORDS.names()),
+    "word": named(lambda _: WORDS.names()),
     "file": files,
 }

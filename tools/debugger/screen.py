@@ -34,7 +34,7 @@ class Screen:
             columns, rows = os.get_terminal_size(self.out.fileno())
         except (OSError, ValueError):
             columns, rows = 80, 24
-        return max(columns, 1) if columns else 80, max(rows, 2) if rows else 24
+        return columns or 80, rows or 24
 
     def picture_kind(self):
         """How pictures are shown: one of KINDS. FDB_LOOK names it, or the terminal does."""

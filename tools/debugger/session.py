@@ -10,8 +10,9 @@ from .words import OWN, WORDS
 
 
 class Session:
-    def __init__(self, frame, teller, screen):
-        self.frame, self.teller, self.screen = frame, teller, screen
+    def __init__(self, frame, teller, screen, goes_on=False):
+        """`goes_on`: also after a Ctrl-C."""
+        self.frame, self.teller, self.screen, self.goes_on = frame, teller, screen, goes_on
         self.breakpoints = Breakpoints()
         self.told = []                        # by the word before, plainly: what `expect` looks at
         self.found = None                     # where `last` or `first` came to: (x, y, position)
@@ -52,22 +53,24 @@ class Session:
     @contextlib.contextmanager
     def left_as_it_was(self):
         """Where a word is interrupted while framedbg works, its run is ended, and another one stands where it stood, with the same events off."""
-        before = self.frame.position
+        client = self.frame.client
+        position, off = client.position, set(client.off)
         try:
             yield
         except KeyboardInterrupt as interrupt:
-            if not hasattr(interrupt, "restored") and (self.frame.client.is_asking or self.frame.position != before):
+            is_other = client.is_asking or (client.position, client.off) != (position, off)
+            if self.goes_on and is_other and not hasattr(interrupt, "restored"):
                 interrupt.restored = True        # by the innermost word, where a script runs others
-                self.restore(before)
+                self.restore(position, off)
             raise
 
-    def restore(self, position):
+    def restore(self, position, off):
         """Another run at a position, or at the start of the frame where that is interrupted too."""
         self.screen.clear_line()              # framedbg tells there how far a long move has come
         self.screen.write(f"  interrupted: a new run is brought to {position}")
         try:
-            self.frame.client.restart(position)
+            self.frame.client.restart(position, off)
         except KeyboardInterrupt:
-            self.frame.client.restart(0)
+            self.frame.client.restart(0, off)
             self.screen.clear_line()
             self.screen.write("  interrupted again: the new run is at 0")

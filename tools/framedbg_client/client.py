@@ -59,12 +59,12 @@ class Client:
         self.is_asking = False
         return replies
 
-    def restart(self, position=0):
-        """Ends the run at once and starts another, with the same events off, at a position. Gives the position that it came to."""
+    def restart(self, position=0, off=None):
+        """Ends the run at once and starts another at a position, with the same events off, or with others. Gives the position that it came to."""
         self.connection.end(at_once=True)
-        self.position, off = 0, sorted(self.off)
+        off = sorted(self.off if off is None else off)
         self.connection, self.is_asking = Connection(*self.words), False
-        self.off = set()
+        self.position, self.off, self.switches = 0, set(), self.switches + 1
         try:
             self.ask_all([f"off {number}" for number in off])
         finally:
