@@ -20,7 +20,7 @@ from unittest import mock
 from fdb_testing import EXAMPLES, FOLDER, PROGRAM, ROOT, TOOLS, stand_in
 
 import framedbg_client
-from framedbg_client import (At, Bad, Bye, Client, Colour, Depths, DepthState, Ended, Entry, Event, Fault, Garbled, Image, Pixel, Refusal, Refused, Reply, State, Stopped,
+from framedbg_client import (At, Bad, Bye, Client, Colour, Depths, DepthState, Ended, Entry, Event, Fault, Garbled, Pixel, Refusal, Refused, Reply, State, Stopped,
                              read_pam)
 from framedbg_client import program as client_program
 

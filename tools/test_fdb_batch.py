@@ -1,5 +1,6 @@
 """fdb without a terminal: its words, its breakpoints, its scripts and their statuses. What is expected comes from docs/FORMATS.md, from the replies in
 examples/, which tools/reference.py made, and from captures that are worked out by hand here."""
+import base64
 import contextlib
 import io
 import json
@@ -11,6 +12,7 @@ import subprocess
 import sys
 import tempfile
 import unittest
+import zlib
 
 from fdb_testing import EXAMPLES, FDB, HUNTS, PROGRAM, batch, launched, stand_in
 from test_client import sessions, shown_house
@@ -217,6 +219,7 @@ class Answers(Folder):
     def test_slips(self):
         for slip, near in (("stpe", "step"), ("whoo", "who"), ("histroy", "history"), ("contineu", "continue"), ("reverse-stp", "reverse-step"), ("lokk", "look"), ("xpect", "expect")):
             self.assertEqual(batch(self.steps(), [slip])[2], f"fdb: standard input:1: no such word: {slip}; did you mean {near}?\n")
+        self.assertEqual(batch(self.steps(), ["a\x1b[2Jb"])[2], "fdb: standard input:1: no such word: a\\x1b[2Jb; help lists them\n")
         self.assertEqual(batch(self.steps(), ["zzz"])[2], "fdb: standard input:1: no such word: zzz; help lists them\n")
         self.assertEqual(self.told(["cont", "reverse-s"])[-2:], ["at 5", "5 on marker again"])     # a beginning is enough where there is one word with it
         self.assertEqual(batch(self.steps(), ["reverse"])[0], 1)
@@ -234,7 +237,7 @@ class Pictures(Folder):
         path = self.written("kept.png", "before")
         self.assertEqual(batch(self.steps(), [f"save {path}"], "--program", str(stand_in(self.folder)), ASKED=str(self.folder / "asked"), END="show")[0], 5)
         self.assertEqual(path.read_text(), "before")
-        for line in ("save", "save x", f"save {self.folder}/x.json", f"save {self.folder}/none/x.png", f"save {self.folder}"):
+        for line in ("save", "save x", f"save {self.folder}/x.json", f"save {self.folder}/none/x.png", f"save {self.folder}", "save ~nobody_is_called_so/x.png", "save a\0b.png"):
             status, _, errors = batch(self.steps(), [line])
             self.assertEqual((status, errors.count("\n")), (1, 1), line)
         self.assertEqual(sorted(path.name for path in self.folder.iterdir()), ["asked", "kept.png", "standing_in", "steps.json"])
@@ -263,8 +266,6 @@ class Pictures(Folder):
         self.assertEqual(drawing.letters([[dark, light, light], [light] * 3, [light, dark, dark], [dark] * 3]), " @@\n@")
 
     def test_kitty(self):
-        import base64
-        import zlib
         rows = [[(x, y, 7) for x in range(90)] for y in range(70)]
         pieces = re.findall(r"\x1b_G(.*?);(.*?)\x1b\\", drawing.kitty(rows), re.S)
         self.assertEqual(pieces[0][0].split(",")[:5], ["a=T", "f=24", "o=z", "s=90", "v=70"])
@@ -355,7 +356,7 @@ class Scripts(Folder):
         self.assertEqual(self.ran(f"source {inner}")[2], f"fdb: {inner}:2: expected pixel 9, and was told pixel 1 2 3 4\n")
         itself = self.written("itself.fdb", f"source {self.folder}/itself.fdb\n")
         self.assertIn("more than 16 deep", self.ran(f"source {itself}")[2])
-        for line in ("source", f"source {self.folder}/none", f"source {self.folder}"):
+        for line in ("source", f"source {self.folder}/none", f"source {self.folder}", "source /dev/zero", "source a\0b"):
             status, _, errors = self.ran(line)
             self.assertEqual((status, errors.count("\n")), (1, 1), errors)
         self.assertEqual(self.ran("p 1 0", "-x", str(self.folder / "none"))[0], 1)

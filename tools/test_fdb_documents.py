@@ -1,8 +1,11 @@
 """The sessions of fdb that the documents show, typed at a terminal without colours; what they count; the man page and the completions."""
+import contextlib
+import io
 import re
+import subprocess
 import unittest
 
-from fdb_testing import EXAMPLES, HUNTS, ROOT, TOOLS, Terminal
+from fdb_testing import EXAMPLES, HUNTS, ROOT, Terminal
 
 from debugger import command_line
 from debugger.words import OWN, WORDS
@@ -76,15 +79,12 @@ class Pages(unittest.TestCase):
             self.assertTrue("-x" in text or "-s x" in text, name)
 
     def test_bash_completes(self):
-        import subprocess
         script = (f'source {ROOT / "share/fdb.bash"}; COMP_WORDS=(fdb --b); COMP_CWORD=1; _fdb; echo "${{COMPREPLY[*]}}"; '
                   'COMP_WORDS=(fdb --workers 6); COMP_CWORD=2; _fdb; echo "${COMPREPLY[*]}"')
         self.assertEqual(subprocess.run(["bash", "-c", script], capture_output=True, text=True, check=True).stdout, "--batch\n64\n")
 
 
 def options():
-    import contextlib
-    import io
     told = io.StringIO()
     with contextlib.redirect_stdout(told), contextlib.suppress(SystemExit):
         command_line.words(["--help"])

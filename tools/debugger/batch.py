@@ -12,7 +12,7 @@ from .moving import here
 from .prompt import Prompt
 from .screen import Screen
 from .session import Session
-from .telling import PLAIN, Laid
+from .telling import PLAIN, Laid, printable
 
 FAULT, INTERRUPTED = 1, 130
 
@@ -40,8 +40,9 @@ def run(given):
 
 
 def told(why, status, plain=False):
-    if str(why):
-        print(why if plain else f"fdb: {why}", file=sys.stderr)
+    text = "\n".join(map(printable, str(why).split("\n")))
+    if text:
+        print(text if plain else f"fdb: {text}", file=sys.stderr)
     return status
 
 

@@ -52,15 +52,15 @@ def view_of(image, numbers, wide, high):
 
 @WORDS.add("save", "save FILE.png", "keeps the image in a file: its colours as PNG, or all four channels as FILE.pam", "A file that is there is replaced.", takes=("file",))
 def save(session, arguments):
-    path = pathlib.Path(" ".join(arguments)).expanduser()
+    path = pathlib.Path(os.path.expanduser(" ".join(arguments)))
     kind = path.suffix.lower()
     if kind not in (".png", ".pam"):
         raise Slip("save FILE.png or save FILE.pam is wanted")
     image = session.frame.client.value("show", Image)
     try:
         replace(path, image.png() if kind == ".png" else image.pam())
-    except OSError as fault:
-        raise Slip(f"{path}: {fault.strerror}") from None
+    except (OSError, ValueError) as fault:
+        raise Slip(f"{path}: {getattr(fault, 'strerror', None) or fault}") from None
     session.tell("note", f"saved {path}")
 
 

@@ -12,6 +12,7 @@ from framedbg_client import Ended, Garbled
 
 from .completion import candidates
 from .faults import Failed, Leave, Slip
+from .telling import printable
 from .words import WORDS
 
 KEPT = 1000              # lines of the history
@@ -46,7 +47,7 @@ class Prompt:
             self.before = ""
             self.session.screen.write("")
         except (Slip, Failed, Garbled) as fault:
-            self.session.screen.write(f"  {fault}")
+            self.session.screen.write(f"  {printable(str(fault))}")
         except Ended as ended:
             self.session.screen.write(f"  {ended}; run starts another")
         except MemoryError:
@@ -112,5 +113,5 @@ def repeats(line):
 def history_file():
     """FDB_HISTORY names it; else it is where programs keep such things."""
     named = os.environ.get("FDB_HISTORY")
-    state = os.environ.get("XDG_STATE_HOME") or pathlib.Path.home() / ".local/state"
+    state = os.environ.get("XDG_STATE_HOME") or os.path.expanduser("~/.local/state")
     return pathlib.Path(named) if named else pathlib.Path(state) / "fdb_history"

@@ -1,5 +1,5 @@
 """Scripts of lines, and what they may expect."""
-import pathlib
+import os
 
 from framedbg_client import Ended, Garbled
 
@@ -12,11 +12,13 @@ MOST = 64 << 20          # bytes of a script
 
 def read(path):
     try:
-        if pathlib.Path(path).stat().st_size > MOST:
-            raise Slip(f"{path}: longer than {MOST} bytes")
-        return pathlib.Path(path).read_text("utf-8", "surrogateescape").split("\n")
+        with open(os.path.expanduser(path), "rb") as file:
+            data = file.read(MOST + 1)
     except (OSError, ValueError) as fault:
         raise Slip(f"{path}: {getattr(fault, 'strerror', None) or fault}") from None
+    if len(data) > MOST:
+        raise Slip(f"{path}: longer than {MOST} bytes")
+    return data.decode("utf-8", "surrogateescape").split("\n")
 
 
 def run(session, lines, name):
