@@ -287,6 +287,7 @@ class Pictures(Folder):
         self.assertEqual(len(told[0]), 48)
         self.assertEqual(told[16], "columns 0 to 94, rows 0 to 62, one pixel of 2 in each direction")
         self.assertEqual(told[-1], "columns 0 to 79, rows 0 to 43, each pixel 1 times")
+        self.assertEqual(batch(HOUSE, ["look"], FDB_LOOK="vt100")[2], "fdb: standard input:1: FDB_LOOK is one of kitty, sixel, half, letters, and not vt100\n")
         for line in ("look 1", "look 96 0", "look 1 1 0", "look 1 1 65", "look a b"):
             self.assertEqual(batch(HOUSE, [line])[0], 1, line)
 

@@ -6,6 +6,8 @@ import termios
 import time
 import tty
 
+from .faults import Slip
+
 PATIENCE = 0.3           # seconds in which a terminal says what it can
 CELL = (10, 20)          # pixels of a character, where the terminal doesn't tell
 KINDS = ("kitty", "sixel", "half", "letters")
@@ -40,7 +42,9 @@ class Screen:
         """How pictures are shown: one of KINDS. FDB_LOOK names it, or the terminal does."""
         if self.kind is None:
             named = self.environment.get("FDB_LOOK")
-            self.kind = named if named in KINDS else self.best_kind()
+            if named and named not in KINDS:
+                raise Slip(f"FDB_LOOK is one of {', '.join(KINDS)}, and not {named}")
+            self.kind = named or self.best_kind()
         return self.kind
 
     def best_kind(self):
