@@ -55,8 +55,8 @@ MUTATIONS = [
     ("breakpoints: kinds that are off", "debugger/breakpoints.py", "if frame.kind(event) == self.kind and frame.is_on(event)", "if frame.kind(event) == self.kind", FDB, "Breakpoints.test_kinds"),
     ("breakpoints: a number given twice", "debugger/breakpoints.py", "self.given += 1\n            known = self.given", "known = len(self.numbered) + 1", FDB, "Breakpoints.test_several_at_once"),
     # answers
-    ("answers: set by the first event", "debugger/frame.py", "for event in range(position, 0, -1) if self.kind(event) == kind", "for event in range(1, position + 1) if self.kind(event) == kind", FDB, "Answers.test_states_and_who_set_them"),
-    ("answers: set by an event that is off", "debugger/frame.py", "if self.kind(event) == kind and self.is_on(event)", "if self.kind(event) == kind", FDB, "Answers.test_states_and_who_set_them"),
+    ("answers: set by the first event", "debugger/frame.py", "range(bisect.bisect_right(events, position) - 1, -1, -1)", "range(bisect.bisect_right(events, position))", FDB, "Answers.test_states_and_who_set_them"),
+    ("answers: set by an event that is off", "debugger/frame.py", " if self.is_on(events[at])), None)", "), None)", FDB, "Answers.test_states_and_who_set_them"),
     ("answers: set by an event ahead", "debugger/telling.py", "frame.setter(part, frame.position)", "frame.setter(part, len(frame))", FDB, "Answers.test_states_and_who_set_them"),
     ("moves: first leaves the frame at its end", "debugger/moving.py", "        frame.client.goto(home)\n        raise Slip(\"nothing writes", "        raise Slip(\"nothing writes", FDB, "Moves.test_a_pixel_that_nothing_writes"),
     ("answers: some of the events are switched", "debugger/switching.py", "        if not 1 <= event <= len(session.frame):\n", "        if False:\n", FDB, "Answers.test_several_switches"),

@@ -242,10 +242,10 @@ class Interrupted(Folder):
             (self.folder / "hung").unlink()
 
     def test_in_the_middle_of_a_word(self):
-        """`d 1 2` is at 2 when it is interrupted, and is taken back to 3."""
+        """`d 1 2` is at 1 when it is interrupted, and is taken back to 3."""
         with Terminal(self.steps(), program=stand_in(self.folder), **self.environment(HANG="goto 2")) as terminal:
             terminal.prompt()
-            terminal.type("b 2\nrc\n")
+            terminal.type("d 1 2\n")
             self.waits(terminal)
             terminal.type("\x03")
             terminal.until("a new run is brought to 3")
@@ -280,11 +280,12 @@ class Interrupted(Folder):
             self.assertEqual(plain(terminal.ask("i off")), ["3 x clear 3 2 3 4"])
 
     def test_without_a_prompt(self):
-        with Terminal(self.steps(), "--batch", program=stand_in(self.folder), **self.environment(HANG="goto 3")) as terminal:
+        script = self.written("a.fdb", "g 3\n")
+        with Terminal(self.steps(), "--batch", "--at", "1", "-x", str(script), program=stand_in(self.folder), **self.environment(HANG="goto 3")) as terminal:
             self.waits(terminal)
             terminal.type("\x03")
             self.assertEqual(terminal.ended(), 130)
-        self.assertEqual((self.folder / "asked").read_text(), "events\n")       # no other run for nobody
+        self.assertEqual((self.folder / "asked").read_text(), "events\ngoto 1\n")       # no other run for nobody
 
     def test_a_run_that_ends(self):
         with Terminal(self.steps(), program=stand_in(self.folder), **self.environment(END="back")) as terminal:

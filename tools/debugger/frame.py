@@ -1,5 +1,7 @@
 """The frame under the debugger: its events, what is off, and what is known of its pixels."""
+import bisect
 import re
+import sys
 from itertools import groupby
 from operator import attrgetter
 from typing import NamedTuple
@@ -7,6 +9,7 @@ from typing import NamedTuple
 from framedbg_client import Colour, Garbled, History
 
 WRITERS = ("draw", "clear", "depth_clear")
+PARTS = ("raster", "scissor", "blend", "factor", "depth")       # of the state, each set by events of its kind
 KEPT = 64                # histories
 EVENT = re.compile(r"\d+ (?:on|off) ")
 
@@ -25,6 +28,8 @@ class Frame:
         self.events = [EVENT.sub("", line, 1) for line in reply.lines]     # "draw 2 flat" of "11 on draw 2 flat"; a million of them are no values yet
         if not reply.text.startswith("events "):
             raise Garbled(f"no reply of framedbg to events: {reply.text[:80]!r}")
+        self.kinds = [sys.intern(event.split(" ", 1)[0]) for event in self.events]
+        self.setters = {part: [event for event, kind in enumerate(self.kinds, 1) if kind == part] for part in PARTS}
         self.histories, self.switches = {}, client.switches
 
     def __len__(self):
@@ -35,7 +40,7 @@ class Frame:
         return self.client.position
 
     def kind(self, event):
-        return self.events[event - 1].split(" ", 1)[0]
+        return self.kinds[event - 1]
 
     def is_on(self, event):
         return event not in self.client.off
@@ -49,9 +54,10 @@ class Frame:
         way = range(self.position + 1, len(self) + 1) if forward else range(self.position - 1, 0, -1)
         return next((event for event in way if is_wanted(event) and self.is_on(event)), None)
 
-    def setter(self, kind, position):
+    def setter(self, part, position):
         """The event that set a part of the state before the event after a position, or None."""
-        return next((event for event in range(position, 0, -1) if self.kind(event) == kind and self.is_on(event)), None)
+        events = self.setters[part]
+        return next((events[at] for at in range(bisect.bisect_right(events, position) - 1, -1, -1) if self.is_on(events[at])), None)
 
     # ---- Pixels, by their histories: never by steps
     def history(self, x, y, whole=False):

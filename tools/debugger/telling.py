@@ -2,8 +2,8 @@
 
 Each call gives lines.
 """
+from .frame import PARTS
 
-PARTS = ("raster", "scissor", "blend", "factor", "depth")
 CHANNELS = "RGBA"
 
 
