@@ -63,7 +63,7 @@ MUTATIONS = [
     ("answers: a difference leaves the frame elsewhere", "debugger/comparing.py", "    frame.client.goto(home)\n    session", "    session", FDB, "Answers.test_differences"),
     ("answers: no memory for a difference leaves the frame elsewhere", "debugger/comparing.py", "            frame.client.goto(home)\n", "", FDB, "Endings.test_want_of_memory"),
     ("answers: a box one too small", "debugger/comparing.py", "max(box[2], x + 1)", "max(box[2], x)", FDB, "Answers.test_differences"),
-    ("answers: the last of the largest differences", "debugger/comparing.py", "(by, -x, -y)", "(by, x, y)", FDB, "Answers.test_differences"),
+    ("answers: the last of the largest differences", "debugger/comparing.py", "(by, -y, -x)", "(by, y, x)", FDB, "Answers.test_differences"),
     ("answers: framedbg's step laid out", "debugger/session.py", "own = name in OWN and", 'own = name in OWN and name != "step" and', FDB, "Answers.test_each_line_of_framedbg"),
     ("answers: no nearest word", "debugger/words.py", "1, 0.6)", "1, 0.99)", FDB, "Answers.test_slips"),
     ("answers: the first of several beginnings", "debugger/words.py", "if len(begun) == 1 and", "if begun and", FDB, "Answers.test_slips"),
@@ -112,6 +112,8 @@ MUTATIONS = [
     ("terminal: Ctrl-C takes a script back", "debugger/session.py", ' and not hasattr(interrupt, "restored")', "", FDB, "Interrupted.test_a_script"),
     ("terminal: some of the switches stay", "debugger/session.py", "self.frame.client.restart(position, off)", "self.frame.client.restart(position)", FDB, "Interrupted.test_a_switch"),
     ("terminal: another run before the end", "debugger/session.py", "if self.goes_on and is_other", "if is_other", FDB, "Interrupted.test_without_a_prompt"),
+    ("terminal: Ctrl-C in the first script ends fdb", "debugger/batch.py", "    except KeyboardInterrupt:\n        if not is_asked:\n            raise\n        screen", "    except Leave:\n        screen", FDB, "Interrupted.test_a_script_before_the_prompt"),
+    ("endings: a start that finds no memory isn't told", "debugger/batch.py", "if is_asked or reached != wanted:", "if is_asked:", FDB, "Endings.test_want_of_memory"),
     ("terminal: a run that has ended ends fdb", "debugger/prompt.py", "        except Ended as ended:\n            self.session.screen.write(f\"  {ended}; run starts another\")\n", "", FDB, "Interrupted.test_a_run_that_ends"),
 ]
 

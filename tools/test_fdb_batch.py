@@ -419,7 +419,9 @@ class Endings(Folder):
 
     def test_want_of_memory(self):
         asked = {"ASKED": str(self.folder / "asked")}
-        told = batch(self.steps(), ["g 3", "run"], program=stand_in(self.folder), MOST="2", **asked)
+        told = batch(self.steps(), ["p 0 0"], program=stand_in(self.folder), MOST="2", **asked)
+        self.assertEqual(told, (0, ["stopped 2", "2 on clear 2 2 3 4", "pixel 2 2 3 4"], ""))
+        told = batch(self.steps(), ["g 3", "run"], "--at", "0", program=stand_in(self.folder), MOST="2", **asked)
         self.assertEqual(told, (0, ["stopped 2", "2 on clear 2 2 3 4", "at 2", "2 on clear 2 2 3 4"], ""))
         (self.folder / "asked").unlink()
         told = batch(self.steps(), ["d 2 3"], "--at", "1", program=stand_in(self.folder), MOST="2", **asked)

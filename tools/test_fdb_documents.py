@@ -70,6 +70,8 @@ class Pages(unittest.TestCase):
             self.assertIn(name, flat)
         for option in options():
             self.assertIn(option, flat)
+        version = re.compile(r'^\.TH \w+ 1 "" "(framedbg [\d.]+)"', re.M)
+        self.assertEqual(version.search(page)[1], version.search((ROOT / "share/framedbg.1").read_text())[1])
 
     def test_completions(self):
         for name in ("fdb.bash", "_fdb", "fdb.fish"):

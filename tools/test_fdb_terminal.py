@@ -279,6 +279,14 @@ class Interrupted(Folder):
             self.assertEqual(terminal.prompt(), "(1/3) ")
             self.assertEqual(plain(terminal.ask("i off")), ["3 x clear 3 2 3 4"])
 
+    def test_a_script_before_the_prompt(self):
+        script = self.written("a.fdb", "g 1\ng 2\n")
+        with Terminal(self.steps(), "-x", str(script), program=stand_in(self.folder), **self.environment(HANG="goto 2")) as terminal:
+            self.waits(terminal)
+            terminal.type("\x03")
+            self.assertEqual(terminal.prompt(), "(1/3) ")
+            self.assertEqual(plain(terminal.ask("p 0 0")), ["1 2 3 4"])
+
     def test_without_a_prompt(self):
         script = self.written("a.fdb", "g 3\n")
         with Terminal(self.steps(), "--batch", "--at", "1", "-x", str(script), program=stand_in(self.folder), **self.environment(HANG="goto 3")) as terminal:

@@ -62,7 +62,11 @@ def debugged(client, given):
     except (Failed, Slip) as fault:
         if not is_asked:
             raise
-        session.tell("note", str(fault))
+        session.tell("note", printable(str(fault)))
+    except KeyboardInterrupt:
+        if not is_asked:
+            raise
+        screen.write("")
     if is_asked:
         Prompt(session).run()
     return 0
@@ -81,7 +85,7 @@ def start(session, given, is_asked):
         if not is_asked:
             raise
         reached = wanted = 0
-    if is_asked:
+    if is_asked or reached != wanted:
         here(session, reached != wanted)
 
 

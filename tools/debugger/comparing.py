@@ -26,10 +26,10 @@ def tell_images(one, other):
         count += 1
         box = [min(box[0], x), min(box[1], y), max(box[2], x + 1), max(box[3], y + 1)]
         by = max(abs(a - b) for a, b in zip(one.pixel(x, y), other.pixel(x, y)))
-        most = max(most, (by, -x, -y))
+        most = max(most, (by, -y, -x))        # of several the first, row by row
     if not count:
         return ["images: the same"]
-    x, y = -most[1], -most[2]
+    x, y = -most[2], -most[1]
     colours = [" ".join(map(str, image.pixel(x, y))) for image in (one, other)]
     return [f"images: {count} of {one.width * one.height} pixels differ, in the box {' '.join(map(str, box))}",
             f"most at {x} {y}: {colours[0]}, and then {colours[1]}"]

@@ -30,7 +30,9 @@ class Prompt:
         try:
             while True:
                 self.take()
-        except (EOFError, Leave):
+        except EOFError:
+            self.session.screen.write("")
+        except Leave:
             pass
         finally:
             self.end(history)
