@@ -31,14 +31,15 @@ PROMPT_SHOWN = re.compile(r"(?:\x1b\[1m\(\d+/\d+\) \x1b\[0m|(?<!m)\(\d+/\d+\) )$
 # Answers as framedbg does over three clears of one pixel, by a rule of its own: in its words stand the command that it never answers, as long as
 # the file isn't there (which it makes), the command that it ends at, and the command that finds no memory past position 2
 STANDING_IN = f"#!{sys.executable} -SE" + """
-import os, sys, time
+import os, sys
 position, off = 0, set()
 for line in sys.stdin:
     line = line.strip()
     word, *rest = line.split()
     if line == os.environ.get("HANG") and not os.path.exists(os.environ["HUNG"]):
         open(os.environ["HUNG"], "w").close()
-        time.sleep(600)
+        sys.stdin.read()         # until its client has ended
+        sys.exit()
     if line == os.environ.get("END"):
         print("framedbg: memory", file=sys.stderr)
         sys.exit(5)

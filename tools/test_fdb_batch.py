@@ -6,6 +6,7 @@ import io
 import json
 import os
 import pathlib
+import random
 import re
 import stat
 import subprocess
@@ -18,7 +19,7 @@ from fdb_testing import EXAMPLES, FDB, HUNTS, PROGRAM, batch, launched, stand_in
 from test_client import sessions, shown_house
 
 from debugger import command_line, drawing, picturing
-from debugger.faults import Slip
+from debugger.faults import Failed, Slip
 from debugger.frame import Frame
 from debugger.screen import Screen
 from debugger.session import Session
@@ -443,6 +444,28 @@ class Endings(Folder):
             status, _, errors = launched(HOUSE, "--batch", "--program", PROGRAM, given=line + b"\n")
             self.assertEqual((status in (0, 1), "Traceback" in errors), (True, False), (line, errors))
         self.assertEqual(batch(HOUSE, ["state " + "a" * 300])[1], ["bad 3 line too long"])
+
+
+class Chance(Folder):
+    """Lines by chance, right and wrong: each is answered or a slip, a slip changes nothing, and fdb knows where framedbg stands and what is off."""
+    ARGUMENTS = ["", "0", "1", "2", "3", "5", "6", "7", "4294967295", "4294967296", "99999999999", "-1", "x", "end", "off", "b", "draw", "clear", "pixel", "not", "at", "\u00b2", "\x1b[2J"]
+    LEFT_OUT = {"q", "quit", "save", "source", "run"}
+
+    def test_lines(self):
+        chance = random.Random(42)
+        names = [name for name in WORDS.names() if name not in self.LEFT_OUT] + ["stpe", "\u00e9", "#", "re"]
+        with Client(self.steps(), PROGRAM) as client:
+            session = Session(Frame(client), PLAIN, Screen(io.StringIO(), {}))
+            for _ in range(1500):
+                line = " ".join([chance.choice(names), *chance.choices(self.ARGUMENTS, k=chance.choice((0, 1, 1, 2, 2, 3)))])
+                before = client.position, set(client.off)
+                try:
+                    session.execute(line)
+                except (Slip, Failed):
+                    self.assertEqual((client.position, client.off), before, line)
+                events = client.ask("events")
+                self.assertEqual(events.value.position, client.position, line)
+                self.assertEqual({event.number for event in events.value.events if not event.on}, client.off, line)
 
 
 def closed_pipe():
