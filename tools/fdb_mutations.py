@@ -76,7 +76,7 @@ MUTATIONS = [
     ("pictures: more than the terminal has room for", "debugger/drawing.py", "-(-image.width // wide)", "image.width // wide", FDB, "Pictures.test_views"),
     ("pictures: kitty's last piece is none", "debugger/drawing.py", "m={int(at < len(pieces) - 1)}", "m=1", FDB, "Pictures.test_kitty"),
     ("pictures: sixels upside down", "debugger/drawing.py", "line[column] |= 1 << bit", "line[column] |= 1 << 5 - bit", FDB, "Pictures.test_sixel"),
-    ("pictures: runs of sixels one too long", "debugger/drawing.py", 'f"!{end - at}{letter}"', 'f"!{end - at + 1}{letter}"', FDB, "Pictures.test_sixel"),
+    ("pictures: runs of sixels one too long", "debugger/drawing.py", 'f"!{len(run[0])}{run[1]}"', 'f"!{len(run[0]) + 1}{run[1]}"', FDB, "Pictures.test_sixel"),
     ("pictures: bright is dark", "debugger/drawing.py", '" .:-=+*#%@"', '"@%#*+=-:. "', FDB, "Pictures.test_letters"),
     # scripts and endings
     ("scripts: an expect that always holds", "debugger/scripts.py", "if is_told != wanted:", "if False:", FDB, "Scripts.test_expectations"),

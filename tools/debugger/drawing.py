@@ -1,10 +1,13 @@
 """A picture in the terminal: by the protocols of kitty and of sixel, in half blocks, or in letters."""
 import base64
+import re
 import zlib
 from dataclasses import dataclass
 
 PIECE = 4096             # characters of a piece of kitty's protocol
 LETTERS = " .:-=+*#%@"   # from dark to light
+SIXELS = bytes((63 + bits) % 256 for bits in range(256))        # the letter of six pixels
+RUN = re.compile(r"(.)\1{3,}")
 LEVELS = (6, 7, 6)       # of red, green and blue, where a picture has more colours than sixel's 256
 
 
@@ -85,16 +88,13 @@ def sixel(rows):
     """Six rows at a time, each colour in a pass of its own. A colour is told in hundredths."""
     colours = {colour for row in rows for colour in row}
     if len(colours) > 256:
-        rows = [[level(colour) for colour in row] for row in rows]
+        red, green, blue = ([round(value * (levels - 1) / 255) * 255 // (levels - 1) for value in range(256)] for levels in LEVELS)
+        rows = [[(red[r], green[g], blue[b]) for r, g, b in row] for row in rows]
         colours = {colour for row in rows for colour in row}
     number = {colour: index for index, colour in enumerate(sorted(colours))}
     head = "".join(f"#{index};2;{';'.join(str(round(value * 100 / 255)) for value in colour)}" for colour, index in number.items())
     bands = "-".join(band(rows[top:top + 6], number) for top in range(0, len(rows), 6))
     return f"\x1bPq\"1;1;{len(rows[0])};{len(rows)}{head}{bands}\x1b\\"
-
-
-def level(colour):
-    return tuple(round(value * (levels - 1) / 255) * 255 // (levels - 1) for value, levels in zip(colour, LEVELS))
 
 
 def band(rows, number):
@@ -107,16 +107,9 @@ def band(rows, number):
 
 
 def packed(line):
-    """Sixels, with runs of one shortened."""
-    told, at = [], 0
-    while at < len(line):
-        end = at
-        while end < len(line) and line[end] == line[at]:
-            end += 1
-        letter = chr(63 + line[at])
-        told.append(letter * (end - at) if end - at < 4 else f"!{end - at}{letter}")
-        at = end
-    return "".join(told)
+    """Sixels, with runs of one shortened, and without the empty ones at the end."""
+    letters = line.translate(SIXELS).decode().rstrip("?")
+    return RUN.sub(lambda run: f"!{len(run[0])}{run[1]}", letters)
 
 
 DRAWN = {"half": half, "letters": letters, "kitty": kitty, "sixel": sixel}
