@@ -13,7 +13,7 @@ SAMPLE := examples/house.json
 PREFIX ?= /usr/local
 HOME_OF := $(DESTDIR)$(PREFIX)
 
-.PHONY: all bench demo install page program test test-page test-viewer try uninstall view
+.PHONY: all bench demo install page program test test-fdb test-page test-viewer try uninstall view
 
 all: demo
 
@@ -46,11 +46,16 @@ page: program
 test-page: $(PROGRAM)
 	tools/test_page.py
 
+test-fdb: $(PROGRAM)
+	tools/test_client.py
+	tools/test_fdb.py
+	tools/fdb_mutations.py client moves breakpoints scripts
+
 test-viewer: $(PROGRAM)
 	tools/test_explain.py
 	tools/test_mesh_to_capture.py
 	tools/test_viewer.py
-	tools/viewer_mutations.py door server
+	tools/viewer_mutations.py door server explain mesh
 # ----
 
 bench: program

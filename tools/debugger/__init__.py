@@ -1,0 +1,1 @@
+"""fdb: framedbg at a prompt, in the words of gdb and rr."""

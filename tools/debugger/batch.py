@@ -1,0 +1,94 @@
+"""A run of fdb, from its words to its status."""
+import pathlib
+import subprocess
+import sys
+
+from framedbg_client import Client, Ended, Garbled, Refusal
+
+from . import moving, breaking, asking, switching, comparing, picturing, scripts, ending     # noqa: F401  each has words, which are listed in this order
+from .faults import Failed, Leave, Slip, status_of
+from .frame import Frame
+from .moving import here
+from .prompt import Prompt
+from .screen import Screen
+from .session import Session
+from .telling import PLAIN, Laid, printable
+
+FAULT, INTERRUPTED = 1, 130
+
+
+def run(given):
+    """The status of a run. What went wrong is told on standard error."""
+    sys.stdin.reconfigure(errors="surrogateescape")
+    sys.stdout.reconfigure(errors="backslashreplace")
+    try:
+        client = Client(given.capture, given.program, given.workers, None if sys.stderr.isatty() else subprocess.PIPE)
+    except OSError as fault:
+        return told(fault, 3)
+    try:
+        return debugged(client, given)
+    except KeyboardInterrupt:
+        return told("interrupted", INTERRUPTED)
+    except Ended as ended:
+        return told(ended.said or ("" if sys.stderr.isatty() else ended), status_of(ended), plain=True)
+    except (Slip, Failed, Garbled, Refusal) as fault:
+        return told(fault, getattr(fault, "status", FAULT))
+    except MemoryError:
+        return told("memory", 5)
+    finally:
+        client.connection.end(at_once=client.is_asking)
+
+
+def told(why, status, plain=False):
+    text = "\n".join(map(printable, str(why).split("\n")))
+    if text:
+        print(text if plain else f"fdb: {text}", file=sys.stderr)
+    return status
+
+
+def debugged(client, given):
+    screen = Screen(sys.stdout)
+    is_asked = not given.batch and screen.is_terminal and sys.stdin.isatty()
+    screen.paints = screen.paints and is_asked
+    session = Session(Frame(client), Laid(screen.paints) if is_asked else PLAIN, screen, is_asked)
+    try:
+        start(session, given, is_asked)
+        for path in given.scripts:
+            scripts.run(session, scripts.read(path), path)
+        if not is_asked and not given.scripts:
+            scripts.run(session, read_on(sys.stdin), "standard input")
+    except Leave:
+        return 0
+    except (Failed, Slip) as fault:
+        if not is_asked:
+            raise
+        session.tell("note", printable(str(fault)))
+    except KeyboardInterrupt:
+        if not is_asked:
+            raise
+        screen.write("")
+    if is_asked:
+        Prompt(session).run()
+    return 0
+
+
+def start(session, given, is_asked):
+    """Goes where the session is to begin: the last position, at which the whole frame is drawn."""
+    frame = session.frame
+    wanted = len(frame) if given.at is None else given.at
+    if is_asked:
+        session.screen.write(f"{pathlib.Path(given.capture).name}: {len(frame)} events. help lists the words, q ends.")
+    try:
+        with session.left_as_it_was():
+            reached = frame.client.goto(wanted) if wanted else 0
+    except KeyboardInterrupt:
+        if not is_asked:
+            raise
+        reached = wanted = 0
+    if is_asked or reached != wanted:
+        here(session, reached != wanted)
+
+
+def read_on(stream):
+    """Its lines as they come, so that a program at the other end of a pipe is answered line by line."""
+    return (line.rstrip("\n") for line in stream)

@@ -1,0 +1,74 @@
+"""Where `c` and `rc` stop: at an event, at events of a kind, where a pixel changes."""
+from dataclasses import dataclass
+
+
+class Place:
+    def changes(self, frame):
+        """What events did to the pixel that is watched."""
+        return []
+
+
+@dataclass(frozen=True)
+class AtEvent(Place):
+    event: int
+
+    def __str__(self):
+        return f"event {self.event}"
+
+    def next(self, frame, position, forward):
+        return self.event if (self.event > position if forward else self.event < position) else None
+
+
+@dataclass(frozen=True)
+class OfKind(Place):
+    kind: str
+
+    def __str__(self):
+        return f"each {self.kind}"
+
+    def next(self, frame, position, forward):
+        way = range(position + 1, len(frame) + 1) if forward else range(position - 1, 0, -1)
+        return next((event for event in way if frame.kind(event) == self.kind and frame.is_on(event)), None)
+
+
+@dataclass(frozen=True)
+class AtPixel(Place):
+    x: int
+    y: int
+
+    def __str__(self):
+        return f"pixel {self.x} {self.y}"
+
+    def changes(self, frame):
+        return frame.changes(self.x, self.y)
+
+    def next(self, frame, position, forward):
+        """By the pixel's history: forward by that of the whole frame, which moves to its end."""
+        events = [change.event for change in frame.changes(self.x, self.y, whole=forward)]
+        if forward:
+            return next((event for event in events if event > position), None)
+        return next((event for event in reversed(events) if event < position), None)
+
+
+class Breakpoints:
+    def __init__(self):
+        self.numbered, self.given = {}, 0
+
+    def add(self, what):
+        """The number of a breakpoint, which is new unless there is one like it."""
+        known = next((number for number, other in self.numbered.items() if other == what), None)
+        if known is None:
+            self.given += 1
+            known = self.given
+            self.numbered[known] = what
+        return known
+
+    def next(self, frame, forward):
+        """Where the nearest breakpoint is, and which stop there: (position or None, [(number, breakpoint)])."""
+        position = frame.position
+        found = [(what.next(frame, position, forward), number, what) for number, what in self.numbered.items()]
+        found = [hit for hit in found if hit[0] is not None]
+        if not found:
+            return None, []
+        nearest = min(found)[0] if forward else max(hit[0] for hit in found)
+        return nearest, [(number, what) for event, number, what in found if event == nearest]

@@ -1,0 +1,92 @@
+"""The frame under the debugger: its events, what is off, and what is known of its pixels."""
+import bisect
+import re
+import sys
+from itertools import groupby
+from operator import attrgetter
+from typing import NamedTuple
+
+from framedbg_client import Colour, Garbled, History
+
+WRITERS = ("draw", "clear", "depth_clear")
+PARTS = ("raster", "scissor", "blend", "factor", "depth")       # of the state, each set by events of its kind
+KEPT = 64                # histories
+EVENT = re.compile(r"\d+ (?:on|off) ")
+
+
+class Change(NamedTuple):
+    """What an event made of a pixel."""
+    event: int
+    before: Colour
+    after: Colour
+
+
+class Frame:
+    def __init__(self, client):
+        self.client = client
+        reply = client.ask("events")
+        self.events = [EVENT.sub("", line, 1) for line in reply.lines]     # "draw 2 flat" of "11 on draw 2 flat"; a million of them are no values yet
+        if not reply.text.startswith("events "):
+            raise Garbled(f"no reply of framedbg to events: {reply.text[:80]!r}")
+        self.kinds = [sys.intern(event.split(" ", 1)[0]) for event in self.events]
+        self.setters = {part: [event for event, kind in enumerate(self.kinds, 1) if kind == part] for part in PARTS}
+        self.histories, self.switches = {}, client.switches
+
+    def __len__(self):
+        return len(self.events)
+
+    @property
+    def position(self):
+        return self.client.position
+
+    def kind(self, event):
+        return self.kinds[event - 1]
+
+    def is_on(self, event):
+        return event not in self.client.off
+
+    def line(self, event):
+        """The event as framedbg lists it."""
+        return f"{event} {'on' if self.is_on(event) else 'off'} {self.events[event - 1]}"
+
+    def nearest(self, is_wanted, forward):
+        """The nearest event after or before the position that is on and wanted, or None."""
+        way = range(self.position + 1, len(self) + 1) if forward else range(self.position - 1, 0, -1)
+        return next((event for event in way if is_wanted(event) and self.is_on(event)), None)
+
+    def setter(self, part, position):
+        """The event that set a part of the state before the event after a position, or None."""
+        events = self.setters[part]
+        return next((events[at] for at in range(bisect.bisect_right(events, position) - 1, -1, -1) if self.is_on(events[at])), None)
+
+    # ---- Pixels, by their histories: never by steps
+    def history(self, x, y, whole=False):
+        """The reply to `history` here, or at the end of the frame. It is kept until an event is switched."""
+        if self.switches != self.client.switches:
+            self.histories, self.switches = {}, self.client.switches
+        wanted = len(self) if whole else self.position
+        if (x, y, wanted) not in self.histories:
+            if self.position != wanted:
+                wanted = self.client.goto(wanted)
+            if len(self.histories) == KEPT:
+                self.histories.clear()
+            self.histories[x, y, wanted] = self.client.reply(f"history {x} {y}", History)
+        return self.histories[x, y, wanted]
+
+    def written(self, x, y, whole=False):
+        """The events that wrote a pixel, as far as the position, or in the whole frame."""
+        return [event for event, entries in by_event(self.history(x, y, whole).value) if any(entry.is_drawn for entry in entries)]
+
+    def changes(self, x, y, whole=False):
+        """The events that changed a pixel, and what they made of it."""
+        found = []
+        for event, entries in by_event(self.history(x, y, whole).value):
+            first, last = entries[0], entries[-1]
+            depths = [first.depths.before, last.depths.after] if first.depths else [0, 0]
+            if (first.before, depths[0]) != (last.after, depths[1]):
+                found.append(Change(event, first.before, last.after))
+        return found
+
+
+def by_event(history: History):
+    return [(event, list(entries)) for event, entries in groupby(history.entries, attrgetter("event"))]

@@ -1,0 +1,134 @@
+"""Words that go through the frame."""
+from .faults import Slip
+from .frame import WRITERS
+from .words import WORDS, number, place
+
+
+def here(session, stopped=False):
+    session.tell("here", session.frame, stopped)
+
+
+def go(session, position):
+    """Goes there, and tells where that is."""
+    here(session, session.frame.client.goto(position) < position)
+
+
+def times(arguments):
+    if len(arguments) > 1:
+        raise Slip("at most one number is wanted: how many events")
+    return number(arguments[0], "N") if arguments else 1
+
+
+@WORDS.add("s", "s [N]", "through the next event, or the next N", "At the end nothing changes. 'step' is framedbg's own, with its own reply.",
+           takes=("count",), repeats=True)
+def forward(session, arguments):
+    by, frame = times(arguments), session.frame
+    if by == 1 or frame.position == len(frame):
+        before = frame.position
+        return here(session, frame.client.step() == before)
+    go(session, min(frame.position + by, len(frame)))
+
+
+@WORDS.add("rs", "rs [N]", "back over the last event, or the last N", "As 'reverse-step' of gdb and rr. 'back' is framedbg's own, with its own reply.",
+           also=("reverse-step",), takes=("count",), repeats=True)
+def backward(session, arguments):
+    by, frame = times(arguments), session.frame
+    if by == 1 or frame.position == 0:
+        frame.client.back()
+        return here(session)
+    go(session, max(0, frame.position - by))
+
+
+def to_writer(session, arguments, forward):
+    if arguments:
+        raise Slip("nothing is wanted behind the word")
+    frame = session.frame
+    event = frame.nearest(lambda event: frame.kind(event) in WRITERS, forward)
+    if event is None:
+        raise Slip(f"no draw or clear {'after' if forward else 'before'} {frame.position}")
+    go(session, event)
+
+
+@WORDS.add("n", "n", "to the next draw or clear that is on", also=("next",), repeats=True)
+def to_next_writer(session, arguments):
+    to_writer(session, arguments, True)
+
+
+@WORDS.add("rn", "rn", "to the draw or clear before", also=("reverse-next",), repeats=True)
+def to_writer_before(session, arguments):
+    to_writer(session, arguments, False)
+
+
+@WORDS.add("g", "g K | g end", "to position K: the first K events have been gone through", "'goto' is framedbg's own, with its own reply.", takes=("position",))
+def go_to(session, arguments):
+    if len(arguments) != 1:
+        raise Slip("g K is wanted")
+    go(session, len(session.frame) if arguments[0] == "end" else number(arguments[0], "K"))
+
+
+# ---- Breakpoints
+def run_on(session, arguments, forward):
+    """To the nearest breakpoint, or where the frame ends. A move that memory stops before a breakpoint stays where it came to."""
+    if arguments:
+        raise Slip("nothing is wanted behind the word")
+    frame = session.frame
+    home, edge = frame.position, len(frame) if forward else 0
+    if home == edge:
+        frame.client.step() if forward else frame.client.back()     # which is refused
+    position, stops = session.breakpoints.next(frame, forward)
+    if position is None:
+        reached = frame.client.goto(edge)
+        session.tell("note", f"no breakpoint {'after' if forward else 'before'} {home}")
+        return here(session, reached != edge)
+    reached = frame.client.goto(position)
+    if reached == position:
+        tell_stops(session, stops, position)
+    here(session, reached != position)
+
+
+def tell_stops(session, stops, position):
+    for given, what in stops:
+        session.tell("note", f"breakpoint {given}: {what}")
+        for change in what.changes(session.frame):
+            if change.event == position:
+                session.tell("change", what, change)
+
+
+@WORDS.add("c", "c", "on to the next breakpoint, or to the end", also=("continue",), repeats=True)
+def continue_forward(session, arguments):
+    run_on(session, arguments, True)
+
+
+@WORDS.add("rc", "rc", "back to the breakpoint before, or to the start", also=("reverse-continue",), repeats=True)
+def continue_backward(session, arguments):
+    run_on(session, arguments, False)
+
+
+# ---- Where a pixel was written
+def to_write(session, x, y, event):
+    session.found = (x, y, event)
+    go(session, event)
+    session.tell("entries", session.frame.history(x, y), event)
+
+
+@WORDS.add("last", "last X Y", "to the event that wrote the pixel last, up to here", "Said again, it goes on to the write before.", takes=("number", "number"), repeats=True)
+def to_last_write(session, arguments):
+    x, y = place(arguments, "last X Y")
+    position = session.frame.position
+    again = session.found == (x, y, position)
+    events = [event for event in session.frame.written(x, y) if event < position + (not again)]
+    if not events:
+        raise Slip(f"nothing wrote that pixel {'before' if again else 'up to'} {position}")
+    to_write(session, x, y, events[-1])
+
+
+@WORDS.add("first", "first X Y", "to the event of the whole frame that wrote the pixel first", takes=("number", "number"))
+def to_first_write(session, arguments):
+    x, y = place(arguments, "first X Y")
+    frame = session.frame
+    home = frame.position
+    events = frame.written(x, y) or frame.written(x, y, whole=True)
+    if not events:
+        frame.client.goto(home)
+        raise Slip("nothing writes that pixel")
+    to_write(session, x, y, events[0])

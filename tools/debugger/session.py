@@ -1,0 +1,76 @@
+"""A debugger over a frame: it takes lines and tells what comes of them."""
+import contextlib
+
+from framedbg_client import Refusal
+
+from .breakpoints import Breakpoints
+from .faults import Leave
+from .telling import PLAIN, printable
+from .words import OWN, WORDS
+
+
+class Session:
+    def __init__(self, frame, teller, screen, goes_on=False):
+        """`goes_on`: also after a Ctrl-C."""
+        self.frame, self.teller, self.screen, self.goes_on = frame, teller, screen, goes_on
+        self.breakpoints = Breakpoints()
+        self.told = []                        # by the word before, plainly: what `expect` looks at
+        self.found = None                     # where `last` or `first` came to: (x, y, position)
+        self.scripts = []                     # those that are being run, the innermost last
+
+    def tell(self, what, *about):
+        """What a teller says about something, by the name of its call."""
+        self.told += getattr(PLAIN, what)(*about)
+        for line in getattr(self.teller, what)(*about):
+            self.screen.write(printable(line) if self.screen.is_terminal and not self.teller.paints else line)
+
+    def execute(self, line):
+        """Does what a line says. A Slip says that it can't be done; whatever else comes out is its caller's."""
+        words = [word for word in line.split(" ") if word]
+        if not words or words[0].startswith("#"):
+            return
+        name, arguments = words[0], words[1:]
+        if name != "expect":
+            self.told = []
+        own = name in OWN and not (name in ("on", "off") and len(arguments) > 1)
+        word = None if own else WORDS.find(name)
+        with self.left_as_it_was():
+            try:
+                self.pass_on(line) if own else word.run(self, arguments)
+            except Refusal as refusal:
+                self.tell("refusal", refusal.reply)
+
+    def pass_on(self, line):
+        """A line of framedbg's own, and its reply as it is."""
+        reply = self.frame.client.ask(line)
+        lines = (reply.text, *reply.lines)
+        self.told += lines
+        for line in lines:
+            self.screen.write(printable(line) if self.screen.is_terminal else line)
+        if reply.text == "bye":
+            raise Leave
+
+    @contextlib.contextmanager
+    def left_as_it_was(self):
+        """Where a word is interrupted while framedbg works, its run is ended, and another one stands where it stood, with the same events off."""
+        client = self.frame.client
+        position, off = client.position, set(client.off)
+        try:
+            yield
+        except KeyboardInterrupt as interrupt:
+            is_other = client.is_asking or (client.position, client.off) != (position, off)
+            if self.goes_on and is_other and not hasattr(interrupt, "restored"):
+                interrupt.restored = True        # by the innermost word, where a script runs others
+                self.restore(position, off)
+            raise
+
+    def restore(self, position, off):
+        """Another run at a position, or at the start of the frame where that is interrupted too."""
+        self.screen.clear_line()              # framedbg tells there how far a long move has come
+        self.screen.write(f"  interrupted: a new run is brought to {position}")
+        try:
+            self.frame.client.restart(position, off)
+        except KeyboardInterrupt:
+            self.frame.client.restart(0, off)
+            self.screen.clear_line()
+            self.screen.write("  interrupted again: the new run is at 0")

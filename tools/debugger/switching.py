@@ -1,0 +1,25 @@
+"""Several events switched at once. One alone is framedbg's own line."""
+from .faults import Slip
+from .words import WORDS, number
+
+
+def switch(session, arguments, on):
+    client, numbers = session.frame.client, sorted({number(text, "I") for text in arguments})
+    for event in numbers:
+        if not 1 <= event <= len(session.frame):
+            raise Slip(f"there is no event {event}")
+        if (event not in client.off) == on:
+            raise Slip(f"event {event} is {'on' if on else 'off'} already")
+    for event in numbers:
+        client.switch(event, on)
+    session.tell("note", f"at {client.position}")
+
+
+@WORDS.add("off", "off I [J ..]", "switches events off, and draws anew from there", "With one event it is framedbg's own line.", takes=("on", "on"))
+def switch_off(session, arguments):
+    switch(session, arguments, False)
+
+
+@WORDS.add("on", "on I [J ..]", "switches events on again", "With one event it is framedbg's own line.", takes=("off", "off"))
+def switch_on(session, arguments):
+    switch(session, arguments, True)

@@ -1,0 +1,70 @@
+"""The words that are known: how they are written, what they do, and which is the nearest to a slip."""
+import difflib
+from dataclasses import dataclass, field
+from typing import Callable
+
+from .faults import Slip
+
+OWN = {                  # framedbg's lines, with their own replies
+    "step": "step: goes through the next event", "back": "back: takes the last event back", "goto": "goto K: goes to position K",
+    "on": "on I: switches event I on", "off": "off I: switches event I off",
+    "pixel": "pixel X Y: the pixel's colour, and its depth where the capture has depth", "history": "history X Y: what each event and triangle did to the pixel",
+    "state": "state: the pipeline state before the next event", "events": "events: the events, and which of them are on",
+    "show": "show: the image's size; look shows it here, and save FILE keeps it", "quit": "quit: ends the run",
+}
+LARGEST = (1 << 32) - 1
+
+
+@dataclass(frozen=True)
+class Word:
+    name: str
+    usage: str
+    short: str                  # a line of the list
+    long: str                   # more, for `help WORD`
+    also: tuple = ()
+    takes: tuple = ()           # what is completed behind it: event, on, off, kind, word, file, info, position
+    repeats: bool = False       # by an empty line
+    run: Callable = field(default=None, compare=False)
+
+
+class Words:
+    def __init__(self):
+        self.listed, self.named = [], {}
+
+    def add(self, name, usage, short, long="", **how):
+        """A decorator of the function that does what the word says."""
+        def added(run):
+            word = Word(name, usage, short, long, run=run, **how)
+            self.listed.append(word)
+            self.named.update((called, word) for called in (name, *word.also))
+            return run
+        return added
+
+    def names(self):
+        return sorted({*self.named, *OWN})
+
+    def find(self, name):
+        """The word of a name, or of the beginning of one alone; a slip is told the nearest."""
+        if name in self.named:
+            return self.named[name]
+        begun = {self.named[full].name for full in self.named if len(name) > 1 and full.startswith(name)}
+        if len(begun) == 1 and not any(own.startswith(name) for own in OWN):
+            return self.named[begun.pop()]
+        near = difflib.get_close_matches(name, self.names(), 1, 0.6)
+        raise Slip(f"no such word: {name}{f'; did you mean {near[0]}?' if near else '; help lists them'}")
+
+
+def number(text, what, most=LARGEST):
+    if not (text.isascii() and text.isdigit() and len(text) <= 10 and int(text) <= most):
+        raise Slip(f"{what} is a whole number{f' up to {most}' if most < LARGEST else ''}, and not {text}")
+    return int(text)
+
+
+def place(arguments, usage):
+    """The pixel that two words name."""
+    if len(arguments) != 2:
+        raise Slip(f"{usage} is wanted")
+    return number(arguments[0], "X"), number(arguments[1], "Y")
+
+
+WORDS = Words()

@@ -1,0 +1,147 @@
+"""A session over one capture: lines of framedbg's own with their replies, and a call for each of them that gives values."""
+import itertools
+import subprocess
+
+from .connection import Connection
+from .image import Image
+from .program import find_program
+from .replies import At, Bad, Events, Garbled, History, Pixel, Refused, Reply, State, Stopped, extent
+
+BUNDLE = 512             # `pixel` lines that are written before their replies are read: those fit any pipe
+
+
+class Refusal(Exception):
+    """framedbg refused a command, and nothing has changed. `reply` is Refused or Bad."""
+
+    def __init__(self, reply):
+        super().__init__(reply.why)
+        self.reply = reply
+
+
+class Client:
+    """`with Client("house.json") as frame:` starts framedbg over the capture, at position 0; the end of the block ends it."""
+
+    def __init__(self, capture, program=None, workers=None, errors=subprocess.PIPE):
+        program = program or find_program()
+        if not program:
+            raise FileNotFoundError("framedbg isn't built or installed here")
+        self.words = (program, str(capture), workers, errors)
+        self.position, self.off = 0, set()       # as the replies told so far
+        self.switches = 0                        # how often events were switched
+        self.is_asking = False                   # also after a call that was interrupted: what comes next isn't the reply to the next line
+        self.connection = Connection(*self.words)
+
+    def __enter__(self):
+        return self
+
+    def __exit__(self, *_):
+        self.close()
+
+    def close(self):
+        self.connection.end()
+
+    # ---- Lines and replies
+    def ask(self, line):
+        """The Reply to a line; its `value` is what it says."""
+        return self.ask_all([line])[0]
+
+    def ask_all(self, lines):
+        """The replies to some lines. `pixel` lines that follow one another are sent together."""
+        lines = [as_bytes(line) for line in lines]
+        if self.connection.ending:
+            raise self.connection.ending
+        if self.is_asking:
+            raise Garbled("a reply wasn't read to its end: restart() begins anew")
+        self.is_asking, replies = True, []
+        for bundle in bundles(lines):
+            self.connection.write(bundle)
+            replies += [self._reply(line) for line in bundle]
+        self.is_asking = False
+        return replies
+
+    def restart(self, position=0, off=None):
+        """Ends the run at once and starts another at a position, with the same events off, or with others. Gives the position that it came to."""
+        self.connection.end(at_once=True)
+        off = sorted(self.off if off is None else off)
+        self.connection, self.is_asking = Connection(*self.words), False
+        self.position, self.off, self.switches = 0, set(), self.switches + 1
+        try:
+            self.ask_all([f"off {number}" for number in off])
+        finally:
+            self.off = set(off)                   # also where this was interrupted: the next restart makes it good
+        return self.goto(position) if position else 0
+
+    def _reply(self, line):
+        text = self.connection.line()
+        lines, size = extent(text)
+        reply = Reply(text, tuple(self.connection.line() for _ in range(lines)), self.connection.bytes(size) if text.startswith("pam ") else None)
+        if text.startswith(("at ", "stopped ")):
+            self._note(line.split(), reply.value)
+        return reply
+
+    def _note(self, words, value):
+        self.position = value.position
+        if words[0] in (b"on", b"off"):
+            self.switches += 1
+            (self.off.discard if words[0] == b"on" else self.off.add)(int(words[1]))
+
+    # ---- Values
+    def reply(self, line, *kinds):
+        """The reply to a line. A refusal is raised, and so is a reply of another kind than is wanted."""
+        reply = self.ask(line)
+        if isinstance(reply.value, (Refused, Bad)):
+            raise Refusal(reply.value)
+        if kinds and not isinstance(reply.value, kinds):
+            raise Garbled(f"no reply of framedbg to {line}: {reply.text[:80]!r}")
+        return reply
+
+    def value(self, line, *kinds):
+        return self.reply(line, *kinds).value
+
+    def goto(self, position):
+        """Goes there, and gives the position that was reached: a smaller one where memory was wanted on the way."""
+        return self.value(f"goto {position}", At, Stopped).position
+
+    def step(self):
+        return self.value("step", At, Stopped).position
+
+    def back(self):
+        return self.value("back", At).position
+
+    def switch(self, event, on):
+        """Switches an event on or off."""
+        return self.value(f"{'on' if on else 'off'} {event}", At, Stopped).position
+
+    def pixel(self, x, y):
+        return self.value(f"pixel {x} {y}", Pixel)
+
+    def pixels(self, places):
+        """The pixels at some places, each (x, y)."""
+        return [reply.value for reply in self.ask_all([f"pixel {x} {y}" for x, y in places])]
+
+    def history(self, x, y):
+        return self.value(f"history {x} {y}", History).entries
+
+    def state(self):
+        return self.value("state", State)
+
+    def events(self):
+        return self.value("events", Events).events
+
+    def image(self):
+        return self.value("show", Image)
+
+
+def as_bytes(line):
+    data = line if isinstance(line, bytes) else line.encode("utf-8", "surrogateescape")
+    if b"\n" in data:
+        raise ValueError("a command is one line")
+    return data
+
+
+def bundles(lines):
+    """The lines one by one, but `pixel` lines that follow one another together: each of those has one short reply."""
+    for is_pixel, some in itertools.groupby(lines, lambda line: line.split()[:1] == [b"pixel"]):
+        some = list(some)
+        size = BUNDLE if is_pixel else 1
+        yield from (some[at:at + size] for at in range(0, len(some), size))

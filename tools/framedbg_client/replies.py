@@ -1,0 +1,213 @@
+"""What framedbg's replies say: the texts of docs/FORMATS.md, read into values."""
+from dataclasses import dataclass
+from functools import cached_property
+from typing import NamedTuple
+
+from .image import read_pam
+
+
+class Garbled(Exception):
+    """A reply that framedbg doesn't give."""
+
+
+class Colour(NamedTuple):
+    red: int
+    green: int
+    blue: int
+    alpha: int
+
+    def __str__(self):
+        return " ".join(map(str, self))
+
+
+class Depths(NamedTuple):
+    source: int
+    before: int
+    after: int
+
+
+@dataclass(frozen=True)
+class At:
+    position: int
+
+
+@dataclass(frozen=True)
+class Stopped:
+    """Memory was wanted on the way forward; the session stands at the position."""
+    position: int
+
+
+@dataclass(frozen=True)
+class Refused:
+    number: int
+    why: str
+
+
+@dataclass(frozen=True)
+class Bad:
+    """The line is no command."""
+    number: int
+    why: str
+
+
+@dataclass(frozen=True)
+class Bye:
+    pass
+
+
+@dataclass(frozen=True)
+class Pixel:
+    colour: Colour
+    depth: int | None = None        # in a capture of version 2
+
+
+@dataclass(frozen=True)
+class Entry:
+    """What an event, or one of its triangles, did to a pixel."""
+    event: int
+    triangle: int | None            # None for a clear of either kind
+    verdict: str
+    source: Colour
+    before: Colour
+    after: Colour
+    depths: Depths | None = None    # in a capture of version 2
+
+    @property
+    def is_drawn(self):
+        return self.verdict == "drawn"
+
+
+@dataclass(frozen=True)
+class History:
+    entries: list
+
+
+@dataclass(frozen=True)
+class Event:
+    number: int
+    on: bool
+    kind: str
+    words: tuple                    # what stands behind the kind
+
+    @property
+    def name(self):
+        return " ".join(self.words)
+
+    @property
+    def colour(self):
+        return colour(self.words) if self.kind in ("clear", "factor") else None
+
+
+@dataclass(frozen=True)
+class Events:
+    position: int
+    events: list
+
+
+@dataclass(frozen=True)
+class DepthState:
+    enable: bool
+    write: bool
+    func: str
+
+
+@dataclass(frozen=True)
+class State:
+    cull: str
+    front_ccw: bool
+    scissor: bool
+    rect: tuple
+    blend: bool
+    rgb: tuple
+    alpha: tuple
+    mask: int
+    factor: Colour
+    depth: DepthState | None = None     # in a capture of version 2
+
+
+@dataclass(frozen=True)
+class Reply:
+    """A reply as it came: its first line, the lines of a list, the bytes of an image."""
+    text: str
+    lines: tuple = ()
+    data: bytes | None = None
+
+    @cached_property
+    def value(self):
+        """What the reply says, as one of the classes above, or as an Image."""
+        word, _, rest = self.text.partition(" ")
+        try:
+            return READERS[word](self, rest)
+        except (KeyError, ValueError, IndexError, TypeError):
+            raise Garbled(f"no reply of framedbg: {self.text[:80]!r}") from None
+
+
+def extent(text):
+    """How much follows a reply's first line: (lines, bytes)."""
+    word, _, rest = text.partition(" ")
+    count = rest.split(" ")[0]
+    if word not in ("history", "events", "pam"):
+        return 0, 0
+    if not (count.isascii() and count.isdigit()):
+        raise Garbled(f"no reply of framedbg: {text[:80]!r}")
+    return (0, int(count)) if word == "pam" else (int(count), 0)
+
+
+def colour(words):
+    return Colour(*map(int, words))
+
+
+def event_of(line):
+    """11 on draw 2 flat"""
+    number, on, kind, *words = line.split(" ")
+    return Event(int(number), on == "on", kind, tuple(words))
+
+
+def entry_of(line):
+    """11 0 drawn 190 60 50 128 60 130 60 255 125 95 55 128, with three depths more where the capture has depth"""
+    words = line.split(" ")
+    depths = Depths(*map(int, words[15:18])) if len(words) > 15 else None
+    triangle = None if words[1] == "-" else int(words[1])
+    return Entry(int(words[0]), triangle, words[2], colour(words[3:7]), colour(words[7:11]), colour(words[11:15]), depths)
+
+
+def pixel_of(rest):
+    words = rest.split(" ")
+    return Pixel(colour(words[:4]), int(words[4]) if len(words) > 4 else None)
+
+
+def state_of(rest):
+    """cull back ccw 0 scissor 0 rect 0 0 0 0 blend 1 SRC DST OP SRC DST OP mask 15 factor 255 255 255 255, perhaps with depth 1 1 LESS"""
+    w = rest.split(" ")
+    names = (w[0], w[2], w[4], w[6], w[11], w[19], w[21])
+    if names != ("cull", "ccw", "scissor", "rect", "blend", "mask", "factor"):
+        raise ValueError
+    depth = DepthState(w[27] == "1", w[28] == "1", w[29]) if len(w) > 26 else None
+    return State(w[1], w[3] == "1", w[5] == "1", tuple(map(int, w[7:11])), w[12] == "1", tuple(w[13:16]), tuple(w[16:19]), int(w[20]), colour(w[22:26]), depth)
+
+
+def listed(reply, count, read):
+    if int(count) != len(reply.lines):
+        raise ValueError
+    return [read(line) for line in reply.lines]
+
+
+def numbered(kind):
+    def read(_, rest):
+        number, _, why = rest.partition(" ")
+        return kind(int(number), why)
+    return read
+
+
+READERS = {
+    "at": lambda _, rest: At(int(rest)),
+    "stopped": lambda _, rest: Stopped(int(rest)),
+    "refused": numbered(Refused),
+    "bad": numbered(Bad),
+    "bye": lambda _, rest: Bye(),
+    "pixel": lambda _, rest: pixel_of(rest),
+    "history": lambda reply, rest: History(listed(reply, rest, entry_of)),
+    "events": lambda reply, rest: Events(int(rest.split(" ")[2]), listed(reply, rest.split(" ")[0], event_of)),
+    "state": lambda _, rest: state_of(rest),
+    "pam": lambda reply, _: read_pam(reply.data),
+}

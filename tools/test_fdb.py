@@ -1,0 +1,15 @@
+#!/usr/bin/env python3
+"""test_fdb: tries fdb: its words and scripts without a terminal, and its prompt at one; and each session of it that the documents show.
+
+    tools/test_fdb.py [TEST ..]
+
+FRAMEDBG names another program, FDB another folder that fdb is taken from.
+"""
+import unittest
+
+from test_fdb_batch import *        # noqa: F401, F403
+from test_fdb_documents import *    # noqa: F401, F403
+from test_fdb_terminal import *     # noqa: F401, F403
+
+if __name__ == "__main__":
+    unittest.main()

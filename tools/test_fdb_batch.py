@@ -1,0 +1,478 @@
+"""fdb without a terminal: its words, its breakpoints, its scripts and their statuses. What is expected comes from docs/FORMATS.md, from the replies in
+examples/, which tools/reference.py made, and from captures that are worked out by hand here."""
+import base64
+import contextlib
+import io
+import json
+import os
+import pathlib
+import random
+import re
+import stat
+import subprocess
+import sys
+import tempfile
+import unittest
+import zlib
+
+from fdb_testing import EXAMPLES, FDB, HUNTS, PROGRAM, batch, launched, stand_in
+from test_client import sessions, shown_house
+
+from debugger import command_line, drawing, picturing
+from debugger.faults import Failed, Slip
+from debugger.frame import Frame
+from debugger.screen import Screen
+from debugger.session import Session
+from debugger.telling import PLAIN
+from debugger.words import WORDS
+from framedbg_client import Client, Image, read_pam
+
+HOUSE = EXAMPLES / "house.json"
+# Two clears of a target of 4 by 2, and between them a draw that colours two of its pixels; the third clear has the second one's colour
+STEPS = {"format": "framedbg", "version": 1, "width": 4, "height": 2, "events": [
+    {"kind": "clear", "color": [10, 20, 30, 40]}, {"kind": "raster", "cull": "none", "front_ccw": False, "scissor": False},
+    {"kind": "draw", "interp": "flat", "vertices": [{"x": x << 16, "y": y << 16, "color": [200, 100, 50, 255]} for x, y in ((0, 0), (2, 0), (0, 1), (2, 0), (2, 1), (0, 1))]},
+    {"kind": "clear", "color": [1, 2, 3, 4]}, {"kind": "marker", "name": "again"}, {"kind": "clear", "color": [1, 2, 3, 4]}]}
+
+
+class Folder(unittest.TestCase):
+    """Tests that want files."""
+
+    def setUp(self):
+        temporary = tempfile.TemporaryDirectory()
+        self.addCleanup(temporary.cleanup)
+        self.folder = pathlib.Path(temporary.name)
+
+    def written(self, name, text):
+        path = self.folder / name
+        path.write_text(text)
+        return path
+
+    def steps(self):
+        return self.written("steps.json", json.dumps(STEPS))
+
+    def told(self, lines, *words, capture=None, **how):
+        """The lines that a run which ends well tells."""
+        status, lines, errors = batch(capture or self.steps(), lines, *words, **how)
+        self.assertEqual((status, errors), (0, ""), lines)
+        return lines
+
+
+class Moves(Folder):
+    def test_steps(self):
+        self.assertEqual(self.told(["s", "s 2", "rs", "rs 9", "s 9"], "--at", "0"), [
+            "at 1", "1 on clear 10 20 30 40", "at 3", "3 on draw 2 flat", "at 2", "2 on raster none 0 0", "at 0", "at 6", "6 on clear 1 2 3 4"])
+        self.assertEqual(self.told(["s", "s 3", "rs", "reverse-step 2", "g 0", "rs", "rs 2"]), [
+            "refused 1 at end", "refused 1 at end", "at 5", "5 on marker again", "at 3", "3 on draw 2 flat", "at 0", "refused 2 at start", "refused 2 at start"])
+
+    def test_draws_and_clears(self):
+        self.assertEqual(self.told(["n", "n", "next", "off 4", "g 3", "n", "rn", "reverse-next"], "--at", "0"), [
+            "at 1", "1 on clear 10 20 30 40", "at 3", "3 on draw 2 flat", "at 4", "4 on clear 1 2 3 4", "at 4", "at 3", "3 on draw 2 flat", "at 6", "6 on clear 1 2 3 4",
+            "at 3", "3 on draw 2 flat", "at 1", "1 on clear 10 20 30 40"])
+        depths = EXAMPLES / "depth_test.json"
+        kinds = [event["kind"] for event in json.loads(depths.read_text())["events"]]
+        wanted = [i for i, kind in enumerate(kinds, 1) if kind in ("draw", "clear", "depth_clear")]
+        self.assertIn("depth_clear", kinds)
+        self.assertEqual([line for line in self.told(["n"] * len(wanted), "--at", "0", capture=depths) if line.startswith("at")], [f"at {i}" for i in wanted])
+        status, _, errors = batch(self.steps(), ["n"])
+        self.assertEqual((status, errors), (1, "fdb: standard input:1: no draw or clear after 6\n"))
+
+    def test_positions(self):
+        self.assertEqual(self.told(["g 2", "g end", "g 7"]), ["at 2", "2 on raster none 0 0", "at 6", "6 on clear 1 2 3 4", "refused 3 no such position"])
+
+    def test_first_and_last(self):
+        self.assertEqual(self.told(["last 1 0", "last 1 0", "last 1 0", "first 1 0"]), [
+            "at 6", "6 on clear 1 2 3 4", "6 - drawn 1 2 3 4 1 2 3 4 1 2 3 4", "at 4", "4 on clear 1 2 3 4", "4 - drawn 1 2 3 4 200 100 50 255 1 2 3 4",
+            "at 3", "3 on draw 2 flat", "3 1 drawn 200 100 50 255 10 20 30 40 200 100 50 255", "at 1", "1 on clear 10 20 30 40", "1 - drawn 10 20 30 40 0 0 0 0 10 20 30 40"])
+        self.assertEqual(self.told(["g 5", "last 3 1", "first 3 1"])[2:4], ["at 4", "4 on clear 1 2 3 4"])
+        self.assertEqual(self.told(["first 1 0"], "--at", "0")[0], "at 1")
+        self.assertEqual(batch(self.steps(), ["last 0 0"], "--at", "0")[2], "fdb: standard input:1: nothing wrote that pixel up to 0\n")
+
+
+    def test_a_pixel_that_nothing_writes(self):
+        capture = dict(STEPS, events=STEPS["events"][1:3] + [{"kind": "marker", "name": "end"}])
+        with Client(self.written("draw.json", json.dumps(capture)), PROGRAM) as client:
+            session = Session(Frame(client), PLAIN, Screen(io.StringIO(), {}))
+            client.goto(1)
+            self.assertRaises(Slip, session.execute, "first 3 1")
+            self.assertEqual(client.position, 1)
+
+
+class Breakpoints(Folder):
+    def stops(self, lines, at="0", **how):
+        return [line for line in self.told(lines, "--at", at, **how) if line.startswith(("at", "pixel", "no "))]
+
+    def test_events(self):
+        self.assertEqual(self.stops(["b 2", "b 5", "c", "c", "c", "rc", "rc", "rc"]), ["at 2", "at 5", "no breakpoint after 5", "at 6", "at 5", "at 2", "no breakpoint before 2", "at 0"])
+        self.assertEqual(self.stops(["off 2", "g 0", "b 2", "c"]), ["at 0", "at 0", "at 2"])
+
+    def test_kinds(self):
+        self.assertEqual(self.stops(["b clear", "c", "c", "c", "rc", "rc"]), ["at 1", "at 4", "at 6", "at 4", "at 1"])
+        self.assertEqual(self.stops(["off 4", "b clear", "c", "c"]), ["at 0", "at 1", "at 6"])
+
+    def test_pixels(self):
+        changes = ["pixel 1 0 from 0 0 0 0 to 10 20 30 40", "pixel 1 0 from 10 20 30 40 to 200 100 50 255", "pixel 1 0 from 200 100 50 255 to 1 2 3 4"]
+        self.assertEqual(self.stops(["b pixel 1 0", "c", "c", "c", "c"]), [changes[0], "at 1", changes[1], "at 3", changes[2], "at 4", "no breakpoint after 4", "at 6"])
+        self.assertEqual(self.stops(["watch 1 0", "rc", "rc", "rc", "rc"], at="6"), [changes[2], "at 4", changes[1], "at 3", changes[0], "at 1", "no breakpoint before 1", "at 0"])
+        self.assertEqual(self.stops(["b pixel 3 1", "c", "c"]), [changes[0].replace("1 0", "3 1", 1), "at 1", "pixel 3 1 from 10 20 30 40 to 1 2 3 4", "at 4"])
+        self.assertEqual(self.stops(["b pixel 1 0", "off 3", "c", "off 4", "c"])[3:], ["at 1", "pixel 1 0 from 10 20 30 40 to 1 2 3 4", "at 6"])
+
+    def test_a_depth_alone(self):
+        """The pixel's colour stays, and its depth changes: events 1 and 5 of a capture by hand."""
+        capture = {"format": "framedbg", "version": 2, "width": 1, "height": 1, "events": [
+            {"kind": "depth_clear", "depth": 100}, {"kind": "marker", "name": ""}, {"kind": "clear", "color": [0, 0, 0, 0]}, {"kind": "depth_clear", "depth": 100},
+            {"kind": "depth_clear", "depth": 7}]}
+        self.assertEqual([line for line in self.stops(["watch 0 0", "c", "c", "c"], capture=self.written("depths.json", json.dumps(capture))) if line[0] == "a"], ["at 1", "at 5"])
+
+    def test_several_at_once(self):
+        told = self.told(["b 4", "b clear", "watch 1 0", "g 3", "c", "i b", "delete 2", "i b", "delete", "i b", "b 1"])
+        self.assertEqual(told[:3], ["breakpoint 1: event 4", "breakpoint 2: each clear", "breakpoint 3: pixel 1 0"])
+        self.assertEqual(told[5:11], ["breakpoint 1: event 4", "breakpoint 2: each clear", "breakpoint 3: pixel 1 0", "pixel 1 0 from 200 100 50 255 to 1 2 3 4", "at 4", "4 on clear 1 2 3 4"])
+        self.assertEqual(told[11:], ["breakpoint 1: event 4", "breakpoint 2: each clear", "breakpoint 3: pixel 1 0", "breakpoint 1: event 4", "breakpoint 3: pixel 1 0",
+                                     "no breakpoints", "breakpoint 4: event 1"])
+        self.assertEqual(self.told(["b 4", "b 4"]), ["breakpoint 1: event 4"] * 2)
+
+    def test_what_is_no_breakpoint(self):
+        for line in ("b", "b 7", "b 0", "b drow", "b pixel 1", "b 1 2", "watch 1", "watch x y", "delete 1", "delete x"):
+            self.assertEqual(batch(self.steps(), [line])[0], 1, line)
+        self.assertEqual(self.told(["b pixel 4 0", "watch 0 2", "i b"]), ["refused 6 no such pixel"] * 2 + ["no breakpoints"])
+
+    def test_by_history_and_not_by_steps(self):
+        """What framedbg is asked, however far the way is: a move to the end, one history, a move."""
+        asked, counted = self.folder / "asked", self.folder / "counted"
+        counted.write_text(f'#!/bin/sh\ntee -a {asked} | {PROGRAM} "$@"\n')
+        counted.chmod(0o755)
+        self.told(["b pixel 1 0", "c", "c", "c", "rc"], "--at", "0", program=counted)
+        lines = asked.read_text().splitlines()
+        self.assertEqual([line for line in lines if line.startswith(("step", "back"))], [])
+        self.assertEqual(lines[:5], ["events", "pixel 1 0", "goto 6", "history 1 0", "goto 1"])
+        self.assertEqual(len([line for line in lines if line.startswith("pixel")]), 1)
+        self.assertLessEqual(len(lines), 14)
+        asked.unlink()
+        self.told(["d 1 3", "look", "look 1 1", f"save {self.folder}/x.png"], program=counted)
+        self.assertEqual(asked.read_text().splitlines(), ["events", "goto 6", "goto 1", "state", "show", "goto 3", "state", "show", "goto 6"] + ["show"] * 3)
+
+
+class Answers(Folder):
+    def test_histories_and_pixels(self):
+        expected = (EXAMPLES / "house_find.expected").read_text().splitlines()
+        at = expected.index("history 4")
+        self.assertEqual(self.told(["who 50 50", "p 50 50", "print 50 50"], capture=HOUSE), expected[at:at + 5] + [expected[at - 1]] * 2)
+        self.assertEqual(self.told(["who 96 0", "p 0 64", "who 0 0"], "--at", "0", capture=HOUSE), ["refused 6 no such pixel"] * 2 + ["history 0"])
+
+    def test_states_and_who_set_them(self):
+        told = self.told(["i", "off 2", "i", "g 1", "i", "info"])
+        start = ["scissor 0 0 0 0 as at the start", "blend 0 ONE ZERO ADD ONE ZERO ADD 15 as at the start", "factor 255 255 255 255 as at the start"]
+        self.assertEqual(told, ["raster none 0 0 set by 2", *start, "at 6", "raster back 0 0 as at the start", *start, "at 1", "1 on clear 10 20 30 40"]
+                         + ["raster back 0 0 as at the start", *start] * 2)
+        told = self.told(["i", "g 7", "i", "off 8", "i"], capture=HUNTS / "chain.json")
+        self.assertEqual([line for line in told if line.startswith("depth")], ["depth 1 1 GREATER set by 8", "depth 1 1 LESS set by 4", "depth 1 1 LESS set by 4"])
+        self.assertEqual(self.told(["g 2", "i"])[2], "raster none 0 0 set by 2")       # what the event here has just set
+
+    def test_a_later_event_hides_an_earlier_one(self):
+        told = self.told(["i"], capture=HUNTS / "island.json")
+        self.assertEqual(told[:2], ["raster none 0 1 set by 11", "scissor 82 4 116 30 set by 10"])
+
+    def test_lists(self):
+        events = [f"{i} on {line}" for i, line in enumerate(["clear 10 20 30 40", "raster none 0 0", "draw 2 flat", "clear 1 2 3 4", "marker again", "clear 1 2 3 4"], 1)]
+        self.assertEqual(self.told(["l"], "--at", "0"), events[:5])
+        self.assertEqual(self.told(["list 3 4", "l 9", "l 5 99"]), events[2:4] + events[3:] + events[4:])
+        self.assertEqual(self.told(["i off", "off 2 4", "info off", "on 4 2", "i off"]), [
+            "all events are on", "at 6", "2 off raster none 0 0", "4 off clear 1 2 3 4", "at 6", "all events are on"])
+
+    def test_several_switches(self):
+        with Client(self.steps(), PROGRAM) as client:
+            session = Session(Frame(client), PLAIN, Screen(io.StringIO(), {}))
+            session.execute("off 2 3 3")
+            for line in ("off 1 7", "off 4 0", "off 4 2", "on 2 5", "off 4 x"):
+                self.assertRaises(Slip, session.execute, line)
+                self.assertEqual(client.off, {2, 3}, line)
+            session.execute("on 3 2")
+            self.assertEqual(client.off, set())
+
+    def test_differences(self):
+        self.assertEqual(self.told(["d 1 3", "d 3 1", "d 6 4", "s"]), [
+            "raster: back 0 0 as at the start, and then none 0 0 set by 2", "images: 2 of 8 pixels differ, in the box 0 0 2 1", "most at 0 0: 10 20 30 40, and then 200 100 50 255",
+            "raster: none 0 0 set by 2, and then back 0 0 as at the start", "images: 2 of 8 pixels differ, in the box 0 0 2 1", "most at 0 0: 200 100 50 255, and then 10 20 30 40",
+            "states: the same", "images: the same", "refused 1 at end"])
+        for line in ("d 1", "d 1 7", "d 1 2 3", "diff x 1"):
+            self.assertEqual(batch(self.steps(), [line])[0], 1, line)
+
+    def test_each_line_of_framedbg(self):
+        """Every session of the examples, typed to fdb at position 0, is answered as framedbg answers it, with images left out."""
+        for name, capture in sessions():
+            expected = without_images((EXAMPLES / f"{name}.expected").read_bytes())
+            self.assertEqual(self.told((EXAMPLES / f"{name}.session").read_text().splitlines(), "--at", "0", capture=capture), expected, name)
+        told = self.told(["goto 13", "show", "state x", "goto", "events"], capture=HOUSE)
+        self.assertEqual(told[:5], ["at 13", f"pam {len(shown_house())}", "bad 2 arguments", "bad 2 arguments", "events 13 at 13"])
+
+    def test_help(self):
+        listed = "\n".join(self.told(["help"]))
+        for word in WORDS.listed:
+            self.assertIn(word.usage, listed)
+            told = self.told([f"help {word.name}"]) + self.told([f"h {word.also[0]}" if word.also else "h h"])
+            self.assertTrue(told[0].startswith(word.usage) and word.short in told[1], told)
+        for name in ("step", "back", "goto", "pixel", "history", "state", "events", "show", "quit"):
+            self.assertIn("framedbg's own", self.told([f"help {name}"])[0])
+        for name in ("s", "rs", "n", "rn", "c", "rc", "b", "watch", "g", "who", "last", "first", "p", "i", "l", "off", "on", "d", "look", "save", "source", "expect", "help"):
+            self.assertIn(name, WORDS.named)
+
+    def test_slips(self):
+        for slip, near in (("stpe", "step"), ("whoo", "who"), ("histroy", "history"), ("contineu", "continue"), ("reverse-stp", "reverse-step"), ("lokk", "look"), ("xpect", "expect")):
+            self.assertEqual(batch(self.steps(), [slip])[2], f"fdb: standard input:1: no such word: {slip}; did you mean {near}?\n")
+        self.assertEqual(batch(self.steps(), ["a\x1b[2Jb"])[2], "fdb: standard input:1: no such word: a\\x1b[2Jb; help lists them\n")
+        self.assertEqual(batch(self.steps(), ["zzz"])[2], "fdb: standard input:1: no such word: zzz; help lists them\n")
+        self.assertEqual(self.told(["cont", "reverse-s"])[-2:], ["at 5", "5 on marker again"])     # a beginning is enough where there is one word with it
+        self.assertEqual(batch(self.steps(), ["reverse"])[0], 1)
+
+
+class Pictures(Folder):
+    def test_saved(self):
+        png, pam = self.folder / "a house.png", self.folder / "house.PAM"
+        self.assertEqual(self.told([f"save {png}", f"save {pam}"], capture=HOUSE), [f"saved {png}", f"saved {pam}"])
+        self.assertEqual(pam.read_bytes(), shown_house())
+        self.assertEqual(png.read_bytes(), read_pam(shown_house()).png())
+        self.assertEqual(stat.S_IMODE(png.stat().st_mode), 0o666 & ~picturing.umask())
+
+    def test_nothing_is_lost(self):
+        path = self.written("kept.png", "before")
+        self.assertEqual(batch(self.steps(), [f"save {path}"], "--program", str(stand_in(self.folder)), ASKED=str(self.folder / "asked"), END="show")[0], 5)
+        self.assertEqual(path.read_text(), "before")
+        for line in ("save", "save x", f"save {self.folder}/x.json", f"save {self.folder}/none/x.png", f"save {self.folder}", "save ~nobody_is_called_so/x.png", "save a\0b.png"):
+            status, _, errors = batch(self.steps(), [line])
+            self.assertEqual((status, errors.count("\n")), (1, 1), line)
+        self.assertEqual(sorted(path.name for path in self.folder.iterdir()), ["asked", "kept.png", "standing_in", "steps.json"])
+
+    def image(self):
+        """Four by three: each pixel's red is its column, and its green its row."""
+        return Image(4, 3, bytes(value for y in range(3) for x in range(4) for value in (60 * x, 60 * y, 0, 9)))
+
+    def test_views(self):
+        image = self.image()
+        views = [(drawing.whole(image, 4, 3), (0, 0, 4, 3, 1, 1)), (drawing.whole(image, 9, 7), (0, 0, 8, 6, 2, 1)), (drawing.whole(image, 3, 9), (0, 0, 2, 2, 1, 2)),
+                 (drawing.whole(image, 99, 1), (0, 0, 2, 1, 1, 3)), (drawing.part(image, (3, 1), 3, 6, 6), (2, 0, 6, 6, 3, 1)), (drawing.part(image, (0, 2), 99, 5, 4), (0, 2, 4, 4, 4, 1))]
+        for view, (left, top, columns, rows, zoom, every) in views:
+            self.assertEqual(view, drawing.View(left, top, columns, rows, zoom, every))
+        self.assertEqual(drawing.grid(image, views[4][0]), [[(60 * x, 60 * y, 0) for x in (2, 2, 2, 3, 3, 3)] for y in (0, 0, 0, 1, 1, 1)])
+        self.assertEqual(drawing.grid(image, views[2][0]), [[(60 * x, 60 * y, 0) for x in (0, 2)] for y in (0, 2)])
+
+    def test_half_blocks(self):
+        rows = drawing.grid(self.image(), drawing.whole(self.image(), 4, 3))
+        lines = drawing.half(rows).split("\n")
+        self.assertEqual(cells(lines[0]), [((60 * x, 0, 0), (60 * x, 60, 0)) for x in range(4)])
+        self.assertEqual(cells(lines[1]), [((60 * x, 120, 0), None) for x in range(4)])
+
+    def test_letters(self):
+        dark, light = (0, 0, 0), (255, 255, 255)
+        self.assertEqual(drawing.letters([[dark, light, light], [light] * 3, [light, dark, dark], [dark] * 3]), " @@\n@")
+
+    def test_kitty(self):
+        rows = [[(x, y, 7) for x in range(90)] for y in range(70)]
+        pieces = re.findall(r"\x1b_G(.*?);(.*?)\x1b\\", drawing.kitty(rows), re.S)
+        self.assertEqual(pieces[0][0].split(",")[:5], ["a=T", "f=24", "o=z", "s=90", "v=70"])
+        self.assertEqual([head[-3:] for head, _ in pieces], ["m=1"] * (len(pieces) - 1) + ["m=0"])
+        self.assertTrue(all(len(data) <= 4096 for _, data in pieces))
+        self.assertEqual(zlib.decompress(base64.b64decode("".join(data for _, data in pieces))), bytes(value for row in rows for colour in row for value in colour))
+
+    def test_sixel(self):
+        for rows in ([[(255 * (x % 2), 51 * y, 0) for x in range(9)] for y in range(4)], [[(0, 0, 0)] * 5 for _ in range(13)]):
+            self.assertEqual(unsixeled(drawing.sixel(rows)), [[tuple(round(value * 100 / 255) for value in colour) for colour in row] for row in rows])
+        many = [[(x, y, x ^ y) for x in range(40)] for y in range(20)]
+        for row, seen in zip(many, unsixeled(drawing.sixel(many))):
+            for colour, hundredths in zip(row, seen):
+                self.assertLessEqual(max(abs(a - b * 2.55) for a, b in zip(colour, hundredths)), 27)
+
+    def test_shown_without_colours(self):
+        """Letters: the lower half of the house's frame is green, and darker than the sky."""
+        told = self.told(["look", "look 3 4 1"], capture=HOUSE)
+        self.assertEqual(len(told[0]), 48)
+        self.assertEqual(told[16], "columns 0 to 94, rows 0 to 62, one pixel of 2 in each direction")
+        self.assertEqual(told[-1], "columns 0 to 79, rows 0 to 43, each pixel 1 times")
+        self.assertEqual(batch(HOUSE, ["look"], FDB_LOOK="vt100")[2], "fdb: standard input:1: FDB_LOOK is one of kitty, sixel, half, letters, and not vt100\n")
+        for line in ("look 1", "look 96 0", "look 1 1 0", "look 1 1 65", "look a b"):
+            self.assertEqual(batch(HOUSE, [line])[0], 1, line)
+
+
+def without_images(replies):
+    lines = []
+    while replies:
+        line, _, replies = replies.partition(b"\n")
+        lines.append(line.decode())
+        if line.startswith(b"pam "):
+            replies = replies[int(line[4:]):]
+    return lines
+
+
+def cells(line):
+    """The two colours of each half block of a line."""
+    found, style = [], None
+    for escape, block in re.findall(r"\x1b\[([0-9;]*)m|(▀)", line):
+        if block:
+            found.append(style)
+        elif escape != "0":
+            numbers = list(map(int, escape.split(";")))
+            style = tuple(numbers[2:5]), tuple(numbers[7:10]) if numbers[5] == 48 else None
+    return found
+
+
+def unsixeled(text):
+    """The colours of a sixel picture in hundredths, by the protocol."""
+    head, wide, high, body = re.fullmatch(r'\x1bP(q)"1;1;(\d+);(\d+)(.*)\x1b\\', text, re.S).groups()
+    colours = {int(number): tuple(map(int, rest.split(";"))) for number, rest in re.findall(r"#(\d+);2;(\d+;\d+;\d+)", body)}
+    rows = [[None] * int(wide) for _ in range(int(high))]
+    x = top = 0
+    for number, new, count, letter, control in re.findall(r"#(\d+)(;[\d;]+)?|(?:!(\d+))?([?-~])|([$-])", body):
+        if number:
+            colour = colours[int(number)]
+        elif letter:
+            for _ in range(int(count or 1)):
+                for bit in range(6):
+                    if ord(letter) - 63 >> bit & 1:
+                        rows[top + bit][x] = colour
+                x += 1
+        else:
+            x, top = 0, top + 6 * (control == "-")
+    return rows
+
+
+class Scripts(Folder):
+    def ran(self, text, *words):
+        return batch(self.steps(), [], "-x", str(self.written("a.fdb", text)), *words)
+
+    def test_expectations(self):
+        for text in ("p 1 0\nexpect pixel 1 2 3 4\n", "p 1 0\nexpect 2 3\n", "p 1 0\nexpect not 2 4\nexpect not pixe", "# a note\n\np 1 0\n  \n# another\nexpect pixel\r\n",
+                     "g 99\nexpect refused 3 no such position", "s\nexpect refused 1", "who 1 0\nexpect 3 1 drawn\nexpect 4 -"):
+            self.assertEqual(self.ran(text)[0], 0, text)
+        for text, line in (("p 1 0\nexpect pixel 1 2 3 40\n", 2), ("p 1 0\nexpect not 2 3", 2), ("# x\np 1 0\np 3 1\nexpect not pixel", 4), ("expect at", 1), ("p 1 0\nexpect ixel", 2), ("p 1 0\ni\nexpect pixel", 3)):
+            status, _, errors = self.ran(text)
+            self.assertEqual((status, errors.startswith(f"fdb: {self.folder}/a.fdb:{line}: expected "), errors.count("\n")), (1, True, 1), (text, errors))
+        self.assertEqual(self.ran("p 1 0\nexpect pixel 1 2 3 5")[2], f"fdb: {self.folder}/a.fdb:2: expected pixel 1 2 3 5, and was told pixel 1 2 3 4\n")
+        self.assertEqual(self.ran("expect")[0], 1)
+
+    def test_a_script_ends_where_a_line_is_at_fault(self):
+        status, told, errors = self.ran("p 1 0\nnext 1\np 1 0\n")
+        self.assertEqual((status, told, errors), (1, ["pixel 1 2 3 4"], f"fdb: {self.folder}/a.fdb:2: nothing is wanted behind the word\n"))
+
+    def test_scripts_of_scripts(self):
+        inner = self.written("inner file.fdb", "p 1 0\nexpect pixel 9\n")
+        self.assertEqual(self.ran(f"source {inner}")[2], f"fdb: {inner}:2: expected pixel 9, and was told pixel 1 2 3 4\n")
+        itself = self.written("itself.fdb", f"source {self.folder}/itself.fdb\n")
+        self.assertIn("more than 16 deep", self.ran(f"source {itself}")[2])
+        for line in ("source", f"source {self.folder}/none", f"source {self.folder}", "source /dev/zero", "source a\0b"):
+            status, _, errors = self.ran(line)
+            self.assertEqual((status, errors.count("\n")), (1, 1), errors)
+        self.assertEqual(self.ran("p 1 0", "-x", str(self.folder / "none"))[0], 1)
+
+    def test_several_scripts_and_the_end(self):
+        second = self.written("b.fdb", "expect pixel 1 2 3 4\nq\np 9 9\nnonsense")
+        self.assertEqual(self.ran("p 1 0\n", "-x", str(second))[:2], (0, ["pixel 1 2 3 4"]))
+        self.assertEqual(batch(self.steps(), ["quit", "nonsense"])[:2], (0, ["bye"]))
+
+    def test_each_hunt(self):
+        """The scripts that find the bugs expect what tools/reference.py worked out for the plain sessions, but who set a state."""
+        hunts = sorted(path.stem.removesuffix("_find") for path in HUNTS.glob("*_find.session"))
+        self.assertEqual(len(hunts), 9)
+        for path in [EXAMPLES / "house_find", *(HUNTS / f"{name}_find" for name in hunts)]:
+            capture = path.with_name(f"{path.name.removesuffix('_find')}.json")
+            self.assertEqual(batch(capture, [], "-x", f"{path}.fdb")[::2], (0, ""), path)
+            expected = [line.split() for line in path.with_suffix(".expected").read_text().splitlines()]
+            for line in path.with_suffix(".fdb").read_text().splitlines():
+                if line.startswith("expect") and "by" not in line.split() and "start" not in line.split():
+                    words = line.split()[1:]
+                    self.assertTrue(any(words == told or words[1:2] == ["on"] for told in expected), f"{path}: {line}")
+
+
+class Endings(Folder):
+    def test_words(self):
+        for words in ([], ["x", "y"], ["--frob", "x"], ["x", "--workers", "0"], ["x", "--workers", "65"], ["x", "--at", "-1"], ["x", "--at", "9" * 11], ["x", "-x"]):
+            errors = io.StringIO()
+            with contextlib.redirect_stderr(errors), self.assertRaises(SystemExit) as end:
+                command_line.words(words)
+            self.assertEqual((end.exception.code, "usage: fdb" in errors.getvalue()), (1, True), words)
+        status, told, errors = launched("--help")
+        self.assertEqual((status, errors, "--batch" in told), (0, "", True))
+
+    def test_as_a_program(self):
+        steps = self.steps()
+        self.assertEqual(launched(steps, "--batch", "--program", PROGRAM, given=b"p 1 0\nexpect 9\n"), (
+            1, "pixel 1 2 3 4\n", "fdb: standard input:2: expected 9, and was told pixel 1 2 3 4\n"))
+        self.assertEqual(launched(steps, "--program", PROGRAM, given=b"p 1 0\n"), (0, "pixel 1 2 3 4\n", ""))       # no terminal: as with --batch
+
+    def test_captures(self):
+        refused = self.written("refused.json", "[]")
+        self.assertEqual(batch(refused, ["s"]), (2, [], "framedbg: capture refused 3 not a capture\n"))
+        self.assertEqual(batch(self.folder / "none.json", ["s"]), (3, [], "framedbg: cannot read capture\n"))
+        self.assertEqual(batch(self.steps(), [], "--at", "7"), (1, [], "fdb: no such position\n"))
+        self.assertEqual(batch(EXAMPLES / "no_events.json", ["l", "i off", "s", "rc", "c", "n"])[1:],
+                         (["all events are on", "refused 1 at end", "refused 2 at start", "refused 1 at end"], "fdb: standard input:6: no draw or clear after 0\n"))
+
+    def test_a_file_that_begins_with_a_hyphen(self):
+        self.written("-a.json", json.dumps(STEPS))
+        self.assertEqual(launched("--batch", "--program", PROGRAM, "--", "-a.json", given=b"p 0 0\n", cwd=self.folder), (0, "pixel 1 2 3 4\n", ""))
+
+    def test_programs(self):
+        asked = {"ASKED": str(self.folder / "asked")}
+        status, _, errors = batch(self.steps(), ["s"], program="/nowhere/framedbg")
+        self.assertEqual((status, errors.count("\n"), "Traceback" in errors), (3, 1, False))
+        self.assertEqual(batch(self.steps(), ["s"], program="/bin/echo")[0], 1)
+        self.assertEqual(batch(self.steps(), ["p 0 0"], program=stand_in(self.folder), END="pixel 0 0", **asked)[::2],
+                         (5, "fdb: standard input:1: framedbg: memory (status 5)\n"))
+
+    def test_want_of_memory(self):
+        asked = {"ASKED": str(self.folder / "asked")}
+        told = batch(self.steps(), ["p 0 0"], program=stand_in(self.folder), MOST="2", **asked)
+        self.assertEqual(told, (0, ["stopped 2", "2 on clear 2 2 3 4", "pixel 2 2 3 4"], ""))
+        told = batch(self.steps(), ["g 3", "run"], "--at", "0", program=stand_in(self.folder), MOST="2", **asked)
+        self.assertEqual(told, (0, ["stopped 2", "2 on clear 2 2 3 4", "at 2", "2 on clear 2 2 3 4"], ""))
+        (self.folder / "asked").unlink()
+        told = batch(self.steps(), ["d 2 3"], "--at", "1", program=stand_in(self.folder), MOST="2", **asked)
+        self.assertEqual(told, (1, [], "fdb: standard input:1: no more memory: framedbg came to 2 alone\n"))
+        self.assertEqual((self.folder / "asked").read_text().splitlines()[-2:], ["goto 3", "goto 1"])
+
+    def test_another_run(self):
+        self.assertEqual(self.told(["off 4", "g 5", "run", "i off", "p 1 0"]), [
+            "at 6", "at 5", "5 on marker again", "at 5", "5 on marker again", "4 off clear 1 2 3 4", "pixel 200 100 50 255"])
+
+    def test_a_reader_that_goes(self):
+        lines = "l\n" * 20000
+        ran = subprocess.run(["sh", "-c", f'"{sys.executable}" "{FDB}" --batch --program "{PROGRAM}" "{HOUSE}"; echo "status $?" >&2'], input=lines.encode(), stdout=closed_pipe(),
+                             stderr=subprocess.PIPE, timeout=60, check=False)
+        self.assertEqual(ran.stderr.decode(), "status 3\n")
+
+    def test_lines_of_any_bytes(self):
+        for line in (b"\xff\xfe", b"\tstate", b"state \xc3", b"b \xb2", b"l \xd9\xa3", b"\0", b"a" * 300):
+            status, _, errors = launched(HOUSE, "--batch", "--program", PROGRAM, given=line + b"\n")
+            self.assertEqual((status in (0, 1), "Traceback" in errors), (True, False), (line, errors))
+        self.assertEqual(batch(HOUSE, ["state " + "a" * 300])[1], ["bad 3 line too long"])
+
+
+class Chance(Folder):
+    """Lines by chance, right and wrong: each is answered or a slip, a slip changes nothing, and fdb knows where framedbg stands and what is off."""
+    ARGUMENTS = ["", "0", "1", "2", "3", "5", "6", "7", "4294967295", "4294967296", "99999999999", "-1", "x", "end", "off", "b", "draw", "clear", "pixel", "not", "at", "\u00b2", "\x1b[2J"]
+    LEFT_OUT = {"q", "quit", "save", "source", "run"}
+
+    def test_lines(self):
+        chance = random.Random(42)
+        names = [name for name in WORDS.names() if name not in self.LEFT_OUT] + ["stpe", "\u00e9", "#", "re"]
+        with Client(self.steps(), PROGRAM) as client:
+            session = Session(Frame(client), PLAIN, Screen(io.StringIO(), {}))
+            for _ in range(1500):
+                line = " ".join([chance.choice(names), *chance.choices(self.ARGUMENTS, k=chance.choice((0, 1, 1, 2, 2, 3)))])
+                before = client.position, set(client.off)
+                try:
+                    session.execute(line)
+                except (Slip, Failed):
+                    self.assertEqual((client.position, client.off), before, line)
+                events = client.ask("events")
+                self.assertEqual(events.value.position, client.position, line)
+                self.assertEqual({event.number for event in events.value.events if not event.on}, client.off, line)
+
+
+def closed_pipe():
+    reader, writer = os.pipe()
+    os.close(reader)
+    return writer
+
+
+if __name__ == "__main__":
+    unittest.main()
