@@ -98,7 +98,7 @@ class Alone:
 
     def open(self, viewer):
         """The viewer's tests come here with a server. It isn't asked: its capture is chosen in the page."""
-        self.show(viewer.session.words[-1])
+        self.show(viewer.session.words[1])
 
     def show(self, capture):
         self.browser.open("about:blank")

@@ -16,7 +16,7 @@ import tempfile
 import browser
 
 TOOLS = pathlib.Path(__file__).resolve().parent
-PARTS = ("view", "viewer", "explain", "explaining", "mesh_to_capture", "meshes")
+PARTS = ("view", "viewer", "framedbg_client", "explain", "explaining", "mesh_to_capture", "meshes")
 # By a name's first word: where its file lies, and the tests
 KINDS = {"door": ("viewer", "test_viewer.py"), "server": ("viewer", "test_viewer.py"), "page": ("viewer", "test_viewer.py"), "view": ("", "test_viewer.py"),
          "explain": ("", "test_explain.py"), "mesh": ("", "test_mesh_to_capture.py")}

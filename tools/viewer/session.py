@@ -1,31 +1,29 @@
 """One run of framedbg, driven by its own commands over pipes: a line in, a reply out."""
-import itertools
-import subprocess
 import threading
+
+from framedbg_client import Ended
+from framedbg_client.client import bundles
+from framedbg_client.connection import Connection
+from framedbg_client.replies import extent
 
 from .image import read_image, widen
 
 MAX_LINE = 256           # bytes of a command, as framedbg has it
 MAX_LISTED = 100_000     # lines of a list that are kept; the rest is read and counted
-BUNDLE = 512             # `pixel` lines that are written before their replies are read: those fit any pipe
-
-
-class Ended(Exception):
-    """The run is over; the text says how framedbg ended it."""
 
 
 class Stopped(Ended):
     """The run was stopped in the midst of a call, and another stands in its place, with the events off that were off before."""
 
-    def __init__(self):
-        super().__init__("stopped")
+    def __str__(self):
+        return "stopped"
 
 
 class Session:
     def __init__(self, program, capture, workers):
-        self.words = [program, "run", "--workers", str(workers), capture]
+        self.words = program, capture, workers
         self.lock = threading.Lock()
-        self.run, self.ending = None, ""
+        self.connection = self.run = None        # to the run, and its process
         self.switches = 0        # how often events were switched, or all of them on by a new start
         self.off, self.flipped = set(), []       # the events that are off, and the switches of the call that is answered
         self.stopping = False
@@ -53,11 +51,11 @@ class Session:
             before, images = self.switches, []
             try:
                 replies = self._answer(lines, images, window)
-            except Ended:
+            except Ended as ended:
                 if not self.stopping:
                     raise
                 self._start_again()
-                raise Stopped from None
+                raise Stopped(ended.said, ended.status) from None
             return replies, images, (before, self.switches)
 
     def close(self):
@@ -68,7 +66,8 @@ class Session:
 
     def _start(self):
         self._close()
-        self.run = subprocess.Popen(self.words, stdin=subprocess.PIPE, stdout=subprocess.PIPE, stderr=subprocess.PIPE, bufsize=1 << 20)
+        self.connection = Connection(*self.words)
+        self.run = self.connection.process
         widen(self.run.stdout)
 
     def _start_again(self):
@@ -80,75 +79,32 @@ class Session:
         """The replies. What the lines switched counts when all of them are answered."""
         replies, self.flipped = [], []
         for bundle in bundles(lines):
-            self._write(bundle)
+            self.connection.write(bundle)
             replies += [self._reply(line, images, window) for line in bundle]
         for word, number in self.flipped:
             (self.off.add if word == b"off" else self.off.discard)(int(number))
         return replies
 
-    def _write(self, lines):
-        try:
-            self.run.stdin.write(b"".join(line + b"\n" for line in lines))
-            self.run.stdin.flush()
-        except (BrokenPipeError, ValueError):
-            raise self._ended() from None
-
     def _reply(self, line, images, window):
-        first = self._line()
-        reply = {"text": first}
-        word, *rest = first.split(" ")
+        first = self.connection.line()
+        reply, (lines, size) = {"text": first}, extent(first)
+        word = first.split(" ")[0]
         if word == "pam":
-            image = read_image(self.run.stdout, int(rest[0]), window)
+            image = read_image(self.run.stdout, size, window)
             if image is None:
-                raise self._ended()
+                raise self.connection.end()
             reply["image"], pieces = image
             images.append(pieces)
         elif word in ("history", "events"):
-            self._list(reply, int(rest[0]))
+            reply["lines"] = [self.connection.line() for _ in range(min(lines, MAX_LISTED))]
+            reply["left_out"] = lines - len(reply["lines"])
+            for _ in range(reply["left_out"]):
+                self.connection.line()
         elif word in ("at", "stopped") and line.split()[:1] in ([b"on"], [b"off"]):
             self.switches += 1
             self.flipped.append(line.split())
         return reply
 
-    def _list(self, reply, count):
-        kept = min(count, MAX_LISTED)
-        reply["lines"] = [self._line() for _ in range(kept)]
-        reply["left_out"] = count - kept
-        for _ in range(kept, count):
-            self.run.stdout.readline()
-
-    def _line(self):
-        line = self.run.stdout.readline()
-        if not line.endswith(b"\n"):
-            raise self._ended()
-        return line[:-1].decode("utf-8", "replace")
-
-    def _ended(self):
-        self._close()
-        return Ended(self.ending)
-
     def _close(self):
-        """Ends the run, and keeps what it said last."""
-        if self.run is None or self.run.stdout.closed:
-            return
-        try:
-            self.run.stdin.close()
-        except OSError:
-            pass
-        try:
-            self.run.wait(timeout=2)
-        except subprocess.TimeoutExpired:
-            self.run.kill()
-            self.run.wait()
-        said = self.run.stderr.read(4096).decode("utf-8", "replace").strip()
-        self.ending = f"{said or 'framedbg has ended'} (status {self.run.returncode})"
-        self.run.stdout.close()
-        self.run.stderr.close()
-
-
-def bundles(lines):
-    """The lines one by one, but `pixel` lines that follow one another together: each of those has one short reply."""
-    for is_pixel, some in itertools.groupby(lines, lambda line: line.split()[:1] == [b"pixel"]):
-        some = list(some)
-        size = BUNDLE if is_pixel else 1
-        yield from (some[at:at + size] for at in range(0, len(some), size))
+        if self.connection:
+            self.connection.end()
