@@ -1,5 +1,6 @@
 -- Rows of spans.
-use Rattle.std.proofs.Common.{◌≡◌, ℕ, zero, suc, ◌+◌, ◌-◌, ◌<◌, ◌≤◌, ◌∙◌, List, [], ◌∷◌, ◌++◌, length, get_or, take, drop, refl, sym, ap, arith, sum_by, length-append, length-drop, append_assoc}
+use Rattle.std.proofs.Common.{◌≡◌, ℕ, zero, suc, ◌+◌, ◌-◌, ◌<◌, ◌≤◌, ◌∙◌, List, [], ◌∷◌, ◌++◌, length, get_or, take, drop, refl, sym, ap, arith}
+use Rattle.std.proofs.Common.{sum_by, length-append, length-drop, append_assoc}
 use Rattle.std.proofs.lemmas.List.{drop-append-le, take-append-drop, length-take, drop-drop, append-nil, take_all, drop_all, drop_more}
 use Rattle.std.proofs.lemmas.List.Sums.{sum_by_push, sum_by-cons}
 use Rattle.fd_blend.specs.declared.channel.Colour.{Colour}
@@ -19,7 +20,8 @@ pub joined-push : (rows : List (List KeptPixel)) (row : List KeptPixel) → join
 joined-push rows row = joined-append rows (row ∷ []) ∙ ap (λ l. joined rows ++ l) (append-nil row)
 
 -- the rows from one on, cut at another
-pub joined-cut : (rows : List (List KeptPixel)) (first n : ℕ) → first ≤ n → n ≤ length rows → joined (drop first rows) ≡ joined (drop first (take n rows)) ++ joined (drop n rows)
+pub joined-cut : (rows : List (List KeptPixel)) (first n : ℕ) → first ≤ n → n ≤ length rows
+    → joined (drop first rows) ≡ joined (drop first (take n rows)) ++ joined (drop n rows)
 joined-cut rows first n low high =
     ap (λ l. joined (drop first l)) (sym (take-append-drop n rows))
     ∙ ap joined (drop-append-le first (take n rows) (drop n rows) (omega (arith, low, high, length-take n rows)))
@@ -59,7 +61,11 @@ rows_in-push (t ∷ spans) cs more ds deep s counted deep_counted =
     ∙ ap (λ l. row_in t cs ds ∷ rows_in (spans ++ s ∷ []) l (drop m (ds ++ deep))) (drop-append-le n cs more short)
     ∙ ap (λ l. row_in t cs ds ∷ rows_in (spans ++ s ∷ []) (drop n cs ++ more) l) (drop-append-le m ds deep deep_short)
     ∙ ap (λ l. row_in t cs ds ∷ l)
-    (rows_in-push spans (drop n cs) more (drop m ds) deep s (omega (arith, all, length-drop (listed_colours t) cs)) (omega (arith, deep_all, length-drop (listed_depths t) ds)))
+    (rows_in-push spans (drop n cs) more (drop m ds) deep s (omega (arith, all, length-drop (listed_colours t) cs)) (omega (
+      arith,
+      deep_all,
+      length-drop (listed_depths t) ds,
+    )))
 
 -- the rows from span k on, and those before it
 pub rows_in-drop : (spans : List Span) (cs : List Colour) (ds : List ℕ) (k : ℕ)
@@ -69,8 +75,10 @@ rows_in-drop [] cs ds (suc k) = refl
 rows_in-drop (s ∷ spans) cs ds (suc k) =
     let n : ℕ = colour_count (take k spans) in
     let m : ℕ = depth_count (take k spans) in
-    ap (λ l. rows_in (drop k spans) l (drop (depth_count (s ∷ take k spans)) ds)) (ap (λ i. drop i cs) (colours-cons s (take k spans)) ∙ sym (drop-drop n (listed_colours s) cs))
-    ∙ ap (λ l. rows_in (drop k spans) (drop n (drop (listed_colours s) cs)) l) (ap (λ i. drop i ds) (depths-cons s (take k spans)) ∙ sym (drop-drop m (listed_depths s) ds))
+    ap (λ l. rows_in (drop k spans) l (drop (depth_count (s ∷ take k spans)) ds))
+    (ap (λ i. drop i cs) (colours-cons s (take k spans)) ∙ sym (drop-drop n (listed_colours s) cs))
+    ∙ ap (λ l. rows_in (drop k spans) (drop n (drop (listed_colours s) cs)) l)
+    (ap (λ i. drop i ds) (depths-cons s (take k spans)) ∙ sym (drop-drop m (listed_depths s) ds))
     ∙ rows_in-drop spans (drop (listed_colours s) cs) (drop (listed_depths s) ds) k
 
 pub rows_in-take : (spans : List Span) (cs : List Colour) (ds : List ℕ) (k : ℕ) → rows_in (take k spans) cs ds ≡ take k (rows_in spans cs ds)

@@ -17,7 +17,8 @@ use Rattle.fd_tile.proofs.Pixels.{length-row_of, with_row_left_is, IsTileImage-w
 use Rattle.fd_undo.specs.Span.{Span}
 use Rattle.fd_undo.specs.Frame.{KeptPixel, kept_row, restored}
 use Rattle.fd_undo.specs.Run.{IsRow, AreRows, AreWholeRows, IsRun}
-use Rattle.fd_undo.specs.Rows.{listed_colours, listed_in, listed_depths, values_in, colours_in, depths_in, colour_count, depth_count, row_in, rows_in, rows_of, joined, no_span, Held, IsHeld}
+use Rattle.fd_undo.specs.Rows.{listed_colours, listed_in, listed_depths, values_in, colours_in, depths_in, colour_count, depth_count, row_in, rows_in}
+use Rattle.fd_undo.specs.Rows.{rows_of, joined, no_span, Held, IsHeld}
 use Rattle.fd_undo.proofs.Zips.{length-zip_equal}
 use Rattle.fd_undo.proofs.SpanLemmas.{length-row_in, row_first}
 use Rattle.fd_undo.proofs.RowLemmas.{colours-cons, depths-cons, colours-take, depths-take, joined-cut, length-rows_in, rows_in-drop, rows_in-take, rows_in-more}
@@ -42,14 +43,22 @@ row_is w depth s cs ds row fits =
 rows_behind : (w depth : ℕ) (s : Span) (spans : List Span) (cs : List Colour) (ds : List ℕ) → IsRow w depth s
     → rows_in spans (drop (listed_colours s) cs) (drop (listed_depths s) ds) ≡ rows_in spans (drop w cs) ds
 rows_behind w depth s spans cs ds row =
-    ap (λ n. rows_in spans (drop n cs) (drop (listed_depths s) ds)) (row_colours w depth s row) ∙ ap (λ n. rows_in spans (drop w cs) (drop n ds)) (row_depths w depth s row)
+    ap (λ n. rows_in spans (drop n cs) (drop (listed_depths s) ds)) (row_colours w depth s row)
+    ∙ ap (λ n. rows_in spans (drop w cs) (drop n ds)) (row_depths w depth s row)
 
 -- how many values of the lists they have, and how many pixels
 run_counts : (w depth y : ℕ) (spans : List Span) → AreRows w depth y spans → (colour_count spans ≡ length spans * w) × (depth_count spans ≡ 0)
 run_counts w depth y [] rows = (sym (zero-mul w), refl)
 run_counts w depth y (s ∷ spans) (at, row, rows) =
-    let rest : (colour_count spans ≡ length spans * w) × (depth_count spans ≡ 0) = run_counts w depth (y + 1) spans rows in
-    (omega (arith, colours-cons s spans, row_colours w depth s row, rest.0, suc-mul (length spans) w), omega (arith, depths-cons s spans, row_depths w depth s row, rest.1))
+    let rest : (colour_count spans ≡ length spans * w) × (depth_count spans ≡ 0) = run_counts w depth (y + 1) spans rows in (
+      omega (arith, colours-cons s spans, row_colours w depth s row, rest.0, suc-mul (length spans) w),
+      omega (
+        arith,
+        depths-cons s spans,
+        row_depths w depth s row,
+        rest.1,
+      ),
+    )
 
 run_pixels : (w depth y : ℕ) (spans : List Span) (cs : List Colour) (ds : List ℕ) → AreRows w depth y spans → length cs ≡ length spans * w
     → length (joined (rows_in spans cs ds)) ≡ length spans * w
@@ -57,7 +66,8 @@ run_pixels w depth y [] cs ds rows size = sym (zero-mul w)
 run_pixels w depth y (s ∷ spans) cs ds (at, row, rows) size =
     let more : suc (length spans) * w ≡ length spans * w + w = suc-mul (length spans) w in
     let rest = run_pixels w depth (y + 1) spans (drop w cs) ds rows (omega (arith, length-drop w cs, size, more)) in
-    let own : length (row_in s cs ds) ≡ s.len = length-row_in s cs ds (omega (arith, row_colours w depth s row, size, more)) (omega (arith, row_depths w depth s row)) in
+    let own : length (row_in s cs ds) ≡ s.len =
+    length-row_in s cs ds (omega (arith, row_colours w depth s row, size, more)) (omega (arith, row_depths w depth s row)) in
     omega (
       arith,
       length-append (row_in s cs ds) (joined (rows_in spans (drop (listed_colours s) cs) (drop (listed_depths s) ds))),
@@ -69,11 +79,13 @@ run_pixels w depth y (s ∷ spans) cs ds (at, row, rows) size =
     )
 
 -- ---- rows of a tile
-with_rows_from-kept : (t : TileImage) (y : ℕ) (rows : List (List Colour)) → ((with_rows_from t y rows).place ≡ t.place) × ((with_rows_from t y rows).depths ≡ t.depths)
+with_rows_from-kept : (t : TileImage) (y : ℕ) (rows : List (List Colour))
+    → ((with_rows_from t y rows).place ≡ t.place) × ((with_rows_from t y rows).depths ≡ t.depths)
 with_rows_from-kept t y [] = (refl, refl)
 with_rows_from-kept t y (row ∷ rows) = with_rows_from-kept t (y + 1) rows
 
-IsTileImage-with_rows_from : (t : TileImage) (y : ℕ) (rows : List (List Colour)) → IsTileImage t → t.place.top ≤ y → y + length rows ≤ t.place.top + t.place.height
+IsTileImage-with_rows_from : (t : TileImage) (y : ℕ) (rows : List (List Colour)) → IsTileImage t → t.place.top ≤ y
+    → y + length rows ≤ t.place.top + t.place.height
     → All (λ row. length row ≡ t.place.width) rows → IsTileImage (with_rows_from t y rows)
 IsTileImage-with_rows_from t y [] filled low high wide = filled
 IsTileImage-with_rows_from t y (row ∷ rows) filled low high wide =
@@ -87,11 +99,13 @@ IsTileImage-with_rows_from t y (row ∷ rows) filled low high wide =
 
 -- one row, where all pixels of the tile are so deep
 one_row : (u : TileImage) (x y depth : ℕ) (old : List Colour) → IsTileImage u → IsFlat u.place u.depths depth → length old ≡ u.place.width
-    → Inside u.place (kept_row x y (zip old (replicate (length old) depth))) → restored (kept_row x y (zip old (replicate (length old) depth))) u ≡ with_row u y old
+    → Inside u.place (kept_row x y (zip old (replicate (length old) depth)))
+    → restored (kept_row x y (zip old (replicate (length old) depth))) u ≡ with_row u y old
 one_row u x y depth old filled flat wide inside =
     let pixels : List Pixel = zip old (replicate (length old) depth) in
     let some : 0 < length old = omega (arith, wide, filled.colours.placed.wide) in
-    let long : length (zip old (replicate (length old) depth)) ≡ length old = length-zip_equal old (replicate (length old) depth) (length-replicate (length old) depth) in
+    let long : length (zip old (replicate (length old) depth)) ≡ length old =
+    length-zip_equal old (replicate (length old) depth) (length-replicate (length old) depth) in
     let first : Holds u.place x y = kept_row-first u.place x y pixels inside (omega (arith, long, some)) in
     let within : x + length pixels ≤ u.place.left + u.place.width = kept_row-within u.place x y pixels inside (omega (arith, long, some)) in
     let crossed : HasRow u.place y = record { from_top = first.from_top; to_bottom = first.to_bottom } in
@@ -99,11 +113,14 @@ one_row u x y depth old filled flat wide inside =
     let whole : put_mid (x - u.place.left) (length old) (row_of u y) old ≡ old =
     ap (λ j. put_mid j (length old) (row_of u y) old) {x = x - u.place.left} {y = 0} (omega (arith, first.from_left, within, long, wide))
     ∙ ap (λ l. old ++ l) (drop_all (length old) (row_of u y) (omega (arith, row_long, wide))) ∙ append-nil old in
-    sym (put_back_row_alike u x y (x - u.place.left) (length old) depth old (row_of u y) old (replicate (length old) depth) refl filled flat inside some refl refl refl refl)
+    sym (put_back_row_alike u x y (x - u.place.left) (length old) depth old (row_of u y) old
+    (replicate (length old) depth) refl filled flat inside some refl refl refl refl)
     ∙ ap (λ l. with_row_left u y l) whole ∙ with_row_left_is u y filled crossed old wide
 
-rows_restored : (t : TileImage) (depth y : ℕ) (spans : List Span) (cs : List Colour) (ds : List ℕ) → IsTileImage t → IsFlat t.place t.depths depth → AreRows t.place.width depth y spans
-    → length cs ≡ length spans * t.place.width → t.place.top ≤ y → y + length spans ≤ t.place.top + t.place.height → Inside t.place (joined (rows_in spans cs ds))
+rows_restored : (t : TileImage) (depth y : ℕ) (spans : List Span) (cs : List Colour) (ds : List ℕ) → IsTileImage t → IsFlat t.place t.depths depth
+    → AreRows t.place.width depth y spans
+    → length cs ≡ length spans * t.place.width → t.place.top ≤ y → y + length spans ≤ t.place.top + t.place.height
+    → Inside t.place (joined (rows_in spans cs ds))
     → restored (joined (rows_in spans cs ds)) t ≡ with_rows_from t y (cut_rows t.place.width (length spans) cs)
 rows_restored t depth y [] cs ds filled flat rows size low high inside = refl
 rows_restored t depth y (s ∷ spans) cs ds filled flat (at, row, rows) size low high inside =
@@ -124,7 +141,8 @@ rows_restored t depth y (s ∷ spans) cs ds filled flat (at, row, rows) size low
     rows_restored t depth (y + 1) spans (drop w cs) ds filled flat rows rest_long (omega arith) (omega arith) (Inside-back t.place one others both) in
     let kept : (u.place ≡ t.place) × (u.depths ≡ t.depths) = with_rows_from-kept t (y + 1) (cut_rows w (length spans) (drop w cs)) in
     let filled_u : IsTileImage u =
-    IsTileImage-with_rows_from t (y + 1) (cut_rows w (length spans) (drop w cs)) filled (omega arith) (omega (arith, length-cut_rows t.place.width (length spans) (drop t.place.width cs)))
+    IsTileImage-with_rows_from t (y + 1) (cut_rows w (length spans) (drop w cs)) filled (omega arith)
+    (omega (arith, length-cut_rows t.place.width (length spans) (drop t.place.width cs)))
     (cut_rows-wide w (length spans) (drop w cs) (omega (arith, rest_long))) in
     ap (λ l. restored l t) parts
     ∙ restored-append one others t
@@ -133,14 +151,16 @@ rows_restored t depth y (s ∷ spans) cs ds filled flat (at, row, rows) size low
     (old_long ∙ ap (λ (p : Place). p.width) (sym kept.0)) (subst (λ p. Inside p one) (sym kept.0) (Inside-front t.place one others both))
 
 -- the rows lie in the tile
-run_held : (p : Place) (depth y : ℕ) (spans : List Span) (cs : List Colour) (ds : List ℕ) → 1 ≤ p.width → AreRows p.width depth y spans → length cs ≡ length spans * p.width
+run_held : (p : Place) (depth y : ℕ) (spans : List Span) (cs : List Colour) (ds : List ℕ) → 1 ≤ p.width → AreRows p.width depth y spans
+    → length cs ≡ length spans * p.width
     → Inside p (joined (rows_in spans cs ds)) → 0 < length spans → (p.top ≤ y) × (y + length spans ≤ p.top + p.height)
 run_held p depth y [] cs ds some rows size inside any = absurd (omega arith)
 run_held p depth y (s ∷ spans) cs ds some (at, row, rows) size inside any =
     let more : suc (length spans) * p.width ≡ length spans * p.width + p.width = suc-mul (length spans) p.width in
     let behind : List KeptPixel = joined (rows_in spans (drop (listed_colours s) cs) (drop (listed_depths s) ds)) in
     let first : Holds p s.x s.y =
-    row_first s cs ds (omega (arith, row_colours p.width depth s row, size, more)) (omega (arith, row_depths p.width depth s row)) p (omega (arith, row.wide, some))
+    row_first s cs ds (omega (arith, row_colours p.width depth s row, size, more)) (omega (arith, row_depths p.width depth s row)) p
+    (omega (arith, row.wide, some))
     (Inside-front p (row_in s cs ds) behind inside) in
     let rest : Inside p (joined (rows_in spans (drop p.width cs) ds)) =
     subst (λ l. Inside p (joined l)) (rows_behind p.width depth s spans cs ds row) (Inside-back p (row_in s cs ds) behind inside) in (
@@ -149,7 +169,8 @@ run_held p depth y (s ∷ spans) cs ds some (at, row, rows) size inside any =
           (λ next. (run_held p depth (y + 1) spans (drop p.width cs) ds some rows (omega (arith, length-drop p.width cs, size, more)) rest next).1),
     )
   where
-    lower : (spans : List Span) → y + 1 ≤ p.top + p.height → (0 < length spans → y + 1 + length spans ≤ p.top + p.height) → y + suc (length spans) ≤ p.top + p.height
+    lower : (spans : List Span) → y + 1 ≤ p.top + p.height → (0 < length spans → y + 1 + length spans ≤ p.top + p.height)
+        → y + suc (length spans) ≤ p.top + p.height
     lower [] here next = omega arith
     lower (r ∷ spans) here next = omega (arith, next (omega arith))
 
@@ -168,7 +189,8 @@ pub record Run (t : TileImage) (spans : List Span) (cs : List Colour) (ds : List
   pub rest : rows_in (take (length spans - count) spans) (take (length cs - count * t.place.width) cs) ds ≡ take (length spans - count) (rows_in spans cs ds)
   pub held : IsHeld (take (length spans - count) spans) (take (length cs - count * t.place.width) cs) ds
 
-pub run_of : (t : TileImage) (spans : List Span) (cs : List Colour) (ds : List ℕ) (count : ℕ) → IsTileImage t → IsHeld spans cs ds → 0 < count → count ≤ length spans → IsRun t spans count
+pub run_of : (t : TileImage) (spans : List Span) (cs : List Colour) (ds : List ℕ) (count : ℕ) → IsTileImage t → IsHeld spans cs ds → 0 < count
+    → count ≤ length spans → IsRun t spans count
     → Inside t.place (joined (drop (length spans - count) (rows_in spans cs ds))) → Run t spans cs ds count
 run_of t spans cs ds count filled is some few run inside =
     let w : ℕ = t.place.width in
@@ -192,7 +214,8 @@ run_of t spans cs ds count filled is some few run inside =
     let bounds : (t.place.top ≤ y) × (y + length back ≤ t.place.top + t.place.height) =
     run_held t.place run.depth y back tail deep filled.colours.placed.wide rows tail_long own any in
     let at : (get_or spans left no_span).y ≡ y =
-    ap (λ k. (get_or spans k no_span).y) {x = left} {y = left + 0} (omega arith) ∙ ap (λ (s : Span). s.y) (sym (get_or-drop left spans 0 no_span)) ∙ run_first w run.depth y back rows any in
+    ap (λ k. (get_or spans k no_span).y) {x = left} {y = left + 0} (omega arith) ∙ ap (λ (s : Span). s.y) (sym (get_or-drop left spans 0 no_span))
+    ∙ run_first w run.depth y back rows any in
     let front_long : colour_count front ≡ length (take (length cs - count * w) cs) = omega (arith, start, colours, length-take (length cs - count * w) cs) in
     record {
       wide = omega (arith, counts.0, size, colours);
@@ -209,7 +232,8 @@ run_of t spans cs ds count filled is some few run inside =
     }
 
 -- rows among the last spans are rows among all
-pub run_on : (t : TileImage) (spans : List Span) (first count : ℕ) → IsRun t (drop first spans) count → count ≤ length (drop first spans) → 0 < count → IsRun t spans count
+pub run_on : (t : TileImage) (spans : List Span) (first count : ℕ) → IsRun t (drop first spans) count → count ≤ length (drop first spans) → 0 < count
+    → IsRun t spans count
 run_on t spans first count run few some =
     let whole : length (drop first spans) ≡ length spans - first = length-drop first spans in
     record {
@@ -222,7 +246,8 @@ run_on t spans first count run few some =
     }
 
 -- what is behind a span lies in a place where what is behind an older one does
-pub inside_behind : (p : Place) (h : Held) (first n : ℕ) → first ≤ n → n ≤ length h.spans → Inside p (joined (drop first (rows_of h))) → Inside p (joined (drop n (rows_of h)))
+pub inside_behind : (p : Place) (h : Held) (first n : ℕ) → first ≤ n → n ≤ length h.spans → Inside p (joined (drop first (rows_of h)))
+    → Inside p (joined (drop n (rows_of h)))
 inside_behind p h first n low high inside =
     Inside-back p (joined (drop first (take n (rows_of h)))) (joined (drop n (rows_of h)))
     (subst (λ l. Inside p l) (joined-cut (rows_of h) first n low (omega (arith, high, length-rows_in h.spans h.colours h.depths))) inside)

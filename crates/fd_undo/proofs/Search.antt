@@ -18,7 +18,11 @@ module _ (marks : List Mark) (rising : NumbersRise marks) (n : ℕ) where
       grind (arith, nat_tests))
 
   pub searched : (r : Result ℕ ℕ) → IsSearchInRange r (length marks) → IsBinarySearchResult (λ m. nat_cmp m.number n) marks r
-      → record { found : IfSome (result_ok r) (λ a. (a < length marks) × (number_at marks a ≡ n)); absent : result_ok r ≡ None → (a : ℕ) → a < length marks → number_at marks a ≢ n }
+      → record {
+        found : IfSome (result_ok r) (λ a. (a < length marks) × (number_at marks a ≡ n));
+        absent : result_ok r ≡ None →
+            (a : ℕ) → a < length marks → number_at marks a ≢ n;
+      }
   searched (Ok a) in_range equal = record { found = (in_range, ranked _ n _ (sym (equal no_mark))); absent = λ none. absurd (none-some a (sym none)) }
   searched (Err p) in_range parted = record {
     found = tt;

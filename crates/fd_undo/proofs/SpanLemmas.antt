@@ -1,5 +1,6 @@
 -- The values of one span, and what it keeps.
-use Rattle.std.proofs.Common.{Bool, true, false, ◌≡◌, ℕ, ◌+◌, ◌-◌, ◌<◌, ◌≤◌, List, ◌++◌, length, get_or, take, sym, ap, ◌∙◌, refl, arith, Option, Some, None, IfSome}
+use Rattle.std.proofs.Common.{Bool, true, false, ◌≡◌, ℕ, ◌+◌, ◌-◌, ◌<◌, ◌≤◌, List, ◌++◌, length, get_or, take, sym, ap, ◌∙◌, refl, arith, Option}
+use Rattle.std.proofs.Common.{Some, None, IfSome}
 use Rattle.std.specs.Prelude.{replicate, if◌then◌else◌, IsSomeAnd}
 use Rattle.std.specs.List.{zip}
 use Rattle.std.proofs.lemmas.List.{length-take, take-append-le, length-replicate, get_or_append_left, get_or-take, take-take, take_all}
@@ -100,7 +101,8 @@ module _ (s : Span) (colours : List Colour) (depths : List ℕ) (fits : listed_c
     row_within = omega (arith, kept_row-within p s.x s.y (zip (colours_in s colours) (depths_in s depths)) inside (omega (arith, zipped, some)), zipped)
 
 -- ---- a span that is as deep as all pixels of the tile: its colours alone are written
-pub put_back_flat : (t : TileImage) (s : Span) (colours : List Colour) (depths : List ℕ) → length colours ≡ listed_colours s → length depths ≡ listed_depths s → 0 < s.len
+pub put_back_flat : (t : TileImage) (s : Span) (colours : List Colour) (depths : List ℕ) → length colours ≡ listed_colours s
+    → length depths ≡ listed_depths s → 0 < s.len
     → IsSomeAnd s.same_depth (λ depth. IsFlat t.place t.depths depth) → IsTileImage t → Inside t.place (row_in s colours depths)
     → with_row_left t s.y (put_mid (s.x - t.place.left) s.len (row_of t s.y) (colours_in s colours)) ≡ restored (row_in s colours depths) t
 put_back_flat t s colours depths counted deep_counted some deep filled inside = by_depth s.same_depth refl deep
@@ -112,4 +114,5 @@ put_back_flat t s colours depths counted deep_counted some deep filled inside = 
         let old : List Colour = colours_in s colours in
         let size : length (colours_in s colours) ≡ s.len = length-colours_in s colours (omega arith) in
         let alike : depths_in s depths ≡ replicate (length old) depth = ap (λ d. values_in d s.len depths) e ∙ ap (λ n. replicate n depth) (sym size) in
-        put_back_row_alike t s.x s.y (s.x - t.place.left) s.len depth old (row_of t s.y) old (depths_in s depths) alike filled flat inside (omega arith) refl (sym size) refl refl
+        put_back_row_alike t s.x s.y (s.x - t.place.left) s.len depth old (row_of t s.y) old (depths_in s depths) alike filled flat inside
+        (omega arith) refl (sym size) refl refl

@@ -1,5 +1,6 @@
 -- Frames by number, some of which are stored.
-use Rattle.std.proofs.Common.{subst, ◌≡◌, ◌≢◌, ℕ, zero, suc, ◌+◌, ◌-◌, ◌^◌, ◌<◌, ◌≤◌, ◌∙◌, false, List, [], ◌∷◌, ◌++◌, length, get_or, map, refl, sym, ap, arith, inl, inr, ◌⊎◌, length-append, append_assoc}
+use Rattle.std.proofs.Common.{subst, ◌≡◌, ◌≢◌, ℕ, zero, suc, ◌+◌, ◌-◌, ◌^◌, ◌<◌, ◌≤◌, ◌∙◌, false, List, [], ◌∷◌, ◌++◌, length, get_or, map, refl, sym}
+use Rattle.std.proofs.Common.{ap, arith, inl, inr, ◌⊎◌, length-append, append_assoc}
 use Rattle.std.specs.Prelude.{replicate, max}
 use Rattle.std.proofs.lemmas.Bool.{cases_lt, cases_eq, false≢true}
 use Rattle.std.proofs.lemmas.List.{length-replicate, get_or-replicate, replicate-append-replicate, get_or_append_left, get_or-append_right, get_or_past}
@@ -60,9 +61,11 @@ length-frames i (t ∷ stored) count is =
     )
 
 -- more frames that are not stored
-pub frames-grow : (i : ℕ) (stored : List Frame) (count more : ℕ) → Rise i stored count → count ≤ more → frames_from i stored more ≡ frames_from i stored count ++ replicate (more - count) []
+pub frames-grow : (i : ℕ) (stored : List Frame) (count more : ℕ) → Rise i stored count → count ≤ more
+    → frames_from i stored more ≡ frames_from i stored count ++ replicate (more - count) []
 frames-grow i [] count more is fits =
-    ap (λ n. replicate n []) {x = more - i} {y = count - i + (more - count)} (omega (arith, is, fits)) ∙ sym (replicate-append-replicate (count - i) (more - count) [])
+    ap (λ n. replicate n []) {x = more - i} {y = count - i + (more - count)} (omega (arith, is, fits))
+    ∙ sym (replicate-append-replicate (count - i) (more - count) [])
 frames-grow i (t ∷ stored) count more is fits =
     ap (λ l. replicate (t.number - i) [] ++ t.kept ∷ l) (frames-grow (t.number + 1) stored count more is.1 fits)
     ∙ sym (append_assoc (replicate (t.number - i) []) (t.kept ∷ frames_from (t.number + 1) stored count) (replicate (more - count) []))
@@ -72,13 +75,15 @@ frames-next stored count is =
     frames-grow 0 stored count (count + 1) is (omega arith)
     ∙ ap (λ n. frames_from 0 stored count ++ replicate n []) {x = count + 1 - count} {y = 1} (omega arith)
 
-frames-push : (i : ℕ) (stored : List Frame) (f : Frame) (count : ℕ) → frames_from i (stored ++ f ∷ []) count ≡ frames_from i stored f.number ++ f.kept ∷ replicate (count - (f.number + 1)) []
+frames-push : (i : ℕ) (stored : List Frame) (f : Frame) (count : ℕ)
+    → frames_from i (stored ++ f ∷ []) count ≡ frames_from i stored f.number ++ f.kept ∷ replicate (count - (f.number + 1)) []
 frames-push i [] f count = refl
 frames-push i (t ∷ stored) f count =
     ap (λ l. replicate (t.number - i) [] ++ t.kept ∷ l) (frames-push (t.number + 1) stored f count)
     ∙ sym (append_assoc (replicate (t.number - i) []) (t.kept ∷ frames_from (t.number + 1) stored f.number) (f.kept ∷ replicate (count - (f.number + 1)) []))
 
-exact : (stored : List Frame) (f : Frame) (count : ℕ) → f.number + 1 ≡ count → frames_from 0 (stored ++ f ∷ []) count ≡ frames_from 0 stored f.number ++ f.kept ∷ []
+exact : (stored : List Frame) (f : Frame) (count : ℕ) → f.number + 1 ≡ count
+    → frames_from 0 (stored ++ f ∷ []) count ≡ frames_from 0 stored f.number ++ f.kept ∷ []
 exact stored f count at =
     frames-push 0 stored f count ∙ ap (λ n. frames_from 0 stored f.number ++ f.kept ∷ replicate n []) {x = count - (f.number + 1)} {y = 0} (omega (arith, at))
 
@@ -86,7 +91,8 @@ exact stored f count at =
 pub frames-emptied : (frames : List (List KeptPixel)) (count : ℕ) → length frames ≡ count → frames_from 0 [] count ≡ map (λ _. []) frames
 frames-emptied [] count size = ap (λ n. replicate n []) {x = count - 0} {y = 0} (omega (arith, size))
 frames-emptied (f ∷ frames) count size =
-    ap (λ n. replicate n []) {x = count - 0} {y = suc (count - 1 - 0)} (omega (arith, size)) ∙ ap (λ l. [] ∷ l) (frames-emptied frames (count - 1) (omega (arith, size)))
+    ap (λ n. replicate n []) {x = count - 0} {y = suc (count - 1 - 0)} (omega (arith, size))
+    ∙ ap (λ l. [] ∷ l) (frames-emptied frames (count - 1) (omega (arith, size)))
 
 pub recorded-emptied : (count : ℕ) → recorded_in (frames_from 0 [] count) ≡ 0
 recorded-emptied count = emptied (count - 0)
@@ -96,7 +102,8 @@ recorded-emptied count = emptied (count - 0)
     emptied (suc n) = omega (arith, recorded_in-cons [] (replicate n []), emptied n)
 
 -- ---- one more frame that is stored
-pub frame_stored : (low frames : List Frame) (f : Frame) → frames_from 0 (low ++ (frames ++ f ∷ [])) (f.number + 1) ≡ frames_from 0 (low ++ frames) f.number ++ f.kept ∷ []
+pub frame_stored : (low frames : List Frame) (f : Frame) → frames_from 0 (low ++ (frames ++ f ∷ [])) (f.number + 1)
+    ≡ frames_from 0 (low ++ frames) f.number ++ f.kept ∷ []
 frame_stored low frames f =
     ap (λ l. frames_from 0 l (f.number + 1)) (sym (append_assoc low frames (f ∷ []))) ∙ exact (low ++ frames) f (f.number + 1) refl
 
@@ -114,12 +121,14 @@ pub record TopStored (low frames : List Frame) (count : ℕ) : Type 0 where
   pub top_is : top (frames_from 0 (low ++ frames) count) ≡ (newest frames).kept
   pub older_are : older (frames_from 0 (low ++ frames) count) ≡ frames_from 0 (low ++ others frames) (newest frames).number
 
-pub top_stored : (low frames : List Frame) (count : ℕ) → 0 < length frames → (newest frames).number + 1 ≡ count → Rise 0 (low ++ frames) count → TopStored low frames count
+pub top_stored : (low frames : List Frame) (count : ℕ) → 0 < length frames → (newest frames).number + 1 ≡ count → Rise 0 (low ++ frames) count
+    → TopStored low frames count
 top_stored low frames count some at is =
     let f : Frame = newest frames in
     let stored : List Frame = low ++ others frames in
     let split : low ++ frames ≡ stored ++ f ∷ [] = split_all low frames some in
-    let all : frames_from 0 (low ++ frames) count ≡ frames_from 0 stored f.number ++ f.kept ∷ [] = ap (λ l. frames_from 0 l count) split ∙ exact stored f count at in
+    let all : frames_from 0 (low ++ frames) count ≡ frames_from 0 stored f.number ++ f.kept ∷ [] =
+    ap (λ l. frames_from 0 l count) split ∙ exact stored f count at in
     record {
       rise_low = (rise-pop 0 stored f count (subst (λ l. Rise 0 l count) split is)).0;
       top_is = ap top all ∙ top-push (frames_from 0 stored f.number) f.kept;
@@ -157,14 +166,16 @@ module _ (low frames : List Frame) (count : ℕ) (row : List KeptPixel) (at : (n
       )
 
 -- ---- the youngest frame is not stored
-pub missed : (low frames : List Frame) (number : ℕ) → (0 < length frames → (newest frames).number ≢ number) → (length frames ≡ 0 → low ++ frames ≡ []) → Rise 0 (low ++ frames) (number + 1) → Rise 0 (low ++ frames) number
+pub missed : (low frames : List Frame) (number : ℕ) → (0 < length frames → (newest frames).number ≢ number) → (length frames ≡ 0 → low ++ frames ≡ [])
+    → Rise 0 (low ++ frames) (number + 1) → Rise 0 (low ++ frames) number
 missed low [] number other none is = subst (λ l. Rise 0 l number) (sym (none refl)) (omega arith)
 missed low (t ∷ frames) number other none is =
     let all : List Frame = t ∷ frames in
     let some : 0 < length all = omega arith in
     let f : Frame = newest all in
     let split : low ++ all ≡ (low ++ others all) ++ f ∷ [] = split_all low all some in
-    let popped : Rise 0 (low ++ others all) f.number × (f.number + 1 ≤ number + 1) = rise-pop 0 (low ++ others all) f (number + 1) (subst (λ l. Rise 0 l (number + 1)) split is) in
+    let popped : Rise 0 (low ++ others all) f.number × (f.number + 1 ≤ number + 1) =
+    rise-pop 0 (low ++ others all) f (number + 1) (subst (λ l. Rise 0 l (number + 1)) split is) in
     subst (λ l. Rise 0 l number) (sym split) (rise-push 0 (low ++ others all) f number popped.0 (omega (arith, popped.1, other some)))
 
 -- ---- a frame that is looked for by its number
@@ -187,24 +198,31 @@ found-frames i (t ∷ stored) count k is =
         → (k < t.number - i) ⊎ (t.number - i ≤ k) → (t.number - i < k) ⊎ (k ≤ t.number - i)
         → get_or (replicate (t.number - i) [] ++ t.kept ∷ frames_from (t.number + 1) stored count) k [] ≡ found (i + k) (t ∷ stored)
     by_place i t stored count k is rest (inl before) _ =
-        get_or_append_left (replicate (t.number - i) []) (t.kept ∷ frames_from (t.number + 1) stored count) [] k (omega (arith, before, length-none (t.number - i)))
+        get_or_append_left (replicate (t.number - i) []) (t.kept ∷ frames_from (t.number + 1) stored count) [] k
+        (omega (arith, before, length-none (t.number - i)))
         ∙ get_or-replicate (t.number - i) k [] [] before
-        ∙ sym (other_number t stored (i + k) (λ e. absurd (omega (arith, e, before))) ∙ found-low (t.number + 1) stored count (i + k) is.1 (omega (arith, before)))
+        ∙ sym (other_number t stored (i + k) (λ e. absurd (omega (arith, e, before))) ∙ found-low (t.number + 1) stored count (i + k) is.1 (omega (
+          arith,
+          before,
+        )))
     by_place i t stored count k is rest (inr from) (inr here) =
         let same : k - (t.number - i) ≡ 0 = omega (arith, from, here) in
-        get_or-append_right (replicate (t.number - i) []) (t.kept ∷ frames_from (t.number + 1) stored count) (t.number - i) k [] (length-none (t.number - i)) from
+        get_or-append_right (replicate (t.number - i) []) (t.kept ∷ frames_from (t.number + 1) stored count) (t.number - i) k []
+        (length-none (t.number - i)) from
         ∙ ap (λ n. get_or (t.kept ∷ frames_from (t.number + 1) stored count) n []) same
         ∙ sym (this_number t stored (i + k) (omega (arith, from, here, is.0)))
     by_place i t stored count k is rest (inr from) (inl after) =
         let next : k - (t.number - i) ≡ suc (k - (t.number - i + 1)) = omega (arith, after) in
-        get_or-append_right (replicate (t.number - i) []) (t.kept ∷ frames_from (t.number + 1) stored count) (t.number - i) k [] (length-none (t.number - i)) from
+        get_or-append_right (replicate (t.number - i) []) (t.kept ∷ frames_from (t.number + 1) stored count) (t.number - i) k []
+        (length-none (t.number - i)) from
         ∙ ap (λ n. get_or (t.kept ∷ frames_from (t.number + 1) stored count) n []) next
         ∙ rest (k - (t.number - i + 1))
         ∙ ap (λ n. found n stored) {x = t.number + 1 + (k - (t.number - i + 1))} {y = i + k} (omega (arith, after, is.0))
         ∙ sym (other_number t stored (i + k) (λ e. absurd (omega (arith, e, after, is.0))))
 
 -- frames behind those with the number, or before them
-pub found-front : (i : ℕ) (low high : List Frame) (count n : ℕ) → Rise i (low ++ high) count → (0 < length high → n < first_number high) → found n (low ++ high) ≡ found n low
+pub found-front : (i : ℕ) (low high : List Frame) (count n : ℕ) → Rise i (low ++ high) count → (0 < length high → n < first_number high)
+    → found n (low ++ high) ≡ found n low
 found-front i [] [] count n is before = refl
 found-front i [] (f ∷ high) count n is before = found-low f.number (f ∷ high) count n (omega arith, is.1) (before (omega arith))
 found-front i (t ∷ low) high count n is before = by_number (found-front (t.number + 1) low high count n is.1 before) (cases_eq t.number n)
@@ -218,7 +236,8 @@ first-later i [] [] count is some = absurd (omega arith)
 first-later i [] (f ∷ high) count is some = is.0
 first-later i (t ∷ low) high count is some = omega (arith, is.0, first-later (t.number + 1) low high count is.1 some)
 
-pub found-behind : (i : ℕ) (low high : List Frame) (count n : ℕ) → Rise i (low ++ high) count → 0 < length high → first_number high ≤ n → found n (low ++ high) ≡ found n high
+pub found-behind : (i : ℕ) (low high : List Frame) (count n : ℕ) → Rise i (low ++ high) count → 0 < length high → first_number high ≤ n
+    → found n (low ++ high) ≡ found n high
 found-behind i [] high count n is some from = refl
 found-behind i (t ∷ low) high count n is some from =
     let later : t.number + 1 ≤ first_number high = first-later (t.number + 1) low high count is.1 some in
@@ -246,7 +265,8 @@ pub recorded-top : (frames : List (List KeptPixel)) → 0 < length frames → re
 recorded-top frames some = ap recorded_in (older-top frames some) ∙ recorded_in-push (older frames) (top frames)
 
 -- ---- the stack without room
-pub closed : (full : List Filled) (last : Filled) (count recorded : ℕ) → HaveFrames full → Rise 0 (all_stored full last) count → recorded ≡ recorded_in (frames_from 0 (all_stored full last) count)
+pub closed : (full : List Filled) (last : Filled) (count recorded : ℕ) → HaveFrames full → Rise 0 (all_stored full last) count
+    → recorded ≡ recorded_in (frames_from 0 (all_stored full last) count)
     → recorded < 2 ^ 64 → IsUndoStack full last count recorded false 0 0
 closed full last count recorded have rise counted countable = record {
   have = have;
@@ -268,7 +288,8 @@ pub record IsTop (stored : List Frame) (count recorded : ℕ) (frames : List (Li
   pub shown : frames_from 0 stored (count - 1 + 1) ≡ frames
   pub recorded_is : recorded ≡ recorded_in (older frames) + length (top frames)
 
-pub is_top : (stored : List Frame) (count recorded : ℕ) (frames : List (List KeptPixel)) → Rise 0 stored count → recorded ≡ recorded_in (frames_from 0 stored count)
+pub is_top : (stored : List Frame) (count recorded : ℕ) (frames : List (List KeptPixel)) → Rise 0 stored count
+    → recorded ≡ recorded_in (frames_from 0 stored count)
     → frames_from 0 stored count ≡ frames → 0 < length frames → IsTop stored count recorded frames
 is_top stored count recorded frames is counted shown some =
     let counts : 0 < count = omega (arith, length-frames 0 stored count is, ap length shown, some) in
@@ -281,7 +302,8 @@ is_top stored count recorded frames is counted shown some =
     }
 
 -- what is left where frames that keep nothing are dropped
-pub dropped : (low frames : List Frame) (count to after left : ℕ) → Rise 0 (low ++ frames) count → to ≤ count → (0 < length frames → after ≡ (newest frames).number + 1)
+pub dropped : (low frames : List Frame) (count to after left : ℕ) → Rise 0 (low ++ frames) count → to ≤ count
+    → (0 < length frames → after ≡ (newest frames).number + 1)
     → (length frames ≡ 0 → after ≡ 0) → (length frames ≡ 0 → low ++ frames ≡ []) → left ≡ max to after → Rise 0 (low ++ frames) left × (left ≤ count)
 dropped low [] count to after left is fits some none empty most =
     (subst (λ l. Rise 0 l left) (sym (empty refl)) (omega arith), omega (arith, fits, none refl, most))

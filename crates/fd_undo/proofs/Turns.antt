@@ -47,7 +47,8 @@ module _ (spans : List Span) (cs : List Colour) (ds : List ℕ) (i first deep x 
   both =
       let own : List Pixel = kept_at (row_in s (drop first cs) (drop deep ds)) x y in
       ap (λ l. kept_from l cs ds first deep x y) parts
-      ∙ kept_at-append (row_in s (drop first cs) (drop deep ds)) (joined (rows_in rest (drop (listed_colours s) (drop first cs)) (drop (listed_depths s) (drop deep ds)))) x y
+      ∙ kept_at-append (row_in s (drop first cs) (drop deep ds))
+      (joined (rows_in rest (drop (listed_colours s) (drop first cs)) (drop (listed_depths s) (drop deep ds)))) x y
       ∙ ap (λ l. own ++ kept_at (joined (rows_in rest l (drop (listed_depths s) (drop deep ds)))) x y) (drop-drop (listed_colours s) first cs)
       ∙ ap (λ l. own ++ kept_at (joined (rows_in rest (drop (first + listed_colours s) cs) l)) x y) (drop-drop (listed_depths s) deep ds)
 

@@ -66,7 +66,8 @@ marks_left h left = if nat_lt (length h.spans) (2 ^ 32) && (nat_lt (length h.col
 abbrev pub IsMarked : List Mark → List Span → ℕ → Type 0
 IsMarked [] spans end = Unit {0}
 IsMarked (m ∷ marks) spans end =
-    (m.number < 2 ^ 32) × (m.span ≤ next marks end) × (m.colour ≡ colour_count (take m.span spans)) × (m.depth ≡ depth_count (take m.span spans)) × IsMarked marks spans end
+    (m.number < 2 ^ 32) × (m.span ≤ next marks end) × (m.colour ≡ colour_count (take m.span spans)) × (m.depth ≡ depth_count (take m.span spans))
+    × IsMarked marks spans end
 
 -- a mark that nothing rests on
 abbrev pub no_mark : Mark

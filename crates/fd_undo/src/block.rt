@@ -1,4 +1,5 @@
-ghost use Rattle.std.specs.Prelude.{◌≡◌, ◌≢◌, ℕ, suc, ◌+◌, ◌-◌, ◌^◌, ◌<◌, ◌≤◌, [], ◌∷◌, ◌++◌, length, drop, replicate, slice_index_or, All, None, IfOk, IfSome, true, false};
+ghost use Rattle.std.specs.Prelude.{◌≡◌, ◌≢◌, ℕ, suc, ◌+◌, ◌-◌, ◌^◌, ◌<◌, ◌≤◌, [], ◌∷◌, ◌++◌, length, drop, replicate, slice_index_or};
+ghost use Rattle.std.specs.Prelude.{All, None, IfOk, IfSome, true, false};
 ghost use Rattle.std.specs.List.{zip};
 ghost use Rattle.fd_snap.specs.Limits.{most_pixels};
 ghost use Rattle.fd_tile.specs.Place.{Holds};
@@ -56,7 +57,8 @@ impl Block {
     /// A block without frames, which has room for so many frames, spans and values.
     pub(crate) fn with_room(alloc: Global, room: Room) -> Result<Block, AllocError>
         ensures frames { IfOk result (λ b. b.frames ≡ []) }
-        ensures room { IfOk result (λ b. (room.frames ≤ b.frames_left) × (room.spans ≤ b.spans_left) × (room.colours ≤ b.colours_left) × (room.depths ≤ b.depths_left)) }
+        ensures room { IfOk result (λ b. (room.frames ≤ b.frames_left) × (room.spans ≤ b.spans_left)
+            × (room.colours ≤ b.colours_left) × (room.depths ≤ b.depths_left)) }
     {
         Ok(Block {
             marks: SmallVec::with_capacity(alloc, room.frames)?,
@@ -84,7 +86,8 @@ impl Block {
 
     /// Whether one more frame of so many spans and pixels has room.
     pub(crate) fn takes(&self, spans: usize, pixels: usize) -> bool
-        ensures { result ≡ true → (0 < self.now.frames_left) × (spans ≤ self.now.spans_left) × (pixels ≤ self.now.colours_left) × (pixels ≤ self.now.depths_left) }
+        ensures { result ≡ true → (0 < self.now.frames_left) × (spans ≤ self.now.spans_left)
+            × (pixels ≤ self.now.colours_left) × (pixels ≤ self.now.depths_left) }
     {
         self.marks.len() < self.marks.capacity()
             && is_countable(&self.rows)

@@ -41,7 +41,8 @@ fn put_colours(tile: &mut Tile, span: &Span, listed: &[Colour])
     requires counted { length listed.now ≡ listed_colours span.now }
     requires first { Holds tile.old.place span.now.x span.now.y }
     requires within { span.now.x + span.now.len ≤ tile.old.place.left + tile.old.place.width }
-    ensures written { tile.new ≡ with_row_left tile.old span.now.y (put_mid (span.now.x - tile.old.place.left) span.now.len (row_of tile.old span.now.y) (colours_in span.now listed.now)) }
+    ensures written { tile.new ≡ with_row_left tile.old span.now.y
+        (put_mid (span.now.x - tile.old.place.left) span.now.len (row_of tile.old span.now.y) (colours_in span.now listed.now)) }
     ensures filled { IsTileImage tile.old }
 {
     let start = (span.x() - tile.place().left) as usize;

@@ -1,11 +1,11 @@
-ghost use Rattle.std.specs.Prelude.{◌≡◌, ◌*◌, ◌≤◌, max};
-ghost use Rattle.fd_undo.specs.Room.{IsWithin};
+ghost use Rattle.std.specs.Prelude.{◌≡◌, ◌+◌, ◌≤◌};
+ghost use Rattle.fd_undo.specs.Room.{IsWithin, with_more};
 
-/// A new block has room for so many colours and depths at least: a tile that few events meet takes little memory.
+/// A new block has room for so many more colours and depths than its first frame needs, at least: a tile that few events meet takes little memory.
 const LEAST_ROOM: usize = 64;
 
-/// It has room for twice what the block before it holds, but for no more than so many unless more are asked for at once.
-const GREATEST_ROOM: usize = 4096;
+/// It has room for twice what the block before it holds, but for no more than so many beside its first frame.
+const GREATEST_ROOM: usize = 2048;
 
 /// So many spans stand in the block itself, and more in memory of their own.
 pub(crate) const SPANS_INSIDE: usize = 8;
@@ -32,32 +32,30 @@ impl Room {
         }
     }
 
-    /// So much, and as much more as a block after one that holds so much has room for. Most frames need few of the spans and colours,
-    /// and then what is left is room for the next ones.
+    /// What a block has room for that begins with such a frame, behind one that holds so much: the frame, and twice what is held. Most frames need few of
+    /// the colours that they ask for, so that a frame like the first one has room behind what others kept.
     pub(crate) fn after(self, held: Room) -> Room
-        requires { self.frames ≡ 1 }
         ensures enough { IsWithin self result }
-        ensures little { IsWithin result (record { frames = 4096; spans = max (2 * self.spans) 4096; colours = max (2 * self.colours) 4096; depths = max self.depths 4096 }) }
+        ensures little { IsWithin result (with_more self 2048) }
     {
-        let colours = room_after(held.colours, self.colours.saturating_mul(2), LEAST_ROOM);
-        let spans = if self.spans <= SPANS_INSIDE {
-            self.spans
-        } else {
-            self.spans.saturating_mul(2)
-        };
+        let colours = room_after(held.colours, self.colours, LEAST_ROOM);
         Room {
             frames: room_after(held.frames, self.frames, colours / 64),
-            spans: room_after(held.spans, spans, colours / 16),
+            spans: room_after(
+                held.spans,
+                self.spans,
+                (colours / 16).saturating_sub(SPANS_INSIDE),
+            ),
             colours,
             depths: room_after(held.depths, self.depths, LEAST_ROOM),
         }
     }
 }
 
-/// Twice what is held and at least so many, within bounds, or what is needed where that is more.
+/// What is needed, and twice what is held beside it, or at least so much more, within bounds.
 fn room_after(held: usize, needed: usize, least: usize) -> usize
     ensures enough { needed ≤ result }
-    ensures little { result ≤ max needed 4096 }
+    ensures little { result ≤ needed + 2048 }
 {
-    needed.max(held.saturating_mul(2).max(least).min(GREATEST_ROOM))
+    needed.saturating_add(held.saturating_mul(2).max(least).min(GREATEST_ROOM))
 }

@@ -17,7 +17,8 @@ pub(crate) fn last_run(spans: &[Span], tile: &Tile) -> usize
     }
 }
 
-/// How many of the last spans have all pixels of a row of this width, each right below the one before it, each pixel with a colour in the list, and this one depth.
+/// How many of the last spans have all pixels of a row of this width, each right below the one before it, each pixel with a colour in the list, and this
+/// one depth.
 fn last_rows(spans: &[Span], width: usize, depth: u16) -> usize
     requires { 0 < length spans.now }
     ensures few { result ≤ length spans.now }

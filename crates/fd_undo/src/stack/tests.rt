@@ -253,9 +253,9 @@ fn room_that_is_left_is_used(rt: HostRuntime) -> Result<(), Fail> {
     undo.reserve(1, 64)?;
     undo.begin();
     undo.keep(0, 0, &[RED, FRESH], &[7, 8]);
-    undo.reserve(1, 62)?;
+    undo.reserve(1, 126)?;
     assert!(rt; undo.full.is_empty());
-    undo.reserve(1, 63)?;
+    undo.reserve(1, 127)?;
     assert_eq!(rt; undo.full.len(), 1);
     Ok(())
 }

@@ -12,8 +12,11 @@ pub loop-span-preserved : goal.loop-span-preserved
 loop-span-preserved c =
     let l = c.loop-span in
     let s : Span = c.span-item.result in
+    let cs = c.args.colours.now in
+    let ds = c.args.depths.now in
     let rest : List Span = drop (l.span-index + 1) c.args.spans.now in
-    let later : List Pixel = kept_from rest c.args.colours.now c.args.depths.now (l.first_colour + listed_colours s) (l.first_depth + listed_depths s) c.args.x c.args.y in
+    let later : List Pixel =
+    kept_from rest cs ds (l.first_colour + listed_colours s) (l.first_depth + listed_depths s) c.args.x c.args.y in
     let colours = colours_in s (drop l.first_colour c.args.colours.now) in
     let depths = depths_in s (drop l.first_depth c.args.depths.now) in
     let own : Pixel = (get_or colours (c.args.x - s.x) fresh, get_or depths (c.args.x - s.x) 65535) in
@@ -25,9 +28,11 @@ loop-span-preserved c =
       fits = omega (arith, counted, c.listed_colours-first_colour.ensures);
       deep_fits = omega (arith, deep_counted, c.listed_depths-first_depth.ensures);
       same =
-          ap (λ n. c.if-holds.kept.items ++ take c.if-holds.left (kept_from rest c.args.colours.now c.args.depths.now (l.first_colour + n) (l.first_depth + c.listed_depths-first_depth.result) c.args.x c.args.y))
+          ap (λ n. c.if-holds.kept.items ++ take c.if-holds.left
+          (kept_from rest cs ds (l.first_colour + n) (l.first_depth + c.listed_depths-first_depth.result) c.args.x c.args.y))
           c.listed_colours-first_colour.ensures
-          ∙ ap (λ n. c.if-holds.kept.items ++ take c.if-holds.left (kept_from rest c.args.colours.now c.args.depths.now (l.first_colour + listed_colours s) (l.first_depth + n) c.args.x c.args.y))
+          ∙ ap (λ n. c.if-holds.kept.items ++ take c.if-holds.left
+          (kept_from rest cs ds (l.first_colour + listed_colours s) (l.first_depth + n) c.args.x c.args.y))
           c.listed_depths-first_depth.ensures
           ∙ elim c.if-holds.branch [
             | then-holds+in_ok-push w ↦
@@ -38,7 +43,8 @@ loop-span-preserved c =
                 let read : Pixel = (w.colour-colour.result, w.depth-depth.result) in
                 let pixel : read ≡ own =
                 ap (λ colour. (colour, w.depth-depth.result)) (w.colour-colour.ensures ∙ ap (λ k. get_or colours (c.args.x - k) fresh) w.x.ensures)
-                ∙ ap (λ depth. (get_or colours (c.args.x - s.x) fresh, depth)) (w.depth-depth.ensures ∙ ap (λ k. get_or depths (c.args.x - k) 65535) w.x.ensures) in
+                ∙ ap (λ depth. (get_or colours (c.args.x - s.x) fresh, depth))
+                (w.depth-depth.ensures ∙ ap (λ k. get_or depths (c.args.x - k) 65535) w.x.ensures) in
                 ap (λ n. c.if-holds.kept.items ++ take n later) w.left-is
                 ∙ ap (λ v. v.items ++ take (l.left - 1) later) w.kept-is
                 ∙ ap (λ ps. ps ++ take (l.left - 1) later) w.in_ok-push.ensures.items

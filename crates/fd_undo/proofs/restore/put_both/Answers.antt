@@ -86,11 +86,14 @@ returns c =
     let old = colours_in c.args.span.now c.args.colours.now in
     let k = c.args.span.now.x - c.args.tile.now.place.left in
     let start = c.x.result - c.place.result.left in
-    let long : length (colours_in c.args.span.now c.args.colours.now) ≡ c.args.span.now.len = length-colours_in c.args.span.now c.args.colours.now (omega arith) in
+    let long : length (colours_in c.args.span.now c.args.colours.now) ≡ c.args.span.now.len =
+    length-colours_in c.args.span.now c.args.colours.now (omega arith) in
     let some : 0 < length (colours_in c.args.span.now c.args.colours.now) = omega (arith, long, c.requires.some) in
-    let count : c.x.result - c.place.result.left + c.len-len.result - (c.x.result - c.place.result.left) ≡ c.args.span.now.len = omega (arith, c.len-len.ensures) in
+    let count : c.x.result - c.place.result.left + c.len-len.result - (c.x.result - c.place.result.left) ≡ c.args.span.now.len =
+    omega (arith, c.len-len.ensures) in
     let row : TileImage = with_row_left tile s.y (put_mid k s.len (row_of tile s.y) old) in
-    ap (λ t. with_depth_row_left t c.y.result (put_mid start (start + c.len-len.result - start) c.depth_row_mut-row.result.now c.write_depths.new.row)) c.put_colours.ensures.written
+    ap (λ t. with_depth_row_left t c.y.result
+    (put_mid start (start + c.len-len.result - start) c.depth_row_mut-row.result.now c.write_depths.new.row)) c.put_colours.ensures.written
     ∙ ap (λ n. with_depth_row_left row c.y.result (put_mid start n c.depth_row_mut-row.result.now c.write_depths.new.row)) count
     ∙ ap (λ j. with_depth_row_left row c.y.result (put_mid j s.len c.depth_row_mut-row.result.now c.write_depths.new.row)) (start_is at.After-place)
     ∙ ap (λ y. with_depth_row_left row y (put_mid k s.len c.depth_row_mut-row.result.now c.write_depths.new.row)) c.y.ensures

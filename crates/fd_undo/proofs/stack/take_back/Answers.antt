@@ -29,7 +29,8 @@ lower : (c : After-is_newest) → c.is_newest.result ≡ false → Rise 0 (low c
 lower c not = missed (low c) c.refill.new.last.frames c.args.number (c.is_newest.ensures.no not) c.refill.ensures.some (rise c)
 
 empty_is : (c : After-is_newest) → c.is_newest.result ≡ false
-    → frames_from 0 (all_stored c.args.full.now.items c.args.last.now) (c.args.number + 1) ≡ frames_from 0 (low c ++ c.refill.new.last.frames) c.args.number ++ [] ∷ []
+    → frames_from 0 (all_stored c.args.full.now.items c.args.last.now) (c.args.number + 1)
+    ≡ frames_from 0 (low c ++ c.refill.new.last.frames) c.args.number ++ [] ∷ []
 empty_is c not =
     ap (λ l. frames_from 0 l (c.args.number + 1)) (sym c.refill.ensures.same) ∙ frames-next (low c ++ c.refill.new.last.frames) c.args.number (lower c not)
 
@@ -55,7 +56,8 @@ returns-then-not-is_newest-clause-pixels c =
 
 pub undo-pixels-requires-clause-inside : goal.undo-pixels-requires-clause-inside
 undo-pixels-requires-clause-inside c =
-    subst (λ l. Inside c.args.tile.now.place l) (sym (kept_is (goal.at-undo-pixels-requires-clause-inside c).After-is_newest c.if-not-is_newest.false)) c.requires.inside
+    subst (λ l. Inside c.args.tile.now.place l)
+    (sym (kept_is (goal.at-undo-pixels-requires-clause-inside c).After-is_newest c.if-not-is_newest.false)) c.requires.inside
 
 pub undo-pixels-requires-clause-countable : goal.undo-pixels-requires-clause-countable
 undo-pixels-requires-clause-countable c =
@@ -64,14 +66,16 @@ undo-pixels-requires-clause-countable c =
 pub returns-clause-rise : goal.returns-clause-rise
 returns-clause-rise c =
     let d = (goal.at-returns-clause-rise c).After-is_newest in
-    let yes : (0 < length c.refill.new.last.frames) × ((newest c.refill.new.last.frames).number ≡ c.args.number) = c.is_newest.ensures.yes c.if-not-is_newest.false in
+    let yes : (0 < length c.refill.new.last.frames) × ((newest c.refill.new.last.frames).number ≡ c.args.number) =
+    c.is_newest.ensures.yes c.if-not-is_newest.false in
     subst (λ l. Rise 0 l c.args.number) (sym (c.refill-2.ensures.same ∙ ap (λ l. low d ++ l) c.undo-pixels.ensures.frames))
     (subst (λ n. Rise 0 (low d ++ others c.refill.new.last.frames) n) yes.1 (stored d c.if-not-is_newest.false).rise_low)
 
 pub returns-clause-frames : goal.returns-clause-frames
 returns-clause-frames c =
     let d = (goal.at-returns-clause-frames c).After-is_newest in
-    let yes : (0 < length c.refill.new.last.frames) × ((newest c.refill.new.last.frames).number ≡ c.args.number) = c.is_newest.ensures.yes c.if-not-is_newest.false in
+    let yes : (0 < length c.refill.new.last.frames) × ((newest c.refill.new.last.frames).number ≡ c.args.number) =
+    c.is_newest.ensures.yes c.if-not-is_newest.false in
     ap (λ l. frames_from 0 l c.args.number) (c.refill-2.ensures.same ∙ ap (λ l. low d ++ l) c.undo-pixels.ensures.frames)
     ∙ ap (λ n. frames_from 0 (low d ++ others c.refill.new.last.frames) n) (sym yes.1) ∙ sym (stored d c.if-not-is_newest.false).older_are
     ∙ ap (λ l. older (frames_from 0 l (c.args.number + 1))) c.refill.ensures.same

@@ -23,7 +23,12 @@ row c = kept_row c.args.x c.args.y (zip c.args.old.now c.args.depths.now)
 split : (c : After-keep) → c.self.inside.marks.items ≡ low c ++ last c ∷ []
 split c =
     others-newest c.self.inside.marks.items no_mark
-    (omega (arith, c.requires.begun, length-marked c.self.inside.marks.items (rows_of c.self.inside.rows) (length c.self.inside.rows.spans), ap (λ (h : Filled). length h.frames) c.self.view_is))
+    (omega (
+      arith,
+      c.requires.begun,
+      length-marked c.self.inside.marks.items (rows_of c.self.inside.rows) (length c.self.inside.rows.spans),
+      ap (λ (h : Filled). length h.frames) c.self.view_is,
+    ))
 
 top : (c : After-keep) → TopFrame (low c) (last c) c.self.inside.rows.spans (rows_of c.self.inside.rows) c.args.self.now.frames
 top c =

@@ -10,7 +10,12 @@ use Rattle.fd_undo.proofs.block.Block.newest_number.Goals.{After-as_slice-marks,
 
 some : (c : After-as_slice-marks) → 0 < length c.self.inside.marks.items
 some c =
-    omega (arith, c.requires, length-marked c.self.inside.marks.items (rows_of c.self.inside.rows) (length c.self.inside.rows.spans), ap (λ (h : Filled). length h.frames) c.self.view_is)
+    omega (
+      arith,
+      c.requires,
+      length-marked c.self.inside.marks.items (rows_of c.self.inside.rows) (length c.self.inside.rows.spans),
+      ap (λ (h : Filled). length h.frames) c.self.view_is,
+    )
 
 top : (c : After-as_slice-marks) → TopFrame (others c.self.inside.marks.items) (get_or c.self.inside.marks.items (length c.self.inside.marks.items - 1) no_mark)
     c.self.inside.rows.spans (rows_of c.self.inside.rows) c.args.self.now.frames

@@ -12,7 +12,8 @@ rise c = subst (λ l. Rise 0 l c.requires.0) (sym (ap (λ (h : Filled). h.frames
 pub place_of-requires : goal.place_of-requires
 place_of-requires c =
     subst (λ l. NumbersRise l) (sym c.as_slice-marks.ensures)
-    (marks-rise c.self.inside.marks.items (rows_of c.self.inside.rows) (length c.self.inside.rows.spans) 0 c.requires.0 (rise (goal.at-place_of-requires c).After-as_slice-marks))
+    (marks-rise c.self.inside.marks.items (rows_of c.self.inside.rows) (length c.self.inside.rows.spans) 0 c.requires.0
+    (rise (goal.at-place_of-requires c).After-as_slice-marks))
 
 pub returns-in_err-place-clause-absent : goal.returns-in_err-place-clause-absent
 returns-in_err-place-clause-absent c = λ _.

@@ -23,7 +23,8 @@ returns-clause-rows c =
     let deepened : c.extend_from_slice-2.new.self.items ≡ ds ++ take (listed_depths s) deep =
     c.extend_from_slice-2.ensures.items ∙ ap (λ r. cond (is_ok r) (ds ++ take c.listed_depths.result deep) ds) c.unwrap-2.ensures
     ∙ ap (λ n. ds ++ take n deep) (c.listed_depths.ensures ∙ ap listed_depths c.new-span.ensures) in
-    ap (λ l. rows_in l c.extend_from_slice.new.self.items c.extend_from_slice-2.new.self.items) (c.push_reserved.ensures.items ∙ ap (λ (t : Span). spans ++ t ∷ []) c.new-span.ensures)
+    ap (λ l. rows_in l c.extend_from_slice.new.self.items c.extend_from_slice-2.new.self.items)
+    (c.push_reserved.ensures.items ∙ ap (λ (t : Span). spans ++ t ∷ []) c.new-span.ensures)
     ∙ ap (λ l. rows_in (spans ++ s ∷ []) l c.extend_from_slice-2.new.self.items) coloured
     ∙ ap (λ l. rows_in (spans ++ s ∷ []) (cs ++ take (listed_colours s) old) l) deepened
     ∙ rows_in-push spans cs (take (listed_colours s) old) ds (take (listed_depths s) deep) s c.self.invariant.colours_counted c.self.invariant.depths_counted

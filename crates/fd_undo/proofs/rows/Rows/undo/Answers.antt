@@ -28,14 +28,19 @@ row_is c = sym (known c).newest ∙ ap (λ (h : Held). newest_row h) c.self.view
 abbrev tail : {V : Type 0} → ℕ → List V → List V
 tail start values = take (length values - start) (drop start values)
 
-colours_are : (c : After-deref-2) → tail (c.len.result - c.listed_colours.result) c.deref.result.now ≡ drop (c.len.result - c.listed_colours.result) c.self.inside.colours.items
-colours_are c = ap (tail (c.len.result - c.listed_colours.result)) c.deref.ensures.value ∙ tail_is (c.len.result - c.listed_colours.result) c.self.inside.colours.items
+colours_are : (c : After-deref-2) → tail (c.len.result - c.listed_colours.result) c.deref.result.now
+    ≡ drop (c.len.result - c.listed_colours.result) c.self.inside.colours.items
+colours_are c =
+    ap (tail (c.len.result - c.listed_colours.result)) c.deref.ensures.value ∙ tail_is (c.len.result - c.listed_colours.result) c.self.inside.colours.items
 
-depths_are : (c : After-deref-2) → tail (c.len-2.result - c.listed_depths.result) c.deref-2.result.now ≡ drop (c.len-2.result - c.listed_depths.result) c.self.inside.depths.items
-depths_are c = ap (tail (c.len-2.result - c.listed_depths.result)) c.deref-2.ensures.value ∙ tail_is (c.len-2.result - c.listed_depths.result) c.self.inside.depths.items
+depths_are : (c : After-deref-2) → tail (c.len-2.result - c.listed_depths.result) c.deref-2.result.now
+    ≡ drop (c.len-2.result - c.listed_depths.result) c.self.inside.depths.items
+depths_are c =
+    ap (tail (c.len-2.result - c.listed_depths.result)) c.deref-2.ensures.value ∙ tail_is (c.len-2.result - c.listed_depths.result) c.self.inside.depths.items
 
 sliced : (c : After-deref-2) → (d : After-listed_depths)
-    → row_in c.take_last-span.result (tail (c.len.result - c.listed_colours.result) c.deref.result.now) (tail (c.len-2.result - c.listed_depths.result) c.deref-2.result.now)
+    → row_in c.take_last-span.result (tail (c.len.result - c.listed_colours.result) c.deref.result.now) (tail
+    (c.len-2.result - c.listed_depths.result) c.deref-2.result.now)
     ≡ row_in c.take_last-span.result (drop (c.len.result - c.listed_colours.result) c.self.inside.colours.items)
     (drop (c.len-2.result - c.listed_depths.result) c.self.inside.depths.items)
 sliced c d =
@@ -44,7 +49,8 @@ sliced c d =
 
 pub put_back-requires-clause-counted : goal.put_back-requires-clause-counted
 put_back-requires-clause-counted c =
-    ap length (colours_are (goal.at-put_back-requires-clause-counted c).After-deref-2) ∙ (known (goal.at-put_back-requires-clause-counted c).After-listed_depths).long
+    ap length (colours_are (goal.at-put_back-requires-clause-counted c).After-deref-2)
+    ∙ (known (goal.at-put_back-requires-clause-counted c).After-listed_depths).long
 
 pub put_back-requires-clause-depths_counted : goal.put_back-requires-clause-depths_counted
 put_back-requires-clause-depths_counted c =
@@ -81,7 +87,8 @@ returns-clause-pixels c =
 pub returns-clause-rows : goal.returns-clause-rows
 returns-clause-rows c =
     ap (λ l. rows_in c.take_last-span.new.spans.items l c.truncate-2.new.self.items) c.truncate.ensures.items
-    ∙ ap (λ l. rows_in c.take_last-span.new.spans.items (take (c.len.result - c.listed_colours.result) c.self.inside.colours.items) l) c.truncate-2.ensures.items
+    ∙ ap (λ l. rows_in c.take_last-span.new.spans.items
+    (take (c.len.result - c.listed_colours.result) c.self.inside.colours.items) l) c.truncate-2.ensures.items
     ∙ (known (goal.at-returns-clause-rows c).After-listed_depths).rest
     ∙ ap (λ (h : Held). take (length h.spans - 1) (rows_of h)) c.self.view_is
 

@@ -14,7 +14,8 @@ use Rattle.fd_undo.proofs.rows.Rows.undo_run.Goals.{After-place, After-row_at-y,
 
 run : (c : After-place) → Run c.args.tile.now c.self.inside.spans.items c.self.inside.colours.items c.self.inside.depths.items c.args.count
 run c =
-    run_of c.args.tile.now c.self.inside.spans.items c.self.inside.colours.items c.self.inside.depths.items c.args.count c.place.ensures.filled c.self.invariant c.requires.some
+    let s = c.self.inside in
+    run_of c.args.tile.now s.spans.items s.colours.items s.depths.items c.args.count c.place.ensures.filled c.self.invariant c.requires.some
     (omega (arith, c.requires.few, ap (λ (h : Held). length h.spans) c.self.view_is))
     (subst (λ (h : Held). IsRun c.args.tile.now h.spans c.args.count) (sym c.self.view_is) c.requires.run)
     (subst (λ (h : Held). Inside c.args.tile.now.place (joined (drop (length h.spans - c.args.count) (rows_of h)))) (sym c.self.view_is) c.requires.inside)
@@ -23,7 +24,8 @@ run c =
 wide : (c : After-place) → c.args.count * c.place.result.width ≡ c.args.count * c.args.tile.now.place.width
 wide c = ap (λ (p : Place). c.args.count * p.width) c.place.ensures.value
 
-start_is : (c : After-place) → c.len-end.result - c.args.count * c.place.result.width ≡ length c.self.inside.colours.items - c.args.count * c.args.tile.now.place.width
+start_is : (c : After-place) → c.len-end.result - c.args.count * c.place.result.width
+    ≡ length c.self.inside.colours.items - c.args.count * c.args.tile.now.place.width
 start_is c = omega (arith, c.len-end.ensures, wide c)
 
 y_is : (c : After-row_at-y) → c.row_at-y.result ≡ (get_or c.self.inside.spans.items (length c.self.inside.spans.items - c.args.count) no_span).y
@@ -65,7 +67,13 @@ put_rows-requires-clause-to_bottom c =
 pub put_rows-requires-clause-counted : goal.put_rows-requires-clause-counted
 put_rows-requires-clause-counted c =
     let at = goal.at-put_rows-requires-clause-counted c in
-    omega (arith, ap length (sliced at.After-deref), length-drop (start at.After-deref) c.self.inside.colours.items, start_is at.After-place, (run at.After-place).wide)
+    omega (
+      arith,
+      ap length (sliced at.After-deref),
+      length-drop (start at.After-deref) c.self.inside.colours.items,
+      start_is at.After-place,
+      (run at.After-place).wide,
+    )
 
 -- what is left of the lists
 spans_left : (spans now : List Span) (n count : ℕ) → now ≡ take (n - count) spans → n ≡ length spans → now ≡ take (length spans - count) spans
@@ -77,7 +85,8 @@ invariant_of-self c =
     let r = run d in
     let left = spans_left c.self.inside.spans.items c.truncate-2.new.self.items c.len.result c.args.count c.truncate-2.ensures.items c.len.ensures.value in
     record {
-      colours_counted = ap colour_count left ∙ r.held.colours_counted ∙ ap length (sym (c.truncate.ensures.items ∙ ap (λ n. take n c.self.inside.colours.items) (start_is d)));
+      colours_counted = ap colour_count left ∙ r.held.colours_counted ∙ ap length
+          (sym (c.truncate.ensures.items ∙ ap (λ n. take n c.self.inside.colours.items) (start_is d)));
       depths_counted = ap depth_count left ∙ r.held.depths_counted;
     }
 
@@ -87,7 +96,9 @@ returns-clause-tile c =
     let t = c.args.tile.now in
     let y = (get_or c.self.inside.spans.items (length c.self.inside.spans.items - c.args.count) no_span).y in
     c.put_rows.ensures
-    ∙ ap (λ k. with_rows_from t k (cut_rows t.place.width c.args.count (take (length c.deref.result.now - start at.After-deref) (drop (start at.After-deref) c.deref.result.now)))) (y_is at.After-row_at-y)
+    ∙ ap (λ k. with_rows_from t k
+    (cut_rows t.place.width c.args.count (take (length c.deref.result.now - start at.After-deref) (drop (start at.After-deref) c.deref.result.now))))
+    (y_is at.After-row_at-y)
     ∙ ap (λ l. with_rows_from t y (cut_rows t.place.width c.args.count l)) (sliced at.After-deref)
     ∙ ap (λ n. with_rows_from t y (cut_rows t.place.width c.args.count (drop n c.self.inside.colours.items))) (start_is at.After-place)
     ∙ sym (run at.After-place).written
@@ -104,6 +115,7 @@ returns-clause-rows c =
     let spans : List Span = c.self.inside.spans.items in
     let left = spans_left c.self.inside.spans.items c.truncate-2.new.self.items c.len.result c.args.count c.truncate-2.ensures.items c.len.ensures.value in
     ap (λ l. rows_in l c.truncate.new.self.items c.self.inside.depths.items) left
-    ∙ ap (λ l. rows_in (take (length spans - c.args.count) spans) l c.self.inside.depths.items) (c.truncate.ensures.items ∙ ap (λ n. take n c.self.inside.colours.items) (start_is d))
+    ∙ ap (λ l. rows_in (take (length spans - c.args.count) spans) l c.self.inside.depths.items)
+    (c.truncate.ensures.items ∙ ap (λ n. take n c.self.inside.colours.items) (start_is d))
     ∙ (run d).rest
     ∙ ap (λ (h : Held). take (length h.spans - c.args.count) (rows_of h)) c.self.view_is

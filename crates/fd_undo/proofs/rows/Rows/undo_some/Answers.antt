@@ -10,7 +10,8 @@ use Rattle.fd_undo.proofs.Runs.{run_on, inside_behind}
 use Rattle.fd_undo.proofs.rows.Rows.undo_some.Goals as goal
 use Rattle.fd_undo.proofs.rows.Rows.undo_some.Goals.{After-last_run-run}
 
-slice_is : (c : After-last_run-run) → take (length c.as_slice.result.now - c.args.first) (drop c.args.first c.as_slice.result.now) ≡ drop c.args.first c.self.inside.spans.items
+slice_is : (c : After-last_run-run) → take (length c.as_slice.result.now - c.args.first) (drop c.args.first c.as_slice.result.now)
+    ≡ drop c.args.first c.self.inside.spans.items
 slice_is c = ap (λ l. take (length l - c.args.first) (drop c.args.first l)) c.as_slice.ensures ∙ tail_is c.args.first c.self.inside.spans.items
 
 few : (c : After-last_run-run) → c.last_run-run.result ≤ length (drop c.args.first c.self.inside.spans.items)
@@ -34,7 +35,9 @@ undo_run-requires-clause-inside c =
 -- where one span alone goes back
 one : (h g : Held) → 0 < length h.spans → g.spans ≡ take (length h.spans - 1) h.spans → newest_row h ≡ joined (drop (length g.spans) (rows_of h))
 one h g some is =
-    sym (newest_is h some) ∙ ap (λ n. joined (drop n (rows_of h))) {x = length h.spans - 1} {y = length g.spans} (omega (arith, ap length is, length-take (length h.spans - 1) h.spans))
+    sym (newest_is h some)
+    ∙ ap (λ n. joined (drop n (rows_of h))) {x =
+    length h.spans - 1} {y = length g.spans} (omega (arith, ap length is, length-take (length h.spans - 1) h.spans))
 
 pub undo-requires-clause-inside : goal.undo-requires-clause-inside
 undo-requires-clause-inside c =

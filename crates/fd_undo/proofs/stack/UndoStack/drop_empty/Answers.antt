@@ -10,17 +10,23 @@ use Rattle.fd_undo.proofs.stack.UndoStack.drop_empty.Goals.{After-max-self-insid
 -- how many frames there are
 size : (c : After-max-self-inside) → length c.args.self.now.frames ≡ c.self.inside.count
 size c =
-    omega (arith, ap (λ (u : Undo). length u.frames) c.self.view_is, length-frames 0 (all_stored c.self.inside.full.items c.self.inside.last) c.self.inside.count c.self.invariant.rise)
+    omega (
+      arith,
+      ap (λ (u : Undo). length u.frames) c.self.view_is,
+      length-frames 0 (all_stored c.self.inside.full.items c.self.inside.last) c.self.inside.count c.self.invariant.rise,
+    )
 
 -- the stored frames are all left
-left : (c : After-max-self-inside) → Rise 0 (all_stored c.refill.new.full.items c.refill.new.last) c.max-self-inside.result × (c.max-self-inside.result ≤ c.self.inside.count)
+left : (c : After-max-self-inside) → Rise 0 (all_stored c.refill.new.full.items c.refill.new.last) c.max-self-inside.result
+    × (c.max-self-inside.result ≤ c.self.inside.count)
 left c =
     dropped (stored_in c.refill.new.full.items) c.refill.new.last.frames c.self.inside.count c.args.to c.after_newest.result c.max-self-inside.result
     (subst (λ l. Rise 0 l c.self.inside.count) (sym c.refill.ensures.same) c.self.invariant.rise) (omega (arith, c.requires, size c))
     c.after_newest.ensures.some c.after_newest.ensures.none c.refill.ensures.some c.max-self-inside.ensures
 
 grown : (c : After-max-self-inside) → frames_from 0 (all_stored c.self.inside.full.items c.self.inside.last) c.self.inside.count
-    ≡ frames_from 0 (all_stored c.refill.new.full.items c.refill.new.last) c.max-self-inside.result ++ replicate (c.self.inside.count - c.max-self-inside.result) []
+    ≡ frames_from 0 (all_stored c.refill.new.full.items c.refill.new.last) c.max-self-inside.result ++ replicate
+    (c.self.inside.count - c.max-self-inside.result) []
 grown c =
     ap (λ l. frames_from 0 l c.self.inside.count) (sym c.refill.ensures.same)
     ∙ frames-grow 0 (all_stored c.refill.new.full.items c.refill.new.last) c.max-self-inside.result c.self.inside.count (left c).0 (left c).1

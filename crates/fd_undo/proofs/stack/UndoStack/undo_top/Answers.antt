@@ -35,8 +35,16 @@ overflow_sub-self-2 c =
 pub invariant_of-self : goal.invariant_of-self
 invariant_of-self c =
     let t = known (goal.at-invariant_of-self c).After-self in
-    closed c.take_back.new.full.items c.take_back.new.last (c.self.inside.count - 1) (c.self.inside.recorded - c.take_back.result) c.take_back.ensures.have c.take_back.ensures.rise
-    (omega (arith, ap (λ l. length (top l)) t.shown, t.recorded_is, c.take_back.ensures.pixels, ap recorded_in c.take_back.ensures.frames, ap (λ l. recorded_in (older l)) t.shown))
+    closed c.take_back.new.full.items c.take_back.new.last (c.self.inside.count - 1)
+    (c.self.inside.recorded - c.take_back.result) c.take_back.ensures.have c.take_back.ensures.rise
+    (omega (
+      arith,
+      ap (λ l. length (top l)) t.shown,
+      t.recorded_is,
+      c.take_back.ensures.pixels,
+      ap recorded_in c.take_back.ensures.frames,
+      ap (λ l. recorded_in (older l)) t.shown,
+    ))
     (omega (arith, c.self.invariant.countable))
 
 pub returns-clause-tile : goal.returns-clause-tile
