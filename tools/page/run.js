@@ -59,7 +59,7 @@ const inTurn = job => {
 export const ask = (lines, window = null) => inTurn(async () => {
   if (!worker) {
     await start();
-    await answer([...off].map(number => `off ${number}`), null);
+    if (off.size) await answer([...off].map(number => `off ${number}`), null);     // no lines at all would end the input
   }
   const replies = await answer(lines, window);
   for (const [i, { text }] of replies.entries()) {
