@@ -28,6 +28,7 @@ class Gatherer:
         self.records = []
         self.before = 0             # the event before the one at hand
         self.touched = False        # something has been laid on the target
+        self.carried = False        # a draw or a clear is there for its own sake
         self.done = 0
         self.all = sum(1 for action in frame.actions if frame.kind(action) == "draw" and self.is_here(action))
 
@@ -45,7 +46,7 @@ class Gatherer:
                 except Fault as fault:
                     raise Fault(f"event {action.eventId}, {self.frame.name(action)}: {fault}") from None
             self.before = action.eventId
-        if not any(isinstance(record, (DrawRecord, ClearRecord)) for record in self.records):
+        if not self.carried:
             raise Fault(f"nothing is drawn on target {self.target} between the events that are wanted")
         return self.records
 
@@ -103,6 +104,7 @@ class Gatherer:
             else:
                 self.lay_what_was_there(action)
                 self.frame.go(action.eventId)
+        self.carried = self.carried or not self.is_early(action)
         self.records.append(record)
 
     def cleared(self, action):
@@ -141,6 +143,7 @@ class Gatherer:
             losses.add("draws without triangles: " + trouble)
         record = DrawRecord(action.eventId, name, state, placed(triangles, state, losses), depth_alone=early)
         if not early:
+            self.carried = True
             self.count(action)
             self.take_pictures(record)
         self.records.append(record)

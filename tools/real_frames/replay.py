@@ -146,5 +146,8 @@ class Frame:
     def alone(self, target):
         return self.pictures.alone(target)
 
+    def marked(self, target, kind):
+        return self.pictures.marked(target, kind)
+
     def depth_value(self, action, x, y):
         return self.pictures.depth_value(action.depthOut, x, y)

@@ -93,7 +93,7 @@ class Writer:
         for event in (states.raster("none", False, False), states.plain(), states.depth(False, True, "LESS")):
             self.log.set(event)
         self.picture = zlib.decompress(record.picture)
-        self.rectangles(list(grid.cells(self.picture, self.width, self.height)), FARTHEST, source)
+        self.rectangles(grid.cells(self.picture, self.width, self.height), FARTHEST, source)
 
     def rectangles(self, boxes, depth, source):
         """Draws of two triangles for each (box, colours of its four corners)."""
