@@ -76,8 +76,10 @@ class Placing(unittest.TestCase):
 
     def test_all_pieces_lie_in_front_and_within_bounds(self):
         chance = random.Random(3)
-        for _ in range(500):
+        for case in range(500):
             corners = tuple(tuple(chance.uniform(-3, 3) for _ in range(4)) for _ in range(3))
+            if case % 50 == 0:
+                corners = ((0, 0, 0, 0), *corners[1:])
             for piece in clipping.clip(corners, clipping.planes(self.view, True))[0]:
                 for x, y, z, w in piece:
                     self.assertGreater(w, 0)
@@ -85,10 +87,13 @@ class Placing(unittest.TestCase):
                     self.assertLess(max(map(abs, self.view.place((x, y, z, w))[:2])), 16384)
 
     def test_two_neighbours_are_cut_at_one_place(self):
-        view = Viewport(0, 0, 640, 480)
-        first, second = ((-.9, .3, -.7, .8), (.4, .2, .9, 1.7), (0, .9, .5, 1)), ((.4, .2, .9, 1.7), (-.9, .3, -.7, .8), (0, -.9, .5, 1))
-        cuts = [{corner for piece in clipping.clip(t, clipping.planes(view, True))[0] for corner in piece} for t in (first, second)]
-        self.assertEqual(len(cuts[0] & cuts[1]), 2)
+        chance, kept = random.Random(4), clipping.planes(Viewport(0, 0, 640, 480), True)
+        for _ in range(200):
+            (ax, ay), (bx, by) = ((chance.uniform(-.5, .5), chance.uniform(-.5, .5)) for _ in range(2))
+            front, behind = (ax, ay, chance.uniform(.1, .9), 1.0), (bx, by, -chance.uniform(.1, .9), 1.0)
+            cuts = [clipping.cut(edge, kept[1]) for edge in ([front, behind, front], [behind, front, behind])]
+            new = [{corner for corner in some if corner not in (front, behind)} for some in cuts]
+            self.assertEqual((new[0], len(new[0])), (new[1], 1))
 
     def test_the_upper_left_corner_of_gl(self):
         self.assertEqual(self.view.place((-1, 1, -1, 1)), (0, 0, 0))
@@ -139,6 +144,14 @@ class Rasterising(unittest.TestCase):
                 for y, x0, x1 in target.draw(piece.shape, [z for _, _, z in corners], own):
                     owner.update({(x, y): n + 1 for x in range(x0, x1)})
         self.assertEqual(list(image(events, 16, 16)[0::4]), [owner.get((i % 16, i // 16), 0) for i in range(256)])
+
+    def test_depths_are_the_reference_s(self):
+        chance = random.Random(6)
+        for _ in range(20):
+            piece = Piece((0, 0), [(chance.randrange(16 * PIXEL), chance.randrange(16 * PIXEL), chance.randrange(65535)) for _ in range(3)])
+            target, depths = DepthTarget(16, 16), [z for _, _, z in piece.corners]
+            for y, x0, x1 in target.draw(piece.shape, depths, states.depth(*TESTED)):
+                self.assertEqual(target.rows[y][x0:x1], [reference.depth_of(piece.shape.corners, depths, x, y) for x in range(x0, x1)])
 
     def test_halves_cover_the_pixels_of_the_whole(self):
         chance, cuts = random.Random(11), 0
@@ -195,6 +208,11 @@ class Colours(unittest.TestCase):
             sums = planes.Table(samples).over([(y, 0, 20) for y in samples])
             found, _ = planes.fit([(chance.uniform(-99, 99), chance.uniform(-99, 99)) for _ in range(3)], sums)
             self.assertTrue(all(0 <= v <= 255 for corner in found for v in corner))
+
+    def test_a_slope_is_lessened_where_a_corner_would_leave_the_bytes(self):
+        sums = self.table(8, 8, lambda x, y: (100 + 10 * x, 0, 0, 0)).over([(y, 0, 8) for y in range(8)])
+        found, _ = planes.fit([(50, 0), (4, 0), (0, 8)], sums)          # 135 in the middle, 4; 600 at 50 would be too much
+        self.assertEqual([corner[0] for corner in found], [255, 135, 125])
 
     def test_blending_is_undone(self):
         over = states.blend(*OVER, 15, Losses())
@@ -253,7 +271,7 @@ class Frames(unittest.TestCase):
         return StandIn(clear(2, GREY, 1.0), Action(3, "marker", "the\tscene " + "é" * 40), draw(5, quad(3, 2, 15, 12, .5, RED), state(depth=TESTED)),
                        draw(9, quad(8, 5, 22, 15, .7, BLUE), state(depth=TESTED), "behind()"),
                        draw(11, quad(6, 1, 10, 16, .3, GREEN), state(depth=(True, False, "LESS_EQUAL"), scissor=[0, 3, 24, 9])),
-                       draw(14, quad(0, 0, 24, 16, .4, BLUE), state(depth=TESTED, mask=4)))
+                       draw(14, quad(0, 0, 24, 16, .6, BLUE), state(depth=TESTED, mask=4)))
 
     def test_opaque_draws_with_depth_scissor_and_mask(self):
         frame = self.opaque()
@@ -268,6 +286,10 @@ class Frames(unittest.TestCase):
         self.assertEqual(names[0], "thescene " + "é" * 27)
         self.assertEqual(names[2], "9 behind()")
         self.assertEqual(coverage.places_of(capture).keys(), {5, 9, 11, 14})
+
+    def test_two_triangles_of_a_draw_over_each_other(self):
+        frame = StandIn(clear(1, GREY), draw(2, quad(2, 2, 16, 12, .5, RED) + quad(9, 4, 22, 15, .5, BLUE)))
+        self.same(frame, converted(frame))
 
     def test_smooth_colours(self):
         corners = [((2, 1, .2, RED), (22, 3, .9, BLUE), (5, 15, .5, GREEN))]
@@ -322,7 +344,10 @@ class Frames(unittest.TestCase):
         frame = StandIn(draw(2, quad(8, 2, 20, 9, .5, GREEN)), before=old)
         capture = converted(frame)
         self.same(frame, capture)
-        self.assertEqual(capture["events"][0]["name"], "the picture before 2")
+        names = [event.get("name") for event in capture["events"]]
+        self.assertEqual(names[0], "the picture before 2")
+        first = image(capture["events"][:names.index("2 draw()")])
+        self.assertEqual(first, image(old))
 
     def test_a_part_of_a_frame_begins_with_its_picture_and_its_depths(self):
         frame = self.opaque()
@@ -330,8 +355,9 @@ class Frames(unittest.TestCase):
         self.same(frame, capture)
         names = [event["name"] for event in capture["events"] if event["kind"] == "marker"]
         self.assertEqual(names, ["the picture before 11", "11 draw()", "14 draw()"])
+        capture = converted(frame, wanted=Wanted(last=11))
         frame.actions.pop()
-        self.same(frame, converted(frame, wanted=Wanted(last=11)))
+        self.same(frame, capture)
 
     def test_a_part_without_draws(self):
         with self.assertRaisesRegex(Fault, "nothing is drawn on target 7"):

@@ -1,0 +1,107 @@
+#!/usr/bin/env python3
+"""real_frames_mutations.py: whether the tests of real frames see wrong versions of the converter and of the emitters.
+
+    tools/real_frames_mutations.py [WORD ..]
+
+Each is a copy with one text exchanged, and the test that has to fail on it. With words, only those whose name has one of them are tried.
+"""
+import concurrent.futures
+import os
+import pathlib
+import shutil
+import subprocess
+import sys
+import tempfile
+
+TOOLS = pathlib.Path(__file__).resolve().parent
+PROCESSES = 2
+MUTATIONS = [   # name, file, text, what stands there instead, test
+    ("strips: every triangle runs the same way through", "topology.py", "if i % 2 == 0 else (b, a, c)", "if True else (b, a, c)", "Topologies"),
+    ("fans: round the corner before", "topology.py", "yield indices[0], indices[i], indices[i + 1]", "yield indices[i - 1], indices[i], indices[i + 1]", "Topologies"),
+    ("restarts: not looked at", "topology.py", "if index == restart:", "if False:", "Topologies"),
+    ("clipping: behind the eye stays", "clipping.py", "kept = [lambda v: v[3] - LEAST_W]", "kept = []", "Placing"),
+    ("clipping: neighbours are cut at two places", "clipping.py", "if inside >= 0 else (there, here, outside, inside)", "if True else (there, here, outside, inside)", "Placing"),
+    ("clipping: no near plane", "clipping.py", "    if clip_depth:", "    if False:", "Placing"),
+    ("viewport: y isn't turned", "viewport.py", "            y = -y", "            pass", "Placing"),
+    ("viewport: depths of OpenGL as they are", "viewport.py", "z = z * 0.5 + 0.5", "z = z", "Placing"),
+    ("bias: the mean steepness", "placing.py", "return max(abs(along_x), abs(along_y))", "return (abs(along_x) + abs(along_y)) / 2", "Placing"),
+    ("bias: not added", "placing.py", "z + bias)", "z)", "Placing"),
+    ("snapping: ties away from zero", "raster.py", "(rest == 128 and quotient & 1)", "rest == 128", "Rasterising"),
+    ("coverage: lower right", "raster.py", "(dy == 0 and dx > 0) or dy < 0", "(dy == 0 and dx < 0) or dy > 0", "Rasterising"),
+    ("coverage: both edges own", "raster.py", "0 if owns else 1)", "0)", "Rasterising"),
+    ("depth: rounded down", "raster.py", "zip(shape.weights(x0, y), depths)) + shape.area", "zip(shape.weights(x0, y), depths))", "Rasterising"),
+    ("depth: always written", "raster.py", "                if write:", "                if True:", "Rasterising"),
+    ("culling: the other face", "raster.py", "return front == (cull == \"front\")", "return front == (cull == \"back\")", "Rasterising"),
+    ("cuts: made where pixels are lost", "pieces.py", "            return False\n    return not rows", "            continue\n    return not rows", "Rasterising"),
+    ("cuts: made where pixels are won", "pieces.py", "    return not rows", "    return True", "Rasterising"),
+    ("colours: the mean alone", "planes.py", "b, c = sums.slopes(channel)", "b, c = 0.0, 0.0", "Colours"),
+    ("colours: corners leave the bytes", "planes.py", "    return max(share, 0.0)", "    return 1.0", "Colours"),
+    ("colours: how far off isn't told", "planes.py", "(max(worst, 0.0) / sums.count) ** 0.5", "0.0", "Colours"),
+    ("colours: sums begin one pixel late", "planes.py", "first, last = min(max(x0 - left, 0), width)", "first, last = min(max(x0 - left + 1, 0), width)", "Colours"),
+    ("blending: one layer always", "sources.py", "drawn = pixel.layers * times", "drawn = pixel.layers", "Colours"),
+    ("blending: alpha isn't divided by", "sources.py", "        share *= alpha\n", "        pass\n", "Colours"),
+    ("states: a colour factor in alpha", "states.py", 'words.append(word.replace("_COLOR", "_ALPHA") if for_alpha else word)', "words.append(word)", "States"),
+    ("states: the constant's colour for its alpha", "states.py", "        r = g = b = a\n", "        pass\n", "States"),
+    ("states: told each time", "states.py", 'if self.last.get(event["kind"]) != event:', "if True:", "States"),
+    ("writer: the scissor's rectangle isn't told", "writer.py", "        if state.rectangle():\n", "        if False:\n", "Frames.test_opaque_draws_with_depth_scissor_and_mask"),
+    ("writer: one mask for all", "writer.py", "            self.log.set(state.blend)\n", "            self.log.set(states.plain())\n", "Frames.test_opaque_draws_with_depth_scissor_and_mask"),
+    ("writer: depths fall", "writer.py", "share = (depth - self.low) / (self.high - self.low)", "share = (self.high - depth) / (self.high - self.low)", "Frames.test_opaque_draws_with_depth_scissor_and_mask"),
+    ("writer: depths aren't spread", "writer.py", "self.low = max(min(depths, default=0.0), 0.0)", "self.low = 0.0", "Frames.test_depths_are_spread_and_keep_their_order"),
+    ("writer: a rectangle is cleared whole", "writer.py", "box = record.rectangle or [0, 0,", "box = [0, 0,", "Frames.test_clears_of_a_rectangle_and_of_some_channels"),
+    ("writer: no primitives", "writer.py", '"primitives": [list(piece.number) for piece in part]', '"primitives": [[0, 0] for piece in part]', "Frames.test_each_event_knows_its_call"),
+    ("writer: no losses", "writer.py", '"losses": self.losses.entries()', '"losses": []', "Frames.test_losses_stand_in_the_capture"),
+    ("labels: control characters", "../captures.py", 'c for c in name if c >= " " and c != "\\x7f"', "c for c in name", "Frames.test_each_event_knows_its_call"),
+    ("labels: 65 bytes", "../captures.py", "MOST_NAME = 16384, 1_000_000, 196_608, 67_108_864, 64", "MOST_NAME = 16384, 1_000_000, 196_608, 67_108_864, 65", "Frames.test_each_event_knows_its_call"),
+    ("pixels: the first of two triangles shows", "pixels.py", "self.owner[at] = number", "self.owner.setdefault(at, number)", "Frames.test_two_triangles_of_a_draw_over_each_other"),
+    ("pixels: what was there counts", "pixels.py", 'self.counted("same" if was == now else "single", tuple(now))', 'self.counted("single", tuple(was))', "Frames.test_opaque_draws_with_depth_scissor_and_mask"),
+    ("painter: nothing is cut", "painter.py", "if self.detail.most is None or", "if True or", "Frames.test_detail_brings_a_step_of_colour"),
+    ("painter: several passes are cut", "painter.py", "if is_deep and self.passes[piece.root] > 1:", "if False:", "Frames.test_triangles_of_several_passes_stay_whole"),
+    ("gather: nothing lies there before", "gather.py", "        if not self.touched:\n            self.frame.go(self.before)", "        if False:\n            self.frame.go(self.before)",
+     "Frames.test_what_was_there_before_the_first_clear"),
+    ("gather: the picture after the first draw", "gather.py", "            self.frame.go(self.before)\n", "            self.frame.go(action.eventId)\n", "Frames.test_what_was_there_before_the_first_clear"),
+    ("gather: earlier depths are left out", "gather.py", 'if early and not (state.depth["enable"] and state.depth["write"]):', "if early:",
+     "Frames.test_a_part_of_a_frame_begins_with_its_picture_and_its_depths"),
+    ("gather: all to the end", "gather.py", "            if action.eventId > self.wanted.last:\n", "            if False:\n", "Frames.test_a_part_of_a_frame_begins_with_its_picture_and_its_depths"),
+    ("gather: copies aren't laid", "gather.py", "        if onto and not self.is_early(action):", "        if False:", "Frames.test_other_targets_copies_and_dispatches_are_counted"),
+    ("gather: draws of all targets", "gather.py", "return self.target in self.frame.targets(action)", "return True", "Frames.test_other_targets_copies_and_dispatches_are_counted"),
+    ("gather: a fault names no event", "gather.py", 'raise Fault(f"event {action.eventId}, {self.frame.name(action)}: {fault}") from None', "raise", "Frames.test_a_fault_names_its_event"),
+    ("grid: its last column is left out", "grid.py", "for x0, x1 in ((left, middle), (middle, right)):", "for x0, x1 in ((left, middle), (middle, right - 1)):", "Grids"),
+    ("coverage: red on the wrong side", "coverage.py", "bool(theirs[at])", "bool(ours[at])", "Agreements"),
+    ("coverage: in either, not in both", "coverage.py", "self.both += (a & b).bit_count()", "self.both += (a | b).bit_count()", "Agreements"),
+    ("coverage: alpha counts", "coverage.py", "first[at:at + 3] != second[at:at + 3] and max(", "True and 99 * (first[at + 3] != second[at + 3]) + max(", "Agreements"),
+    ("screen: left running", "display.py", "            self.process.terminate()\n", "            return\n", "Machines.test_a_screen_of_one_s_own_is_ended"),
+    ("screen: another one beside it", "display.py", '        if os.environ.get("DISPLAY"):', "        if False:", "Machines.test_a_screen_that_is_there_is_taken"),
+]
+
+
+def seen(mutation):
+    """Whether the test fails on the wrong version."""
+    name, file, old, new, test = mutation
+    with tempfile.TemporaryDirectory() as folder:
+        shutil.copytree(TOOLS / "real_frames", pathlib.Path(folder) / "real_frames", ignore=shutil.ignore_patterns("__pycache__"))
+        shutil.copy(TOOLS / "captures.py", folder)
+        path = pathlib.Path(folder) / "real_frames" / file
+        text = path.read_text()
+        if text.count(old) != 1:
+            return f"MISSED: its text stands {text.count(old)} times in {file}"
+        path.write_text(text.replace(old, new))
+        environment = {**os.environ, "FRAMES": folder, "PYTHONDONTWRITEBYTECODE": "1"}
+        run = subprocess.run([sys.executable, TOOLS / "test_real_frames.py", "-f", test], env=environment, capture_output=True, text=True)
+        return "skipped" if "skipped=" in run.stderr else "seen" if run.returncode else "MISSED"
+
+
+def main():
+    if sys.argv[1:2] in (["--help"], ["-h"]):
+        print(__doc__)
+        return
+    wanted = [m for m in MUTATIONS if not sys.argv[1:] or any(word in m[0] for word in sys.argv[1:])]
+    missed = 0
+    with concurrent.futures.ThreadPoolExecutor(PROCESSES) as pool:
+        for mutation, verdict in zip(wanted, pool.map(seen, wanted)):
+            missed += verdict.startswith("MISSED")
+            print(f"{mutation[0]}: {verdict}", flush=True)
+    sys.exit(f"{missed} wrong versions were missed" if missed else 0)
+
+
+if __name__ == "__main__":
+    main()
