@@ -19,7 +19,7 @@ import captures   # noqa: E402
 import reference   # noqa: E402
 from captures import Capture, Fault, label, place   # noqa: E402
 
-EXAMPLES = TOP / "examples/emitting"
+EXAMPLES = TOP / "share/emitting"
 COMPILERS = {"C99": ["cc", "-std=c99", "-x", "c"], "C++": ["c++", "-std=c++11", "-x", "c++"]}
 HOSTILE = r'''#include "framedbg_capture.h"
 #include <assert.h>
@@ -85,6 +85,13 @@ class Emitters(unittest.TestCase):
             made = self.compiled(words, EXAMPLES / "frame.c", language)
             self.assertIsNone(reference.fault(made), language)
             self.assertEqual(json.loads(made), json.loads(wanted), language)
+
+    def test_the_example_in_rust(self):
+        if lacking("rustc"):
+            self.skipTest("rustc isn't installed")
+        program = self.folder / "rust"
+        subprocess.run(["rustc", "-D", "warnings", "-o", program, EXAMPLES / "frame.rs"], check=True, cwd=TOP)
+        self.assertEqual(json.loads(subprocess.run([program], capture_output=True, check=True).stdout), json.loads(self.of_python()))
 
     def test_the_quads_are_where_they_were_put(self):
         """By arithmetic of one's own: the middle of each, and its front, with y up and counter-clockwise as OpenGL has it."""

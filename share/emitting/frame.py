@@ -1,5 +1,5 @@
 #!/usr/bin/env python3
-"""The frame of frame.c from Python: PYTHONPATH=tools examples/emitting/frame.py > frame.json"""
+"""The frame of frame.c from Python: PYTHONPATH=tools share/emitting/frame.py > frame.json"""
 import math
 import sys
 

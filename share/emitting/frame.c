@@ -1,6 +1,6 @@
 /* Two turned quads and a see-through pane over them, as a renderer would log its frame:
  *
- *     cc -I share examples/emitting/frame.c -lm -o frame && ./frame frame.json
+ *     cc -I share share/emitting/frame.c -lm -o frame && ./frame frame.json
  */
 #include "framedbg_capture.h"
 
