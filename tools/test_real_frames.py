@@ -256,8 +256,8 @@ class States(unittest.TestCase):
         events = []
         log = states.StateLog(events)
         for cull in ("none", "none", "back"):
-            log.set(states.raster(cull, False, False))
-        self.assertEqual(len(events), 2)
+            log.set(states.raster(cull, False, False), {"event": 9})
+        self.assertEqual([(event["cull"], event["source"]) for event in events], [("none", {"event": 9}), ("back", {"event": 9})])
 
 
 class Frames(unittest.TestCase):
@@ -279,7 +279,7 @@ class Frames(unittest.TestCase):
 
     def test_each_event_knows_its_call(self):
         capture = converted(self.opaque())
-        sources_of = {(event["source"]["event"], event["source"]["name"], str(event["source"].get("primitives"))) for event in capture["events"] if "source" in event}
+        sources_of = {(event["source"]["event"], event["source"]["name"], str(event["source"].get("primitives"))) for event in capture["events"]}
         self.assertIn((9, "behind()", "[[0, 0], [0, 1]]"), sources_of)
         self.assertIn((2, "clear()", "None"), sources_of)
         names = [event["name"] for event in capture["events"] if event["kind"] == "marker"]

@@ -85,7 +85,7 @@ class StateLog:
         self.events = events
         self.last = {}
 
-    def set(self, event):
+    def set(self, event, source):
         if self.last.get(event["kind"]) != event:
             self.last[event["kind"]] = event
-            self.events.append(event)
+            self.events.append({**event, "source": source})

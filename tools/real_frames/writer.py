@@ -76,9 +76,9 @@ class Writer:
     def clear_part(self, record, source):
         self.losses.add("clears of a rectangle or of some channels", "drawn as two triangles")
         box = record.rectangle or [0, 0, self.width, self.height]
-        self.log.set(states.raster("none", False, False))
-        self.log.set(states.plain(record.mask if record.colour is not None else 0))
-        self.log.set(states.depth(record.depth is not None, True, "ALWAYS"))
+        self.log.set(states.raster("none", False, False), source)
+        self.log.set(states.plain(record.mask if record.colour is not None else 0), source)
+        self.log.set(states.depth(record.depth is not None, True, "ALWAYS"), source)
         depth = self.scale(record.depth) if record.depth is not None else 0
         self.rectangles([(box, [record.colour or NO_COLOUR] * 4)], depth, source)
         if record.depth is not None:
@@ -91,7 +91,7 @@ class Writer:
         source = {"event": record.event, "name": "before"}
         self.add("marker", source, name=f"the picture before {record.event}")
         for event in (states.raster("none", False, False), states.plain(), states.depth(False, True, "LESS")):
-            self.log.set(event)
+            self.log.set(event, source)
         self.picture = zlib.decompress(record.picture)
         self.rectangles(grid.cells(self.picture, self.width, self.height), FARTHEST, source)
 
@@ -111,17 +111,17 @@ class Writer:
         state = record.state
         source = {"event": record.event, "name": record.name}
         if record.depth_alone:
-            self.log.set(states.plain(0))
+            self.log.set(states.plain(0), source)
         else:
             self.draws += 1
             self.add("marker", source, name=label(f"{record.event} {record.name}"))
-            self.log.set(state.blend)
+            self.log.set(state.blend, source)
         for event in (state.raster, state.depth):
-            self.log.set(event)
+            self.log.set(event, source)
         if state.rectangle():
-            self.log.set({"kind": "scissor", "rect": state.scissor})
+            self.log.set({"kind": "scissor", "rect": state.scissor}, source)
         if any("BLEND_FACTOR" in word for word in state.blend["rgb"] + state.blend["alpha"]):
-            self.log.set(state.factor)
+            self.log.set(state.factor, source)
         self.add_triangles(self.coloured(record, self.passing(record)), source)
         if record.after:
             self.picture = zlib.decompress(record.after)
