@@ -1,5 +1,5 @@
 #!/usr/bin/env python3
-"""real_frames_mutations.py: whether the tests of real frames see wrong versions of the converter and of the emitters.
+"""real_frames_mutations.py: whether the tests of real frames and of the emitters see wrong versions of what they test.
 
     tools/real_frames_mutations.py [WORD ..]
 
@@ -14,6 +14,7 @@ import sys
 import tempfile
 
 TOOLS = pathlib.Path(__file__).resolve().parent
+TOP = TOOLS.parent
 PROCESSES = 2
 MUTATIONS = [   # name, file, text, what stands there instead, test
     ("strips: every triangle runs the same way through", "topology.py", "if i % 2 == 0 else (b, a, c)", "if True else (b, a, c)", "Topologies"),
@@ -75,32 +76,66 @@ MUTATIONS = [   # name, file, text, what stands there instead, test
 ]
 
 
+EMITTERS = [
+    ("C: faults don't stay", "share/framedbg_capture.h", "if (!c || c->fault) return 0;", "if (!c) return 0;", "test_hostile_words_in_c"),
+    ("C: any word", "share/framedbg_capture.h", "        if (at[-1] == ' ' && at[length] == ' ') return 1;", "        return 1;", "test_hostile_words_in_c"),
+    ("C: colour factors in alpha", "share/framedbg_capture.h", "(is_alpha || !framedbg_is_word(words[i], of_colour))", "!framedbg_is_word(words[i], of_colour)", "test_hostile_words_in_c"),
+    ("C: indices aren't looked at", "share/framedbg_capture.h", "if (indices[i] >= count) return FRAMEDBG_RANGE;", "if (indices[i] > count) return FRAMEDBG_RANGE;", "test_hostile_words_in_c"),
+    ("C: quotes as they are", "share/framedbg_capture.h", "fputc('\\\\', c->file);", ";", "test_hostile_words_in_c"),
+    ("C: bytes that are no UTF-8", "share/framedbg_capture.h", "    if (more < 0) return 0;", "    if (more < 0) return 1;", "test_hostile_words_in_c"),
+    ("C: half a character at the end", "share/framedbg_capture.h", "if (bytes + wide > FRAMEDBG_MOST_NAME) break;", "if (bytes >= FRAMEDBG_MOST_NAME) break;", "test_hostile_words_in_c"),
+    ("C: y upside down", "share/framedbg_capture.h", "(view->y_down ? 1 : -1)", "(view->y_down ? -1 : 1)", "test_the_examples_make_one_capture"),
+    ("C: depth rounded down", "share/framedbg_capture.h", "lround(depth * FRAMEDBG_FARTHEST)", "(long)(depth * FRAMEDBG_FARTHEST)", "test_hostile_words_in_c"),
+    ("Rust: the source stays", "share/framedbg_capture.rs", "self.source.take()", "self.source", "test_the_example_in_rust"),
+    ("Rust: depth of OpenGL as it is", "share/framedbg_capture.rs", "z / w * 0.5 + 0.5", "z / w", "test_the_example_in_rust"),
+    ("Python: y upside down", "tools/captures.py", "(-1 if y_up else 1)", "(1 if y_up else -1)", "test_places"),
+    ("Python: depth of Direct3D halved", "tools/captures.py", "z if half_depth else z * 0.5 + 0.5", "z * 0.5 + 0.5", "test_places"),
+    ("Python: no source", "tools/captures.py", '**({"source": source} if source is not None else {})', "", "test_hostile_words_in_python"),
+    ("Python: NaN as a position", "tools/captures.py", "if not abs(pixels) <= MOST_SIDE:", "if abs(pixels) > MOST_SIDE:", "test_hostile_words_in_python"),
+]
+
+
+def changed(folder, file, old, new):
+    """Exchanges a text of a copy; says what is wrong where it doesn't stand there once."""
+    path = pathlib.Path(folder) / file
+    text = path.read_text()
+    path.write_text(text.replace(old, new))
+    return "" if text.count(old) == 1 else f"MISSED: its text stands {text.count(old)} times in {file}"
+
+
+def verdict(test, words, **environment):
+    run = subprocess.run([sys.executable, TOOLS / test, "-f", *words], env={**os.environ, "PYTHONDONTWRITEBYTECODE": "1", **environment}, capture_output=True, text=True)
+    return "skipped" if "skipped=" in run.stderr else "seen" if run.returncode else "MISSED"
+
+
 def seen(mutation):
     """Whether the test fails on the wrong version."""
     name, file, old, new, test = mutation
     with tempfile.TemporaryDirectory() as folder:
+        if file.startswith(("share/", "tools/")):
+            shutil.copytree(TOP / "share", pathlib.Path(folder) / "share")
+            (pathlib.Path(folder) / "tools").mkdir()
+            for part in ("captures.py", "reference.py"):
+                shutil.copy(TOOLS / part, pathlib.Path(folder) / "tools")
+            return changed(folder, file, old, new) or verdict("test_captures.py", [f"Emitters.{test}"], EMITTERS=folder)
         shutil.copytree(TOOLS / "real_frames", pathlib.Path(folder) / "real_frames", ignore=shutil.ignore_patterns("__pycache__"))
         shutil.copy(TOOLS / "captures.py", folder)
-        path = pathlib.Path(folder) / "real_frames" / file
-        text = path.read_text()
-        if text.count(old) != 1:
-            return f"MISSED: its text stands {text.count(old)} times in {file}"
-        path.write_text(text.replace(old, new))
-        environment = {**os.environ, "FRAMES": folder, "PYTHONDONTWRITEBYTECODE": "1"}
-        run = subprocess.run([sys.executable, TOOLS / "test_real_frames.py", "-f", test], env=environment, capture_output=True, text=True)
-        return "skipped" if "skipped=" in run.stderr else "seen" if run.returncode else "MISSED"
+        return changed(folder, f"real_frames/{file}", old, new) or verdict("test_real_frames.py", [test], FRAMES=folder)
 
 
 def main():
     if sys.argv[1:2] in (["--help"], ["-h"]):
         print(__doc__)
         return
-    wanted = [m for m in MUTATIONS if not sys.argv[1:] or any(word in m[0] for word in sys.argv[1:])]
+    wanted = [m for m in MUTATIONS + EMITTERS if not sys.argv[1:] or any(word in m[0] for word in sys.argv[1:])]
+    for unchanged in (("as it is", "topology.py", "i % 2 == 0", "i % 2 == 0", "Colours"), EMITTERS[0][:3] + EMITTERS[0][2:3] + EMITTERS[0][4:]):
+        if seen(unchanged) != "MISSED":
+            sys.exit(f"real_frames_mutations: the tests fail on a copy that is as it is: {unchanged[-1]}")
     missed = 0
     with concurrent.futures.ThreadPoolExecutor(PROCESSES) as pool:
-        for mutation, verdict in zip(wanted, pool.map(seen, wanted)):
-            missed += verdict.startswith("MISSED")
-            print(f"{mutation[0]}: {verdict}", flush=True)
+        for mutation, told in zip(wanted, pool.map(seen, wanted)):
+            missed += told.startswith("MISSED")
+            print(f"{mutation[0]}: {told}", flush=True)
     sys.exit(f"{missed} wrong versions were missed" if missed else 0)
 
 

@@ -1,6 +1,8 @@
 """The events that draw a model: a backdrop, and each part with its state; and the bugs that may be planted in one of them."""
 from dataclasses import dataclass
 
+from captures import label
+
 from .camera import depth_of, lit, looked_at, normal
 from .model import Fault
 
@@ -138,8 +140,7 @@ def vertex(x, y, distance, colour, deep):
 
 
 def marker(name):
-    name = "".join(c for c in name if ord(c) >= 32 and ord(c) != 127)
-    return {"kind": "marker", "name": name.encode()[:64].decode(errors="ignore")}
+    return {"kind": "marker", "name": label(name)}
 
 
 def backdrop(width, height, deep):
