@@ -49,6 +49,7 @@ class Action:
     triangles: list = field(default_factory=list)
     clear: tuple = ()           # colour or None, depth (0 to 1) or None, rectangle or None, mask
     trouble: str = ""
+    until: object = None
 
 
 def clip_space(x, y, z, w=1.0):
@@ -108,8 +109,11 @@ class StandIn:
     def state(self, width, height, losses):
         return self.action().state
 
-    def triangles(self, action):
+    def primitives(self, action):
         return action.triangles, action.trouble
+
+    def until(self, action):
+        return action.until
 
     def reads_textures(self):
         return False

@@ -3,6 +3,7 @@
 
 tools/check_frames tries the whole on frames of running programs.
 """
+import math
 import os
 import pathlib
 import random
@@ -46,21 +47,26 @@ def converted(frame, losses=None, wanted=Wanted(), detail=Detail(), colours="mea
 
 class Topologies(unittest.TestCase):
     def test_a_strip_keeps_one_way_round(self):
-        self.assertEqual([t for _, t in topology.triangles("TriangleStrip", [0, 1, 2, 3, 4])], [(0, 1, 2), (2, 1, 3), (2, 3, 4)])
+        self.assertEqual([t for _, t in topology.primitives("TriangleStrip", [0, 1, 2, 3, 4])], [(0, 1, 2), (2, 1, 3), (2, 3, 4)])
 
     def test_a_fan_turns_about_its_first(self):
-        self.assertEqual([t for _, t in topology.triangles("TriangleFan", [7, 1, 2, 3])], [(7, 1, 2), (7, 2, 3)])
+        self.assertEqual([t for _, t in topology.primitives("TriangleFan", [7, 1, 2, 3])], [(7, 1, 2), (7, 2, 3)])
 
     def test_a_restart_begins_a_new_strip_and_primitives_go_on(self):
-        found = list(topology.triangles("TriangleStrip", [0, 1, 2, 0xffff, 3, 4, 5, 6], 0xffff))
+        found = list(topology.primitives("TriangleStrip", [0, 1, 2, 0xffff, 3, 4, 5, 6], 0xffff))
         self.assertEqual(found, [(0, (0, 1, 2)), (1, (3, 4, 5)), (2, (5, 4, 6))])
 
     def test_left_over_indices_are_dropped(self):
-        self.assertEqual(len(list(topology.triangles("TriangleList", list(range(8))))), 2)
+        self.assertEqual(len(list(topology.primitives("TriangleList", list(range(8))))), 2)
 
-    def test_lines_have_no_triangles(self):
-        with self.assertRaisesRegex(Fault, "topology LineStrip"):
-            list(topology.triangles("LineStrip", [0, 1, 2]))
+    def test_lines_and_points(self):
+        for name, wanted in (("LineList", [(4, 5), (6, 7)]), ("LineStrip", [(4, 5), (5, 6), (6, 7), (7, 8)]), ("LineLoop", [(4, 5), (5, 6), (6, 7), (7, 8), (8, 4)]),
+                             ("PointList", [(4,), (5,), (6,), (7,), (8,)])):
+            self.assertEqual([corners for _, corners in topology.primitives(name, [4, 5, 6, 7, 8])], wanted)
+
+    def test_what_isn_t_known(self):
+        with self.assertRaisesRegex(Fault, "topology PatchList"):
+            list(topology.primitives("PatchList", [0, 1, 2]))
 
 
 class Placing(unittest.TestCase):
@@ -94,6 +100,30 @@ class Placing(unittest.TestCase):
             cuts = [clipping.cut(edge, kept[1]) for edge in ([front, behind, front], [behind, front, behind])]
             new = [{corner for corner in some if corner not in (front, behind)} for some in cuts]
             self.assertEqual((new[0], len(new[0])), (new[1], 1))
+
+    def test_a_line_is_cut_as_a_triangle_is(self):
+        kept = clipping.planes(Viewport(0, 0, 640, 480), True)
+        front, behind = (.2, .4, .5, 1), (.6, 0, -.5, 1)
+        for ends in ((front, behind), (behind, front)):
+            cut = dict(zip(ends, clipping.clip_line(ends, kept)))
+            self.assertEqual(cut[front], front)
+            for value, wanted in zip(cut[behind], (.4, .2, 0, 1)):
+                self.assertAlmostEqual(value, wanted)
+        self.assertEqual(clipping.clip_line((behind, behind), kept), ())
+        self.assertEqual(clipping.clip_line((front, front), kept), (front, front))
+
+    def test_lines_and_points_are_one_pixel_wide(self):
+        """As the rule for lines has it: a line that is wider than high has one pixel in each column; none is culled."""
+        for raster in (("back", False), ("back", True), ("front", False), ("none", False)):
+            own, target, losses = state(raster), DepthTarget(WIDTH, HEIGHT), Losses()
+            for corners, wanted in (([(2.5, 3.2), (20.5, 9.1)], {(x, math.floor(3.2 + (x + .5 - 2.5) * 5.9 / 18)) for x in range(2, 20)}),
+                                    ([(9.1, 14.5), (4.4, 1.5)], {(math.floor(4.4 + (y + .5 - 1.5) * 4.7 / 13), y) for y in range(1, 14)}), ([(7.3, 5.6)], {(7, 5)})):
+                shapes = placed([((0, 0), tuple(clip_space(x, y, .5) for x, y in corners))], own, losses)
+                pieces = [Piece(number, [(x, y, 5) for x, y, _ in shape]) for number, shape in shapes]
+                self.assertFalse(any(piece.shape.is_culled(*raster) for piece in pieces))
+                drawn = [(x, y) for piece in pieces for y, x0, x1 in target.draw(piece.shape, [5] * 3, own.depth) for x in range(x0, x1)]
+                self.assertEqual((set(drawn), len(drawn)), (wanted, len(wanted)))
+            self.assertEqual(losses.counts["lines and points"], 3)
 
     def test_the_upper_left_corner_of_gl(self):
         self.assertEqual(self.view.place((-1, 1, -1, 1)), (0, 0, 0))
@@ -268,7 +298,7 @@ class Frames(unittest.TestCase):
         self.assertLessEqual(max(abs(a - b) for a, b in zip(image_of(capture), frame.picture(TARGET))), by)
 
     def opaque(self):
-        return StandIn(clear(2, GREY, 1.0), Action(3, "marker", "the\tscene " + "é" * 40), draw(5, quad(3, 2, 15, 12, .5, RED), state(depth=TESTED)),
+        return StandIn(clear(2, GREY, 1.0), Action(3, "marker", "the\tscene " + "é" * 40, until=9), draw(5, quad(3, 2, 15, 12, .5, RED), state(depth=TESTED)),
                        draw(9, quad(8, 5, 22, 15, .7, BLUE), state(depth=TESTED), "behind()"),
                        draw(11, quad(6, 1, 10, 16, .3, GREEN), state(depth=(True, False, "LESS_EQUAL"), scissor=[0, 3, 24, 9])),
                        draw(14, quad(0, 0, 24, 16, .6, BLUE), state(depth=TESTED, mask=4)))
@@ -284,6 +314,7 @@ class Frames(unittest.TestCase):
         self.assertIn((2, "clear()", "None"), sources_of)
         names = [event["name"] for event in capture["events"] if event["kind"] == "marker"]
         self.assertEqual(names[0], "thescene " + "é" * 27)
+        self.assertEqual([event["source"]["until"] for event in capture["events"] if "until" in event["source"]], [9])
         self.assertEqual(names[2], "9 behind()")
         self.assertEqual(coverage.places_of(capture).keys(), {5, 9, 11, 14})
 
@@ -389,7 +420,7 @@ class Frames(unittest.TestCase):
 
         def broken(action):
             raise Fault("no such buffer")
-        frame.triangles = broken
+        frame.primitives = broken
         with self.assertRaisesRegex(Fault, r"event 5, draw\(\): no such buffer"):
             converted(frame)
 

@@ -1,4 +1,4 @@
-"""Triangles in clip space, cut to what a capture can say: in front of the eye, and within 16,384 pixels either way."""
+"""Triangles, lines and points in clip space, cut to what a capture can say: in front of the eye, and within 16,384 pixels either way."""
 
 GUARD = 16000.0                 # pixels from the viewport's middle; a capture takes 16,384
 LEAST_W = 1e-6
@@ -45,3 +45,14 @@ def clip(corners, kept_planes):
         if len(polygon) < 3:
             return [], True
     return [(polygon[0], polygon[i], polygon[i + 1]) for i in range(1, len(polygon) - 1)], True
+
+
+def clip_line(ends, kept_planes):
+    """Gives the two ends of the part that is left, or nothing."""
+    for plane in kept_planes:
+        sides = [plane(end) >= 0 for end in ends]
+        if not any(sides):
+            return ()
+        if not all(sides):
+            ends = cut(ends, plane)[:2]
+    return tuple(ends)

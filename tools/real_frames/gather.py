@@ -58,7 +58,7 @@ class Gatherer:
 
     def mark(self, action):
         if not self.is_early(action):
-            self.records.append(MarkerRecord(action.eventId, self.frame.name(action)))
+            self.records.append(MarkerRecord(action.eventId, self.frame.name(action), self.frame.until(action)))
 
     def dispatch(self, action):
         self.losses.add("compute dispatches")
@@ -138,10 +138,10 @@ class Gatherer:
         state = self.frame.state(self.width, self.height, losses)
         if early and not (state.depth["enable"] and state.depth["write"]):
             return
-        triangles, trouble = self.frame.triangles(action)
+        primitives, trouble = self.frame.primitives(action)
         if trouble:
             losses.add("draws without triangles: " + trouble)
-        record = DrawRecord(action.eventId, name, state, placed(triangles, state, losses), depth_alone=early)
+        record = DrawRecord(action.eventId, name, state, placed(primitives, state, losses), depth_alone=early)
         if not early:
             self.carried = True
             self.count(action)

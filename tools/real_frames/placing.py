@@ -1,8 +1,8 @@
-"""Triangles of a draw, from clip space onto the target in 1/65536 pixel."""
+"""Triangles, lines and points of a draw, from clip space onto the target in 1/65536 pixel, all as triangles."""
 import math
 from dataclasses import dataclass
 
-from .clipping import clip, planes
+from .clipping import clip, clip_line, planes
 
 PIXEL = 65536
 
@@ -37,15 +37,42 @@ def steepness(corners):
     return max(abs(along_x), abs(along_y))
 
 
-def placed(triangles, state, losses):
+def placed(primitives, state, losses):
     """Gives ((instance, primitive), three corners (x, y, depth)) of each triangle that is left after clipping."""
     shapes, kept = [], planes(state.viewport, state.clip_depth)
-    for number, corners in triangles:
-        pieces, was_cut = clip(corners, kept)
-        if was_cut and pieces:
-            losses.add("triangles cut at the near plane or far outside", "carried over in pieces")
-        for piece in pieces:
-            places = [state.viewport.place(corner) for corner in piece]
+    for number, corners in primitives:
+        for places in triangles(corners, state, kept, losses):
             bias = state.bias.of(places)
             shapes.append((number, [(round(x * PIXEL), round(y * PIXEL), z + bias) for x, y, z in places]))
     return shapes
+
+
+def triangles(corners, state, kept, losses):
+    """A primitive on the target, as triangles of three places (x, y, depth) in pixels."""
+    if len(corners) < 3:
+        losses.add("lines and points", "drawn as quads one pixel wide")
+        ends = clip_line(corners, kept)
+        return [turned(half, state.raster) for half in quad([state.viewport.place(end) for end in ends])] if ends else []
+    pieces, was_cut = clip(corners, kept)
+    if was_cut and pieces:
+        losses.add("triangles cut at the near plane or far outside", "carried over in pieces")
+    return [[state.viewport.place(corner) for corner in piece] for piece in pieces]
+
+
+def quad(ends):
+    """Two triangles along a line, one pixel wide across its longer way; round a point, a square of one pixel."""
+    if len(ends) == 1:
+        (x, y, z), = ends
+        ends = (x - 0.5, y, z), (x + 0.5, y, z)
+    (ax, ay, az), (bx, by, bz) = ends
+    dx, dy = (0, 0.5) if abs(bx - ax) >= abs(by - ay) else (0.5, 0)
+    a, b, c, d = (ax - dx, ay - dy, az), (bx - dx, by - dy, bz), (bx + dx, by + dy, bz), (ax + dx, ay + dy, az)
+    return [a, b, c], [a, c, d]
+
+
+def turned(corners, raster):
+    """A triangle of a line, which has no back: turned so that it isn't culled."""
+    (ax, ay, _), (bx, by, _), (cx, cy, _) = corners
+    clockwise = (bx - ax) * (cy - ay) - (by - ay) * (cx - ax) > 0
+    front = clockwise != raster["front_ccw"]
+    return [corners[0], corners[2], corners[1]] if front == (raster["cull"] == "front") else corners

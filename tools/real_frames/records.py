@@ -28,6 +28,7 @@ class ClearRecord:
 class MarkerRecord:
     event: int
     name: str
+    until: object = None                            # the last event of a debug group
 
 
 @dataclass

@@ -80,6 +80,12 @@ class Frame:
         return "clear" if any(pipelines.pass_clears(action, self.name(action))) else ""
 
     @staticmethod
+    def until(action):
+        """The last event of a debug group, or None where the marker is no group."""
+        inside = list(flattened(action.children))
+        return max(one.eventId for one in inside) if inside else None
+
+    @staticmethod
     def targets(action):
         return [int(output) for output in action.outputs if output != rd.ResourceId.Null()]
 
@@ -130,8 +136,8 @@ class Frame:
     def clears(self, action, width, height):
         return pipelines.clears(self, action, width, height)
 
-    def triangles(self, action):
-        return vertices.triangles(self.controller, action)
+    def primitives(self, action):
+        return vertices.primitives(self.controller, action)
 
     def reads_textures(self):
         return len(self.controller.GetPipelineState().GetReadOnlyResources(rd.ShaderStage.Pixel, False)) > 0

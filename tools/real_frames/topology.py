@@ -1,4 +1,4 @@
-"""The triangles that a list of indices stands for, by its topology."""
+"""The triangles, lines or points that a list of indices stands for, by its topology."""
 from .fault import Fault
 
 
@@ -19,7 +19,25 @@ def list_of_list(indices):
         yield tuple(indices[i:i + 3])
 
 
-WRITERS = {"TriangleList": list_of_list, "TriangleStrip": list_of_strip, "TriangleFan": list_of_fan}
+def list_of_lines(indices):
+    for i in range(0, len(indices) - 1, 2):
+        yield tuple(indices[i:i + 2])
+
+
+def list_of_line_strip(indices):
+    yield from zip(indices, indices[1:])
+
+
+def list_of_line_loop(indices):
+    yield from zip(indices, indices[1:] + indices[:1])
+
+
+def list_of_points(indices):
+    yield from ((index,) for index in indices)
+
+
+WRITERS = {"TriangleList": list_of_list, "TriangleStrip": list_of_strip, "TriangleFan": list_of_fan, "LineList": list_of_lines, "LineStrip": list_of_line_strip,
+           "LineLoop": list_of_line_loop, "PointList": list_of_points}
 
 
 def cut_at_restarts(indices, restart):
@@ -37,8 +55,8 @@ def cut_at_restarts(indices, restart):
     return [part for part in parts if part]
 
 
-def triangles(topology, indices, restart=None):
-    """Gives (primitive, (a, b, c)); a Fault where the topology has no triangles."""
+def primitives(topology, indices, restart=None):
+    """Gives (primitive, its three corners, its two ends, or its one point); a Fault for a topology that isn't known."""
     if topology not in WRITERS:
         raise Fault(f"topology {topology}")
     primitive = 0

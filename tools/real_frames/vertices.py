@@ -1,4 +1,4 @@
-"""The triangles of a draw, as RenderDoc has them behind the vertex shader, or behind geometry and tessellation where there are any."""
+"""The triangles, lines or points of a draw, as RenderDoc has them behind the vertex shader, or behind geometry and tessellation where there are any."""
 import struct
 
 import renderdoc as rd
@@ -10,8 +10,8 @@ POSITION = struct.Struct("<4f")
 INDEX = {1: "B", 2: "H", 4: "I"}
 
 
-def triangles(controller, action):
-    """[((instance, primitive), three corners (x, y, z, w))], and what was in the way, or an empty text."""
+def primitives(controller, action):
+    """[((instance, primitive), its corners (x, y, z, w): three, two or one)], and what was in the way, or an empty text."""
     pipe = controller.GetPipelineState()
     late = any(pipe.GetShader(stage) != rd.ResourceId.Null() for stage in (rd.ShaderStage.Geometry, rd.ShaderStage.Tess_Eval))
     stage = rd.MeshDataStage.GSOut if late else rd.MeshDataStage.VSOut
@@ -28,11 +28,11 @@ def triangles(controller, action):
 
 
 def of_instance(controller, pipe, data, instance, found):
-    """Adds the triangles of one instance; gives what was in the way."""
+    """Adds the primitives of one instance; gives what was in the way."""
     content = controller.GetBufferData(data.vertexResourceId, data.vertexByteOffset, 0)
     have = (len(content) - POSITION.size) // data.vertexByteStride + 1 if len(content) >= POSITION.size else 0
     corners, trouble = {}, ""
-    for primitive, names in topology.triangles(data.topology.name, *indices(controller, pipe, data)):
+    for primitive, names in topology.primitives(data.topology.name, *indices(controller, pipe, data)):
         if max(names) + data.baseVertex >= have or min(names) + data.baseVertex < 0:
             trouble = "indices beyond the vertices"
             continue
@@ -51,5 +51,5 @@ def indices(controller, pipe, data):
     content = controller.GetBufferData(data.indexResourceId, data.indexByteOffset, data.numIndices * width)
     count = len(content) // width
     found = list(struct.unpack(f"<{count}{INDEX[width]}", content[:count * width]))
-    restarts = pipe.IsRestartEnabled() and data.topology.name != "TriangleList"
+    restarts = pipe.IsRestartEnabled() and not data.topology.name.endswith("List")
     return found, pipe.GetRestartIndex() & ((1 << 8 * width) - 1) if restarts else None

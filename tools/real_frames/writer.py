@@ -53,7 +53,8 @@ class Writer:
                 "depth_scale": {"low": self.scale.low, "high": self.scale.high}, "losses": self.losses.entries(), "events": self.events}
 
     def mark(self, record):
-        self.add("marker", {"event": record.event, "name": record.name}, name=label(record.name))
+        until = {} if record.until is None else {"until": record.until}
+        self.add("marker", {"event": record.event, "name": record.name, **until}, name=label(record.name))
 
     def add(self, kind, source, **members):
         self.events.append({"kind": kind, **members, "source": source})
