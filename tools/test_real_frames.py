@@ -341,6 +341,29 @@ class Frames(unittest.TestCase):
         converted(frame, made_up, Wanted(with_alone=False))
         self.assertEqual(made_up.counts["blended draws whose alpha is made up"], 2)
 
+    def test_added_so_brightly_that_twice_is_cut_off(self):
+        frame = StandIn(clear(1, (20, 30, 40, 255)), draw(2, quad(2, 2, 16, 12, .5, (200, 150, 215, 9)), state(blend=ADDED)))
+        self.same(frame, converted(frame), 1)
+
+    def test_the_brighter_of_two(self):
+        """Under it lies a step of colours: what is darker than it is the draw's own, what is brighter hides it."""
+        brighter = ("One", "One", "Maximum"), ("One", "One", "Maximum")
+        frame = StandIn(clear(1, GREY), draw(2, quad(0, 0, 9, 16, .5, (200, 20, 100, 255))), draw(3, quad(2, 2, 16, 12, .5, (150, 150, 20, 90)), state(blend=brighter)))
+        self.same(frame, converted(frame), 1)
+
+    def test_channels_that_aren_t_written_tell_nothing(self):
+        frame = StandIn(clear(1, GREY), draw(2, quad(0, 0, 9, 16, .5, (200, 20, 100, 255))), draw(3, quad(2, 2, 16, 12, .5, (1, 2, 77, 90)), state(mask=4)))
+        capture = converted(frame, detail=Detail(2, 4))
+        self.assertEqual({tuple(vertex["color"]) for vertex in capture["events"][-1]["vertices"]}, {(0, 0, 77, 0)})
+        self.same(frame, capture)
+
+    def test_a_viewport_that_is_smaller_is_told(self):
+        view = Viewport(4, 2, 10, 8)
+        own = state(scissor=[4, 2, 14, 10])
+        own.viewport = view
+        frame = StandIn(clear(1, GREY), Action(2, "draw", "draw()", state=own, triangles=[((0, 0), ((-3, -3, 0, 1), (3, -3, 0, 1), (-3, 3, 0, 1)))]))
+        self.assertEqual(converted(frame)["events"][-1]["source"]["viewport"], [4, 2, 14, 10])
+
     def test_two_layers_of_one_draw(self):
         glass = (200, 100, 40, 128)
         frame = StandIn(clear(1, GREY), draw(2, quad(2, 2, 16, 12, .5, glass) + quad(9, 4, 22, 15, .5, glass), state(blend=OVER)))

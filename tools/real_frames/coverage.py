@@ -18,9 +18,11 @@ def white(draw):
 
 
 def covered(framedbg, capture, places):
-    """Without any test: each triangle, culled or not."""
-    events = [states.raster("none", False, False), *(white(capture["events"][at]) for at in places)]
-    return program.marked(framedbg, dict(capture, events=events))
+    """Without any test: each triangle, culled or not, as far as the viewport goes."""
+    events, view = [states.raster("none", False, False)], capture["events"][places[0]]["source"].get("viewport")
+    if view:
+        events = [states.raster("none", False, True), {"kind": "scissor", "rect": view}]
+    return program.marked(framedbg, dict(capture, events=events + [white(capture["events"][at]) for at in places]))
 
 
 def passing(framedbg, capture, places):

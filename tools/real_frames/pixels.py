@@ -40,7 +40,7 @@ class DrawPixels:
         if not self.blend["enable"]:
             if self.owner[at] != number:
                 return None, None
-            return self.counted("same" if was == now else "single", tuple(now))
+            return self.counted("same" if was == now else "single", self.masked(now))
         if not self.alone:
             if was == now:
                 return self.counted("same", NOTHING if self.blend["rgb"][1] != "ZERO" else tuple(now))
@@ -53,6 +53,11 @@ class DrawPixels:
             return self.counted(None, None)
         return self.counted("single" if self.layers[at] == 1 else "shared", colour)
 
+    def masked(self, colour):
+        """A colour with zeros in the channels that aren't written, since nothing tells what the draw's own are."""
+        mask = self.blend["mask"]
+        return tuple(colour) if mask == 15 else tuple(value if mask >> channel & 1 else 0 for channel, value in enumerate(colour))
+
     def counted(self, kind, colour):
         self.total += 1
         self.unchanged += kind == "same"
@@ -60,5 +65,6 @@ class DrawPixels:
 
     def worked_out(self, pixel):
         if pixel not in self.known:
-            self.known[pixel] = source_of(self.blend, self.times, pixel)
+            found = source_of(self.blend, self.times, pixel)
+            self.known[pixel] = found and self.masked(found)
         return self.known[pixel]

@@ -87,8 +87,10 @@ class Pixel:
 
 def source_of(blend, times, pixel):
     """The source's (r, g, b, a), or None where nothing can be known."""
-    if not blend["enable"] or blend["rgb"][2] in ("MIN", "MAX", "REV_SUBTRACT"):
+    if not blend["enable"] or blend["rgb"][2] in ("MIN", "REV_SUBTRACT"):
         return tuple(pixel.after)
+    if blend["rgb"][2] == "MAX":
+        return tuple(pixel.alone)
     source, destination, _ = blend["rgb"]
     if source in ("ZERO", "DEST_COLOR", "DEST_ALPHA"):
         return plainest(blend, pixel.before, pixel.after) if max(pixel.before[:3]) >= 8 else None
@@ -101,7 +103,17 @@ def source_of(blend, times, pixel):
     share = shown(alpha, drawn) if is_composite(blend) else drawn if destination == "ONE" else 1
     if source == "SRC_ALPHA":
         share *= alpha
-    return tuple(min(v / share, 255) if v and share > 1e-6 else 0 for v in pixel.alone[:3]) + (255 * alpha,)
+    if share <= 1e-6:
+        return 0, 0, 0, 255 * alpha
+    return tuple(min(undone(destination, times, pixel, channel) / share, 255) for channel in range(3)) + (255 * alpha,)
+
+
+def undone(destination, times, pixel, channel):
+    """What the layers left of a channel alone; where that is cut off at 255, and the draw adds, what they added to what was there."""
+    own = pixel.alone[channel]
+    if own == 255 and destination == "ONE":
+        return max(own, (pixel.after[channel] - pixel.before[channel]) * times)
+    return own
 
 
 def alpha_of(blend, drawn, pixel):

@@ -10,6 +10,7 @@ from .pieces import Piece, place
 from .placing import PIXEL
 from .raster import FARTHEST, DepthTarget
 from .records import ClearRecord, DrawRecord, MarkerRecord, PictureRecord
+from .viewport import meet
 
 MOST_TRIANGLES = MOST_CORNERS // 3
 NO_COLOUR = (0, 0, 0, 0)
@@ -111,6 +112,9 @@ class Writer:
     def draw(self, record):
         state = record.state
         source = {"event": record.event, "name": record.name}
+        view = meet(state.viewport.box(), [0, 0, self.width, self.height])
+        if view != [0, 0, self.width, self.height]:
+            source["viewport"] = view
         if record.depth_alone:
             self.log.set(states.plain(0), source)
         else:
