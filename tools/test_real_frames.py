@@ -520,6 +520,14 @@ class Machines(unittest.TestCase):
         with mock.patch.object(module, "is_here", lambda: False), mock.patch.object(module, "SYSTEM_S_PYTHON", str(self.folder / "python3")):
             self.assertFalse(module.run_by_its_python())
 
+    def test_an_end_by_a_driver_is_told(self):
+        for how, wanted in (("os.kill(os.getpid(), 11)", (1, "", "tool: RenderDoc or the driver ended the process by SIGSEGV; try again\n")),
+                            ("print('made')", (0, "made\n", "")), ("sys.exit('tool: why')", (1, "", "tool: why\n")), ("sys.exit(2)", (2, "", "")),
+                            ("open('/dev/full', 'w').write('a' * 99999)", (1, "", "tool: [Errno 28] No space left on device\n"))):
+            script = f"import os, sys\nsys.path.insert(0, {str(pathlib.Path(module.__file__).parent.parent)!r})\nfrom real_frames import module\nmodule.guarded('tool', lambda: {how})"
+            told = subprocess.run([sys.executable, "-c", script], capture_output=True, text=True)
+            self.assertEqual((told.returncode, told.stdout, told.stderr), wanted)
+
     def test_help_and_wrong_words(self):
         for tool in ("renderdoc_to_capture", "take_frame", "compare_coverage", "compare_history"):
             told = subprocess.run([sys.executable, TOOLS / tool, "--help"], capture_output=True, text=True)

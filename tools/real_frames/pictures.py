@@ -52,7 +52,7 @@ class Pictures:
     def marked(self, target, kind):
         """The pixels that an overlay marks, as a byte of 0 or 1 for each: those that the draw covers, or at which it passes."""
         texture = self.textures[target]
-        self.show(target, OVERLAYS[kind], True)
+        self.show(target, OVERLAYS[kind])
         content = self.controller.GetTextureData(self.output.GetDebugOverlayTexID(), WHOLE)
         self.show_nothing(target)
         size = texture.width * texture.height
@@ -66,34 +66,25 @@ class Pictures:
         return self.upright(both.to_bytes(size, "little"), texture.width)
 
     def alone(self, target):
-        """What the draw that was gone to gives on a target cleared to zeros: RGBA, rows from the top."""
-        self.show(target, rd.DebugOverlay.ClearBeforeDraw, True)
-        colour = self.output.ReadbackOutputTexture()
-        self.show(target, rd.DebugOverlay.ClearBeforeDraw, False)
-        alpha = self.output.ReadbackOutputTexture()
-        result = bytearray(len(colour) // 3 * 4)
-        for channel in range(3):
-            result[channel::4] = colour[channel::3]
-        result[3::4] = alpha[0::3]
+        """What the draw that was gone to gives on a target cleared to zeros: the overlay draws that on the very target."""
+        self.show(target, rd.DebugOverlay.ClearBeforeDraw)
+        result = self.of(target)
         self.show_nothing(target)
-        return bytes(result)
+        return result
 
     def show_nothing(self, target):
         """Takes the overlay away: an output that keeps one draws it anew at each step, on the very target that is read afterward."""
-        self.show(target, rd.DebugOverlay.NoOverlay, True)
+        self.show(target, rd.DebugOverlay.NoOverlay)
 
-    def show(self, target, overlay, colours):
+    def show(self, target, overlay):
         texture = self.textures[target]
         if self.output is None:
             self.output = self.controller.CreateOutput(rd.CreateHeadlessWindowingData(texture.width, texture.height), rd.ReplayOutputType.Texture)
         display = rd.TextureDisplay()
         display.resourceId = texture.resourceId
         display.overlay = overlay
-        display.red = display.green = display.blue = colours
-        display.alpha = not colours
         display.scale = 1.0
         display.rangeMin, display.rangeMax = 0.0, 1.0
-        display.linearDisplayAsGamma = True     # a headless output is sRGB; this takes that back
         display.typeCast = rd.CompType.Typeless
         display.subresource = WHOLE
         display.backgroundColor = rd.FloatVector(0, 0, 0, 0)
