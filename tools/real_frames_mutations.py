@@ -75,6 +75,8 @@ MUTATIONS = [   # name, file, text, what stands there instead, test
     ("gather: copies aren't laid", "gather.py", "        if onto and not self.is_early(action):", "        if False:", "Frames.test_other_targets_copies_and_dispatches_are_counted"),
     ("gather: draws of all targets", "gather.py", "return self.target in self.frame.targets(action)", "return True", "Frames.test_other_targets_copies_and_dispatches_are_counted"),
     ("gather: a fault names no event", "gather.py", 'raise Fault(f"event {action.eventId}, {self.frame.name(action)}: {fault}") from None', "raise", "Frames.test_a_fault_names_its_event"),
+    ("names: they steer the terminal", "names.py", 'c if c.isprintable() else "?"', "c", "Names"),
+    ("names: endless", "names.py", "str(text)[:MOST]", "str(text)", "Names"),
     ("grid: its last column is left out", "grid.py", "for x0, x1 in ((left, middle), (middle, right)):", "for x0, x1 in ((left, middle), (middle, right - 1)):", "Grids"),
     ("coverage: red on the wrong side", "coverage.py", "bool(theirs[at])", "bool(ours[at])", "Agreements"),
     ("coverage: in either, not in both", "coverage.py", "self.both += (a & b).bit_count()", "self.both += (a | b).bit_count()", "Agreements"),

@@ -22,6 +22,7 @@ from real_frames.display import Display
 from real_frames.fault import Fault
 from real_frames.gather import Gatherer, Wanted
 from real_frames.losses import Losses
+from real_frames.names import printable
 from real_frames.painter import Detail
 from real_frames.pieces import Piece, is_shared_out
 from real_frames.placing import PIXEL, Bias, placed
@@ -468,6 +469,12 @@ class Grids(unittest.TestCase):
 
     def test_one_colour_is_few_cells(self):
         self.assertEqual(list(grid.cells(bytes(GREY) * (64 * 64), 64, 64)), [((0, 0, 64, 64), [GREY] * 4)])
+
+
+class Names(unittest.TestCase):
+    def test_nothing_steers_a_terminal(self):
+        self.assertEqual(printable("a\x1b[2J\u202eb\n é"), "a?[2J?b? é")
+        self.assertEqual(len(printable("x" * 5000)), 200)
 
 
 class Agreements(unittest.TestCase):

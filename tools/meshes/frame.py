@@ -1,8 +1,6 @@
 """The events that draw a model: a backdrop, and each part with its state; and the bugs that may be planted in one of them."""
 from dataclasses import dataclass
 
-from captures import label
-
 from .camera import depth_of, lit, looked_at, normal
 from .model import Fault
 
@@ -140,7 +138,8 @@ def vertex(x, y, distance, colour, deep):
 
 
 def marker(name):
-    return {"kind": "marker", "name": label(name)}
+    name = "".join(c for c in name if ord(c) >= 32 and ord(c) != 127)
+    return {"kind": "marker", "name": name.encode()[:64].decode(errors="ignore")}
 
 
 def backdrop(width, height, deep):

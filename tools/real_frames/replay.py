@@ -6,6 +6,7 @@ import renderdoc as rd
 from . import pipelines, vertices
 from .fault import Fault
 from .gather import IN_SRGB, MULTISAMPLED
+from .names import printable
 from .pictures import Pictures
 
 KINDS = [   # the first that an action's flags have
@@ -71,7 +72,7 @@ class Frame:
         return self.controller.GetAPIProperties().pipelineType == rd.GraphicsAPI.OpenGL
 
     def name(self, action):
-        return action.GetName(self.names)
+        return printable(action.GetName(self.names))
 
     def kind(self, action):
         for kind, flags in KINDS:

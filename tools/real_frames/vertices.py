@@ -5,6 +5,7 @@ import renderdoc as rd
 
 from . import topology
 from .fault import Fault
+from .names import printable
 
 POSITION = struct.Struct("<4f")
 INDEX = {1: "B", 2: "H", 4: "I"}
@@ -19,7 +20,7 @@ def primitives(controller, action):
     for instance in range(max(action.numInstances, 1)):
         data = controller.GetPostVSData(instance, 0, stage)
         if data.vertexResourceId == rd.ResourceId.Null():
-            return found, data.status or "no vertices behind the vertex shader"
+            return found, printable(data.status) or "no vertices behind the vertex shader"
         try:
             trouble = of_instance(controller, pipe, data, instance, found) or trouble
         except Fault as fault:
