@@ -43,7 +43,7 @@ class Pictures:
             return struct.unpack_from("<H", content, at * 2)[0] / 0xffff
         if texture.format.type == rd.ResourceFormatType.Regular and width == 4:
             return struct.unpack_from("<f", content, at * 4)[0]
-        if texture.format.type == rd.ResourceFormatType.D24S8:
+        if texture.format.type == rd.ResourceFormatType.D24S8 or width == 3:
             return (struct.unpack_from("<I", content, at * 4)[0] & 0xffffff) / 0xffffff
         if texture.format.type == rd.ResourceFormatType.D32S8:
             return struct.unpack_from("<f", content, at * 8)[0]
