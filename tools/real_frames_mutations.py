@@ -64,6 +64,7 @@ MUTATIONS = [   # name, file, text, what stands there instead, test
     ("labels: 65 bytes", "../captures.py", "MOST_NAME = 16384, 1_000_000, 196_608, 67_108_864, 64", "MOST_NAME = 16384, 1_000_000, 196_608, 67_108_864, 65", "Frames.test_each_event_knows_its_call"),
     ("pixels: the first of two triangles shows", "pixels.py", "self.owner[at] = number", "self.owner.setdefault(at, number)", "Frames.test_two_triangles_of_a_draw_over_each_other"),
     ("pixels: what was there counts", "pixels.py", 'self.counted("same" if was == now else "single", self.masked(now))', 'self.counted("single", self.masked(was))', "Frames.test_opaque_draws_with_depth_scissor_and_mask"),
+    ("pixels: a dark rim", "pixels.py", '(*now[:3], 0) if source == "SRC_ALPHA" else NOTHING', "NOTHING", "Frames.test_a_made_up_alpha_leaves_no_dark_rim"),
     ("painter: nothing is cut", "painter.py", "if self.detail.most is None or", "if True or", "Frames.test_detail_brings_a_step_of_colour"),
     ("painter: several passes are cut", "painter.py", "if is_deep and self.passes[piece.root] > 1:", "if False:", "Frames.test_triangles_of_several_passes_stay_whole"),
     ("gather: nothing lies there before", "gather.py", "        if not self.touched:\n            self.frame.go(self.before)", "        if False:\n            self.frame.go(self.before)",

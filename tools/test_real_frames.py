@@ -365,6 +365,14 @@ class Frames(unittest.TestCase):
         frame = StandIn(clear(1, GREY), Action(2, "draw", "draw()", state=own, triangles=[((0, 0), ((-3, -3, 0, 1), (3, -3, 0, 1), (-3, 3, 0, 1)))]))
         self.assertEqual(converted(frame)["events"][-1]["source"]["viewport"], [4, 2, 14, 10])
 
+    def test_a_made_up_alpha_leaves_no_dark_rim(self):
+        """A draw that shows white at its left and nothing at its right, where it can't be drawn alone."""
+        white, own = (255, 255, 255, 255), state(blend=OVER)
+        half = draw(2, quad(2, 2, 9, 12, .5, white), own)
+        half.triangles = draw(2, quad(2, 2, 16, 12, .5, white)).triangles
+        made = image_of(converted(StandIn(clear(1, GREY), half), wanted=Wanted(with_alone=False)))
+        self.assertGreaterEqual(min(made[0::4]), GREY[0] - 2)
+
     def test_two_layers_of_one_draw(self):
         glass = (200, 100, 40, 128)
         frame = StandIn(clear(1, GREY), draw(2, quad(2, 2, 16, 12, .5, glass) + quad(9, 4, 22, 15, .5, glass), state(blend=OVER)))

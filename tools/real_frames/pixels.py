@@ -43,7 +43,7 @@ class DrawPixels:
             return self.counted("same" if was == now else "single", self.masked(now))
         if not self.alone:
             if was == now:
-                return self.counted("same", NOTHING if self.blend["rgb"][1] != "ZERO" else tuple(now))
+                return self.counted("same", self.unseen(now))
             return self.counted("single" if self.owner[at] == number else None, sources.plainest(self.blend, was, now))
         own = self.alone[4 * at:4 * at + 4]
         if was == now and not any(own[:3]):
@@ -52,6 +52,11 @@ class DrawPixels:
         if colour is None:
             return self.counted(None, None)
         return self.counted("single" if self.layers[at] == 1 else "shared", colour)
+
+    def unseen(self, now):
+        """A source that leaves a pixel as it is: with no alpha, and not darker than what it lies beside, where colours are multiplied by alpha."""
+        source, destination, _ = self.blend["rgb"]
+        return tuple(now) if destination == "ZERO" else (*now[:3], 0) if source == "SRC_ALPHA" else NOTHING
 
     def masked(self, colour):
         """A colour with zeros in the channels that aren't written, since nothing tells what the draw's own are."""
