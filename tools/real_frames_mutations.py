@@ -83,6 +83,7 @@ MUTATIONS = [   # name, file, text, what stands there instead, test
     ("coverage: in either, not in both", "coverage.py", "self.both += (a & b).bit_count()", "self.both += (a | b).bit_count()", "Agreements"),
     ("coverage: alpha counts", "coverage.py", "first[at:at + 3] != second[at:at + 3] and max(", "True and 99 * (first[at + 3] != second[at + 3]) + max(", "Agreements"),
     ("an end by a driver is silent", "module.py", "    if os.WIFSIGNALED(status):", "    if False:", "Machines.test_an_end_by_a_driver_is_told"),
+    ("an orphan goes on", "module.py", "        end_with_parent()\n", "", "Machines.test_no_orphan"),
     ("screen: left running", "display.py", "            self.process.terminate()\n", "            return\n", "Machines.test_a_screen_of_one_s_own_is_ended"),
     ("screen: another one beside it", "display.py", '        if os.environ.get("DISPLAY"):', "        if False:", "Machines.test_a_screen_that_is_there_is_taken"),
 ]

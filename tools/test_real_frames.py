@@ -543,6 +543,15 @@ class Machines(unittest.TestCase):
             told = subprocess.run([sys.executable, "-c", script], capture_output=True, text=True)
             self.assertEqual((told.returncode, told.stdout, told.stderr), wanted)
 
+    def test_no_orphan(self):
+        """The process of the tool itself ends with the one that guards it: the other end of its pipe is closed then."""
+        script = f"import sys, time\nsys.path.insert(0, {str(pathlib.Path(module.__file__).parent.parent)!r})\nfrom real_frames import module\n"
+        script += "def main():\n    print('here', flush=True)\n    time.sleep(20)\n    print('late', flush=True)\nmodule.guarded('tool', main)"
+        with subprocess.Popen([sys.executable, "-c", script], stdout=subprocess.PIPE) as process:
+            self.assertEqual(process.stdout.readline(), b"here\n")
+            process.kill()
+            self.assertEqual(process.stdout.read(), b"")
+
     def test_help_and_wrong_words(self):
         for tool in ("renderdoc_to_capture", "take_frame", "compare_coverage", "compare_history"):
             told = subprocess.run([sys.executable, TOOLS / tool, "--help"], capture_output=True, text=True)

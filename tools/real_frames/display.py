@@ -1,20 +1,14 @@
 """A screen for programs that want one: the one that is there, else an Xvfb of one's own."""
-import ctypes
 import os
 import select
 import shutil
-import signal
 import subprocess
 
 from .fault import Fault
+from .orphans import end_with_parent
 
 PATIENCE = 30                   # seconds until an Xvfb has to be up
 SIZE = "1280x1024x24"
-END_WITH_PARENT = 1             # prctl's word for: send me a signal when my parent has ended
-
-
-def end_with_parent():
-    ctypes.CDLL(None).prctl(END_WITH_PARENT, signal.SIGTERM)
 
 
 class Display:

@@ -4,6 +4,8 @@ import signal
 import sys
 import traceback
 
+from .orphans import end_with_parent
+
 SYSTEM_S_PYTHON = "/usr/bin/python3"
 ENDED = "RenderDoc or the driver ended the process"
 MISSING = "RenderDoc's Python module isn't here; on Debian: apt install renderdoc python3-renderdoc"
@@ -32,6 +34,7 @@ def guarded(tool, main):
     """Runs a tool in a process of its own, so that a line tells where RenderDoc or a driver ended it; ends with its status."""
     child = os.fork()
     if child == 0:
+        end_with_parent()
         os._exit(status_of(tool, main))
     try:
         status = os.waitpid(child, 0)[1]
