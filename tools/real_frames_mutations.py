@@ -59,6 +59,7 @@ MUTATIONS = [   # name, file, text, what stands there instead, test
     ("writer: depths aren't spread", "writer.py", "self.low = max(min(depths, default=0.0), 0.0)", "self.low = 0.0", "Frames.test_depths_are_spread_and_keep_their_order"),
     ("writer: a rectangle is cleared whole", "writer.py", "box = record.rectangle or [0, 0,", "box = [0, 0,", "Frames.test_clears_of_a_rectangle_and_of_some_channels"),
     ("writer: no primitives", "writer.py", '"primitives": [list(piece.number) for piece in part]', '"primitives": [[0, 0] for piece in part]', "Frames.test_each_event_knows_its_call"),
+    ("writer: no corner is shared", "writer.py", "enumerate(dict.fromkeys(corners))}", "enumerate(corners)}", "Frames.test_neighbours_share_their_corners"),
     ("writer: no losses", "writer.py", '"losses": self.losses.entries()', '"losses": []', "Frames.test_losses_stand_in_the_capture"),
     ("labels: control characters", "../captures.py", 'c for c in name if c >= " " and c != "\\x7f"', "c for c in name", "Frames.test_each_event_knows_its_call"),
     ("labels: 65 bytes", "../captures.py", "MOST_NAME = 16384, 1_000_000, 196_608, 67_108_864, 64", "MOST_NAME = 16384, 1_000_000, 196_608, 67_108_864, 65", "Frames.test_each_event_knows_its_call"),

@@ -387,7 +387,7 @@ class Frames(unittest.TestCase):
         frame.go(3)
         far = [sum(abs(a - b) > 8 for a, b in zip(image_of(capture), frame.picture(TARGET))) for capture in (rough, fine)]
         self.assertGreater(far[0], 4 * far[1])
-        self.assertGreater(len(fine["events"][-1]["vertices"]), 30)
+        self.assertGreater(len(fine["events"][-1]["indices"]), 30)
         self.assertEqual({tuple(number) for number in fine["events"][-1]["source"]["primitives"]}, {(0, 0), (0, 1)})
 
     def test_triangles_of_several_passes_stay_whole(self):
@@ -395,7 +395,7 @@ class Frames(unittest.TestCase):
         two[1].truth = draw(3, quad(0, 0, 11, 16, .5, GREEN) + quad(11, 0, 24, 16, .5, BLUE), state(depth=(True, True, "LESS_EQUAL"))).truth
         losses = Losses()
         capture = converted(StandIn(clear(1, GREY, 1.0), *two), losses, detail=Detail(2, 4))
-        self.assertEqual(len(capture["events"][-1]["vertices"]), 6)
+        self.assertEqual(len(capture["events"][-1]["indices"]), 6)
         self.assertEqual(losses.counts["triangles not cut for detail"], 2)
 
     def test_clears_of_a_rectangle_and_of_some_channels(self):
@@ -455,6 +455,10 @@ class Frames(unittest.TestCase):
         frame.primitives = broken
         with self.assertRaisesRegex(Fault, r"event 5, draw\(\): no such buffer"):
             converted(frame)
+
+    def test_neighbours_share_their_corners(self):
+        capture = converted(StandIn(clear(1, GREY), draw(2, quad(2, 2, 20, 12, .5, RED))))
+        self.assertEqual((len(capture["events"][-1]["vertices"]), capture["events"][-1]["indices"]), (4, [0, 1, 2, 0, 2, 3]))
 
     def test_depths_are_spread_and_keep_their_order(self):
         near = StandIn(clear(1, GREY, 1.0), draw(2, quad(2, 2, 20, 12, .90001, RED), state(depth=TESTED)), draw(3, quad(1, 1, 23, 14, .90002, BLUE), state(depth=TESTED)))

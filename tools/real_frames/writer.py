@@ -134,8 +134,10 @@ class Writer:
     def add_triangles(self, pieces, source):
         for start in range(0, len(pieces), MOST_TRIANGLES):
             part = pieces[start:start + MOST_TRIANGLES]
-            vertices = [vertex(x, y, z, colour) for piece in part for (x, y, z), colour in zip(piece.corners, piece.colours)]
-            self.add("draw", {**source, "primitives": [list(piece.number) for piece in part]}, interp="linear", vertices=vertices)
+            corners = [(*corner, tuple(colour)) for piece in part for corner, colour in zip(piece.corners, piece.colours)]
+            numbers = {corner: number for number, corner in enumerate(dict.fromkeys(corners))}      # neighbours share corners
+            self.add("draw", {**source, "primitives": [list(piece.number) for piece in part]}, interp="linear",
+                     vertices=[vertex(*corner) for corner in numbers], indices=[numbers[corner] for corner in corners])
 
     def passing(self, record):
         """The triangles that cover a pixel, each with the spans at which it passes."""
