@@ -33,7 +33,7 @@ class Pictures:
         return b"".join(content[at:at + row] for at in range(len(content) - row, -1, -row))
 
     def depth_value(self, depth_target, x, y):
-        """The depth at a pixel, 0 to 1. PickPixel ends the process on lavapipe's D16 (RenderDoc 1.24), so its formats are read whole."""
+        """The depth at a pixel, 0 to 1. PickPixel ends the process on lavapipe's depths of 16 bits (RenderDoc 1.24), so those are read whole."""
         if self.lowest_row_first:
             return self.controller.PickPixel(depth_target, x, y, WHOLE, rd.CompType.Typeless).floatValue[0]
         texture = self.textures[int(depth_target)]
