@@ -32,7 +32,7 @@ class Frame:
             with open(self.path, "rb"):
                 pass
         except OSError as fault:
-            raise Fault(fault.strerror) from None
+            raise Fault(f"{self.path}: {fault.strerror}") from None
         rd.InitialiseReplay(rd.GlobalEnvironment(), [])
         try:
             self.open()
@@ -45,16 +45,16 @@ class Frame:
         self.file = rd.OpenCaptureFile()
         result = self.file.OpenFile(self.path, "", None)
         if result != rd.ResultCode.Succeeded:
-            raise Fault(f"no frame of RenderDoc's: {result.Message()}")
+            raise Fault(f"{self.path}: no frame of RenderDoc's: {result.Message()}")
         if self.file.LocalReplaySupport() != rd.ReplaySupport.Supported:
-            raise Fault(f"a frame of {self.file.DriverName()} can't be replayed on this machine")
+            raise Fault(f"{self.path}: a frame of {self.file.DriverName()} can't be replayed on this machine")
         result, controller = self.file.OpenCapture(rd.ReplayOptions(), None)
         if result != rd.ResultCode.Succeeded:
             hint = "" if os.environ.get("DISPLAY") else "; OpenGL wants a screen, and DISPLAY names none"
-            raise Fault(f"it can't be replayed here: {result.Message()}{hint}")
+            raise Fault(f"{self.path}: it can't be replayed here: {result.Message()}{hint}")
         self.controller = controller
         if controller.GetAPIProperties().pipelineType not in pipelines.READERS:
-            raise Fault(f"a frame of {self.file.DriverName()}: only OpenGL, OpenGL ES and Vulkan are read")
+            raise Fault(f"{self.path}: a frame of {self.file.DriverName()}: only OpenGL, OpenGL ES and Vulkan are read")
         self.names = controller.GetStructuredFile()
         self.actions = list(flattened(controller.GetRootActions()))
         self.textures = {int(texture.resourceId): texture for texture in controller.GetTextures()}
