@@ -14,6 +14,10 @@ KINDS = [   # the first that an action's flags have
     ("clear", rd.ActionFlags.Clear), ("dispatch", rd.ActionFlags.Dispatch), ("copy", rd.ActionFlags.Copy | rd.ActionFlags.Resolve)]
 
 
+def in_a_line(result):
+    return printable(" ".join(result.Message().split()))
+
+
 def flattened(actions):
     for action in actions:
         yield action
@@ -45,13 +49,13 @@ class Frame:
         self.file = rd.OpenCaptureFile()
         result = self.file.OpenFile(self.path, "", None)
         if result != rd.ResultCode.Succeeded:
-            raise Fault(f"{self.path}: no frame of RenderDoc's: {result.Message()}")
+            raise Fault(f"{self.path}: no frame of RenderDoc's: {in_a_line(result)}")
         if self.file.LocalReplaySupport() != rd.ReplaySupport.Supported:
             raise Fault(f"{self.path}: a frame of {self.file.DriverName()} can't be replayed on this machine")
         result, controller = self.file.OpenCapture(rd.ReplayOptions(), None)
         if result != rd.ResultCode.Succeeded:
             hint = "" if os.environ.get("DISPLAY") else "; OpenGL wants a screen, and DISPLAY names none"
-            raise Fault(f"{self.path}: it can't be replayed here: {result.Message()}{hint}")
+            raise Fault(f"{self.path}: it can't be replayed here: {in_a_line(result)}{hint}")
         self.controller = controller
         if controller.GetAPIProperties().pipelineType not in pipelines.READERS:
             raise Fault(f"{self.path}: a frame of {self.file.DriverName()}: only OpenGL, OpenGL ES and Vulkan are read")
