@@ -422,6 +422,14 @@ class Frames(unittest.TestCase):
         frame.actions.pop()
         self.same(frame, capture)
 
+    def test_a_part_without_a_depth_test_reads_nothing_of_what_comes_before(self):
+        frame, gone = StandIn(clear(1, GREY, 1.0), *(draw(event, quad(3, 2, 15, 12, .5, RED), state(depth=TESTED)) for event in range(2, 9)),
+                              draw(9, quad(8, 5, 22, 15, .7, BLUE))), set()
+        go = frame.go
+        frame.go = lambda event: (gone.add(event), go(event))
+        self.same(frame, converted(frame, wanted=Wanted(9)))
+        self.assertEqual(gone, {8, 9})
+
     def test_a_part_without_draws(self):
         with self.assertRaisesRegex(Fault, "nothing is drawn on target 7"):
             converted(self.opaque(), wanted=Wanted(20, 30))

@@ -33,12 +33,22 @@ class Gatherer:
         self.all = sum(1 for action in frame.actions if frame.kind(action) == "draw" and self.is_here(action))
 
     def gather(self):
+        """The records of the part that is wanted, behind those that bring the depths of what comes before it, where it has a depth test."""
         for note, count in self.frame.notes(self.target).items():
             self.losses.add(note, count=count)
+        early = [action for action in self.frame.actions if self.is_early(action)]
+        self.before = early[-1].eventId if early else 0
+        self.walk(action for action in self.frame.actions if self.wanted.first <= action.eventId <= self.wanted.last)
+        if not self.carried:
+            raise Fault(f"nothing is drawn on target {self.target} between the events that are wanted")
+        records, self.records = self.records, []
+        if any(isinstance(record, DrawRecord) and record.state.depth["enable"] for record in records):
+            self.walk(early)
+        return self.records + records
+
+    def walk(self, actions):
         readers = {"draw": self.draw, "clear": self.clear, "marker": self.mark, "dispatch": self.dispatch, "copy": self.copy}
-        for action in self.frame.actions:
-            if action.eventId > self.wanted.last:
-                break
+        for action in actions:
             reader = readers.get(self.frame.kind(action))
             if reader:
                 try:
@@ -46,9 +56,6 @@ class Gatherer:
                 except Fault as fault:
                     raise Fault(f"event {action.eventId}, {self.frame.name(action)}: {fault}") from None
             self.before = action.eventId
-        if not self.carried:
-            raise Fault(f"nothing is drawn on target {self.target} between the events that are wanted")
-        return self.records
 
     def is_here(self, action):
         return self.target in self.frame.targets(action)
@@ -61,12 +68,15 @@ class Gatherer:
             self.records.append(MarkerRecord(action.eventId, self.frame.name(action), self.frame.until(action)))
 
     def dispatch(self, action):
-        self.losses.add("compute dispatches")
+        if not self.is_early(action):
+            self.losses.add("compute dispatches")
 
     def copy(self, action):
+        if self.is_early(action):
+            return
         onto = self.frame.copied_onto(action) == self.target
         self.losses.add("copies and resolves onto the target" if onto else "copies and resolves onto other textures")
-        if onto and not self.is_early(action):
+        if onto:
             self.frame.go(action.eventId)
             self.lay(action)
 
@@ -85,7 +95,8 @@ class Gatherer:
 
     def clear(self, action):
         if not self.is_here(action):
-            self.losses.add("clears of other targets")
+            if not self.is_early(action):
+                self.losses.add("clears of other targets")
             return
         self.frame.go(action.eventId)
         record = self.cleared(action)
@@ -124,11 +135,12 @@ class Gatherer:
     # Draws.
 
     def draw(self, action):
+        early = self.is_early(action)
         if not self.is_here(action):
-            self.losses.add("draws on other targets")
+            if not early:
+                self.losses.add("draws on other targets")
             return
         self.done += 1
-        early = self.is_early(action)
         if not early:
             self.lay_what_was_there(action)
         self.frame.go(action.eventId)
