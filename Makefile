@@ -13,7 +13,7 @@ SAMPLE := examples/house.json
 PREFIX ?= /usr/local
 HOME_OF := $(DESTDIR)$(PREFIX)
 
-.PHONY: all bench demo install page program test test-fdb test-page test-viewer try uninstall view
+.PHONY: all bench demo install page program test take-frames test-fdb test-frames test-page test-viewer try uninstall view
 
 all: demo
 
@@ -50,6 +50,16 @@ test-fdb: $(PROGRAM)
 	tools/test_client.py
 	tools/test_fdb.py
 	tools/fdb_mutations.py client moves breakpoints scripts
+
+test-frames: $(PROGRAM)
+	tools/test_captures.py
+	tools/test_real_frames.py
+	tools/real_frames_mutations.py
+	tools/check_real_hunt
+
+# takes frames of running programs anew, and compares them with what RenderDoc tells of them; docs/REAL_FRAMES.md says what has to be there
+take-frames: $(PROGRAM)
+	tools/check_frames
 
 test-viewer: $(PROGRAM)
 	tools/test_explain.py

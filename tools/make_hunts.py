@@ -9,12 +9,12 @@ these files. The images take some minutes: reference.py works pixel by pixel. Wi
 none are, and the lists alone are written.
 """
 import concurrent.futures
-import json
 import pathlib
 import subprocess
 import sys
 
 sys.path.insert(0, str(pathlib.Path(__file__).resolve().parent))
+from captures import text   # noqa: E402
 from hunts.frames import FRAMES   # noqa: E402
 from hunts.stage import HEIGHT, WIDTH   # noqa: E402
 
@@ -28,8 +28,7 @@ def write_capture(name, frame):
     for event in frame.events:
         for corner in event.get("vertices", []) if frame.version == 2 else []:
             corner.setdefault("z", 65535)
-    body = ",\n".join(json.dumps(e, separators=(",", ":")) for e in frame.events)
-    (HUNTS / f"{name}.json").write_text(json.dumps(head, separators=(",", ":"))[:-1] + ',"events":[\n' + body + "\n]}\n")
+    (HUNTS / f"{name}.json").write_text(text({**head, "events": frame.events}))
 
 
 def write_session(name, lines, frame):

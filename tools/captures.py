@@ -1,0 +1,146 @@
+"""captures: makes captures of framedbg from Python; docs/CAPTURES.md says what to log of a renderer's calls.
+
+    from captures import Capture
+    capture = Capture(640, 480)
+    capture.clear(0, 0, 0, 255)
+    capture.blend(True, "SRC_ALPHA INV_SRC_ALPHA ADD", "ONE INV_SRC_ALPHA ADD")
+    capture.draw([(100, 100, 0.5, (255, 0, 0, 255)), ...], indices=[0, 1, 2], source={"event": 7, "name": "the roof"})
+    capture.write(file)
+
+Positions are pixels of the target with y down, the centre of the first at 0.5, 0.5; depths are 0 to 1; colours are bytes. `place` turns
+clip space into these. A Fault says what a capture can't hold.
+"""
+import json
+
+PIXEL = 65536                   # captures give positions in 1/65536 pixel
+FARTHEST = 65535
+MOST_SIDE, MOST_EVENTS, MOST_CORNERS, MOST_BYTES, MOST_NAME = 16384, 1_000_000, 196_608, 67_108_864, 64
+FACTORS = {"ZERO", "ONE", "SRC_COLOR", "INV_SRC_COLOR", "SRC_ALPHA", "INV_SRC_ALPHA", "DEST_ALPHA", "INV_DEST_ALPHA", "DEST_COLOR",
+           "INV_DEST_COLOR", "BLEND_FACTOR", "INV_BLEND_FACTOR"}
+OPERATIONS = {"ADD", "SUBTRACT", "REV_SUBTRACT", "MIN", "MAX"}
+FUNCTIONS = {"NEVER", "LESS", "EQUAL", "LESS_EQUAL", "GREATER", "NOT_EQUAL", "GREATER_EQUAL", "ALWAYS"}
+
+
+class Fault(Exception):
+    """A capture can't hold it; the text says what."""
+
+
+def label(name):
+    """A text that a marker takes: without control characters, cut between two characters to at most 64 bytes."""
+    kept = "".join(c for c in name if c >= " " and c != "\x7f")
+    return kept.encode(errors="replace")[:MOST_NAME].decode(errors="ignore")
+
+
+def text(capture):
+    """A capture as JSON, an event a line."""
+    head = {name: value for name, value in capture.items() if name != "events"}
+    lines = ",\n".join(json.dumps(event, separators=(",", ":"), ensure_ascii=False) for event in capture["events"])
+    return json.dumps(head, separators=(",", ":"))[:-1] + ',"events":[\n' + lines + "\n]}\n"
+
+
+def place(clip, viewport, half_depth=False, y_up=True):
+    """A vertex (x, y, z, w) of clip space on a viewport (left, top, width, height), as (x, y, depth); clip at w > 0 first.
+
+    half_depth: 0 <= z <= w is seen, as in Direct3D and Vulkan; else -w <= z <= w, as in OpenGL. y_up: OpenGL and Direct3D, not Vulkan.
+    """
+    x, y, z, w = clip
+    if not w > 0:
+        raise Fault(f"w is {w}: clip triangles at the near plane before they are placed")
+    left, top, width, height = viewport
+    x, y, z = x / w, y / w * (-1 if y_up else 1), z / w
+    return left + (x * 0.5 + 0.5) * width, top + (y * 0.5 + 0.5) * height, z if half_depth else z * 0.5 + 0.5
+
+
+def depth_word(depth):
+    """0 to 1 as a whole number, the nearest."""
+    return 0 if not depth > 0 else FARTHEST if depth >= 1 else int(depth * FARTHEST + 0.5)
+
+
+class Capture:
+    """One frame, event by event; each call takes a last word `source`, which framedbg passes over."""
+
+    def __init__(self, width, height):
+        if not (1 <= width <= MOST_SIDE and 1 <= height <= MOST_SIDE):
+            raise Fault(f"a target of {width} by {height}: each side is 1 to {MOST_SIDE}")
+        self.width, self.height, self.events = width, height, []
+
+    def add(self, kind, source=None, **members):
+        if len(self.events) == MOST_EVENTS:
+            raise Fault(f"more than {MOST_EVENTS} events")
+        self.events.append({"kind": kind, **members, **({"source": source} if source is not None else {})})
+
+    def marker(self, name, source=None):
+        self.add("marker", source, name=label(name))
+
+    def clear(self, red, green, blue, alpha, source=None):
+        self.add("clear", source, color=colour((red, green, blue, alpha)))
+
+    def depth_clear(self, depth, source=None):
+        self.add("depth_clear", source, depth=depth_word(depth))
+
+    def raster(self, cull, front_ccw, scissor, source=None):
+        known(cull, {"none", "front", "back"}, "cull mode")
+        self.add("raster", source, cull=cull, front_ccw=bool(front_ccw), scissor=bool(scissor))
+
+    def scissor(self, left, top, right, bottom, source=None):
+        self.add("scissor", source, rect=[int(side) for side in (left, top, right, bottom)])
+
+    def blend(self, enable, rgb="ONE ZERO ADD", alpha="ONE ZERO ADD", mask=15, source=None):
+        """Parts are texts as "SRC_ALPHA INV_SRC_ALPHA ADD"; mask has red 1, green 2, blue 4, alpha 8."""
+        if not 0 <= mask <= 15:
+            raise Fault(f"mask {mask}: it is 0 to 15")
+        self.add("blend", source, enable=bool(enable), rgb=part(rgb, False), alpha=part(alpha, True), mask=mask)
+
+    def factor(self, red, green, blue, alpha, source=None):
+        self.add("factor", source, color=colour((red, green, blue, alpha)))
+
+    def depth(self, enable, write, function, source=None):
+        known(function, FUNCTIONS, "comparison")
+        self.add("depth", source, enable=bool(enable), write=bool(write), func=function)
+
+    def draw(self, corners, linear=True, indices=None, source=None):
+        """Triangles from corners (x, y, depth, colour), or from corners and indices."""
+        if len(corners) > MOST_CORNERS or len(indices or ()) > MOST_CORNERS:
+            raise Fault(f"a draw of {len(corners)} corners and {len(indices or ())} indices: {MOST_CORNERS} is the most of each")
+        bad = [index for index in indices or () if not 0 <= index < len(corners)]
+        if bad:
+            raise Fault(f"index {bad[0]} of {len(corners)} corners")
+        vertices = [{"x": position(x), "y": position(y), "z": depth_word(depth), "color": colour(four)} for x, y, depth, four in corners]
+        self.add("draw", source, interp="linear" if linear else "flat", vertices=vertices, **({"indices": list(indices)} if indices is not None else {}))
+
+    def text(self):
+        made = text({"format": "framedbg", "version": 2, "width": self.width, "height": self.height, "events": self.events})
+        if len(made.encode()) > MOST_BYTES:
+            raise Fault(f"a capture of more than {MOST_BYTES} bytes")
+        return made
+
+    def write(self, file):
+        file.write(self.text())
+
+
+def position(pixels):
+    if not abs(pixels) <= MOST_SIDE:
+        raise Fault(f"position {pixels}: {MOST_SIDE} pixels either way are the most, clip what is farther")
+    return round(pixels * PIXEL)
+
+
+def colour(four):
+    if len(four) != 4 or not all(isinstance(byte, int) and 0 <= byte <= 255 for byte in four):
+        raise Fault(f"colour {four}: four whole numbers from 0 to 255")
+    return list(four)
+
+
+def known(word, words, what):
+    if word not in words:
+        raise Fault(f"{word} is no {what}; there are {', '.join(sorted(words))}")
+
+
+def part(words, is_alpha):
+    """A blend part from its text. In the alpha part a factor's name ends in ALPHA or FACTOR."""
+    three = words.split()
+    if len(three) != 3:
+        raise Fault(f"blend part {words!r}: source factor, destination factor, operation")
+    for factor in three[:2]:
+        known(factor, {name for name in FACTORS if not (is_alpha and name.endswith("_COLOR"))}, "factor of alpha" if is_alpha else "factor")
+    known(three[2], OPERATIONS, "operation")
+    return three

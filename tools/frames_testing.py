@@ -1,0 +1,140 @@
+"""What the tests of real frames stand on: a frame whose pictures tools/reference.py draws, in the place of one that RenderDoc replays."""
+import os
+import pathlib
+import sys
+from dataclasses import dataclass, field
+from types import SimpleNamespace
+
+TOOLS = pathlib.Path(__file__).resolve().parent
+sys.path.insert(0, os.environ.get("FRAMES", str(TOOLS)))        # a wrong version of the converter, where one is tried
+
+import reference   # noqa: E402
+from real_frames import sources, states   # noqa: E402
+from real_frames.viewport import Viewport   # noqa: E402
+
+TARGET, OTHER = 7, 8
+WIDTH, HEIGHT = 24, 16
+OVER = ("SrcAlpha", "InvSrcAlpha", "Add"), ("One", "InvSrcAlpha", "Add")
+ADDED = ("One", "One", "Add"), ("One", "One", "Add")
+
+
+def image(events, width=WIDTH, height=HEIGHT):
+    """The bytes of an image, by the reference."""
+    frame = reference.Frame({"format": "framedbg", "version": 2, "width": width, "height": height, "events": events})
+    frame.position = len(events)
+    return frame.pam().partition(b"ENDHDR\n")[2]
+
+
+def image_of(capture):
+    return image(capture["events"], capture["width"], capture["height"])
+
+
+def state(raster=("none", False), blend=None, mask=15, depth=(False, True, "LESS"), scissor=None, **more):
+    """A state as the pipeline's reader gives it. blend is (colour, alpha), each in RenderDoc's words."""
+    losses = SimpleNamespace(add=lambda *_, **__: None)
+    box = scissor or [0, 0, WIDTH, HEIGHT]
+    return states.State(Viewport(0, 0, WIDTH, HEIGHT), box, states.raster(*raster, scissor is not None),
+                        states.blend(*blend, mask, losses) if blend else states.plain(mask), {"kind": "factor", "color": [255] * 4}, states.depth(*depth), **more)
+
+
+@dataclass
+class Action:
+    """One call of the stand-in frame. What it leaves on the target is `truth`, in events of framedbg."""
+    eventId: int
+    kind: str
+    name: str
+    truth: list = field(default_factory=list)
+    targets: tuple = (TARGET,)
+    state: object = None
+    triangles: list = field(default_factory=list)
+    clear: tuple = ()           # colour or None, depth (0 to 1) or None, rectangle or None, mask
+    trouble: str = ""
+    until: object = None
+
+
+def clip_space(x, y, z, w=1.0):
+    """The corner of clip space (y down, 0 <= z <= w) that lands at a pixel of the target."""
+    return (x / WIDTH * 2 - 1) * w, (y / HEIGHT * 2 - 1) * w, z * w, w
+
+
+def draw(event, triangles, own=None, name="draw()", **more):
+    """Triangles of corners (x, y, depth 0 to 1, colour)."""
+    own = own or state()
+    vertices = [{"x": round(x * 65536), "y": round(y * 65536), "z": round(z * 65535), "color": list(colour)} for corners in triangles for x, y, z, colour in corners]
+    truth = [own.raster, own.blend, own.depth, {"kind": "scissor", "rect": own.scissor}, {"kind": "draw", "interp": "linear", "vertices": vertices}]
+    placed = [((0, number), tuple(clip_space(x, y, z, 1 + number % 3) for x, y, z, _ in corners)) for number, corners in enumerate(triangles)]
+    return Action(event, "draw", name, truth, state=own, triangles=placed, **more)
+
+
+def clear(event, colour=None, depth=None, box=None, mask=15):
+    own = state(depth=(depth is not None, True, "ALWAYS"), mask=mask if colour else 0)
+    left, top, right, bottom = box or (0, 0, WIDTH, HEIGHT)
+    corners = [(left, top), (right, top), (left, bottom), (right, top), (right, bottom), (left, bottom)]
+    vertices = [{"x": x << 16, "y": y << 16, "z": round((depth or 0) * 65535), "color": list(colour or (0, 0, 0, 0))} for x, y in corners]
+    return Action(event, "clear", "clear()", [own.raster, own.blend, own.depth, {"kind": "draw", "interp": "flat", "vertices": vertices}], clear=(colour, depth, box, mask))
+
+
+class StandIn:
+    """As replay.Frame, of actions, drawn by the reference."""
+
+    def __init__(self, *actions, before=()):
+        self.actions, self.before = list(actions), list(before)
+        self.here = 0
+        self.pictures = {}
+
+    def kind(self, action):
+        return action.kind
+
+    def name(self, action):
+        return action.name
+
+    def targets(self, action):
+        return list(action.targets)
+
+    def copied_onto(self, action):
+        return action.targets[0]
+
+    def size(self, target):
+        return WIDTH, HEIGHT
+
+    def notes(self, target):
+        return {}
+
+    def go(self, event):
+        self.here = event
+
+    def action(self):
+        return next(action for action in self.actions if action.eventId == self.here)
+
+    def state(self, width, height, losses):
+        return self.action().state
+
+    def primitives(self, action):
+        return action.triangles, action.trouble
+
+    def until(self, action):
+        return action.until
+
+    def reads_textures(self):
+        return False
+
+    def clears(self, action, width, height):
+        colour, depth, box, mask = action.clear
+        return colour is not None, depth is not None, box, mask
+
+    def depth_value(self, action, x, y):
+        return action.clear[1]
+
+    def picture(self, target):
+        if self.here not in self.pictures:
+            truth = [event for action in self.actions if action.eventId <= self.here and TARGET in action.targets for event in action.truth]
+            self.pictures[self.here] = image(self.before + truth)
+        return self.pictures[self.here]
+
+    def can_draw_alone(self):
+        return True
+
+    def alone(self, target):
+        """The draw at hand on zeros, as often as RenderDoc draws it."""
+        action = self.action()
+        return image(action.truth * sources.times_drawn(action.state.depth))

@@ -1,0 +1,1 @@
+"""A frame that RenderDoc captured, as a capture of framedbg."""

@@ -1,0 +1,174 @@
+"""Goes through a frame once, and keeps what is wanted of each action on one target."""
+import zlib
+from dataclasses import dataclass
+
+from .fault import Fault
+from .losses import Losses
+from .placing import placed
+from .records import ClearRecord, DrawRecord, MarkerRecord, PictureRecord
+
+MULTISAMPLED, IN_SRGB = "samples of each pixel beyond the first", "target in sRGB"
+
+
+@dataclass(frozen=True)
+class Wanted:
+    """Which part of a frame is carried over, and how dearly its colours are got."""
+    first: int = 0
+    last: int = 1 << 62
+    with_colours: bool = True
+    with_alone: bool = True     # blended draws are drawn alone too, to have their alpha
+
+
+class Gatherer:
+    """The frame is a replay.Frame, or what stands in for one."""
+
+    def __init__(self, frame, target, losses, wanted=Wanted(), say=lambda text: None):
+        self.frame, self.target, self.losses, self.wanted, self.say = frame, target, losses, wanted, say
+        self.size = self.width, self.height = frame.size(target)
+        self.records = []
+        self.before = 0             # the event before the one at hand
+        self.touched = False        # something has been laid on the target
+        self.carried = False        # a draw or a clear is there for its own sake
+        self.done = 0
+        self.all = sum(1 for action in frame.actions if frame.kind(action) == "draw" and self.is_here(action))
+
+    def gather(self):
+        """The records of the part that is wanted, behind those that bring the depths of what comes before it, where it has a depth test."""
+        for note, count in self.frame.notes(self.target).items():
+            self.losses.add(note, count=count)
+        early = [action for action in self.frame.actions if self.is_early(action)]
+        self.before = early[-1].eventId if early else 0
+        self.walk(action for action in self.frame.actions if self.wanted.first <= action.eventId <= self.wanted.last)
+        if not self.carried:
+            raise Fault(f"nothing is drawn on target {self.target} between the events that are wanted")
+        records, self.records = self.records, []
+        if any(isinstance(record, DrawRecord) and record.state.depth["enable"] for record in records):
+            self.walk(early)
+        return self.records + records
+
+    def walk(self, actions):
+        readers = {"draw": self.draw, "clear": self.clear, "marker": self.mark, "dispatch": self.dispatch, "copy": self.copy}
+        for action in actions:
+            reader = readers.get(self.frame.kind(action))
+            if reader:
+                try:
+                    reader(action)
+                except Fault as fault:
+                    raise Fault(f"event {action.eventId}, {self.frame.name(action)}: {fault}") from None
+            self.before = action.eventId
+
+    def is_here(self, action):
+        return self.target in self.frame.targets(action)
+
+    def is_early(self, action):
+        return action.eventId < self.wanted.first
+
+    def mark(self, action):
+        if not self.is_early(action):
+            self.records.append(MarkerRecord(action.eventId, self.frame.name(action), self.frame.until(action)))
+
+    def dispatch(self, action):
+        if not self.is_early(action):
+            self.losses.add("compute dispatches")
+
+    def copy(self, action):
+        if self.is_early(action):
+            return
+        onto = self.frame.copied_onto(action) == self.target
+        self.losses.add("copies and resolves onto the target" if onto else "copies and resolves onto other textures")
+        if onto:
+            self.frame.go(action.eventId)
+            self.lay(action)
+
+    def lay(self, action):
+        """What is on the target where the frame stands, as a picture."""
+        if self.wanted.with_colours:
+            self.records.append(PictureRecord(action.eventId, zlib.compress(self.frame.picture(self.target), 1)))
+        self.touched = True
+
+    def lay_what_was_there(self, action):
+        if not self.touched:
+            self.frame.go(self.before)
+            self.lay(action)
+
+    # Clears.
+
+    def clear(self, action):
+        if not self.is_here(action):
+            if not self.is_early(action):
+                self.losses.add("clears of other targets")
+            return
+        self.frame.go(action.eventId)
+        record = self.cleared(action)
+        if record is None:
+            return
+        is_whole = record.rectangle is None and record.mask == 15
+        if self.is_early(action):
+            record.colour = None
+            if record.depth is None:
+                return
+            if is_whole:
+                self.records = []
+        elif record.colour is not None:
+            if is_whole:
+                self.touched = True
+            else:
+                self.lay_what_was_there(action)
+                self.frame.go(action.eventId)
+        self.carried = self.carried or not self.is_early(action)
+        self.records.append(record)
+
+    def cleared(self, action):
+        """What a clear does, or None where its rectangle holds no pixel."""
+        colour, depth, box, mask = self.frame.clears(action, self.width, self.height)
+        if box and (box[0] >= box[2] or box[1] >= box[3]):
+            return None
+        x, y = box[:2] if box else (0, 0)
+        record = ClearRecord(action.eventId, self.frame.name(action), rectangle=box, mask=mask)
+        if colour and mask:
+            at = (y * self.width + x) * 4
+            record.colour = tuple(self.frame.picture(self.target)[at:at + 4])
+        if depth:
+            record.depth = self.frame.depth_value(action, x, y)
+        return record if record.colour is not None or record.depth is not None else None
+
+    # Draws.
+
+    def draw(self, action):
+        early = self.is_early(action)
+        if not self.is_here(action):
+            if not early:
+                self.losses.add("draws on other targets")
+            return
+        self.done += 1
+        if not early:
+            self.lay_what_was_there(action)
+        self.frame.go(action.eventId)
+        name = self.frame.name(action)
+        self.say(f"draw {self.done} of {self.all}: {action.eventId} {name}")
+        losses = Losses() if early else self.losses
+        state = self.frame.state(self.width, self.height, losses)
+        if early and not (state.depth["enable"] and state.depth["write"]):
+            return
+        primitives, trouble = self.frame.primitives(action)
+        if trouble:
+            losses.add("draws without triangles: " + trouble)
+        record = DrawRecord(action.eventId, name, state, placed(primitives, state, losses), depth_alone=early)
+        if not early:
+            self.carried = True
+            self.count(action)
+            self.take_pictures(record)
+        self.records.append(record)
+
+    def count(self, action):
+        if len(self.frame.targets(action)) > 1:
+            self.losses.add("further colour targets of draws", count=len(self.frame.targets(action)) - 1)
+        if self.frame.reads_textures():
+            self.losses.add("draws that read textures", "colours are fitted to what RenderDoc drew")
+
+    def take_pictures(self, record):
+        blend = record.state.blend
+        if self.wanted.with_colours and blend["mask"]:
+            record.after = zlib.compress(self.frame.picture(self.target), 1)
+            if blend["enable"] and self.wanted.with_alone and self.frame.can_draw_alone():
+                record.alone = zlib.compress(self.frame.alone(self.target), 1)

@@ -1,0 +1,22 @@
+"""What a frame has that a capture can't say: counted, told at the end, and kept in the capture."""
+from collections import Counter
+
+
+class Losses:
+    def __init__(self):
+        self.counts = Counter()
+        self.notes = {}
+
+    def add(self, what, note="", count=1):
+        self.counts[what] += count
+        if note:
+            self.notes[what] = note
+
+    def entries(self):
+        """The largest first, as the capture keeps them."""
+        order = sorted(self.counts.items(), key=lambda item: (-item[1], item[0]))
+        return [{"what": what, "count": count, **({"note": self.notes[what]} if what in self.notes else {})} for what, count in order]
+
+    def lines(self):
+        for entry in self.entries():
+            yield f"{entry['count']:8} {entry['what']}" + (f" ({entry['note']})" if "note" in entry else "")

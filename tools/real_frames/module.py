@@ -1,0 +1,70 @@
+"""RenderDoc's Python module, which is built for one Python, that of the system; and which ends the process where a driver does."""
+import os
+import signal
+import sys
+import traceback
+
+from .orphans import end_with_parent
+
+SYSTEM_S_PYTHON = "/usr/bin/python3"
+ENDED = "RenderDoc or the driver ended the process"
+MISSING = "RenderDoc's Python module isn't here; on Debian: apt install renderdoc python3-renderdoc"
+
+
+def is_here():
+    try:
+        import renderdoc    # noqa: F401
+    except ImportError:
+        return False
+    return True
+
+
+def run_by_its_python():
+    """Where this Python lacks the module, goes on in the system's own; returns whether the module is here."""
+    if is_here():
+        return True
+    other = os.path.realpath(SYSTEM_S_PYTHON)
+    if os.path.realpath(sys.executable) != other and os.access(other, os.X_OK):
+        sys.stdout.flush()
+        os.execv(SYSTEM_S_PYTHON, [SYSTEM_S_PYTHON, *sys.argv])
+    return False
+
+
+def guarded(tool, main):
+    """Runs a tool in a process of its own, so that a line tells where RenderDoc or a driver ended it; ends with its status."""
+    child = os.fork()
+    if child == 0:
+        end_with_parent()
+        os._exit(status_of(tool, main))
+    try:
+        status = os.waitpid(child, 0)[1]
+    except KeyboardInterrupt:           # the child has it too
+        status = os.waitpid(child, 0)[1]
+    if os.WIFSIGNALED(status):
+        sys.exit(f"{tool}: {ENDED} by {signal.Signals(os.WTERMSIG(status)).name}; try again")
+    sys.exit(os.waitstatus_to_exitcode(status))
+
+
+def status_of(tool, main):
+    """The status that a tool ends with, after it has written all."""
+    try:
+        main()
+        status = 0
+    except SystemExit as end:
+        status = end.code if isinstance(end.code, int) else int(end.code is not None)
+        if isinstance(end.code, str):
+            print(end.code, file=sys.stderr)
+    except KeyboardInterrupt:
+        print(f"{tool}: stopped", file=sys.stderr)
+        status = 1
+    except OSError as fault:
+        print(f"{tool}: {fault}", file=sys.stderr)
+        status = 1
+    except Exception:                   # a fault of the tool itself, for its report
+        traceback.print_exc()
+        status = 1
+    try:
+        sys.stdout.flush()
+    except OSError:
+        status = status or 1
+    return status

@@ -1,0 +1,90 @@
+"""Gives the triangles of a draw their colours, from its pictures."""
+import zlib
+from dataclasses import dataclass
+
+from .pixels import DrawPixels
+from .planes import Table, fit, mean
+from .sources import times_drawn
+
+GREY = (128, 128, 128, 255)
+
+
+@dataclass(frozen=True)
+class Detail:
+    """When a triangle is cut: its colours are off by more than so many bytes, at more than so many pixels."""
+    most: float = None
+    smallest: int = 16
+
+
+class Painter:
+    def __init__(self, width, height, losses, detail, passes):
+        self.width, self.height, self.losses, self.detail = width, height, losses, detail
+        self.passes = passes                # how many draws with the depth test have a triangle at a place
+        self.faults = []                    # (event, name, pixels, how far off) of each draw
+
+    def paint(self, record, pieces, before):
+        """The pieces with their colours, cut into smaller ones where detail asks for it."""
+        blend = record.state.blend
+        pictures = (before, zlib.decompress(record.after), zlib.decompress(record.alone) if record.alone else b"")
+        pixels = DrawPixels(self.width, blend, pieces, pictures, times_drawn(record.state.depth))
+        fitted = []
+        for number, piece in enumerate(pieces):
+            table = Table(pixels.samples(number, piece))
+            fitted += self.fitted(piece, piece.shape.spans(self.width, self.height), table, record.state.depth["enable"])
+        self.colour_hidden(fitted)
+        self.count(record, pixels)
+        known = [(fault, count) for _, fault, count in fitted if count]
+        total = sum(count for _, count in known)
+        self.faults.append((record.event, record.name, total, sum(fault * count for fault, count in known) / total if total else 0.0))
+        return [piece for piece, _, _ in fitted]
+
+    def count(self, record, pixels):
+        if pixels.total:
+            self.losses.add("pixels of draws", "their colours are planes over triangles", pixels.total)
+        if pixels.unchanged:
+            self.losses.add("pixels of draws that RenderDoc leaves as they were", "discarded, hidden by finer depths, or of the same colour", pixels.unchanged)
+        if record.state.blend["enable"] and not record.alone:
+            self.losses.add("blended draws whose alpha is made up", "with --fast, and with Vulkan")
+
+    def fitted(self, piece, cover, table, is_deep):
+        """[(piece, how far off, samples)]: the piece with its colours, or what it was cut into."""
+        sums = table.over(cover)
+        if not sums.count:
+            return [(piece, 0.0, 0)]
+        piece.colours, fault = fit(piece.places(), sums)
+        whole = [(piece, fault, sums.count)]
+        if self.detail.most is None or fault <= self.detail.most or sums.count <= self.detail.smallest:
+            return whole
+        if is_deep and self.passes[piece.root] > 1:
+            self.losses.add("triangles not cut for detail", "drawn in several passes, whose depths have to stay equal")
+            return whole
+        halves = piece.cut(self.width, self.height)
+        if not halves:
+            self.losses.add("cuts for detail not made", "the halves would cover other pixels")
+            return whole
+        return [found for half, part in halves if part for found in self.fitted(half, part, table, is_deep)]
+
+    def colour_hidden(self, fitted):
+        """A triangle that shows nowhere gets the colours that its corners have elsewhere, else the draw's mean."""
+        by_place, known = {}, []
+        for piece, _, count in fitted:
+            if count:
+                known.append((piece, count))
+                for corner, colour in zip(piece.corners, piece.colours):
+                    by_place.setdefault(corner, []).append(colour)
+        weight = sum(count for _, count in known)
+        middle = tuple(round(sum(sum(c[k] for c in p.colours) / 3 * n for p, n in known) / weight) for k in range(4)) if weight else GREY
+        hidden = [piece for piece, _, count in fitted if not count]
+        for piece in hidden:
+            near = [colour for corner in piece.corners for colour in by_place.get(corner, ())]
+            piece.colours = [mean(by_place.get(corner) or near or [middle]) for corner in piece.corners]
+        if hidden:
+            self.losses.add("triangles whose own colour never shows", "coloured as their neighbours, or as the draw's mean", len(hidden))
+
+
+def distinct(number):
+    """A colour for the draw of a number, far from those of the draws next to it."""
+    turn = number * 0.618034 % 1 * 6
+    rise = turn % 1
+    wheel = [(1, rise, 0), (1 - rise, 1, 0), (0, 1, rise), (0, 1 - rise, 1), (rise, 0, 1), (1, 0, 1 - rise)][int(turn)]
+    return tuple(round(55 + 200 * part) for part in wheel) + (255,)

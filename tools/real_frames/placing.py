@@ -1,0 +1,78 @@
+"""Triangles, lines and points of a draw, from clip space onto the target in 1/65536 pixel, all as triangles."""
+import math
+from dataclasses import dataclass
+
+from .clipping import clip, clip_line, planes
+
+PIXEL = 65536
+
+
+@dataclass(frozen=True)
+class Bias:
+    """What is added to the depths of a triangle: so many steps of the depth target, and so much of its steepness."""
+    constant: float = 0.0
+    slope: float = 0.0
+    most: float = 0.0           # zero: as much as it is
+    step: float = 0.0           # the depth target's; zero: that of a float as large as the triangle's farthest depth
+
+    def of(self, corners):
+        if not (self.constant or self.slope):
+            return 0.0
+        farthest = max(z for _, _, z in corners)
+        step = self.step or math.ldexp(1.0, math.frexp(max(farthest, 1e-30))[1] - 24)
+        amount = self.constant * step + self.slope * steepness(corners)
+        if self.most:
+            amount = min(amount, self.most) if self.most > 0 else max(amount, self.most)
+        return amount
+
+
+def steepness(corners):
+    """The larger of a triangle's two rises of depth a pixel; zero where it has no area."""
+    (ax, ay, az), (bx, by, bz), (cx, cy, cz) = corners
+    area = (bx - ax) * (cy - ay) - (by - ay) * (cx - ax)
+    if abs(area) < 1e-12:
+        return 0.0
+    along_x = ((bz - az) * (cy - ay) - (cz - az) * (by - ay)) / area
+    along_y = ((cz - az) * (bx - ax) - (bz - az) * (cx - ax)) / area
+    return max(abs(along_x), abs(along_y))
+
+
+def placed(primitives, state, losses):
+    """Gives ((instance, primitive), three corners (x, y, depth)) of each triangle that is left after clipping."""
+    shapes, kept = [], planes(state.viewport, state.clip_depth)
+    for number, corners in primitives:
+        for places in triangles(corners, state, kept, losses):
+            bias = state.bias.of(places)
+            shapes.append((number, [(round(x * PIXEL), round(y * PIXEL), z + bias) for x, y, z in places]))
+    return shapes
+
+
+def triangles(corners, state, kept, losses):
+    """A primitive on the target, as triangles of three places (x, y, depth) in pixels."""
+    if len(corners) < 3:
+        losses.add("lines and points", "drawn as quads one pixel wide")
+        ends = clip_line(corners, kept)
+        return [turned(half, state.raster) for half in quad([state.viewport.place(end) for end in ends])] if ends else []
+    pieces, was_cut = clip(corners, kept)
+    if was_cut and pieces:
+        losses.add("triangles cut at the near plane or far outside", "carried over in pieces")
+    return [[state.viewport.place(corner) for corner in piece] for piece in pieces]
+
+
+def quad(ends):
+    """Two triangles along a line, one pixel wide across its longer way; round a point, a square of one pixel."""
+    if len(ends) == 1:
+        (x, y, z), = ends
+        ends = (x - 0.5, y, z), (x + 0.5, y, z)
+    (ax, ay, az), (bx, by, bz) = ends
+    dx, dy = (0, 0.5) if abs(bx - ax) >= abs(by - ay) else (0.5, 0)
+    a, b, c, d = (ax - dx, ay - dy, az), (bx - dx, by - dy, bz), (bx + dx, by + dy, bz), (ax + dx, ay + dy, az)
+    return [a, b, c], [a, c, d]
+
+
+def turned(corners, raster):
+    """A triangle of a line, which has no back: turned so that it isn't culled."""
+    (ax, ay, _), (bx, by, _), (cx, cy, _) = corners
+    clockwise = (bx - ax) * (cy - ay) - (by - ay) * (cx - ax) > 0
+    front = clockwise != raster["front_ccw"]
+    return [corners[0], corners[2], corners[1]] if front == (raster["cull"] == "front") else corners

@@ -1,0 +1,113 @@
+"""The rules of framedbg for snapping, coverage and depth, in whole numbers; docs/DEFINITIONS.md has them."""
+
+CENTRE = 128                    # of a pixel, in 1/256 pixel
+FARTHEST = 65535
+COMPARES = {
+    "NEVER": lambda s, d: False, "LESS": lambda s, d: s < d, "EQUAL": lambda s, d: s == d, "LESS_EQUAL": lambda s, d: s <= d,
+    "GREATER": lambda s, d: s > d, "NOT_EQUAL": lambda s, d: s != d, "GREATER_EQUAL": lambda s, d: s >= d, "ALWAYS": lambda s, d: True,
+}
+
+
+def snap(position):
+    """1/65536 pixel to 1/256 pixel, the nearest, ties to even."""
+    quotient, rest = divmod(position, 256)
+    if rest > 128 or (rest == 128 and quotient & 1):
+        quotient += 1
+    return quotient
+
+
+class Triangle:
+    """A snapped triangle with its edges as whole-number functions of the pixel."""
+
+    def __init__(self, corners):
+        (ax, ay), (bx, by), (cx, cy) = corners
+        self.winding = (bx - ax) * (cy - ay) - (by - ay) * (cx - ax)
+        self.area = abs(self.winding)
+        self.corners = corners
+        turn = 1 if self.winding > 0 else -1
+        self.edges = []         # (rise with x, rise with y, weight at the first pixel, the least weight that is inside)
+        for (px, py), (qx, qy) in (((bx, by), (cx, cy)), ((cx, cy), (ax, ay)), ((ax, ay), (bx, by))):
+            dx, dy = (qx - px) * turn, (qy - py) * turn
+            owns = (dy == 0 and dx > 0) or dy < 0
+            self.edges.append((-dy * 256, dx * 256, dx * (CENTRE - py) - dy * (CENTRE - px), 0 if owns else 1))
+
+    def weights(self, x, y):
+        return [rise_x * x + rise_y * y + start for rise_x, rise_y, start, _ in self.edges]
+
+    def box(self, width, height, rectangle=None):
+        """The pixels that it may cover, within the target and the rectangle: left, top, right, bottom."""
+        columns, rows = [x for x, _ in self.corners], [y for _, y in self.corners]
+        left, top, right, bottom = rectangle or (0, 0, width, height)
+        return (max(left, 0, (min(columns) - CENTRE) // 256), max(top, 0, (min(rows) - CENTRE) // 256),
+                min(right, width, (max(columns) - CENTRE) // 256 + 1), min(bottom, height, (max(rows) - CENTRE) // 256 + 1))
+
+    def spans(self, width, height, rectangle=None):
+        """Gives (y, x0, x1) of each row that is covered, within the target and the rectangle (left, top, right, bottom)."""
+        if self.area == 0:
+            return
+        left, top, right, bottom = self.box(width, height, rectangle)
+        for y in range(top, bottom):
+            x0, x1 = left, right
+            for rise_x, rise_y, start, least in self.edges:
+                base = rise_y * y + start - least
+                if rise_x > 0:
+                    x0 = max(x0, -(base // rise_x))
+                elif rise_x < 0:
+                    x1 = min(x1, base // -rise_x + 1)
+                elif base < 0:
+                    x0 = x1
+            if x0 < x1:
+                yield y, x0, x1
+
+    def is_culled(self, cull, front_ccw):
+        if cull == "none" or self.area == 0:
+            return False
+        front = (self.winding > 0) != front_ccw
+        return front == (cull == "front")
+
+
+class DepthTarget:
+    """The depths of a target, as framedbg will have them."""
+
+    def __init__(self, width, height):
+        self.width, self.height = width, height
+        self.rows = [[FARTHEST] * width for _ in range(height)]
+
+    def fill(self, depth, box=None):
+        left, top, right, bottom = box or (0, 0, self.width, self.height)
+        for y in range(top, bottom):
+            self.rows[y][left:right] = [depth] * (right - left)
+
+    def draw(self, shape, depths, state, rectangle=None):
+        """Draws one triangle, and gives the spans (y, x0, x1) that passed."""
+        spans = shape.spans(self.width, self.height, rectangle)
+        if not state["enable"]:
+            return list(spans)
+        compare, passed = COMPARES[state["func"]], []
+        double = 2 * shape.area
+        step = 2 * sum(edge[0] * depth for edge, depth in zip(shape.edges, depths))
+        for y, x0, x1 in spans:
+            amount = 2 * sum(weight * depth for weight, depth in zip(shape.weights(x0, y), depths)) + shape.area
+            sources = [(amount + i * step) // double for i in range(x1 - x0)]
+            passed += self.test(y, x0, sources, compare, state["write"])
+        return passed
+
+    def test(self, y, left, sources, compare, write):
+        """Tests a row of depths, and gives the spans that passed."""
+        row, passed, start = self.rows[y], [], None
+        for x, depth in enumerate(sources, left):
+            if compare(depth, row[x]):
+                if write:
+                    row[x] = depth
+                if start is None:
+                    start = x
+            elif start is not None:
+                passed.append((y, start, x))
+                start = None
+        if start is not None:
+            passed.append((y, start, left + len(sources)))
+        return passed
+
+
+def pixels(spans):
+    return sum(x1 - x0 for _, x0, x1 in spans)

@@ -1,0 +1,164 @@
+"""A captured frame, replayed by RenderDoc's own module. This module and the three that it uses (pipelines, vertices, pictures) need RenderDoc."""
+import os
+
+import renderdoc as rd
+
+from . import pipelines, vertices
+from .fault import Fault
+from .gather import IN_SRGB, MULTISAMPLED
+from .names import printable
+from .pictures import Pictures
+
+KINDS = [   # the first that an action's flags have
+    ("marker", rd.ActionFlags.PushMarker | rd.ActionFlags.SetMarker), ("draw", rd.ActionFlags.Drawcall),
+    ("clear", rd.ActionFlags.Clear), ("dispatch", rd.ActionFlags.Dispatch), ("copy", rd.ActionFlags.Copy | rd.ActionFlags.Resolve)]
+
+
+def in_a_line(result):
+    return printable(" ".join(result.Message().split()))
+
+
+def flattened(actions):
+    for action in actions:
+        yield action
+        yield from flattened(action.children)
+
+
+class Frame:
+    """One open capture of RenderDoc's. Use it in a `with` statement."""
+
+    def __init__(self, path):
+        self.path = str(path)
+        self.file = self.controller = self.pictures = None
+
+    def __enter__(self):
+        try:
+            with open(self.path, "rb"):
+                pass
+        except OSError as fault:
+            raise Fault(f"{self.path}: {fault.strerror}") from None
+        rd.InitialiseReplay(rd.GlobalEnvironment(), [])
+        try:
+            self.open()
+        except Fault:
+            self.__exit__()
+            raise
+        return self
+
+    def open(self):
+        self.file = rd.OpenCaptureFile()
+        result = self.file.OpenFile(self.path, "", None)
+        if result != rd.ResultCode.Succeeded:
+            raise Fault(f"{self.path}: no frame of RenderDoc's: {in_a_line(result)}")
+        if self.file.LocalReplaySupport() != rd.ReplaySupport.Supported:
+            raise Fault(f"{self.path}: a frame of {self.file.DriverName()} can't be replayed on this machine")
+        result, controller = self.file.OpenCapture(rd.ReplayOptions(), None)
+        if result != rd.ResultCode.Succeeded:
+            hint = "" if os.environ.get("DISPLAY") else "; OpenGL wants a screen, and DISPLAY names none"
+            raise Fault(f"{self.path}: it can't be replayed here: {in_a_line(result)}{hint}")
+        self.controller = controller
+        if controller.GetAPIProperties().pipelineType not in pipelines.READERS:
+            raise Fault(f"{self.path}: a frame of {self.file.DriverName()}: only OpenGL, OpenGL ES and Vulkan are read")
+        self.names = controller.GetStructuredFile()
+        self.actions = list(flattened(controller.GetRootActions()))
+        self.textures = {int(texture.resourceId): texture for texture in controller.GetTextures()}
+        self.pictures = Pictures(controller, self.textures, self.is_gl())
+
+    def __exit__(self, *_):
+        for part in (self.pictures, self.controller, self.file):
+            if part:
+                part.Shutdown()
+        rd.ShutdownReplay()
+
+    # Actions and targets.
+
+    def is_gl(self):
+        return self.controller.GetAPIProperties().pipelineType == rd.GraphicsAPI.OpenGL
+
+    def name(self, action):
+        return printable(action.GetName(self.names))
+
+    def kind(self, action):
+        for kind, flags in KINDS:
+            if action.flags & flags:
+                return kind
+        return "clear" if any(pipelines.pass_clears(action, self.name(action))) else ""
+
+    @staticmethod
+    def until(action):
+        """The last event of a debug group, or None where the marker is no group."""
+        inside = list(flattened(action.children))
+        return max(one.eventId for one in inside) if inside else None
+
+    @staticmethod
+    def targets(action):
+        return [int(output) for output in action.outputs if output != rd.ResourceId.Null()]
+
+    @staticmethod
+    def copied_onto(action):
+        return int(action.copyDestination)
+
+    def shown_target(self):
+        """The target that is presented, else that of the last draw."""
+        for wanted in (rd.ActionFlags.Present, rd.ActionFlags.Drawcall):
+            for action in reversed(self.actions):
+                if action.flags & wanted and self.targets(action):
+                    return self.targets(action)[0]
+        raise Fault("the frame draws on no colour target")
+
+    def size(self, target):
+        if target not in self.textures:
+            raise Fault(f"it has no target {target}; --list tells those that it has")
+        return self.textures[target].width, self.textures[target].height
+
+    def notes(self, target):
+        """What is lost of a target as a whole, with how many."""
+        texture = self.textures[target]
+        notes = {MULTISAMPLED: texture.msSamp - 1} if texture.msSamp > 1 else {}
+        return {**notes, **({IN_SRGB: 1} if texture.format.SRGBCorrected() else {})}
+
+    def list_targets(self):
+        """A line for each colour target, with its draws."""
+        counts = {}
+        for action in self.actions:
+            if self.kind(action) == "draw":
+                for target in self.targets(action):
+                    first, _, count = counts.get(target, (action.eventId, 0, 0))
+                    counts[target] = first, action.eventId, count + 1
+        for target, (first, last, count) in counts.items():
+            texture = self.textures[target]
+            shown = ", shown" if target == self.shown_target() else ""
+            yield f"target {target}: {texture.width} by {texture.height}, {texture.format.Name()}, samples {texture.msSamp}, {count} draws, events {first} to {last}{shown}"
+
+    # What is at an event.
+
+    def go(self, event):
+        self.controller.SetFrameEvent(event, True)
+
+    def state(self, width, height, losses):
+        return pipelines.read(self.controller, self.textures, (width, height), losses)
+
+    def clears(self, action, width, height):
+        return pipelines.clears(self, action, width, height)
+
+    def primitives(self, action):
+        return vertices.primitives(self.controller, action)
+
+    def reads_textures(self):
+        return len(self.controller.GetPipelineState().GetReadOnlyResources(rd.ShaderStage.Pixel, False)) > 0
+
+    def picture(self, target):
+        return self.pictures.of(target)
+
+    def can_draw_alone(self):
+        """RenderDoc 1.24 ends the process where an overlay is read on lavapipe."""
+        return self.is_gl()
+
+    def alone(self, target):
+        return self.pictures.alone(target)
+
+    def marked(self, target, kind):
+        return self.pictures.marked(target, kind)
+
+    def depth_value(self, action, x, y):
+        return self.pictures.depth_value(action.depthOut, x, y)

@@ -1,0 +1,91 @@
+"""RenderDoc's pipeline state in framedbg's words. Names of RenderDoc's enumerations come as text, so that nothing here needs its module."""
+from dataclasses import dataclass
+
+from .placing import Bias
+from .viewport import Viewport
+
+FACTORS = {
+    "Zero": "ZERO", "One": "ONE", "SrcCol": "SRC_COLOR", "InvSrcCol": "INV_SRC_COLOR", "DstCol": "DEST_COLOR", "InvDstCol": "INV_DEST_COLOR",
+    "SrcAlpha": "SRC_ALPHA", "InvSrcAlpha": "INV_SRC_ALPHA", "DstAlpha": "DEST_ALPHA", "InvDstAlpha": "INV_DEST_ALPHA",
+    "FactorRGB": "BLEND_FACTOR", "InvFactorRGB": "INV_BLEND_FACTOR", "FactorAlpha": "BLEND_FACTOR", "InvFactorAlpha": "INV_BLEND_FACTOR",
+}
+NEAREST = {"SrcAlphaSat": "SRC_ALPHA", "Src1Col": "SRC_COLOR", "Src1Alpha": "SRC_ALPHA", "InvSrc1Col": "INV_SRC_COLOR", "InvSrc1Alpha": "INV_SRC_ALPHA"}
+OPERATIONS = {"Add": "ADD", "Subtract": "SUBTRACT", "ReversedSubtract": "REV_SUBTRACT", "Minimum": "MIN", "Maximum": "MAX"}
+COMPARES = {
+    "Never": "NEVER", "Less": "LESS", "Equal": "EQUAL", "LessEqual": "LESS_EQUAL", "Greater": "GREATER", "NotEqual": "NOT_EQUAL",
+    "GreaterEqual": "GREATER_EQUAL", "AlwaysTrue": "ALWAYS",
+}
+CULLS = {"NoCull": "none", "Front": "front", "Back": "back"}
+REPLACE = ["ONE", "ZERO", "ADD"]
+
+
+@dataclass
+class State:
+    """The state of a draw: events of framedbg, and what places its triangles."""
+    viewport: Viewport
+    scissor: list               # the rectangle that scissor and viewport leave
+    raster: dict
+    blend: dict
+    factor: dict
+    depth: dict
+    clip_depth: bool = True
+    bias: Bias = Bias()
+
+    def rectangle(self):
+        return self.scissor if self.raster["scissor"] else None
+
+
+def byte(value):
+    return min(max(int(value * 255 + 0.5), 0), 255)
+
+
+def part(source, destination, operation, for_alpha, losses):
+    """One part of a blend state. In the alpha part a colour factor is the alpha factor, as the two are the same there."""
+    words = []
+    for name in (source, destination):
+        if name in NEAREST:
+            losses.add("blend factor " + name, "taken as " + NEAREST[name])
+        word = FACTORS.get(name) or NEAREST[name]
+        words.append(word.replace("_COLOR", "_ALPHA") if for_alpha else word)
+    return words + [OPERATIONS[operation]]
+
+
+def raster(cull, front_ccw, scissor):
+    return {"kind": "raster", "cull": cull, "front_ccw": bool(front_ccw), "scissor": bool(scissor)}
+
+
+def depth(enable, write, function):
+    return {"kind": "depth", "enable": bool(enable), "write": bool(write), "func": function}
+
+
+def plain(mask=15):
+    """No blending."""
+    return {"kind": "blend", "enable": False, "rgb": REPLACE, "alpha": REPLACE, "mask": mask & 15}
+
+
+def blend(colour, alpha, mask, losses):
+    """Each of colour and alpha is (source, destination, operation)."""
+    return {"kind": "blend", "enable": True, "rgb": part(*colour, False, losses), "alpha": part(*alpha, True, losses), "mask": mask & 15}
+
+
+def factor(constant, colour, losses):
+    """The blend constant. Where the colour part takes the constant's alpha, all channels become that alpha."""
+    r, g, b, a = (byte(v) for v in constant)
+    if any(name.endswith("FactorAlpha") for name in colour[:2]):
+        if any(name.endswith("FactorRGB") for name in colour[:2]):
+            losses.add("blend constant's colour beside its alpha", "the alpha is taken for both")
+        r = g = b = a
+    return {"kind": "factor", "color": [r, g, b, a]}
+
+
+class StateLog:
+    """Adds a state event only where the state isn't so already."""
+
+    def __init__(self, events):
+        self.events = events
+        self.last = {}
+
+    def set(self, event, source):
+        if self.last.get(event["kind"]) != event:
+            self.last[event["kind"]] = event
+            self.events.append({**event, "source": source})

@@ -1,0 +1,179 @@
+"""Records of a frame as events of framedbg, with a depth target beside them to know which triangle shows at which pixel."""
+import zlib
+from collections import Counter
+
+from captures import MOST_CORNERS, label
+
+from . import grid, states
+from .painter import Detail, Painter, distinct
+from .pieces import Piece, place
+from .placing import PIXEL
+from .raster import FARTHEST, DepthTarget
+from .records import ClearRecord, DrawRecord, MarkerRecord, PictureRecord
+from .viewport import meet
+
+MOST_TRIANGLES = MOST_CORNERS // 3
+NO_COLOUR = (0, 0, 0, 0)
+
+
+class DepthScale:
+    """Spreads the depths that a frame has over the 16 bits: rising and straight, so that no comparison changes but by rounding."""
+
+    def __init__(self, records):
+        draws = [r for r in records if isinstance(r, DrawRecord) and r.state.depth["enable"]]
+        depths = [z for record in draws for _, corners in record.shapes for _, _, z in corners]
+        self.low = max(min(depths, default=0.0), 0.0)
+        self.high = min(max(depths, default=1.0), 1.0)
+        if self.high - self.low < 1e-7:
+            self.low, self.high = 0.0, 1.0
+
+    def __call__(self, depth):
+        share = (depth - self.low) / (self.high - self.low)
+        return FARTHEST if share > 1 else min(max(round(share * (FARTHEST - 1)), 0), FARTHEST - 1)
+
+
+class Writer:
+    def __init__(self, size, records, losses, detail=Detail(), colours="measured"):
+        self.width, self.height = size
+        self.records, self.losses, self.is_distinct = records, losses, colours == "distinct"
+        self.scale = DepthScale(records)
+        self.depth = DepthTarget(*size)
+        deep = [r for r in records if isinstance(r, DrawRecord) and r.state.depth["enable"]]
+        passes = Counter(place(corners) for record in deep for _, corners in record.shapes)
+        self.painter = Painter(*size, losses, detail, passes)
+        self.events = []
+        self.log = states.StateLog(self.events)
+        self.picture = bytes(self.width * self.height * 4)
+        self.draws = 0
+
+    def capture(self):
+        writers = {MarkerRecord: self.mark, ClearRecord: self.clear, PictureRecord: self.lay, DrawRecord: self.draw}
+        for record in self.records:
+            writers[type(record)](record)
+        return {"format": "framedbg", "version": 2, "width": self.width, "height": self.height,
+                "depth_scale": {"low": self.scale.low, "high": self.scale.high}, "losses": self.losses.entries(), "events": self.events}
+
+    def mark(self, record):
+        until = {} if record.until is None else {"until": record.until}
+        self.add("marker", {"event": record.event, "name": record.name, **until}, name=label(record.name))
+
+    def add(self, kind, source, **members):
+        self.events.append({"kind": kind, **members, "source": source})
+
+    # Clears, and what was there before.
+
+    def clear(self, record):
+        source = {"event": record.event, "name": record.name}
+        if record.rectangle is not None or record.mask != 15:
+            self.clear_part(record, source)
+            return
+        if record.colour is not None:
+            self.add("clear", source, color=list(record.colour))
+            self.picture = bytes(record.colour) * (self.width * self.height)
+        if record.depth is not None:
+            depth = self.scale(record.depth)
+            self.add("depth_clear", source, depth=depth)
+            self.depth.fill(depth)
+
+    def clear_part(self, record, source):
+        self.losses.add("clears of a rectangle or of some channels", "drawn as two triangles")
+        box = record.rectangle or [0, 0, self.width, self.height]
+        self.log.set(states.raster("none", False, False), source)
+        self.log.set(states.plain(record.mask if record.colour is not None else 0), source)
+        self.log.set(states.depth(record.depth is not None, True, "ALWAYS"), source)
+        depth = self.scale(record.depth) if record.depth is not None else 0
+        self.rectangles([(box, [record.colour or NO_COLOUR] * 4)], depth, source)
+        if record.depth is not None:
+            self.depth.fill(depth, box)
+        if record.colour is not None:
+            self.picture = painted(self.picture, self.width, box, record)
+
+    def lay(self, record):
+        """The picture that was there, in rectangles."""
+        source = {"event": record.event, "name": "before"}
+        self.add("marker", source, name=f"the picture before {record.event}")
+        for event in (states.raster("none", False, False), states.plain(), states.depth(False, True, "LESS")):
+            self.log.set(event, source)
+        self.picture = zlib.decompress(record.picture)
+        self.rectangles(grid.cells(self.picture, self.width, self.height), FARTHEST, source)
+
+    def rectangles(self, boxes, depth, source):
+        """Draws of two triangles for each (box, colours of its four corners)."""
+        most = MOST_CORNERS // 6
+        for start in range(0, len(boxes), most):
+            part = boxes[start:start + most]
+            vertices = [vertex(x * PIXEL, y * PIXEL, depth, colour) for (left, top, right, bottom), colours in part
+                        for (x, y), colour in zip(((left, top), (right, top), (right, bottom), (left, bottom)), colours)]
+            indices = [4 * i + k for i in range(len(part)) for k in (0, 1, 3, 1, 2, 3)]
+            self.add("draw", source, interp="linear", vertices=vertices, indices=indices)
+
+    # Draws.
+
+    def draw(self, record):
+        state = record.state
+        source = {"event": record.event, "name": record.name}
+        view = meet(state.viewport.box(), [0, 0, self.width, self.height])
+        if view != [0, 0, self.width, self.height]:
+            source["viewport"] = view
+        if record.depth_alone:
+            self.log.set(states.plain(0), source)
+        else:
+            self.draws += 1
+            self.add("marker", source, name=label(f"{record.event} {record.name}"))
+            self.log.set(state.blend, source)
+        for event in (state.raster, state.depth):
+            self.log.set(event, source)
+        if state.rectangle():
+            self.log.set({"kind": "scissor", "rect": state.scissor}, source)
+        if any("BLEND_FACTOR" in word for word in state.blend["rgb"] + state.blend["alpha"]):
+            self.log.set(state.factor, source)
+        self.add_triangles(self.coloured(record, self.passing(record)), source)
+        if record.after:
+            self.picture = zlib.decompress(record.after)
+
+    def add_triangles(self, pieces, source):
+        for start in range(0, len(pieces), MOST_TRIANGLES):
+            part = pieces[start:start + MOST_TRIANGLES]
+            corners = [(*corner, tuple(colour)) for piece in part for corner, colour in zip(piece.corners, piece.colours)]
+            numbers = {corner: number for number, corner in enumerate(dict.fromkeys(corners))}      # neighbours share corners
+            self.add("draw", {**source, "primitives": [list(piece.number) for piece in part]}, interp="linear",
+                     vertices=[vertex(*corner) for corner in numbers], indices=[numbers[corner] for corner in corners])
+
+    def passing(self, record):
+        """The triangles that cover a pixel, each with the spans at which it passes."""
+        pieces, unseen, state = [], 0, record.state
+        for number, corners in record.shapes:
+            piece = Piece(number, [(x, y, self.scale(z)) for x, y, z in corners])
+            if not any(True for _ in piece.shape.spans(self.width, self.height)):
+                unseen += 1
+                continue
+            if not piece.shape.is_culled(state.raster["cull"], state.raster["front_ccw"]):
+                piece.passed = self.depth.draw(piece.shape, [z for _, _, z in piece.corners], state.depth, state.rectangle())
+            pieces.append(piece)
+        if unseen:
+            self.losses.add("triangles that cover no pixel's centre", "left out", unseen)
+        return pieces
+
+    def coloured(self, record, pieces):
+        if record.depth_alone or self.is_distinct or not record.after:
+            colour = NO_COLOUR if record.depth_alone else distinct(self.draws)
+            for piece in pieces:
+                piece.colours = [colour] * 3
+            return pieces
+        return self.painter.paint(record, pieces, self.picture)
+
+
+def vertex(x, y, depth, colour):
+    return {"x": x, "y": y, "z": depth, "color": list(colour)}
+
+
+def painted(picture, width, box, record):
+    """A picture with a rectangle of some channels cleared."""
+    left, top, right, bottom = box
+    made = bytearray(picture)
+    for channel in range(4):
+        if record.mask >> channel & 1:
+            for y in range(top, bottom):
+                start, end = 4 * (y * width + left) + channel, 4 * (y * width + right)
+                made[start:end:4] = bytes([record.colour[channel]]) * (right - left)
+    return bytes(made)
