@@ -462,21 +462,12 @@ fn the_next_event_near_a_window(rt: HostRuntime) -> Result<(), Fail> {
     events.push(Event::Clear(grey(9)))?;
     let mut table = EventTable::start(rt.alloc(), 2, 64, 64, events)?;
     assert!(rt; table.len() == 4);
-    for (from, to, left, top, next) in [
-        (0, 4, 0, 0, 1),
-        (2, 4, 0, 0, 3),
-        (2, 3, 0, 0, 3),
-        (0, 4, 32, 32, 2),
-        (0, 4, 32, 0, 3),
-        (0, 4, 0, 32, 3),
-    ] {
-        prove!(from <= to && to <= 4);
-        assert_eq!(rt;
-            table.next_near(from, to, square(left, top, 32)),
-            next,
-            "from {from} at {left} {top}"
-        );
-    }
+    assert_eq!(rt; table.next_near(0, 4, square(0, 0, 32)), 1);
+    assert_eq!(rt; table.next_near(2, 4, square(0, 0, 32)), 3);
+    assert_eq!(rt; table.next_near(2, 3, square(0, 0, 32)), 3);
+    assert_eq!(rt; table.next_near(0, 4, square(32, 32, 32)), 2);
+    assert_eq!(rt; table.next_near(0, 4, square(32, 0, 32)), 3);
+    assert_eq!(rt; table.next_near(0, 4, square(0, 32, 32)), 3);
     table.set_on(4, false);
     assert_eq!(rt; table.next_near(2, 4, square(0, 0, 32)), 4);
     table.set_on(2, false);
