@@ -508,12 +508,12 @@ fn owners_of_two_tiles_go_on_and_back(rt: HostRuntime) -> Result<(), Fail> {
 
 /// Counts the events that it is asked for, and those that aren't the next one.
 #[derive(Drop)]
-struct Counts {
+struct Follows {
     asked: AtomicU64,
     other: AtomicU64,
 }
 
-impl Gate for Counts {
+impl Gate for Follows {
     fn pass(&self, _lane: usize, event: u32) {
         let before = self.asked.fetch_add(1, Ordering::SeqCst);
         if before.saturating_add(1) != u64::from(event) {
@@ -526,7 +526,7 @@ impl Gate for Counts {
 #[test]
 fn a_gate_is_asked_for_each_event_that_is_passed_over(rt: HostRuntime) -> Result<(), Fail> {
     let table = markers(rt.alloc(), 9)?;
-    let gate = Counts {
+    let gate = Follows {
         asked: AtomicU64::new(0),
         other: AtomicU64::new(0),
     };
