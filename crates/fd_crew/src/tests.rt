@@ -19,8 +19,7 @@ const TURNS: u32 = 10_000_000;
 /// A table of so many markers.
 fn markers(alloc: Global, count: u32) -> Result<EventTable, Fail>
     requires { count ≤ 9 }
-    ensures length { IfOk result (λ table. length table.events ≡ count) }
-    ensures size { IfOk result (λ table. (table.width ≡ 1) × (table.height ≡ 1)) }
+    ensures { IfOk result (λ table. length table.events ≡ count) }
 {
     let mut events = Vec::new(alloc);
     for _ in 0..count {
@@ -271,37 +270,6 @@ fn a_worker_begins_at_the_lane_that_it_is_given(rt: HostRuntime) -> Result<(), F
     Ok(())
 }
 
-/// Each of four workers begins at a lane of its own among the first four, so that these meet. Shared out evenly, or counted otherwise, two of them
-/// were one worker's.
-#[test]
-fn four_workers_begin_at_the_lanes_that_they_are_given(rt: HostRuntime) -> Result<(), Fail> {
-    let table = markers(rt.alloc(), 1)?;
-    let flags = [
-        AtomicU64::new(0),
-        AtomicU64::new(0),
-        AtomicU64::new(0),
-        AtomicU64::new(0),
-    ];
-    let gate = Meets {
-        flags: &flags,
-        gave_up: AtomicU64::new(0),
-    };
-    let mut lanes = [
-        Fake::flagged(&flags[0]),
-        Fake::flagged(&flags[1]),
-        Fake::flagged(&flags[2]),
-        Fake::flagged(&flags[3]),
-        Fake::new(None),
-        Fake::new(None),
-        Fake::new(None),
-        Fake::new(None),
-    ];
-    let firsts = [0, 1, 2, 3];
-    let outcome = run_shared(&rt, rt.alloc(), &mut lanes, &table, 1, 4, &firsts, &gate)?;
-    assert!(rt; outcome == Outcome::Reached && gate.gave_up.load(Ordering::SeqCst) == 0);
-    Ok(())
-}
-
 /// Workers that begin behind the last lane, at one lane, out of order, or nowhere.
 #[test]
 fn all_lanes_go_wherever_workers_begin(rt: HostRuntime) -> Result<(), Fail> {
@@ -503,36 +471,5 @@ fn owners_of_two_tiles_go_on_and_back(rt: HostRuntime) -> Result<(), Fail> {
     run_back(&mut owners, 0);
     assert_eq!(rt; colour_shown(&rt, &owners[0], 31), Colour::default());
     assert_eq!(rt; colour_shown(&rt, &owners[1], 32), Colour::default());
-    Ok(())
-}
-
-/// Counts the events that it is asked for, and those that aren't the next one.
-#[derive(Drop)]
-struct Follows {
-    asked: AtomicU64,
-    other: AtomicU64,
-}
-
-impl Gate for Follows {
-    fn pass(&self, _lane: usize, event: u32) {
-        let before = self.asked.fetch_add(1, Ordering::SeqCst);
-        if before.saturating_add(1) != u64::from(event) {
-            self.other.fetch_add(1, Ordering::SeqCst);
-        }
-    }
-}
-
-/// A tile goes at once through events that write nothing on it, and its gate is asked for each of them all the same.
-#[test]
-fn a_gate_is_asked_for_each_event_that_is_passed_over(rt: HostRuntime) -> Result<(), Fail> {
-    let table = markers(rt.alloc(), 9)?;
-    let gate = Follows {
-        asked: AtomicU64::new(0),
-        other: AtomicU64::new(0),
-    };
-    let mut lanes = [owner(rt.alloc(), 0, 1)?];
-    let outcome = run_forward(&rt, rt.alloc(), &mut lanes, &table, 9, 1, &gate)?;
-    assert!(rt; outcome == Outcome::Reached && lanes[0].position() == 9);
-    assert!(rt; gate.asked.load(Ordering::SeqCst) == 9 && gate.other.load(Ordering::SeqCst) == 0);
     Ok(())
 }

@@ -5,4 +5,3 @@ pub mod Moves
 pub mod Parts
 pub mod Redraw
 pub mod Reversing
-pub mod Switch

@@ -14,7 +14,6 @@ mod picture;
 mod redraw;
 mod session;
 mod shows;
-mod switch;
 #[cfg(test)]
 mod tests;
 mod worth;
