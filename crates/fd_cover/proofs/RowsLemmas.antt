@@ -1,5 +1,5 @@
 -- The covered pixels of a row by the three edges of the clockwise triangle.
-use Rattle.std.proofs.Common.{◌≡◌, ℕ, ◌+◌, ◌*◌, ◌<◌, ◌≤◌, pos, ◌+ℤ◌, ◌-ℤ◌, ◌*ℤ◌, ◌≤ℤ◌, ◌<ℤ◌, ◌⊎◌, inl, inr, ◌↔◌, Bool, true, false, ◌&&◌, ◌||◌, IsTrue, refl, sym, ◌∙◌, arith}
+use Rattle.std.proofs.Common.{◌≡◌, ℕ, zero, suc, ◌+◌, ◌*◌, ◌<◌, ◌≤◌, pos, ◌+ℤ◌, ◌-ℤ◌, ◌*ℤ◌, ◌≤ℤ◌, ◌<ℤ◌, ◌⊎◌, inl, inr, ◌↔◌, Bool, true, false, ◌&&◌, ◌||◌, ℤ, IsTrue, refl, sym, ap, subst, ◌∙◌, arith}
 use Rattle.std.proofs.lemmas.Int.{ints}
 use Rattle.std.proofs.lemmas.Bool.{cases_lt, false≢true, false_from_ne_true, and_parts, or_cases}
 use Rattle.std.proofs.lemmas.Bool.Decides.{Decides-int_eq}
@@ -174,3 +174,39 @@ edge_below u v c y e f next at = rw next (record {
   small_down = at.small_down;
   small_slack = omega (arith, ints, at.small_slack, at.small_down);
 })
+
+-- ---- many rows below
+
+-- the edge so many rows below
+abbrev pub lowered : Edge → ℕ → Edge
+lowered e n = record { step = e.step; slack = e.slack +ℤ e.down *ℤ pos n; down = e.down }
+
+edge_lowered : (u v c : Point) (y : ℕ) (e : Edge) → IsEdge u v c y e → (n : ℕ) → IsEdge u v c (y + n) (lowered e n)
+edge_lowered u v c y e at zero =
+    let same : (lowered e zero).slack ≡ e.slack = omega (arith, ints) in
+    subst (λ (m : ℕ). IsEdge u v c m (lowered e zero)) {x = y} {y = y + zero} (omega arith)
+    (subst (λ (s : ℤ). IsEdge u v c y (record { step = e.step; slack = s; down = e.down })) (sym same) at)
+edge_lowered u v c y e at (suc n) =
+    let next : (lowered e n).slack +ℤ e.down ≡ (lowered e (suc n)).slack = omega (arith, ints) in
+    subst (λ (m : ℕ). IsEdge u v c m (lowered e (suc n))) {x = y + n + 1} {y = y + suc n} (omega arith)
+    (edge_below u v c (y + n) (lowered e n) (lowered e (suc n)) (ap (λ (s : ℤ). record { step = e.step; slack = s; down = e.down }) (sym next)) (edge_lowered u v c y e at n))
+
+-- a triangle covers no pixel that one of its edges leaves out
+module _ (t : Tri) (y : ℕ) (first second third : Edge) (edges : AreEdges (clockwise t) y first second third) (n x : ℕ) where
+  abbrev Leaves : Edge → Type 0
+  Leaves e = (e.slack +ℤ e.down *ℤ pos n) <ℤ (e.step *ℤ pos x)
+
+  pub uncovered_by_edge : Leaves first ⊎ (Leaves second ⊎ Leaves third) → covers t x (y + n) ≡ false
+  uncovered_by_edge leaves =
+      let s : Tri = clockwise t in
+      let there : AreEdges (clockwise t) (y + n) (lowered first n) (lowered second n) (lowered third n) = record {
+        ab = edge_lowered s.a s.b s.c y first edges.ab n;
+        bc = edge_lowered s.b s.c s.a y second edges.bc n;
+        ca = edge_lowered s.c s.a s.b y third edges.ca n;
+      } in
+      false_from_ne_true (covers t x (y + n)) (λ covered.
+      let within = (covered_in_row t (y + n) (lowered first n) (lowered second n) (lowered third n) there x).0 covered in
+      elim leaves [
+        | inl a ↦ omega (arith, ints, a, within.0)
+        | inr more ↦ elim more [ inl b ↦ omega (arith, ints, b, within.1.0) | inr d ↦ omega (arith, ints, d, within.1.1) ]
+      ])

@@ -1,9 +1,11 @@
 -- Boxes of pixels, and the box round the corners of a triangle.
 use Rattle.std.specs.Prelude.{ℕ, ◌+◌, ◌/◌, min, max, ℤ, pos, negsuc, Bool, ◌&&◌, ◌||◌, nat_le, nat_lt, IsTrue, if◌then◌else◌}
 use Rattle.std.specs.Int.{int_min, int_max}
+use Rattle.std.specs.Ordering.{int_eq}
 use Rattle.fd_cover.specs.declared.bounds.Bounds.{Bounds}
 use Rattle.fd_cover.specs.declared.triangle.Tri.{Tri}
 use Rattle.fd_cover.specs.Covers.{covers}
+use Rattle.fd_cover.specs.Cross.{cross}
 
 -- whether the box holds the pixel (x, y): its right and bottom are exclusive
 abbrev pub is_within : Bounds → ℕ → ℕ → Bool
@@ -46,13 +48,17 @@ abbrev pub past : ℤ → ℕ
 past coordinate = (on_target coordinate + 128) / 256
 
 -- the box of the pixels whose centres lie between the least and the greatest coordinate of the corners
-unfoldable pub bounds_of : Tri → Bounds
-bounds_of t = record {
+unfoldable pub corner_box : Tri → Bounds
+corner_box t = record {
   left = first_from (least t.a.x t.b.x t.c.x);
   top = first_from (least t.a.y t.b.y t.c.y);
   right = past (greatest t.a.x t.b.x t.c.x);
   bottom = past (greatest t.a.y t.b.y t.c.y);
 }
+
+-- the same, or no pixel where the triangle has no area
+unfoldable pub bounds_of : Tri → Bounds
+bounds_of t = if int_eq (cross t.a t.b t.c) (pos 0) then record { left = 0; top = 0; right = 0; bottom = 0 } else corner_box t
 
 -- the smallest box that holds both
 unfoldable pub joined : Bounds → Bounds → Bounds

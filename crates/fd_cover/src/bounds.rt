@@ -1,5 +1,5 @@
 ghost use Rattle.std.specs.Prelude.{◌≡◌, ℕ, ℤ, IsTrue};
-ghost use Rattle.fd_cover.specs.Bounds.{is_within, is_empty, HoldsCovered, HoldsBoth, IsSmallest, bounds_of, least, greatest, first_from, past, joined};
+ghost use Rattle.fd_cover.specs.Bounds.{is_within, is_empty, HoldsCovered, HoldsBoth, IsSmallest, corner_box, bounds_of, least, greatest, first_from, past, joined};
 
 use crate::triangle::Tri;
 
@@ -53,12 +53,10 @@ impl Bounds {
         }
     }
 
-    /// The pixels whose centres lie between a triangle's corners, in columns and in rows. The box holds every pixel that the
-    /// triangle covers.
-    #[tactic(auto, unfolding(crate::specs::Bounds::bounds_of))]
-    pub fn of(triangle: &Tri) -> Bounds
-        ensures value { result ≡ bounds_of triangle.now }
-        ensures covered { HoldsCovered result triangle.now }
+    /// The pixels whose centres lie between a triangle's corners, in columns and in rows.
+    #[tactic(auto, unfolding(crate::specs::Bounds::corner_box))]
+    fn round(triangle: &Tri) -> Bounds
+        ensures { result ≡ corner_box triangle.now }
     {
         let (a, b, c) = (triangle.a, triangle.b, triangle.c);
         Bounds {
@@ -66,6 +64,18 @@ impl Bounds {
             top: first_from(least(a.y(), b.y(), c.y())),
             right: past(greatest(a.x(), b.x(), c.x())),
             bottom: past(greatest(a.y(), b.y(), c.y())),
+        }
+    }
+
+    /// The same, or no pixel where the triangle has no area. The box holds every pixel that the triangle covers.
+    pub fn of(triangle: &Tri) -> Bounds
+        ensures value { result ≡ bounds_of triangle.now }
+        ensures covered { HoldsCovered result triangle.now }
+    {
+        if triangle.area() == 0 {
+            Bounds::empty()
+        } else {
+            Bounds::round(triangle)
         }
     }
 

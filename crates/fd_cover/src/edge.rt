@@ -1,4 +1,4 @@
-ghost use Rattle.std.specs.Prelude.{◌≡◌, ℕ, ◌<◌, ◌≤◌, ◌^◌, ◌↔◌, ℤ, pos, ◌+ℤ◌, ◌-ℤ◌, ◌*ℤ◌, ◌≤ℤ◌, unsigned_abs};
+ghost use Rattle.std.specs.Prelude.{◌≡◌, ℕ, ◌<◌, ◌≤◌, ◌^◌, ◌↔◌, ℤ, pos, ◌+ℤ◌, ◌-ℤ◌, ◌*ℤ◌, ◌≤ℤ◌, ◌<ℤ◌, IsTrue, unsigned_abs};
 ghost use Rattle.fd_cover.specs.Rows.{IsEdge, margin};
 ghost use Rattle.fd_snap.specs.Limits.{most_pixels};
 
@@ -23,6 +23,26 @@ fn margin(u: Point, v: Point, opposite: Point) -> i64
     } else {
         1
     }
+}
+
+/// Of the numbers from `first` to `last`, the one whose product with a factor is the least.
+fn least_at(factor: i64, first: u32, last: u32) -> u32
+    requires { first ≤ last }
+    ensures from { first ≤ result }
+    ensures to { result ≤ last }
+    ensures least { (n : ℕ) → first ≤ n → n ≤ last → (factor *ℤ pos result) ≤ℤ (factor *ℤ pos n) }
+{
+    if factor < 0 { last } else { first }
+}
+
+/// The one whose product is the greatest.
+fn greatest_at(factor: i64, first: u32, last: u32) -> u32
+    requires { first ≤ last }
+    ensures from { first ≤ result }
+    ensures to { result ≤ last }
+    ensures greatest { (n : ℕ) → first ≤ n → n ≤ last → (factor *ℤ pos n) ≤ℤ (factor *ℤ pos result) }
+{
+    if factor < 0 { first } else { last }
 }
 
 impl Edge {
@@ -61,6 +81,21 @@ impl Edge {
         ensures bound { unsigned_abs result ≤ 2 ^ 50 }
     {
         self.slack - self.step * i64::from(x)
+    }
+
+    /// Whether the edge leaves out each of the columns from `start` to before `end`, at its row and at each of so many rows below it.
+    pub(crate) fn leaves_out(self, start: u32, end: u32, below: u32) -> bool
+        requires some { start < end }
+        requires columns { end ≤ most_pixels }
+        requires rows { below < most_pixels }
+        requires step { unsigned_abs self.step ≤ 2 ^ 31 }
+        requires slack { unsigned_abs self.slack ≤ 2 ^ 49 }
+        requires down { unsigned_abs self.down ≤ 2 ^ 31 }
+        ensures { IsTrue result → (x n : ℕ) → start ≤ x → x < end → n ≤ below → (self.slack +ℤ self.down *ℤ pos n) <ℤ (self.step *ℤ pos x) }
+    {
+        let column = least_at(self.step, start, end - 1);
+        let row = greatest_at(self.down, 0, below);
+        self.room(column) + self.down * i64::from(row) < 0
     }
 
     /// The columns from `start` to before `end` that the edge admits, as the first and one past the last.

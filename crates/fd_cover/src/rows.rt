@@ -1,4 +1,4 @@
-ghost use Rattle.std.specs.Prelude.{◌≡◌, ◌<◌, ◌≤◌, ◌+◌, IfSome, IfNone};
+ghost use Rattle.std.specs.Prelude.{◌≡◌, ℕ, ◌<◌, ◌≤◌, ◌+◌, IsTrue, IfSome, IfNone};
 ghost use Rattle.fd_cover.specs.Span.{IsSpan, IsUncovered};
 ghost use Rattle.fd_snap.specs.Limits.{most_pixels};
 
@@ -70,6 +70,19 @@ impl Rows {
         } else {
             None
         }
+    }
+
+    /// Whether the triangle covers none of the columns from x0 to before x1, at this row and at each of so many rows below, as far as it lies beyond
+    /// one of its edges.
+    pub fn misses(&self, x0: u32, x1: u32, below: u32) -> bool
+        requires rows { self.now.1 + below < most_pixels }
+        requires some { x0 < x1 }
+        requires columns { x1 ≤ most_pixels }
+        ensures { IsTrue result → (n : ℕ) → n ≤ below → IsUncovered self.now.0 (self.now.1 + n) x0 x1 }
+    {
+        self.first.leaves_out(x0, x1, below)
+            || self.second.leaves_out(x0, x1, below)
+            || self.third.leaves_out(x0, x1, below)
     }
 
     /// Goes on to the next row.

@@ -59,6 +59,28 @@ fn a_triangle_of_no_area_covers_nothing(rt: HostRuntime) -> Result<(), Fail> {
 }
 
 #[test]
+fn a_triangle_of_no_area_has_no_box(rt: HostRuntime) -> Result<(), Fail> {
+    let line = triangle([(0, 0), (2, 2), (4, 4)])?;
+    assert!(rt; Bounds::of(&line).is_empty());
+    let counter_clockwise = triangle([(0, 0), (0, 4), (4, 0)])?;
+    assert_eq!(rt; Bounds::of(&counter_clockwise).right, 2);
+    Ok(())
+}
+
+/// Of a triangle with legs of 64 pixels the long edge goes through the pixels with x + y = 63.
+#[test]
+fn boxes_beyond_an_edge_are_missed(rt: HostRuntime) -> Result<(), Fail> {
+    for corners in [[(0, 0), (128, 0), (0, 128)], [(0, 128), (128, 0), (0, 0)]] {
+        let triangle = triangle(corners)?;
+        assert!(rt; Rows::of(&triangle, 32).misses(32, 64, 31));
+        assert!(rt; !Rows::of(&triangle, 31).misses(31, 64, 31));
+        assert!(rt; !Rows::of(&triangle, 0).misses(0, 32, 31));
+        assert!(rt; Rows::of(&triangle, 0).misses(64, 96, 31));
+    }
+    Ok(())
+}
+
+#[test]
 fn row_spans_of_a_small_triangle(rt: HostRuntime) -> Result<(), Fail> {
     let triangle = triangle([(0, 0), (4, 0), (0, 4)])?;
     assert_eq!(rt; row_span(&triangle, 0, 0, 2), Some((0, 1)));

@@ -30,8 +30,9 @@ pub enum Outcome {
     Stopped { at: u32 },
 }
 
-/// Takes one lane forward until it stands at the fence or above it. Where it refuses a step, it lowers the fence to where it stands, and ends.
-/// No lock, and no wait for another worker: one load of the fence before each step, and at most one atomic minimum.
+/// Takes one lane forward until it stands at the fence or above it. Events that leave its image as it is are gone through at once, up to the next one
+/// that may draw. Where it refuses a step, it lowers the fence to where it stands, and ends.
+/// No lock, and no wait for another worker: one load of the fence before each such run of events with the step after it, and at most one atomic minimum.
 fn draw_lane<L: Lane, G: Gate, S: Post>(
     fence: &Fence,
     gate: &G,
@@ -56,9 +57,16 @@ fn draw_lane<L: Lane, G: Gate, S: Post>(
         if u64::from(position) >= limit {
             return;
         }
-        gate.pass(number, position + 1);
+        let near = lane.next_near(table, limit as u32);
+        gate.pass_each(number, position, near);
+        lane.pass_to(table, near);
+        let at = lane.position();
+        if u64::from(at) >= limit {
+            return;
+        }
+        gate.pass(number, at + 1);
         if lane.forward(table).is_err() {
-            seat.lower(fence, u64::from(position));
+            seat.lower(fence, u64::from(at));
             return;
         }
     }

@@ -1,7 +1,8 @@
 //! Lanes, which go through the events of a table one by one and back, and the gate before each step.
 ghost use Rattle.std.specs.Prelude.{◌≡◌, ◌<◌, ◌≤◌, length, MatchResult};
 ghost use Rattle.fd_owner.specs.History.{position};
-ghost use Rattle.fd_owner.specs.Shown.{gone_forward, gone_back, gone_back_to, refused};
+ghost use Rattle.fd_owner.specs.Untouched.{AreUntouched};
+ghost use Rattle.fd_owner.specs.Shown.{gone_forward, gone_on_to, gone_back, gone_back_to, refused};
 
 use fd_events::EventTable;
 use fd_owner::Refused;
@@ -36,6 +37,34 @@ pub trait Lane: Send {
         ensures moved { MatchResult result (λ _. shown self.new ≡ gone_forward table.now (shown self.old)) (λ _. shown self.new ≡ refused (shown self.old)) }
         ensures fits { fits self.new table.now };
 
+    /// The first position from the lane's own on, and `to` at most, whose next event may write on its place. A lane that can't tell answers its own.
+    fn next_near(&self, table: &EventTable, to: u32) -> u32
+        requires on { position (shown self.now).history ≤ to }
+        requires last { to ≤ length table.now.events }
+        requires fits { fits self.now table.now }
+        ensures least { position (shown self.now).history ≤ result }
+        ensures most { result ≤ to }
+        ensures far { AreUntouched table.now (position (shown self.now).history) result (shown self.now).place }
+    {
+        let (_table, _at_most) = (table, to);
+        self.position()
+    }
+
+    /// Goes at once through next events that write nothing on its place, to this position, which takes no memory and can't be refused. A lane that goes
+    /// through each event for itself stays.
+    fn pass_to(&mut self, table: &EventTable, to: u32)
+        requires on { position (shown self.old).history ≤ to }
+        requires last { to ≤ length table.now.events }
+        requires far { AreUntouched table.now (position (shown self.old).history) to (shown self.old).place }
+        requires fits { fits self.old table.now }
+        ensures moved { shown self.new ≡ gone_on_to table.now (position (shown self.new).history) (shown self.old) }
+        ensures least { position (shown self.old).history ≤ position (shown self.new).history }
+        ensures most { position (shown self.new).history ≤ to }
+        ensures fits { fits self.new table.now }
+    {
+        let (_table, _at_most) = (table, to);
+    }
+
     /// Goes back over the last event: the exact inverse of the step forward, which can't be refused.
     fn back(&mut self)
         requires { 0 < position (shown self.old).history }
@@ -54,10 +83,17 @@ pub trait Lane: Send {
     }
 }
 
-/// What each worker passes right before it takes a lane through an event, after its look at the fence.
+/// What a worker passes before each event that it takes a lane through, in their order and after its look at the fence.
 /// A gate may hold a lane as long as it likes, as a test does that wants one lane ahead of another. No result depends on it.
 pub trait Gate: Sync {
     fn pass(&self, lane: usize, event: u32);
+
+    /// Passes for each event after one position, up to another, which the lane then goes through at once.
+    fn pass_each(&self, lane: usize, from: u32, to: u32) {
+        for event in from..to {
+            self.pass(lane, event + 1);
+        }
+    }
 }
 
 /// A gate that holds nobody.
@@ -66,4 +102,6 @@ pub struct Free;
 
 impl Gate for Free {
     fn pass(&self, _lane: usize, _event: u32) {}
+
+    fn pass_each(&self, _lane: usize, _from: u32, _to: u32) {}
 }

@@ -27,6 +27,14 @@ impl Lane for Owner {
         Owner::forward(self, table)
     }
 
+    fn next_near(&self, table: &EventTable, to: u32) -> u32 {
+        Owner::next_near(self, table, to)
+    }
+
+    fn pass_to(&mut self, table: &EventTable, to: u32) {
+        Owner::pass_to(self, table, to)
+    }
+
     fn back(&mut self) {
         Owner::back(self)
     }

@@ -1,6 +1,6 @@
 //! Which worker owns which lanes. A lane has one owner for the whole run.
 ghost use Rattle.std.specs.Prelude.{◌≡◌, ◌≤◌, ◌<◌, ◌^◌, ◌+◌, ◌-◌, ◌*◌, ◌/◌};
-ghost use Rattle.fd_crew.specs.Parts.{IsPart};
+ghost use Rattle.fd_crew.specs.Parts.{IsPart, owned_below};
 
 /// Neighbouring workers of a crew, and where the lanes begin that they own together.
 #[derive(Clone, Copy)]
@@ -48,7 +48,9 @@ impl<'a> Part<'a> {
         requires room { self.now.first_lane + lanes < 2 ^ 64 }
         ensures parts { IsPart result.0 × IsPart result.1 }
         ensures workers { (result.0.workers ≡ self.now.workers / 2) × (result.1.workers ≡ self.now.workers - self.now.workers / 2) }
-        ensures lower { result.0.first_lane ≡ self.now.first_lane }
+        ensures lower { (result.0.first_lane ≡ self.now.first_lane) × (result.0.first_worker ≡ self.now.first_worker) × (result.0.firsts ≡ self.now.firsts) }
+        ensures middle { (result.1.first_worker ≡ self.now.first_worker + self.now.workers / 2) × (result.1.firsts ≡ self.now.firsts) }
+        ensures begins { result.1.first_lane ≡ self.now.first_lane + owned_below self.now lanes }
         ensures upper { (self.now.first_lane ≤ result.1.first_lane) × (result.1.first_lane ≤ self.now.first_lane + lanes) }
     {
         let half = self.workers / 2;

@@ -11,7 +11,7 @@ use std::alloc::Global;
 use std::process::Abort;
 use std::sync::atomic::{AtomicU64, Ordering};
 use std::test::Fail;
-use std::thread;
+use std::thread::{self, Threads};
 
 /// How often a gate looks at what it waits for before it gives up.
 const TURNS: u32 = 10_000_000;
@@ -120,17 +120,30 @@ fn a_lane_refuses_once(rt: HostRuntime) -> Result<(), Fail> {
     Ok(())
 }
 
+/// Two of three lanes refuse, and so many workers take them.
+fn two_refuse<R: Threads + Sync + Abort>(
+    rt: &R,
+    alloc: Global,
+    table: &EventTable,
+    workers: u32,
+) -> Result<(), Fail>
+    requires workers { (1 ≤ workers) × (workers ≤ 64) }
+    requires events { length table.now.events ≡ 9 }
+{
+    let mut lanes = [Fake::new(Some(5)), Fake::new(None), Fake::new(Some(3))];
+    let outcome = run_forward(rt, alloc, &mut lanes, table, 9, workers, &Free)?;
+    assert!(rt; outcome == Outcome::Stopped { at: 2 }, "{workers} workers");
+    assert!(rt; lanes[0].position == 2 && lanes[1].position == 2 && lanes[2].position == 2);
+    assert!(rt; lanes[1].refusals == 0 && lanes[2].refusals == 1);
+    Ok(())
+}
+
 #[test]
 fn two_lanes_refuse_and_the_lower_counts(rt: HostRuntime) -> Result<(), Fail> {
     let table = markers(rt.alloc(), 9)?;
-    for workers in [1, 2, 3] {
-        let mut lanes = [Fake::new(Some(5)), Fake::new(None), Fake::new(Some(3))];
-        let outcome = run_forward(&rt, rt.alloc(), &mut lanes, &table, 9, workers, &Free)?;
-        assert!(rt; outcome == Outcome::Stopped { at: 2 }, "{workers} workers");
-        assert!(rt; lanes[0].position == 2 && lanes[1].position == 2 && lanes[2].position == 2);
-        assert!(rt; lanes[1].refusals == 0 && lanes[2].refusals == 1);
-    }
-    Ok(())
+    two_refuse(&rt, rt.alloc(), &table, 1)?;
+    two_refuse(&rt, rt.alloc(), &table, 2)?;
+    two_refuse(&rt, rt.alloc(), &table, 3)
 }
 
 #[test]
@@ -157,26 +170,39 @@ impl Gate for Counts {
     }
 }
 
+/// So many workers take three lanes to the target, then find them there, and then have no lane.
+fn reaches<R: Threads + Sync + Abort>(
+    rt: &R,
+    alloc: Global,
+    table: &EventTable,
+    workers: u32,
+) -> Result<(), Fail>
+    requires workers { (1 ≤ workers) × (workers ≤ 64) }
+    requires events { length table.now.events ≡ 9 }
+{
+    let mut lanes = [Fake::new(None), Fake::new(None), Fake::new(None)];
+    let outcome = run_forward(rt, alloc, &mut lanes, table, 9, workers, &Free)?;
+    assert!(rt; outcome == Outcome::Reached);
+    assert!(rt; lanes[0].position == 9 && lanes[1].position == 9 && lanes[2].position == 9);
+    assert!(rt; lanes[0].refusals == 0 && lanes[1].refusals == 0 && lanes[2].refusals == 0);
+    let gate = Counts {
+        calls: AtomicU64::new(0),
+    };
+    let outcome = run_forward(rt, alloc, &mut lanes, table, 9, workers, &gate)?;
+    assert!(rt; outcome == Outcome::Reached && gate.calls.load(Ordering::SeqCst) == 0);
+    let mut none: [Fake<'_>; 0] = [];
+    let outcome = run_forward(rt, alloc, &mut none, table, 9, workers, &gate)?;
+    assert!(rt; outcome == Outcome::Reached && gate.calls.load(Ordering::SeqCst) == 0);
+    Ok(())
+}
+
 #[test]
 fn any_number_of_workers_reaches_the_target(rt: HostRuntime) -> Result<(), Fail> {
     let table = markers(rt.alloc(), 9)?;
-    for workers in [1, 2, 3, 64] {
-        assert!(rt; 1 <= workers && workers <= 64);
-        let mut lanes = [Fake::new(None), Fake::new(None), Fake::new(None)];
-        let outcome = run_forward(&rt, rt.alloc(), &mut lanes, &table, 9, workers, &Free)?;
-        assert!(rt; outcome == Outcome::Reached);
-        assert!(rt; lanes[0].position == 9 && lanes[1].position == 9 && lanes[2].position == 9);
-        assert!(rt; lanes[0].refusals == 0 && lanes[1].refusals == 0 && lanes[2].refusals == 0);
-        let gate = Counts {
-            calls: AtomicU64::new(0),
-        };
-        let outcome = run_forward(&rt, rt.alloc(), &mut lanes, &table, 9, workers, &gate)?;
-        assert!(rt; outcome == Outcome::Reached && gate.calls.load(Ordering::SeqCst) == 0);
-        let mut none: [Fake<'_>; 0] = [];
-        let outcome = run_forward(&rt, rt.alloc(), &mut none, &table, 9, workers, &gate)?;
-        assert!(rt; outcome == Outcome::Reached && gate.calls.load(Ordering::SeqCst) == 0);
-    }
-    Ok(())
+    reaches(&rt, rt.alloc(), &table, 1)?;
+    reaches(&rt, rt.alloc(), &table, 2)?;
+    reaches(&rt, rt.alloc(), &table, 3)?;
+    reaches(&rt, rt.alloc(), &table, 64)
 }
 
 /// Each lane sets its flag and waits for the flags of all lanes.
@@ -270,20 +296,69 @@ fn a_worker_begins_at_the_lane_that_it_is_given(rt: HostRuntime) -> Result<(), F
     Ok(())
 }
 
+/// Each of four workers begins at a lane of its own among the first four, so that these meet. Shared out evenly, or counted otherwise, two of them
+/// were one worker's.
+#[test]
+fn four_workers_begin_at_the_lanes_that_they_are_given(rt: HostRuntime) -> Result<(), Fail> {
+    let table = markers(rt.alloc(), 1)?;
+    let flags = [
+        AtomicU64::new(0),
+        AtomicU64::new(0),
+        AtomicU64::new(0),
+        AtomicU64::new(0),
+    ];
+    let gate = Meets {
+        flags: &flags,
+        gave_up: AtomicU64::new(0),
+    };
+    let mut lanes = [
+        Fake::flagged(&flags[0]),
+        Fake::flagged(&flags[1]),
+        Fake::flagged(&flags[2]),
+        Fake::flagged(&flags[3]),
+        Fake::new(None),
+        Fake::new(None),
+        Fake::new(None),
+        Fake::new(None),
+    ];
+    let firsts = [0, 1, 2, 3];
+    let outcome = run_shared(&rt, rt.alloc(), &mut lanes, &table, 1, 4, &firsts, &gate)?;
+    assert!(rt; outcome == Outcome::Reached && gate.gave_up.load(Ordering::SeqCst) == 0);
+    Ok(())
+}
+
+/// Three workers that are to begin at these lanes take all three lanes to where one of them refuses.
+fn all_go<R: Threads + Sync + Abort>(
+    rt: &R,
+    alloc: Global,
+    table: &EventTable,
+    firsts: &[usize],
+) -> Result<(), Fail>
+    requires { length table.now.events ≡ 9 }
+{
+    let mut lanes = [Fake::new(None), Fake::new(None), Fake::new(Some(4))];
+    let outcome = run_shared(rt, alloc, &mut lanes, table, 9, 3, firsts, &Free)?;
+    assert!(rt; outcome == Outcome::Stopped { at: 3 });
+    assert!(rt; lanes.iter().all(|lane| lane.position == 3));
+    Ok(())
+}
+
 /// Workers that begin behind the last lane, at one lane, out of order, or nowhere.
 #[test]
 fn all_lanes_go_wherever_workers_begin(rt: HostRuntime) -> Result<(), Fail> {
     let table = markers(rt.alloc(), 9)?;
-    for firsts in [[0, 9, 9], [2, 2, 2], [2, 1, 0], [9, 0, 9]] {
-        for known in 0..4 {
-            let mut lanes = [Fake::new(None), Fake::new(None), Fake::new(Some(4))];
-            let firsts = &firsts[..known];
-            let outcome = run_shared(&rt, rt.alloc(), &mut lanes, &table, 9, 3, firsts, &Free)?;
-            assert!(rt; outcome == Outcome::Stopped { at: 3 });
-            assert!(rt; lanes.iter().all(|lane| lane.position == 3));
-        }
-    }
-    Ok(())
+    all_go(&rt, rt.alloc(), &table, &[])?;
+    all_go(&rt, rt.alloc(), &table, &[0])?;
+    all_go(&rt, rt.alloc(), &table, &[2])?;
+    all_go(&rt, rt.alloc(), &table, &[9])?;
+    all_go(&rt, rt.alloc(), &table, &[0, 9])?;
+    all_go(&rt, rt.alloc(), &table, &[2, 2])?;
+    all_go(&rt, rt.alloc(), &table, &[2, 1])?;
+    all_go(&rt, rt.alloc(), &table, &[9, 0])?;
+    all_go(&rt, rt.alloc(), &table, &[0, 9, 9])?;
+    all_go(&rt, rt.alloc(), &table, &[2, 2, 2])?;
+    all_go(&rt, rt.alloc(), &table, &[2, 1, 0])?;
+    all_go(&rt, rt.alloc(), &table, &[9, 0, 9])
 }
 
 /// Sets the flag of each lane that passes, and holds none.
@@ -300,35 +375,48 @@ impl<'a> Gate for Tells<'a> {
     }
 }
 
+/// So many workers take five lanes through one event.
+fn five_pass<R: Threads + Sync + Abort>(
+    rt: &R,
+    alloc: Global,
+    table: &EventTable,
+    workers: u32,
+) -> Result<(), Fail>
+    requires workers { (1 ≤ workers) × (workers ≤ 64) }
+    requires events { length table.now.events ≡ 1 }
+{
+    let flags = [
+        AtomicU64::new(0),
+        AtomicU64::new(0),
+        AtomicU64::new(0),
+        AtomicU64::new(0),
+        AtomicU64::new(0),
+    ];
+    let gate = Tells { flags: &flags };
+    let mut lanes = [
+        Fake::flagged(&flags[0]),
+        Fake::flagged(&flags[1]),
+        Fake::flagged(&flags[2]),
+        Fake::flagged(&flags[3]),
+        Fake::flagged(&flags[4]),
+    ];
+    let outcome = run_forward(rt, alloc, &mut lanes, table, 1, workers, &gate)?;
+    assert!(rt; outcome == Outcome::Reached, "{workers} workers");
+    assert!(rt;
+        lanes
+            .iter()
+            .all(|lane| lane.position == 1 && !lane.went_early)
+    );
+    Ok(())
+}
+
 /// Two workers have five lanes, so that one of them has three.
 #[test]
 fn each_lane_passes_by_its_own_number(rt: HostRuntime) -> Result<(), Fail> {
     let table = markers(rt.alloc(), 1)?;
-    for workers in [1, 2, 3] {
-        let flags = [
-            AtomicU64::new(0),
-            AtomicU64::new(0),
-            AtomicU64::new(0),
-            AtomicU64::new(0),
-            AtomicU64::new(0),
-        ];
-        let gate = Tells { flags: &flags };
-        let mut lanes = [
-            Fake::flagged(&flags[0]),
-            Fake::flagged(&flags[1]),
-            Fake::flagged(&flags[2]),
-            Fake::flagged(&flags[3]),
-            Fake::flagged(&flags[4]),
-        ];
-        let outcome = run_forward(&rt, rt.alloc(), &mut lanes, &table, 1, workers, &gate)?;
-        assert!(rt; outcome == Outcome::Reached, "{workers} workers");
-        assert!(rt;
-            lanes
-                .iter()
-                .all(|lane| lane.position == 1 && !lane.went_early)
-        );
-    }
-    Ok(())
+    five_pass(&rt, rt.alloc(), &table, 1)?;
+    five_pass(&rt, rt.alloc(), &table, 2)?;
+    five_pass(&rt, rt.alloc(), &table, 3)
 }
 
 /// Holds lane 2 until lane 0 has come to an event, and lane 0 until lane 3 has; and counts how often lane 0 passes.
@@ -471,5 +559,47 @@ fn owners_of_two_tiles_go_on_and_back(rt: HostRuntime) -> Result<(), Fail> {
     run_back(&mut owners, 0);
     assert_eq!(rt; colour_shown(&rt, &owners[0], 31), Colour::default());
     assert_eq!(rt; colour_shown(&rt, &owners[1], 32), Colour::default());
+    Ok(())
+}
+
+/// Three markers of a target of one pixel.
+fn three_markers(alloc: Global) -> Result<EventTable, Fail>
+    ensures { IfOk result (λ table. (table.width ≡ 1) × (table.height ≡ 1) × (length table.events ≡ 3)) }
+{
+    let mut events = Vec::new(alloc);
+    events.push(Event::Marker(Label::new(String::new(alloc))?))?;
+    events.push(Event::Marker(Label::new(String::new(alloc))?))?;
+    events.push(Event::Marker(Label::new(String::new(alloc))?))?;
+    Ok(EventTable::start(alloc, 2, 1, 1, events)?)
+}
+
+/// Counts the events that it is asked for, and those that aren't the next one.
+#[derive(Drop)]
+struct Follows {
+    asked: AtomicU64,
+    other: AtomicU64,
+}
+
+impl Gate for Follows {
+    fn pass(&self, _lane: usize, event: u32) {
+        let before = self.asked.fetch_add(1, Ordering::SeqCst);
+        if before.saturating_add(1) != u64::from(event) {
+            self.other.fetch_add(1, Ordering::SeqCst);
+        }
+    }
+}
+
+/// A tile goes at once through events that write nothing on it, and its gate is asked for each of them all the same.
+#[test]
+fn a_gate_is_asked_for_each_event_that_is_passed_over(rt: HostRuntime) -> Result<(), Fail> {
+    let table = three_markers(rt.alloc())?;
+    let gate = Follows {
+        asked: AtomicU64::new(0),
+        other: AtomicU64::new(0),
+    };
+    let mut lanes = [owner(rt.alloc(), 0, 1)?];
+    let outcome = run_forward(&rt, rt.alloc(), &mut lanes, &table, 3, 1, &gate)?;
+    assert!(rt; outcome == Outcome::Reached && lanes[0].position() == 3);
+    assert!(rt; gate.asked.load(Ordering::SeqCst) == 3 && gate.other.load(Ordering::SeqCst) == 0);
     Ok(())
 }

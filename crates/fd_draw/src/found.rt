@@ -61,16 +61,16 @@ impl RowSpan {
 }
 
 impl Found {
-    /// What a triangle covers in a box.
-    fn of(triangle: &Tri, area: Bounds) -> Found
+    /// What the triangle of these rows, the first of which is the box's, covers in a box.
+    fn of(mut edges: Rows, area: Bounds) -> Found
         requires small { IsSmall area }
         requires some { area.top < area.bottom }
-        ensures found { IsFound triangle.now result }
+        requires top { edges.1 ≡ area.top }
+        ensures found { IsFound edges.0 result }
         ensures area { result.area ≡ area }
     {
         let mut demand = NOTHING;
         let mut rows = [NO_PIXEL; WIDEST];
-        let mut edges = Rows::of(triangle, area.top);
         for y in area.top..area.bottom {
             let span = covered_span(&edges, area.left, area.right);
             rows[(y - area.top) as usize] = RowSpan::of(span, area.left);
@@ -101,7 +101,7 @@ impl Found {
 }
 
 /// What a triangle covers in the box in which it is drawn wherever it covers a pixel, where `window` has the pixels that the scissor
-/// leaves. None where it is culled, or its own box misses them.
+/// leaves. None where it is culled, or its own box misses them, or they lie beyond one of its edges.
 pub(crate) fn find(triangle: &Tri, raster: &Raster, window: Bounds) -> Option<Found>
     requires { IsSmall window }
     ensures found { IfSome result (λ found. IsFound triangle.now found) }
@@ -109,8 +109,10 @@ pub(crate) fn find(triangle: &Tri, raster: &Raster, window: Bounds) -> Option<Fo
     ensures drawn { IfSome result (λ found. (x y : ℕ) → is_drawn_in window raster.now triangle.now x y ≡ (is_within found.area x y && covers triangle.now x y)) }
     ensures none { IfNone result ((x y : ℕ) → is_drawn_in window raster.now triangle.now x y ≡ false) }
 {
-    match drawn_area(triangle, raster, window) {
-        Some(area) => Some(Found::of(triangle, area)),
-        None => None,
+    let area = drawn_area(triangle, raster, window)?;
+    let edges = Rows::of(triangle, area.top);
+    if edges.misses(area.left, area.right, area.bottom - 1 - area.top) {
+        return None;
     }
+    Some(Found::of(edges, area))
 }

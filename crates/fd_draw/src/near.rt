@@ -1,5 +1,4 @@
 ghost use Rattle.std.specs.Prelude.{◌≡◌, ℕ, ◌+◌, ◌<◌, ◌≤◌, IsTrue, IfNone, IfSome, Some, length, slice_get};
-ghost use Rattle.fd_events.specs.Limits.{group_size};
 ghost use Rattle.fd_events.specs.Draw.{Triangle, triangles_of};
 ghost use Rattle.fd_events.specs.declared.pipeline.Pipeline.{Pipeline};
 ghost use Rattle.fd_tile.specs.Place.{IsTilePlace};
@@ -9,42 +8,21 @@ ghost use Rattle.fd_draw.specs.Plan.{MayBeginAt};
 
 use crate::area::{shared, whole};
 use fd_cover::Bounds;
-use fd_events::{Draw, Event, GROUP_LEN};
+use fd_events::{Draw, Event};
 use fd_tile::Place;
 
-/// Whether a group of triangles begins with this one, and its box misses the window.
-fn begins_far_group(draw: &Draw, triangle: u32, window: Bounds) -> bool
-    ensures { IsTrue result → MissWindow window (triangles_of draw.now) triangle (triangle + group_size) }
-{
-    triangle % GROUP_LEN == 0 && shared(window, draw.group_bounds(triangle / GROUP_LEN)).is_empty()
-}
-
-/// Whether a triangle's own box misses the window.
+/// Whether a triangle's own box is kept and misses the window.
 fn is_far(draw: &Draw, triangle: u32, window: Bounds) -> bool
     ensures { IsTrue result → MissWindow window (triangles_of draw.now) triangle (triangle + 1) }
 {
-    shared(window, draw.triangle_bounds(triangle)).is_empty()
-}
-
-/// The triangle after the group that begins with this one, or after this one, where its box misses the window; or this one.
-fn past_far(draw: &Draw, triangle: u32, window: Bounds) -> u32
-    requires { triangle < length (triangles_of draw.now) }
-    ensures from { triangle ≤ result }
-    ensures last { result ≤ length (triangles_of draw.now) }
-    ensures missed { MissWindow window (triangles_of draw.now) triangle result }
-{
-    let count = draw.triangles();
-    if begins_far_group(draw, triangle, window) {
-        count.min(triangle + GROUP_LEN)
-    } else if is_far(draw, triangle, window) {
-        triangle + 1
-    } else {
-        triangle
+    match draw.kept_bounds(triangle) {
+        Some(bounds) => shared(window, bounds).is_empty(),
+        None => false,
     }
 }
 
-/// The first triangle from this one on that the draw lists for the window and whose box and whose group's box share a pixel with it, or the
-/// number of triangles. This one is listed, or the number of triangles.
+/// The first triangle from this one on that the draw lists for the window and whose box, where it is kept, shares a pixel with it, or the number of
+/// triangles. This one is listed, or the number of triangles.
 pub(crate) fn near_from(draw: &Draw, listed: u32, window: Bounds) -> u32
     requires { listed ≤ length (triangles_of draw.now) }
     ensures from { listed ≤ result }
@@ -53,12 +31,8 @@ pub(crate) fn near_from(draw: &Draw, listed: u32, window: Bounds) -> u32
 {
     let count = draw.triangles();
     let mut near = listed;
-    while near < count {
-        let next = past_far(draw, near, window);
-        if next == near {
-            return near;
-        }
-        near = draw.next_listed(next, window);
+    while near < count && is_far(draw, near, window) {
+        near = draw.next_listed(near + 1, window);
     }
     near
 }

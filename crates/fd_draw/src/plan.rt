@@ -10,7 +10,7 @@ ghost use Rattle.fd_draw.specs.declared.plan.TheConstants.{MOST_PLANNED};
 ghost use Rattle.arrayvec.specs.ArrayVec.{array_vec_len};
 ghost use Rattle.fd_draw.specs.Plan.{ArePlanned, IsPlan, MayBeginAt};
 
-use crate::area::{open_area, shared};
+use crate::area::open_area;
 use crate::found::{Found, find};
 use crate::near::{near_from, next_near};
 use crate::room::{Demand, NOTHING};
@@ -103,7 +103,7 @@ fn plan_draw(draw: &Draw, state: &Pipeline, place: Place, first: u32) -> Plan
     let count = draw.triangles();
     let window = open_area(&state.raster, &state.scissor, place);
     let mut plan = Plan::without_triangles(NOTHING, count);
-    if shared(window, draw.bounds()).is_empty() {
+    if window.is_empty() {
         return plan;
     }
     let mut triangle = near_from(draw, first, window);

@@ -1,5 +1,6 @@
 -- Boxes round triangles.
 use Rattle.std.proofs.Common.{◌≡◌, ℕ, zero, suc, ◌+◌, ◌-◌, ◌*◌, ◌<◌, ◌≤◌, min, max, Bool, true, false, ◌||◌, IsTrue, ◌⊎◌, inl, inr, List, [], ◌∷◌, ◌++◌, length, take, drop, Some, slice_get, option_map, add-one, arith, refl, sym, ap, ◌∙◌}
+use Rattle.std.proofs.lemmas.Bool.{cases_lt}
 use Rattle.std.proofs.lemmas.Option.{slice_get_within}
 use Rattle.std.proofs.lemmas.Bool.Decides.{nat_tests}
 use Rattle.fd_cover.specs.declared.bounds.Bounds.{Bounds}
@@ -9,7 +10,7 @@ use Rattle.fd_cover.specs.Bounds.{is_within, is_empty, HoldsCovered, HoldsBoth, 
 use Rattle.fd_cover.proofs.BoundsLemmas.{missed_outside, bounds_of-holds}
 use Rattle.fd_events.specs.declared.pipeline.Pipeline.{Pipeline}
 use Rattle.fd_events.specs.Limits.{group_size}
-use Rattle.fd_events.specs.Bounds.{HoldsTriangles, HoldsGroup, IsRoundGroup, AreRoundGroups, IsTriangleBox, AreTriangleBoxes, between, joined_with, bounds_of_triangles, IsRound}
+use Rattle.fd_events.specs.Bounds.{HoldsTriangles, HoldsGroup, IsRoundGroup, AreRoundGroups, IsTriangleBox, AreTriangleBoxes, between, joined_with, bounds_of_triangles, IsRound, CoverNone}
 use Rattle.fd_events.specs.Draw.{Triangle}
 use Rattle.fd_events.specs.Image.{Pixel, is_drawn_by, is_drawn, pixel_after_triangles, kept_by_triangles}
 
@@ -190,3 +191,10 @@ joined_with-holds (first ∷ ts) box (suc i) t at = joined_with-holds ts (joined
 
 pub bounds_of_triangles-holds : (ts : List Triangle) → HoldsTriangles (bounds_of_triangles ts) ts
 bounds_of_triangles-holds ts = joined_with-holds ts (record { left = 0; top = 0; right = 0; bottom = 0 })
+
+-- two runs of triangles that cover nothing of the window
+pub CoverNone-then : (window : Bounds) (ts : List Triangle) (first middle last : ℕ) → CoverNone window ts first middle → CoverNone window ts middle last → CoverNone window ts first last
+CoverNone-then window ts first middle last before after i t from to at = elim (cases_lt i middle) [
+  | inl lower ↦ before i t from lower at
+  | inr higher ↦ after i t higher to at
+]

@@ -1,7 +1,8 @@
-ghost use Rattle.std.specs.Prelude.{◌≡◌, ◌+◌, ◌-◌, ◌*◌, ◌/◌, ◌<◌, ◌≤◌, length, Some, option_map, slice_get};
+ghost use Rattle.std.specs.Prelude.{◌≡◌, ◌+◌, ◌-◌, ◌*◌, ◌/◌, ◌<◌, ◌≤◌, length, IsTrue, Some, IfSome, option_map, slice_get};
 
 use crate::finder::Finder;
 use crate::list::TriangleList;
+use crate::reach::meets;
 use fd_blend::Colour;
 use fd_cover::{Bounds, Interp, Tri};
 use fd_snap::Pos;
@@ -146,16 +147,25 @@ impl Draw {
     pub fn triangle_bounds(&self, triangle: u32) -> Bounds
         ensures { IsTriangleBox result triangle (triangles_of self.now) }
     {
-        if let Some(finder) = &self.finder {
-            if let Some(bounds) = finder.boxes.get(triangle as usize) {
-                return *bounds;
-            }
-        }
-        if triangle < self.list.len() {
+        if let Some(bounds) = self.kept_bounds(triangle) {
+            bounds
+        } else if triangle < self.list.len() {
             Bounds::of(&self.list.tri(triangle))
         } else {
             Bounds::empty()
         }
+    }
+
+    /// The same where a table that was started with the draw keeps it, as for many triangles.
+    pub fn kept_bounds(&self, triangle: u32) -> Option<Bounds>
+        ensures { IfSome result (λ bounds. IsTriangleBox bounds triangle (triangles_of self.now)) }
+    {
+        if let Some(finder) = &self.finder {
+            if let Some(bounds) = finder.boxes.get(triangle as usize) {
+                return Some(*bounds);
+            }
+        }
+        None
     }
 
     /// The first triangle from this one on that may cover a pixel of a window, by what a table that was started with the draw keeps, or the
@@ -172,7 +182,32 @@ impl Draw {
                 return cells.next(triangle, count, window);
             }
         }
-        triangle
+        self.next_grouped(triangle, window)
+    }
+
+    /// The same by the boxes of the groups. A draw of one group isn't asked for its box, which its table asked for.
+    fn next_grouped(&self, triangle: u32, window: Bounds) -> u32
+        requires { triangle ≤ length (triangles_of self.now) }
+        ensures from { triangle ≤ result }
+        ensures last { result ≤ length (triangles_of self.now) }
+        ensures missed { CoverNone window (triangles_of self.now) triangle result }
+    {
+        let count = self.triangles();
+        if count <= GROUP_LEN {
+            return triangle;
+        }
+        let mut next = triangle;
+        while next < count && self.begins_far_group(next, window) {
+            next = count.min(next + GROUP_LEN);
+        }
+        next
+    }
+
+    /// Whether a group of triangles begins with this one, and its box misses a window.
+    fn begins_far_group(&self, triangle: u32, window: Bounds) -> bool
+        ensures { IsTrue result → CoverNone window (triangles_of self.now) triangle (triangle + group_size) }
+    {
+        triangle % GROUP_LEN == 0 && !meets(self.group_bounds(triangle / GROUP_LEN), window)
     }
 
     /// Computes the boxes of the groups and of the triangles, and lists these in cells over a target of this size. On want of memory

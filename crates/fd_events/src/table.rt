@@ -8,8 +8,9 @@ ghost use Rattle.fd_events.specs.Reach.{box_of, AreReaches};
 ghost use Rattle.fd_events.specs.declared.table.TableFault.TheVariants.{Memory};
 
 use crate::event::Event;
+use crate::index::EventIndex;
 use crate::pipeline::Pipeline;
-use crate::reach::Reach;
+use crate::reach::{Reach, meets};
 use fd_cover::Bounds;
 use fd_snap::MAX_SIDE;
 use std::alloc::{AllocError, Global};
@@ -127,11 +128,15 @@ pub struct EventTable {
     reaches: Vec<Reach>,
     // whether each event is switched on and its box has a pixel: each tile asks this of every event
     writers: Vec<bool>,
+    // which events reach which bands of rows and columns, whether they are switched on or off
+    index: EventIndex,
 }
 
 impl Model for EventTable {
     ghost use Rattle.fd_events.specs.Table.{Table, table_of, IsTable, HasStates};
-    ghost use Rattle.fd_events.specs.Reach.{AreReaches, AreWriters};
+    ghost use Rattle.std.specs.Prelude.{map};
+    ghost use Rattle.fd_events.specs.Reach.{box_of, AreReaches, AreWriters};
+    ghost use Rattle.fd_events.specs.Index.{IsIndex};
 
     ghost Value = { Table };
 
@@ -141,12 +146,14 @@ impl Model for EventTable {
         IsTable (table_of t.version t.width t.height t.events.items t.flags.items)
         × HasStates (table_of t.version t.width t.height t.events.items t.flags.items) t.states.items
         × AreReaches t.width t.height t.events.items t.reaches.items
-        × AreWriters t.flags.items t.reaches.items t.writers.items };
+        × AreWriters t.flags.items t.reaches.items t.writers.items
+        × IsIndex t.index (map box_of t.reaches.items) };
 }
 
 impl EventTable {
-    ghost use Rattle.std.specs.Prelude.{◌≡◌, ◌≤◌, ◌+◌, ◌-◌, length, Some, IfSome, IfOk, option_map};
+    ghost use Rattle.std.specs.Prelude.{◌≡◌, ◌<◌, ◌≤◌, ◌+◌, ◌-◌, length, true, IsTrue, not, Some, IfSome, IfOk, option_map};
     ghost use Rattle.fd_events.specs.Reach.{reach_of, may_write_at, HoldsWritten};
+    ghost use Rattle.fd_events.specs.Far.{IsFar, AreFar};
     ghost use Rattle.fd_events.specs.Table.{IsTable, IsVersion, all_on, started, UnlessMemory, event_at, flag_at, state_at, with_flag};
 
     /// A table of these events, all switched on. They are dropped on a refusal.
@@ -186,6 +193,7 @@ impl EventTable {
         recompute(&events, &flags, &mut states, 0);
         let reaches = reaches_of(&events, width, height, alloc)?;
         let writers = writers_of(&reaches, alloc)?;
+        let index = EventIndex::of(&reaches, width, height, alloc)?;
         Ok(EventTable {
             version,
             width,
@@ -195,6 +203,7 @@ impl EventTable {
             states,
             reaches,
             writers,
+            index,
         })
     }
 
@@ -266,6 +275,45 @@ impl EventTable {
         ensures { Some result ≡ may_write_at self.now number }
     {
         self.writers[number as usize - 1]
+    }
+
+    /// The first position from `from` on, and `to` at most, whose next event is switched on and has a box that meets a window. No event that is passed
+    /// over can write there in any state. A run of events that reach other bands of rows or columns takes one look at 4,096 of them.
+    pub fn next_near(&self, from: u32, to: u32, window: Bounds) -> u32
+        requires order { from ≤ to }
+        requires last { to ≤ length self.now.events }
+        ensures from { from ≤ result }
+        ensures last { result ≤ to }
+        ensures near { result < to → flag_at self.now (result + 1) ≡ Some true }
+        ensures far { AreFar self.now from result window }
+    {
+        let mut near = self.next_indexed(from, to, window);
+        while near < to && !self.is_near(near, window) {
+            near = self.next_indexed(near + 1, to, window);
+        }
+        near
+    }
+
+    /// The same as far as the bands tell that the boxes reach, where an event that is switched off counts as well.
+    fn next_indexed(&self, from: u32, to: u32, window: Bounds) -> u32
+        requires order { from ≤ to }
+        requires last { to ≤ length self.now.events }
+        ensures from { from ≤ result }
+        ensures last { result ≤ to }
+        ensures far { AreFar self.now from result window }
+    {
+        self.index.next(from, to, window)
+    }
+
+    /// Whether the event after a position is switched on and has a box that meets a window. The event itself is not looked at.
+    fn is_near(&self, position: u32, window: Bounds) -> bool
+        requires { position < length self.now.events }
+        ensures near { IsTrue result → flag_at self.now (position + 1) ≡ Some true }
+        ensures far { IsTrue (not result) → IsFar self.now position window }
+    {
+        let _len = self.len();
+        let number = position + 1;
+        self.may_write(number) && meets(self.reach(number), window)
     }
 
     /// The state before the event of this number, or after the last event.

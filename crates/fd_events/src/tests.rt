@@ -445,3 +445,51 @@ fn the_reach_of_each_event_lies_on_the_target(rt: HostRuntime) -> Result<(), Fai
     assert_eq!(rt; table.reach(3), whole);
     Ok(())
 }
+
+/// A draw of one triangle.
+fn one_triangle(alloc: Global, corners: [(i32, i32); 3]) -> Result<Event, Fail> {
+    let mut vertices = Vec::new(alloc);
+    push_triangle(&mut vertices, corners)?;
+    Ok(Event::Draw(Draw::new(vertices, None, Interp::Flat)?))
+}
+
+#[test]
+fn the_next_event_near_a_window(rt: HostRuntime) -> Result<(), Fail> {
+    let mut events = Vec::new(rt.alloc());
+    events.push(Event::Marker(Label::new(String::new(rt.alloc()))?))?;
+    events.push(one_triangle(rt.alloc(), NEAR_CORNERS)?)?;
+    events.push(one_triangle(rt.alloc(), NEXT_CELL_CORNERS)?)?;
+    events.push(Event::Clear(grey(9)))?;
+    let mut table = EventTable::start(rt.alloc(), 2, 64, 64, events)?;
+    assert!(rt; table.len() == 4);
+    assert_eq!(rt; table.next_near(0, 4, square(0, 0, 32)), 1);
+    assert_eq!(rt; table.next_near(2, 4, square(0, 0, 32)), 3);
+    assert_eq!(rt; table.next_near(2, 3, square(0, 0, 32)), 3);
+    assert_eq!(rt; table.next_near(0, 4, square(32, 32, 32)), 2);
+    assert_eq!(rt; table.next_near(0, 4, square(32, 0, 32)), 3);
+    assert_eq!(rt; table.next_near(0, 4, square(0, 32, 32)), 3);
+    table.set_on(4, false);
+    assert_eq!(rt; table.next_near(2, 4, square(0, 0, 32)), 4);
+    table.set_on(2, false);
+    assert_eq!(rt; table.next_near(0, 4, square(0, 0, 32)), 4);
+    table.set_on(4, true);
+    assert_eq!(rt; table.next_near(0, 4, square(0, 0, 32)), 3);
+    Ok(())
+}
+
+#[test]
+fn far_events_are_passed_over_by_thousands(rt: HostRuntime) -> Result<(), Fail> {
+    for number in [63usize, 64, 65, 4_095, 4_096, 4_097, 10_000] {
+        let mut events = Vec::new(rt.alloc());
+        for _ in 0..number {
+            events.push(one_triangle(rt.alloc(), NEXT_CELL_CORNERS)?)?;
+        }
+        events.push(one_triangle(rt.alloc(), NEAR_CORNERS)?)?;
+        let table = EventTable::start(rt.alloc(), 2, 64, 64, events)?;
+        assert!(rt; table.len() as usize == number.saturating_add(1));
+        let len = table.len();
+        assert_eq!(rt; table.next_near(0, len, square(0, 0, 32)) as usize, number);
+        assert_eq!(rt; table.next_near(0, len, square(0, 32, 32)), len);
+    }
+    Ok(())
+}

@@ -15,7 +15,7 @@ use Rattle.fd_cover.proofs.BoundsLemmas.{missed_outside}
 use Rattle.fd_cover.specs.Covers.{covers}
 use Rattle.fd_cover.specs.Verdict.{verdict_at}
 use Rattle.fd_events.specs.declared.pipeline.Pipeline.{Pipeline}
-use Rattle.fd_events.specs.Bounds.{HoldsTriangles, HoldsGroup}
+use Rattle.fd_events.specs.Bounds.{HoldsTriangles, CoverNone}
 use Rattle.fd_events.specs.Draw.{Triangle}
 use Rattle.fd_events.specs.Image.{Pixel, verdict_of, pixel_after_triangle}
 use Rattle.fd_history.specs.declared.entry.Entry.{Entry}
@@ -55,6 +55,13 @@ next_triangle event number (suc i) (t ∷ ts) interp s old new within is =
     let next : suc i + 1 ≡ suc (i + 1) = omega arith in
     rw next (next_triangle event number i ts interp s old new (omega arith) is)
 
+-- it is still the same pixel
+pub same_pixel : (event number i : ℕ) (ts : List Triangle) (interp : Interp) (s : Pipeline) (old new : Gathering) → i < length ts
+    → IfSome (slice_get ts i) (λ t. new ≡ past_triangle event number t interp s old) → (new.x ≡ old.x) × (new.y ≡ old.y)
+same_pixel event number i [] interp s old new within is = absurd (omega arith)
+same_pixel event number zero (t ∷ ts) interp s old new within is = (ap (λ (g : Gathering). g.x) is, ap (λ (g : Gathering). g.y) is)
+same_pixel event number (suc i) (t ∷ ts) interp s old new within is = same_pixel event number i ts interp s old new (omega arith) is
+
 -- ---- triangles that miss the pixel
 past_missed : (event number : ℕ) (t : Triangle) (interp : Interp) (s : Pipeline) (g : Gathering) → verdict_of t s g.x g.y g.depth ≡ Missed → g ≡ past_triangle event number t interp s g
 past_missed event number t interp s g missed = rw missed (sym (gone_nowhere g))
@@ -87,36 +94,23 @@ outside_triangles (t ∷ ts) box event number interp s x y before holds out =
     (missed_enters (verdict_of t s x y before.1) (entry_of_triangle event number t interp s x y before) (missed_outside t.corners t.depths s.raster s.scissor s.depth before.1 box x y (holds 0 t refl) out))
     ∙ outside_triangles ts box event (number + 1) interp s x y after (λ i u at. holds (suc i) u at) out
 
--- ---- groups
--- behind the last triangle nothing is left, whatever its number
-pub past_the_last : (event number other i j : ℕ) (ts : List Triangle) (interp : Interp) (s : Pipeline) (g : Gathering) → length ts ≤ i → length ts ≤ j
-    → past_triangles event number (drop i ts) interp s g ≡ past_triangles event other (drop j ts) interp s g
-past_the_last event number other i j ts interp s g behind beyond =
-    ap (λ l. past_triangles event number l interp s g) (drop_all i ts behind)
-    ∙ sym (ap (λ l. past_triangles event other l interp s g) (drop_all j ts beyond))
+-- ---- triangles that cover nothing of a window with the pixel
+missed_uncovered : (t : Triangle) (s : Pipeline) (x y stored : ℕ) → covers t.corners x y ≡ false → verdict_of t s x y stored ≡ Missed
+unfolding verdict_at
+missed_uncovered t s x y stored uncovered = rw uncovered
 
-missed_at : (ts : List Triangle) (box : Bounds) (group i event : ℕ) (interp : Interp) (s : Pipeline) (g : Gathering) → HoldsGroup box group ts → is_within box g.x g.y ≡ false
-    → 32 * group ≤ i → i < 32 * group + 32 → (found : Option Triangle) → slice_get ts i ≡ found → IfSome found (λ t. g ≡ past_triangle event i t interp s g)
-missed_at ts box group i event interp s g holds out from to None is = tt
-missed_at ts box group i event interp s g holds out from to (Some t) is =
-    past_missed event i t interp s g (missed_outside t.corners t.depths s.raster s.scissor s.depth g.depth box g.x g.y (holds i t from to is) out)
+module _ (ts : List Triangle) (window : Bounds) (event : ℕ) (interp : Interp) (s : Pipeline) (g : Gathering) (within : IsTrue (is_within window g.x g.y)) where
+  missed_at : (i : ℕ) → (found : Option Triangle) → slice_get ts i ≡ found → CoverNone window ts i (i + 1) → IfSome found (λ t. g ≡ past_triangle event i t interp s g)
+  missed_at i None is none = tt
+  missed_at i (Some t) is none = past_missed event i t interp s g (missed_uncovered t s g.x g.y g.depth (none i t (omega arith) (omega arith) is g.x g.y within))
 
--- the first triangles of a group whose box doesn't hold the pixel
-skipped : (ts : List Triangle) (box : Bounds) (group event : ℕ) (interp : Interp) (s : Pipeline) (g : Gathering) → HoldsGroup box group ts → is_within box g.x g.y ≡ false
-    → (j : ℕ) → j ≤ 32 → past_triangles event (32 * group + j) (drop (32 * group + j) ts) interp s g ≡ past_triangles event (32 * group) (drop (32 * group) ts) interp s g
-skipped ts box group event interp s g holds out zero few = ap (λ n. past_triangles event n (drop n ts) interp s g) {x = 32 * group + zero} {y = 32 * group} (omega arith)
-skipped ts box group event interp s g holds out (suc j) few =
-    let i = 32 * group + j in
-    let next : 32 * group + suc j ≡ i + 1 = omega arith in
-    ap (λ n. past_triangles event n (drop n ts) interp s g) next ∙ step (cases_lt i (length ts)) ∙ skipped ts box group event interp s g holds out j (omega arith)
-  where
-    step : (32 * group + j < length ts) ⊎ (length ts ≤ 32 * group + j)
-        → past_triangles event (32 * group + j + 1) (drop (32 * group + j + 1) ts) interp s g ≡ past_triangles event (32 * group + j) (drop (32 * group + j) ts) interp s g
-    step (inl within) =
-        next_triangle event (32 * group + j) (32 * group + j) ts interp s g g within
-        (missed_at ts box group (32 * group + j) event interp s g holds out (omega arith) (omega arith) (slice_get ts (32 * group + j)) refl)
-    step (inr behind) = past_the_last event (32 * group + j + 1) (32 * group + j) (32 * group + j + 1) (32 * group + j) ts interp s g (omega arith) behind
-
-pub skipped_group : (ts : List Triangle) (box : Bounds) (group event : ℕ) (interp : Interp) (s : Pipeline) (g : Gathering) → HoldsGroup box group ts → is_within box g.x g.y ≡ false
-    → past_triangles event (32 * group + 32) (drop (32 * group + 32) ts) interp s g ≡ past_triangles event (32 * group) (drop (32 * group) ts) interp s g
-skipped_group ts box group event interp s g holds out = skipped ts box group event interp s g holds out 32 (omega arith)
+  -- they lead nowhere
+  pub passed_over : (i count : ℕ) → i + count ≤ length ts → CoverNone window ts i (i + count)
+      → past_triangles event (i + count) (drop (i + count) ts) interp s g ≡ past_triangles event i (drop i ts) interp s g
+  passed_over i zero there none = ap (λ n. past_triangles event n (drop n ts) interp s g) {x = i + zero} {y = i} (omega arith)
+  passed_over i (suc count) there none =
+      let next : i + suc count ≡ i + count + 1 = omega arith in
+      ap (λ n. past_triangles event n (drop n ts) interp s g) next
+      ∙ next_triangle event (i + count) (i + count) ts interp s g g (omega (arith, there))
+      (missed_at (i + count) (slice_get ts (i + count)) refl (λ k t from to at. none k t (omega (arith, from)) (omega (arith, to)) at))
+      ∙ passed_over i count (omega (arith, there)) (λ k t from to at. none k t from (omega (arith, to)) at)

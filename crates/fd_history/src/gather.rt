@@ -1,14 +1,15 @@
 //! First pass: each entry with its verdict, its source and its depths.
-ghost use Rattle.std.specs.Prelude.{◌≡◌, ◌<◌, ◌≤◌, ◌+◌, ◌*◌, ◌++◌, [], ◌∷◌, false, length, drop, slice_get, IfSome, OnOk};
+ghost use Rattle.std.specs.Prelude.{◌≡◌, ◌<◌, ◌≤◌, ◌+◌, ◌++◌, [], ◌∷◌, false, length, slice_get, IsTrue, IfSome, OnOk};
+ghost use Rattle.fd_cover.specs.Bounds.{is_within};
+ghost use Rattle.fd_snap.specs.Limits.{most_pixels};
 ghost use Rattle.fd_events.specs.Draw.{triangles_of};
-ghost use Rattle.fd_events.specs.declared.draw.TheConstants.{GROUP_LEN};
 ghost use Rattle.fd_events.specs.Limits.{most_triangles};
 ghost use Rattle.fd_history.specs.Gathered.{EntersNothing};
 
 use crate::entry::Entry;
 use fd_blend::Colour;
 use fd_cover::{Bounds, Verdict, depth_at, shade, verdict_at};
-use fd_events::{Draw, Event, GROUP_LEN, Pipeline};
+use fd_events::{Draw, Event, Pipeline};
 use std::alloc::AllocError;
 use std::marker::Model;
 
@@ -105,36 +106,17 @@ impl Gather {
         })
     }
 
-    /// Goes through the triangles of a draw.
+    /// Goes through the triangles of a draw that may cover the pixel.
     fn pass_draw(&mut self, event: u32, draw: &Draw, state: &Pipeline) -> Result<(), AllocError>
         ensures exact { OnOk result (self.new ≡ past_triangles event 0 (triangles_of draw.now) draw.now.interp state.now self.old) }
         ensures few { OnOk result (length self.new.entries ≤ length self.old.entries + most_triangles) }
     {
         let count = draw.triangles();
-        for group in 0..count.div_ceil(GROUP_LEN) {
-            if draw.group_bounds(group).holds(self.x, self.y) {
-                self.pass_group(event, draw, group, state)?;
-            }
-        }
-        Ok(())
-    }
-
-    /// Goes through a group of triangles of a draw.
-    fn pass_group(
-        &mut self,
-        event: u32,
-        draw: &Draw,
-        group: u32,
-        state: &Pipeline,
-    ) -> Result<(), AllocError>
-        requires { GROUP_LEN * group < length (triangles_of draw.now) }
-        ensures exact { OnOk result (past_triangles event (GROUP_LEN * group + GROUP_LEN) (drop (GROUP_LEN * group + GROUP_LEN) (triangles_of draw.now)) draw.now.interp state.now self.new ≡ past_triangles event (GROUP_LEN * group) (drop (GROUP_LEN * group) (triangles_of draw.now)) draw.now.interp state.now self.old) }
-        ensures few { OnOk result (length self.new.entries ≤ length self.old.entries + GROUP_LEN) }
-    {
-        let count = draw.triangles();
-        let first = group * GROUP_LEN;
-        for triangle in first..count.min(first + GROUP_LEN) {
+        let pixel = pixel_at(self.x, self.y);
+        let mut triangle = draw.next_listed(0, pixel);
+        while triangle < count {
             self.pass_triangle(event, draw, triangle, state)?;
+            triangle = draw.next_listed(triangle + 1, pixel);
         }
         Ok(())
     }
@@ -180,6 +162,20 @@ impl Gather {
             | Event::SetDepth(_)
             | Event::Marker(_) => Ok(()),
         }
+    }
+}
+
+/// The box of pixel (x, y) alone.
+fn pixel_at(x: u32, y: u32) -> Bounds
+    requires column { x < most_pixels }
+    requires row { y < most_pixels }
+    ensures { IsTrue (is_within result x y) }
+{
+    Bounds {
+        left: x,
+        top: y,
+        right: x + 1,
+        bottom: y + 1,
     }
 }
 

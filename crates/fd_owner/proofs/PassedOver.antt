@@ -90,14 +90,8 @@ module _ (place : Place) (width height : ℕ) (placed : IsTilePlace place) (righ
       let on = in_target x y held in
       reach-holds width height event s x y before on.0 on.1 (misses x y held)
 
--- what is there misses the place, also where the event is switched off
-missed : (on : Bool) (event : Option Event) (width height : ℕ) (reach : Bounds) (place : Place) → option_map (reach_of width height) event ≡ Some reach → Misses reach place
-    → IfSome (cond on event None) (λ event. Misses (reach_of width height event) place)
-missed false event width height reach place is misses = tt
-missed true None width height reach place is misses = tt
-missed true (Some event) width height reach place is misses = let same : reach_of width height event ≡ reach = cc in subst (λ (b : Bounds). Misses b place) (sym same) misses
-
-untouched : (table : Table) (k : ℕ) (place : Place) → IsTilePlace place → IsInside place table → IfSome (active_event table (suc k)) (λ event. Misses (reach_of table.width table.height event) place)
+-- so has the event after a position, if it is switched on
+pub untouched : (table : Table) (k : ℕ) (place : Place) → IsTilePlace place → IsInside place table → IfSome (active_event table (suc k)) (λ event. Misses (reach_of table.width table.height event) place)
     → IsUntouched table k place
 untouched table k place placed inside misses = record {
   spans = spans_of-none place table.width table.height placed inside.right inside.bottom (active_event table (suc k)) (state_at table k) misses;
@@ -105,38 +99,6 @@ untouched table k place placed inside misses = record {
   stays = λ x y before held. (pixel_stays place table.width table.height placed inside.right inside.bottom (active_event table (suc k)) (state_at table k) x y before held misses).0;
   kept = λ x y before held. (pixel_stays place table.width table.height placed inside.right inside.bottom (active_event table (suc k)) (state_at table k) x y before held misses).1;
 }
-
--- its reach misses the place
-pub untouched_far : (table : Table) (k : ℕ) (place : Place) (reach : Bounds) → IsTilePlace place → IsInside place table
-    → option_map (reach_of table.width table.height) (event_at table (k + 1)) ≡ Some reach → Misses reach place → IsUntouched table k place
-untouched_far table k place reach placed inside is misses =
-    let there : option_map (reach_of table.width table.height) (slice_get table.events k) ≡ Some reach =
-    ap (option_map (reach_of table.width table.height)) (sym (at_number-next table.events k)) ∙ is in
-    untouched table k place placed inside (missed (is_set table.flags (suc k)) (slice_get table.events k) table.width table.height reach place there misses)
-
--- a box without pixels misses every place
-empty_misses : (box : Bounds) (place : Place) → is_empty box ≡ true → Misses box place
-empty_misses box place empty x y held = grind (arith, nat_tests)
-
-quiet : (on : Bool) (event : Option Event) (width height : ℕ) (place : Place) → option_map (may_write width height on) event ≡ Some false
-    → IfSome (cond on event None) (λ event. Misses (reach_of width height event) place)
-quiet false event width height place is = tt
-quiet true None width height place is = tt
-quiet true (Some event) width height place is =
-    let some : not (is_empty (reach_of width height event)) ≡ false = cc in
-    empty_misses (reach_of width height event) place (not_false (is_empty (reach_of width height event)) some)
-  where
-    not_false : (b : Bool) → not b ≡ false → b ≡ true
-    not_false true is = refl
-    not_false false is = absurd (cc)
-
--- it is switched off, or its reach is empty
-pub untouched_quiet : (table : Table) (k : ℕ) (place : Place) → IsTilePlace place → IsInside place table → may_write_at table (k + 1) ≡ Some false → IsUntouched table k place
-untouched_quiet table k place placed inside is =
-    let there : option_map (may_write table.width table.height (is_set table.flags (suc k))) (slice_get table.events k) ≡ Some false =
-    ap (λ n. option_map (may_write table.width table.height (is_set table.flags n)) (slice_get table.events k)) {x = suc k} {y = k + 1} (omega arith)
-    ∙ ap (option_map (may_write table.width table.height (is_set table.flags (k + 1)))) (sym (at_number-next table.events k)) ∙ is in
-    untouched table k place placed inside (quiet (is_set table.flags (suc k)) (slice_get table.events k) table.width table.height place there)
 
 -- drawing nothing is drawing it
 pub Paints-untouched : (table : Table) (k : ℕ) (t : TileImage) (u : Undo) → IsTileImage t → u.frame_left ≡ false → IsUntouched table k t.place

@@ -1,12 +1,13 @@
-ghost use Rattle.std.specs.Prelude.{◌≡◌, ◌+◌, ◌-◌, ◌<◌, ◌≤◌, ◌++◌, [], length, take, map, not, true, false, IsTrue, Some, None, slice_get, IfNone, IfSome, OnOk, OnErr};
+ghost use Rattle.std.specs.Prelude.{◌≡◌, ℕ, ◌+◌, ◌-◌, ◌<◌, ◌≤◌, ◌++◌, [], length, take, map, not, true, false, IsTrue, Some, None, slice_get, IfNone, IfSome, OnOk, OnErr};
 ghost use Rattle.fd_tile.specs.Place.{Holds, HasRow, IsTilePlace};
 ghost use Rattle.fd_tile.specs.Tile.{FillsPlace, pixels_of, row_in, pixel_in};
 ghost use Rattle.fd_draw.specs.Paints.{Paints};
 ghost use Rattle.fd_owner.specs.History.{position, last_image, pixels_kept, pixels_recorded, pixel_past, kept_past};
-ghost use Rattle.fd_owner.specs.Shown.{gone_forward, gone_back, gone_back_to, refused, forgotten, IsInside};
+ghost use Rattle.fd_owner.specs.Shown.{gone_forward, gone_on_to, gone_back, gone_back_to, refused, forgotten, IsInside};
 ghost use Rattle.fd_owner.specs.Step.{IsPlanPast, MayBeginPast, spans_past, pixels_past};
-ghost use Rattle.fd_owner.specs.Untouched.{Misses, IsUntouched};
+ghost use Rattle.fd_owner.specs.Untouched.{Misses, IsUntouched, AreUntouched};
 ghost use Rattle.fd_events.specs.Table.{flag_at};
+ghost use Rattle.fd_cover.specs.Bounds.{is_within};
 
 use fd_blend::Colour;
 use fd_cover::Bounds;
@@ -216,6 +217,30 @@ impl Owner {
         self.undo.undo_top(&mut self.tile);
     }
 
+    /// The first position from the owner's own on, and `to` at most, whose next event may write on the tile, as far as boxes and flags tell.
+    pub fn next_near(&self, table: &EventTable, to: u32) -> u32
+        requires on { position self.now.history ≤ to }
+        requires last { to ≤ length table.now.events }
+        requires inside { IsInside self.now.place table.now }
+        ensures least { position self.now.history ≤ result }
+        ensures most { result ≤ to }
+        ensures far { AreUntouched table.now (position self.now.history) result self.now.place }
+    {
+        table.next_near(self.position(), to, window_of(self.place()))
+    }
+
+    /// Goes at once through next events that write nothing on the tile, to this position. It takes no memory, and can't be refused.
+    pub fn pass_to(&mut self, table: &EventTable, to: u32)
+        requires on { position self.old.history ≤ to }
+        requires last { to ≤ length table.now.events }
+        requires far { AreUntouched table.now (position self.old.history) to self.old.place }
+        ensures moved { self.new ≡ gone_on_to table.now to self.old }
+        ensures at { position self.new.history ≡ to }
+    {
+        let (_place, _table) = (self.tile.place(), table);
+        self.undo.pass_to(to as usize);
+    }
+
     /// Goes back at once over last events that overwrote nothing, to this position at most.
     pub fn pass_back(&mut self, to: u32)
         requires { to ≤ position self.old.history }
@@ -234,33 +259,21 @@ impl Owner {
     }
 }
 
-/// Whether a box holds a pixel of a place.
-fn meets(reach: Bounds, place: Place) -> bool
+/// The box of a place.
+fn window_of(place: Place) -> Bounds
     requires { IsTilePlace place }
-    ensures { IsTrue (not result) → Misses reach place }
+    ensures { (x y : ℕ) → Holds place x y → IsTrue (is_within result x y) }
 {
-    // no comparison waits for another, since none of them could be foretold
-    (place.left < reach.right)
-        & (place.top < reach.bottom)
-        & (reach.left < place.left + place.width)
-        & (reach.top < place.top + place.height)
+    Bounds {
+        left: place.left,
+        top: place.top,
+        right: place.left + place.width,
+        bottom: place.top + place.height,
+    }
 }
 
-/// Whether the event after a position is switched on and its box reaches a place. The event itself is not looked at.
-fn reaches(table: &EventTable, position: u32, place: Place) -> bool
-    requires below { position < length table.now.events }
-    requires placed { IsTilePlace place }
-    requires inside { IsInside place table.now }
-    ensures near { IsTrue result → flag_at table.now (position + 1) ≡ Some true }
-    ensures far { IsTrue (not result) → IsUntouched table.now position place }
-{
-    let _len = table.len();
-    let number = position + 1;
-    table.may_write(number) && meets(table.reach(number), place)
-}
-
-/// The first triangle that it may draw on a place, as far as one look tells: at its box, and at what a draw lists there. None where it
-/// writes nothing there.
+/// The first triangle that the event after a position may draw on a place, as far as its box tells and what a draw lists there. None where it writes
+/// nothing there.
 fn first_near(table: &EventTable, position: u32, place: Place) -> Option<u32>
     requires below { position < length table.now.events }
     requires placed { IsTilePlace place }
@@ -270,8 +283,9 @@ fn first_near(table: &EventTable, position: u32, place: Place) -> Option<u32>
     ensures far { IfNone result (IsUntouched table.now position place) }
 {
     let _len = table.len();
-    if reaches(table, position, place) {
-        fd_draw::first_listed(table.event(position + 1), place)
+    let number = position + 1;
+    if table.next_near(position, number, window_of(place)) < number {
+        fd_draw::first_listed(table.event(number), place)
     } else {
         None
     }

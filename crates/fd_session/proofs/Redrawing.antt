@@ -13,7 +13,9 @@ use Rattle.fd_crew.specs.declared.crew.Outcome.{Outcome}
 use Rattle.fd_crew.specs.declared.crew.Outcome.TheVariants.{Reached, Stopped}
 use Rattle.fd_session.specs.Held.{StandsAt, places_of}
 use Rattle.fd_session.specs.Moves.{IsLeftAt, GoesOn}
-use Rattle.fd_session.specs.Redraw.{IsSpared, StandsFrom, StoodFrom, IsLeftFrom, run_position}
+use Rattle.fd_session.specs.Redraw.{StandsFrom, StoodFrom, IsLeftFrom, run_position}
+use Rattle.fd_session.specs.Switch.{IsSpared, unswitched}
+use Rattle.fd_session.specs.declared.switch.Switch.{Switch}
 use Rattle.fd_session.proofs.Frames.{position_stands, stands_less, opening_stands}
 use Rattle.fd_session.proofs.Slices.{left_then}
 use Rattle.fd_session.proofs.Switching.{stood_before, inside_with}
@@ -23,22 +25,22 @@ stands_from : (table : Table) (low : ℕ) (o : Shown) → StandsFrom table low o
 stands_from table low o from = record { history = from.history; inside = from.inside }
 
 -- taken back before the event
-stood_back : (table : Table) (number low : ℕ) (o p : Shown) → 1 ≤ number → number ≤ low + 1 → StoodFrom table number low o → p ≡ gone_back_to (number - 1) o → (p.place ≡ o.place) × StandsAt table (number - 1) p
-stood_back table number low o p first within stood gone =
-    let old : Table = with_flag table number stood.on in (
-      ap (λ (s : Shown). s.place) gone,
-      stood_before table number stood.on (number - 1) p (omega (arith, first))
-          (stands_less old (position o.history) (number - 1) o p (omega (arith, stood.stood.above, within)) (stands_from old low o stood.stood) gone),
-    )
+stood_back : (table : Table) (switch : Switch) (low : ℕ) (o p : Shown) → 1 ≤ switch.number → switch.number ≤ low + 1 → StoodFrom table switch low o → p ≡ gone_back_to (switch.number - 1) o
+    → (p.place ≡ o.place) × StandsAt table (switch.number - 1) p
+stood_back table switch low o p first within stood gone = (
+  ap (λ (s : Shown). s.place) gone,
+  stood_before table switch.number switch.was_on (switch.number - 1) p (omega (arith, first))
+      (stands_less (unswitched table switch) (position o.history) (switch.number - 1) o p (omega (arith, stood.stood.above, within)) (stands_from (unswitched table switch) low o stood.stood) gone),
+)
 
 -- taken back to where the last one stands
 from_back : (table : Table) (low : ℕ) (o p : Shown) → StandsFrom table low o → p ≡ gone_back_to low o → (p.place ≡ o.place) × StandsAt table low p
 from_back table low o p from gone = (ap (λ (s : Shown). s.place) gone, stands_less table (position o.history) low o p from.above (stands_from table low o from) gone)
 
-pub spared_stands : (table : Table) (number low at : ℕ) (o : Shown) → at ≤ low → IsSpared table number o.place → StoodFrom table number low o → StandsFrom table at o
-spared_stands table number low at o le spared stood = record {
-  history = stood.stood.history ∙ spared stood.on (position o.history);
-  inside = inside_with table number stood.on o.place stood.stood.inside;
+pub spared_stands : (table : Table) (switch : Switch) (low at : ℕ) (o : Shown) → at ≤ low → IsSpared table switch o.place → StoodFrom table switch low o → StandsFrom table at o
+spared_stands table switch low at o le spared stood = record {
+  history = stood.stood.history ∙ spared (position o.history) stood.below;
+  inside = inside_with table switch.number switch.was_on o.place stood.stood.inside;
   above = omega (arith, le, stood.stood.above);
 }
 
@@ -53,9 +55,10 @@ module _ (P Q : Shown → Type 0) (R : Shown → Shown → Type 0) (step : (o p 
       let rest = moved old new (All-tail P o old at) gone.1 in
       (ap (λ (q : Place). q ∷ places_of new) here.0 ∙ ap (λ (l : List Place). o.place ∷ l) rest.0, All-cons Q p new here.1 rest.1)
 
-pub all_before : (table : Table) (number low : ℕ) (old new : List Shown) → 1 ≤ number → number ≤ low + 1 → All (StoodFrom table number low) old → AllZip (λ o p. p ≡ gone_back_to (number - 1) o) old new → IsLeftAt table (number - 1) old new
-all_before table number low old new first within stood gone =
-    let all = moved (StoodFrom table number low) (StandsAt table (number - 1)) (λ o p. p ≡ gone_back_to (number - 1) o) (λ o p. stood_back table number low o p first within) old new stood gone in
+pub all_before : (table : Table) (switch : Switch) (low : ℕ) (old new : List Shown) → 1 ≤ switch.number → switch.number ≤ low + 1 → All (StoodFrom table switch low) old
+    → AllZip (λ o p. p ≡ gone_back_to (switch.number - 1) o) old new → IsLeftAt table (switch.number - 1) old new
+all_before table switch low old new first within stood gone =
+    let all = moved (StoodFrom table switch low) (StandsAt table (switch.number - 1)) (λ o p. p ≡ gone_back_to (switch.number - 1) o) (λ o p. stood_back table switch low o p first within) old new stood gone in
     record { places = all.0; stand = all.1 }
 
 pub all_down : (table : Table) (low : ℕ) (old between new : List Shown) → IsLeftFrom table low old between → AllZip (λ o p. p ≡ gone_back_to low o) between new → IsLeftAt table low old new
@@ -93,9 +96,9 @@ from_at table at old new left = record {
       };
 }
 
-pub from_spared : (table : Table) (number low at : ℕ) (owners : List Shown) → at ≤ low → All (λ o. IsSpared table number o.place) owners → All (StoodFrom table number low) owners → IsLeftFrom table at owners owners
-from_spared table number low at owners le spared stood =
-    record { places = refl; stand = λ k d below. spared_stands table number low at (get_or owners k d) le (spared k d below) (stood k d below) }
+pub from_spared : (table : Table) (switch : Switch) (low at : ℕ) (owners : List Shown) → at ≤ low → All (λ o. IsSpared table switch o.place) owners → All (StoodFrom table switch low) owners → IsLeftFrom table at owners owners
+from_spared table switch low at owners le spared stood =
+    record { places = refl; stand = λ k d below. spared_stands table switch low at (get_or owners k d) le (spared k d below) (stood k d below) }
 
 -- two parts
 pub from_both : (table : Table) (low : ℕ) (front front' back back' : List Shown) → IsLeftFrom table low front front' → IsLeftFrom table low back back' → IsLeftFrom table low (front ++ back) (front' ++ back')
@@ -106,13 +109,13 @@ from_both table low front front' back back' first second = record {
 }
 
 -- the owners from the first to the last that is not spared were drawn anew
-pub reached_left : (table : Table) (number low at : ℕ) (old front others reached after new : List Shown) → at ≤ low → old ≡ front ++ others → others ≡ reached ++ after
-    → All (StoodFrom table number low) front → All (StoodFrom table number low) after → All (λ o. IsSpared table number o.place) front → All (λ o. IsSpared table number o.place) after
+pub reached_left : (table : Table) (switch : Switch) (low at : ℕ) (old front others reached after new : List Shown) → at ≤ low → old ≡ front ++ others → others ≡ reached ++ after
+    → All (StoodFrom table switch low) front → All (StoodFrom table switch low) after → All (λ o. IsSpared table switch o.place) front → All (λ o. IsSpared table switch o.place) after
     → IsLeftAt table at reached new → IsLeftFrom table at old (front ++ (new ++ after))
-reached_left table number low at old front others reached after new le whole rest stood stood' spared spared' left =
+reached_left table switch low at old front others reached after new le whole rest stood stood' spared spared' left =
     subst (λ (l : List Shown). IsLeftFrom table at l (front ++ (new ++ after))) (ap (λ (l : List Shown). front ++ l) (sym rest) ∙ sym whole)
-    (from_both table at front front (reached ++ after) (new ++ after) (from_spared table number low at front le spared stood)
-    (from_both table at reached new after after (from_at table at reached new left) (from_spared table number low at after le spared' stood')))
+    (from_both table at front front (reached ++ after) (new ++ after) (from_spared table switch low at front le spared stood)
+    (from_both table at reached new after after (from_at table at reached new left) (from_spared table switch low at after le spared' stood')))
 
 -- one more element in front, or behind
 pub one_more : {X : Type 0} (P : X → Type 0) (xs : List X) (i : ℕ) (x : X) → i < length xs → x ≡ get_or xs i x → P x → All P (take i xs) → All P (take (i + 1) xs)
@@ -135,17 +138,20 @@ pub flag_back : (table : Table) (number : ℕ) (first second : Bool) → flag_at
 flag_back table zero first second is = refl
 flag_back table (suc n) first second is = ap (λ flags. record table { flags = flags }) (set_back table.flags n first second is)
 
-pub all_stood : (table : Table) (number : ℕ) (on : Bool) (k : ℕ) (owners : List Shown) → flag_at table number ≡ Some (not on) → All (StandsAt table k) owners → All (StoodFrom (with_flag table number on) number k) owners
-all_stood table number on k owners is at n d below =
-    let same : table ≡ with_flag (with_flag table number on) number (not on) = sym (flag_back table number on (not on) is) in
+pub all_stood : (table : Table) (switch : Switch) (number : ℕ) (on : Bool) (k : ℕ) (owners : List Shown) → switch.number ≡ number → switch.position ≡ k → flag_at table number ≡ Some switch.was_on
+    → All (StandsAt table k) owners → All (StoodFrom (with_flag table number on) switch k) owners
+all_stood table switch number on k owners of until was at n d below =
+    let new : Table = with_flag table number on in
+    let same : table ≡ unswitched new switch =
+    sym (flag_back table number on switch.was_on was) ∙ ap (λ (m : ℕ). with_flag new m switch.was_on) (sym of) in
     let o : Shown = get_or owners n d in
     let stands : StandsAt table k o = at n d below in
     let there : position o.history ≡ k = position_stands table k o stands in
     record {
-      on = not on;
       stood = subst (λ (t : Table). StandsFrom t k o) same (record {
         history = stands.history ∙ ap (drawn_history table o.place) (sym there);
         inside = stands.inside;
         above = omega (arith, there);
       });
+      below = omega (arith, there, until);
     }

@@ -1,27 +1,21 @@
 -- A switch of an event leaves all that stands before it.
-use Rattle.std.proofs.Common.{◌≡◌, ◌≢◌, ℕ, zero, suc, ◌+◌, ◌<◌, ◌≤◌, Bool, not, List, [], ◌∷◌, ◌++◌, length, get_or, take, drop, refl, sym, ap, ◌∙◌, subst, arith, All, Option, Some, inl, inr}
+use Rattle.std.proofs.Common.{◌≡◌, ◌≢◌, ℕ, zero, suc, ◌+◌, ◌<◌, ◌≤◌, Bool, not, List, [], ◌∷◌, ◌++◌, length, get_or, take, drop, refl, sym, ap, ◌∙◌, subst, arith, All, Some, inl, inr}
 use Rattle.std.proofs.lemmas.Bool.{cases_lt}
 use Rattle.std.proofs.lemmas.List.{length-map, length-set, append-nil, drop_all, take_all}
 use Rattle.fd_tile.specs.declared.place.Place.{Place}
-use Rattle.fd_tile.specs.Place.{over_place}
-use Rattle.fd_tile.specs.Tile.{Pixel, pixel_in}
+use Rattle.fd_tile.specs.Tile.{Pixel}
 use Rattle.fd_tile.specs.Grid.{TargetSize}
-use Rattle.fd_events.specs.declared.event.Event.{Event}
-use Rattle.fd_events.specs.declared.pipeline.Pipeline.{Pipeline}
 use Rattle.fd_events.specs.Table.{Table, IsTable, with_flag, flag_at, active_event, state_at}
-use Rattle.fd_events.specs.Image.{pixel_after_event, kept_by_event}
 use Rattle.fd_events.proofs.States.{slice_get-set_other, state_of-set}
-use Rattle.fd_owner.specs.History.{Frame, History, position, last_image, frame_after, extend}
+use Rattle.fd_owner.specs.History.{pixel_past, kept_past, drawn_history}
 use Rattle.fd_owner.specs.Shown.{Shown, IsInside}
-use Rattle.fd_owner.proofs.Histories.{extend_more, extend_none}
 use Rattle.fd_crew.specs.Lanes.{opening_position}
 use Rattle.fd_session.specs.Held.{StandsAt, places_of, HoldsFrame}
 use Rattle.fd_session.specs.declared.answer.Answer.{Answer}
 use Rattle.fd_session.specs.declared.answer.Answer.TheVariants.{Moved, Stopped}
 use Rattle.fd_session.specs.Machine.{State, with_flag_at, Switches}
 use Rattle.fd_session.specs.Moves.{IsLeftAt}
-use Rattle.fd_owner.specs.History.{fresh_history, drawn_history}
-use Rattle.fd_owner.proofs.Drawn.{position_drawn}
+use Rattle.fd_session.proofs.Alike.{history_same}
 use Rattle.fd_session.proofs.Frames.{opening_stands, some_held}
 
 -- the flag of event number i + 1 says nothing of the events before it
@@ -32,31 +26,15 @@ module _ (table : Table) (i : ℕ) (on : Bool) where
   pub active_other : (k : ℕ) → k ≢ i → active_event switched (suc k) ≡ active_event table (suc k)
   active_other k other = rw (slice_get-set_other table.flags i k on other) refl
 
-  frame_other : (place : Place) (k : ℕ) (image : List (List Pixel)) → k < i → frame_after switched place k image ≡ frame_after table place k image
-  unfolding frame_after
-  frame_other place k image below =
-      let frame : Option Event → Pipeline → Frame = λ event state. record {
-        image = over_place place (λ x y. pixel_after_event event state x y (pixel_in place image x y));
-        kept = over_place place (λ x y. kept_by_event event state x y (pixel_in place image x y));
-      } in
-      ap (λ (event : Option Event). frame event (state_at switched k)) (active_other k (λ e. absurd (omega (arith, e, below))))
-      ∙ ap (frame (active_event table (suc k))) (state_of-set table.events table.flags i on k (omega (arith, below)))
-
-  extend_other : (place : Place) (h : History) → position h < i → extend switched place h ≡ extend table place h
-  unfolding extend
-  extend_other place h below =
-      ap (λ (f : Frame). let g : History = record { opening = h.opening; frames = h.frames ++ f ∷ [] } in g) (frame_other place (position h) (last_image h) below)
+  -- an event before which the state is the same
+  pub same_past : (k x y : ℕ) (before : Pixel) → k ≢ i → state_at switched k ≡ state_at table k
+      → (pixel_past switched k x y before ≡ pixel_past table k x y before) × (kept_past switched k x y before ≡ kept_past table k x y before)
+  same_past k x y before other is = rw (active_other k other, is) (refl, refl)
 
   pub history_other : (place : Place) (k : ℕ) → k ≤ i → drawn_history switched place k ≡ drawn_history table place k
-  history_other place zero within = extend_none switched place (fresh_history place) ∙ sym (extend_none table place (fresh_history place))
-  history_other place (suc k) within =
-      let next : k + 1 ≡ suc k = omega arith in
-      ap (λ (n : ℕ). drawn_history switched place n) (sym next)
-      ∙ sym (extend_more switched place k (fresh_history place) (omega arith))
-      ∙ ap (extend switched place) (history_other place k (omega (arith, within)))
-      ∙ extend_other place (drawn_history table place k) (omega (arith, within, position_drawn table place k))
-      ∙ extend_more table place k (fresh_history place) (omega arith)
-      ∙ ap (λ (n : ℕ). drawn_history table place n) next
+  history_other place =
+      history_same switched table place i
+      (λ k x y before below held. same_past k x y before (λ e. absurd (omega (arith, e, below))) (state_of-set table.events table.flags i on k (omega (arith, below))))
 
   stands_other : (k : ℕ) (o : Shown) → k ≤ i → StandsAt table k o → StandsAt switched k o
   stands_other k o within at = record { history = at.history ∙ sym (history_other o.place k within); inside = record { right = at.inside.right; bottom = at.inside.bottom } }

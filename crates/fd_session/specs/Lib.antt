@@ -5,3 +5,4 @@ pub mod Moves
 pub mod Parts
 pub mod Redraw
 pub mod Reversing
+pub mod Switch

@@ -1,16 +1,13 @@
 -- What a switch of an event that was gone through does to the owners.
-use Rattle.std.specs.Prelude.{◌≡◌, ℕ, ◌-◌, ◌≤◌, Bool, List, All, Result, Ok, Err}
-use Rattle.fd_tile.specs.declared.place.Place.{Place}
-use Rattle.fd_events.specs.Table.{Table, with_flag}
+use Rattle.std.specs.Prelude.{◌≡◌, ℕ, ◌-◌, ◌≤◌, List, All, Result, Ok, Err}
+use Rattle.fd_events.specs.Table.{Table}
 use Rattle.fd_owner.specs.History.{position, drawn_history}
 use Rattle.fd_owner.specs.Shown.{Shown, IsInside}
 use Rattle.fd_crew.specs.declared.crew.Outcome.{Outcome}
 use Rattle.fd_crew.specs.declared.crew.Outcome.TheVariants.{Reached, Stopped}
 use Rattle.fd_session.specs.Held.{places_of}
-
--- A place has the same history whether the event is switched on or off.
-abbrev pub IsSpared : Table → ℕ → Place → Type 0
-IsSpared table number place = (on : Bool) (k : ℕ) → drawn_history (with_flag table number on) place k ≡ drawn_history table place k
+use Rattle.fd_session.specs.Switch.{unswitched}
+use Rattle.fd_session.specs.declared.switch.Switch.{Switch}
 
 -- The owner has the history of its place at a position no lower than this one.
 pub record StandsFrom (table : Table) (low : ℕ) (owner : Shown) : Type 0 where
@@ -18,10 +15,10 @@ pub record StandsFrom (table : Table) (low : ℕ) (owner : Shown) : Type 0 where
   pub inside : IsInside owner.place table
   pub above : low ≤ position owner.history
 
--- It has it by the table as it was before the event was switched.
-pub record StoodFrom (table : Table) (number low : ℕ) (owner : Shown) : Type 0 where
-  pub on : Bool
-  pub stood : StandsFrom (with_flag table number on) low owner
+-- It has it by the table as it was before a switch, and at no higher position than the owners had.
+pub record StoodFrom (table : Table) (switch : Switch) (low : ℕ) (owner : Shown) : Type 0 where
+  pub stood : StandsFrom (unswitched table switch) low owner
+  pub below : position owner.history ≤ switch.position
 
 -- The owners have the places that they had, and none stands lower than this position.
 pub record IsLeftFrom (table : Table) (low : ℕ) (old new : List Shown) : Type 0 where

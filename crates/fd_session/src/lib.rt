@@ -14,6 +14,7 @@ mod picture;
 mod redraw;
 mod session;
 mod shows;
+mod switch;
 #[cfg(test)]
 mod tests;
 mod worth;

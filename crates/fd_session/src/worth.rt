@@ -2,6 +2,7 @@
 ghost use Rattle.std.specs.Prelude.{◌≡◌, ◌<◌, ◌≤◌, length};
 
 use crate::estimate::{Area, Estimate, Firsts};
+use crate::switch::Switch;
 use fd_cover::Bounds;
 use fd_events::EventTable;
 use fd_tile::TILE_SIDE;
@@ -92,22 +93,21 @@ pub(crate) fn next_slice(
     }
 }
 
-/// How many tiles are drawn anew together, up to a position, where an event is switched: a row of them where that is quicker by those workers
+/// How many tiles are drawn anew together where an event is switched: a row of them where that is quicker by those workers
 /// that the reached tiles of a row are worth than all tiles are by all workers, or else all.
 pub(crate) fn tiles_together(
     table: &EventTable,
-    number: u32,
-    to: u32,
+    switch: &Switch,
     tiles: usize,
     workers: u32,
 ) -> usize
-    requires first { 1 ≤ number }
-    requires last { number ≤ to }
-    requires within { to ≤ length table.now.events }
+    requires first { 1 ≤ switch.now.number }
+    requires last { switch.now.number ≤ switch.now.position }
+    requires within { switch.now.position ≤ length table.now.events }
     requires some { 1 ≤ workers }
     ensures some { 1 ≤ result }
 {
-    let reach = table.reach(number);
+    let reach = switch.reach;
     let columns = table.width().div_ceil(TILE_SIDE);
     let reached = reach
         .right
@@ -123,7 +123,8 @@ pub(crate) fn tiles_together(
         ..reach
     };
     let row = Area::in_one_row(reached as usize, bounds);
-    let worth = next_slice(table, number - 1, to, &row, workers, MOVE_WORK).workers;
+    let (from, to) = (switch.number - 1, switch.position);
+    let worth = next_slice(table, from, to, &row, workers, MOVE_WORK).workers;
     if u64::from(reached) * u64::from(workers) < u64::from(columns) * u64::from(worth) {
         columns as usize
     } else {

@@ -1,7 +1,9 @@
 -- Kept pixels that are written back.
-use Rattle.std.proofs.Common.{◌≡◌, ℕ, suc, ◌+◌, ◌-◌, ◌<◌, ◌≤◌, List, [], ◌∷◌, ◌++◌, length, get_or, take, drop, replicate, refl, sym, ap, ◌∙◌, subst, arith, append_assoc}
+use Rattle.std.proofs.Common.{◌≡◌, ℕ, suc, ◌+◌, ◌-◌, ◌<◌, ◌≤◌, List, [], ◌∷◌, ◌++◌, length, get_or, take, drop, replicate, refl, sym, ap, ◌∙◌, subst}
+use Rattle.std.proofs.Common.{arith, append_assoc}
 use Rattle.std.specs.Prelude.{slice_set, All}
-use Rattle.std.proofs.lemmas.List.{take_more, take_at, drop_at, set_at, length-take, length-set, length-replicate, drop-drop, take-append-drop, take-replicate, drop-replicate, replicate-append-replicate}
+use Rattle.std.proofs.lemmas.List.{take_more, take_at, drop_at, set_at, length-take, length-set, length-replicate, drop-drop, take-append-drop}
+use Rattle.std.proofs.lemmas.List.{take-replicate, drop-replicate, replicate-append-replicate}
 use Rattle.std.proofs.lemmas.List.Elements.{All-head, All-tail, All-take, All-drop}
 use borrow.Rule.Slice.PartMut.{put_mid}
 use Rattle.fd_blend.specs.declared.channel.Colour.{Colour}
@@ -9,7 +11,8 @@ use Rattle.fd_tile.specs.declared.place.Place.{Place}
 use Rattle.fd_tile.specs.Place.{Holds, HasRow}
 use Rattle.fd_blend.specs.Channel.{fresh}
 use Rattle.std.specs.List.{zip, refill}
-use Rattle.fd_tile.specs.Tile.{Pixel, TileImage, FillsPlace, IsFlat, IsTileImage, row_in, with_row_in, row_of, depth_row_of, with_pixel, with_row_left, with_depth_row_left}
+use Rattle.fd_tile.specs.Tile.{Pixel, TileImage, FillsPlace, IsFlat, IsTileImage, row_in, with_row_in, row_of, depth_row_of, with_pixel}
+use Rattle.fd_tile.specs.Tile.{with_row_left, with_depth_row_left}
 use Rattle.fd_tile.proofs.Pixels.{length-row_in, left_row_is, row_in-flat, row_in-same, with_row_in-twice, with_row_in-as_it_is}
 use Rattle.fd_undo.specs.Frame.{KeptPixel, kept_row, restored}
 use Rattle.fd_undo.proofs.Zips.{length-zip_equal}
@@ -43,7 +46,12 @@ kept_row-within p x y (c ∷ []) h some =
     omega (arith, held.to_right)
 kept_row-within p x y (c ∷ d ∷ cs) h some =
     let rest : x + 1 + length (d ∷ cs) ≤ p.left + p.width =
-    kept_row-within p (x + 1) y (d ∷ cs) (All-tail (λ (k : KeptPixel). Holds p k.x k.y) (record { x = x; y = y; pixel = c }) (kept_row (x + 1) y (d ∷ cs)) h) (omega arith) in
+    kept_row-within p (x + 1) y (d ∷ cs) (All-tail (λ (k : KeptPixel). Holds p k.x k.y) (record {
+      x =
+          x;
+      y = y;
+      pixel = c;
+    }) (kept_row (x + 1) y (d ∷ cs)) h) (omega arith) in
     omega arith
 
 pub kept_row-first : (p : Place) (x y : ℕ) (old : List Pixel) → Inside p (kept_row x y old) → 0 < length old → Holds p x y
@@ -83,9 +91,11 @@ abbrev of_rows : Place → List (List Colour) → List (List ℕ) → TileImage
 of_rows p rows depths = record { place = p; rows = rows; depths = depths }
 
 -- colours and depths that are put back in one row
-restored-kept_row : (t : TileImage) (x y : ℕ) (old : List Colour) (deep : List ℕ) → length deep ≡ length old → IsTileImage t → HasRow t.place y → t.place.left ≤ x
+restored-kept_row : (t : TileImage) (x y : ℕ) (old : List Colour) (deep : List ℕ) → length deep ≡ length old → IsTileImage t → HasRow t.place y
+    → t.place.left ≤ x
     → restored (kept_row x y (zip old deep)) t
-    ≡ of_rows t.place (with_row_in t.place t.rows y (pasted (x - t.place.left) old (row_of t y))) (with_row_in t.place t.depths y (pasted (x - t.place.left) deep (depth_row_of t y)))
+    ≡ of_rows t.place (with_row_in t.place t.rows y (pasted (x - t.place.left) old (row_of t y))) (with_row_in t.place t.depths y
+    (pasted (x - t.place.left) deep (depth_row_of t y)))
 unfolding pasted
 restored-kept_row t x y [] [] equal filled crossed low =
     ap (λ rows. of_rows t.place rows t.depths) (sym (with_row_in-as_it_is t.place t.rows y))
@@ -102,13 +112,16 @@ restored-kept_row t x y (c ∷ cs) (d ∷ ds) equal filled crossed low =
     restored-kept_row t (x + 1) y cs ds (omega arith) filled crossed (omega arith)
     ∙ ap (λ k. of_rows p (with_row_in p t.rows y (pasted k cs (row_of t y))) (with_row_in p t.depths y (pasted k ds (depth_row_of t y)))) next in
     ap (λ u. with_pixel u x y (c, d)) rest
-    ∙ ap (λ rows. of_rows p rows (with_row_in p (with_row_in p t.depths y depths) y (slice_set (row_in p (with_row_in p t.depths y depths) y) j d))) (row_step p t.rows y filled.colours crossed colours j c)
+    ∙ ap (λ rows. of_rows p rows (with_row_in p (with_row_in p t.depths y depths) y (slice_set (row_in p (with_row_in p t.depths y depths) y) j d)))
+    (row_step p t.rows y filled.colours crossed colours j c)
     ∙ ap (λ ds. of_rows p (with_row_in p t.rows y (slice_set colours j c)) ds) (row_step p t.depths y filled.depths crossed depths j d)
 
 -- a part of a row that is written over the row as it was read
-part_left : {X : Type 0} (p : Place) (rows : List (List X)) (y x j n : ℕ) (old row now : List X) (other : X) → FillsPlace p rows → HasRow p y → p.left ≤ x → x + length old ≤ p.left + p.width
+part_left : {X : Type 0} (p : Place) (rows : List (List X)) (y x j n : ℕ) (old row now : List X) (other : X) → FillsPlace p rows → HasRow p y
+    → p.left ≤ x → x + length old ≤ p.left + p.width
     → j ≡ x - p.left → n ≡ length old → row ≡ row_in p rows y → now ≡ old
-    → with_row_in p rows y (refill (length (row_in p rows y)) (row_in p rows y) (put_mid j n row now)) ≡ with_row_in p rows y (pasted (x - p.left) old (row_in p rows y))
+    → with_row_in p rows y (refill (length (row_in p rows y)) (row_in p rows y) (put_mid j n row now))
+    ≡ with_row_in p rows y (pasted (x - p.left) old (row_in p rows y))
 part_left p rows y x j n old row now other filled crossed low within at count read after =
     let wide : length (row_in p rows y) ≡ p.width = length-row_in p rows y filled crossed in
     let fits : x - p.left + length old ≤ length (row_in p rows y) = omega arith in
@@ -134,7 +147,10 @@ put_back_row_is t x y j n old row now deep deep_row deep_now equal filled inside
     ap (λ rows. of_rows p rows (with_row_in p t.depths y (refill (length (row_in p t.depths y)) (row_in p t.depths y) (put_mid j n deep_row deep_now))))
     (part_left p t.rows y x j n old row now fresh filled.colours crossed first.from_left within at count read after)
     ∙ ap (λ depths. of_rows p (with_row_in p t.rows y (pasted (x - p.left) old (row_of t y))) depths)
-    (part_left p t.depths y x j n deep deep_row deep_now 0 filled.depths crossed first.from_left (omega (arith, within)) at (count ∙ sym equal) deep_read deep_after)
+    (part_left p t.depths y x j n deep deep_row deep_now 0 filled.depths crossed first.from_left (omega (
+      arith,
+      within,
+    )) at (count ∙ sym equal) deep_read deep_after)
     ∙ sym (restored-kept_row t x y old deep equal filled crossed first.from_left)
 
 -- where one value stands everywhere, writing it again changes nothing
@@ -150,7 +166,8 @@ pasted-alike d j n w fits =
     ∙ ap (λ k. replicate k d) {x = j + (n + (w - (j + n)))} {y = w} (omega (arith, fits))
 
 -- the same where all pixels of the tile have the one depth of the row's part: the colours alone are written
-pub put_back_row_alike : (t : TileImage) (x y j n depth : ℕ) (old row now : List Colour) (deep : List ℕ) → deep ≡ replicate (length old) depth → IsTileImage t → IsFlat t.place t.depths depth
+pub put_back_row_alike : (t : TileImage) (x y j n depth : ℕ) (old row now : List Colour) (deep : List ℕ) → deep ≡ replicate (length old) depth
+    → IsTileImage t → IsFlat t.place t.depths depth
     → Inside t.place (kept_row x y (zip old deep)) → 0 < length old
     → j ≡ x - t.place.left → n ≡ length old → row ≡ row_of t y → now ≡ old
     → with_row_left t y (put_mid j n row now) ≡ restored (kept_row x y (zip old deep)) t
@@ -166,5 +183,6 @@ put_back_row_alike t x y j n depth old row now deep alike filled flat inside som
     ap (λ l. pasted (x - p.left) l (row_in p t.depths y)) alike ∙ ap (λ l. pasted (x - p.left) (replicate (length old) depth) l) deep_row
     ∙ pasted-alike depth (x - p.left) (length old) p.width (omega (arith, within, first.from_left)) ∙ sym deep_row in
     ap (λ rows. of_rows p rows t.depths) (part_left p t.rows y x j n old row now fresh filled.colours crossed first.from_left within at count read after)
-    ∙ ap (λ depths. of_rows p (with_row_in p t.rows y (pasted (x - p.left) old (row_of t y))) depths) (sym (ap (λ r. with_row_in p t.depths y r) again ∙ with_row_in-as_it_is p t.depths y))
+    ∙ ap (λ depths. of_rows p (with_row_in p t.rows y (pasted (x - p.left) old (row_of t y))) depths)
+    (sym (ap (λ r. with_row_in p t.depths y r) again ∙ with_row_in-as_it_is p t.depths y))
     ∙ sym (restored-kept_row t x y old deep equal filled crossed first.from_left)

@@ -59,6 +59,11 @@ depth_is false depth none = sym (none refl)
 
 pub packed_again : (a : Inside) → IsPacked a → packed (unpacked a) ≡ a
 packed_again a none =
-    ap (λ n. record { x = a.x; marked_y = n; marked_len = marked (is_some (if is_plain a.marked_len then Some a.depth else None)) (unmarked a.marked_len); depth = packed_depth (if is_plain a.marked_len then Some a.depth else None) }) (number_again a.marked_y)
-    ∙ ap (λ n. record { x = a.x; marked_y = a.marked_y; marked_len = n; depth = packed_depth (if is_plain a.marked_len then Some a.depth else None) }) (ap (λ t. marked t (unmarked a.marked_len)) (kind_is (is_plain a.marked_len) a.depth) ∙ number_again a.marked_len)
-    ∙ ap (λ d. record { x = a.x; marked_y = a.marked_y; marked_len = a.marked_len; depth = d }) (depth_is (is_plain a.marked_len) a.depth none)
+    let n : ℕ = a.marked_len in
+    let plain : Bool = is_plain n in
+    let depth : ℕ = packed_depth (if plain then Some a.depth else None) in
+    let len : ℕ = marked (is_some (if plain then Some a.depth else None)) (unmarked n) in
+    ap (λ y. record { x = a.x; marked_y = y; marked_len = len; depth = depth }) (number_again a.marked_y)
+    ∙ ap (λ l. record { x = a.x; marked_y = a.marked_y; marked_len = l; depth = depth })
+    (ap (λ t. marked t (unmarked n)) (kind_is plain a.depth) ∙ number_again n)
+    ∙ ap (λ d. record { x = a.x; marked_y = a.marked_y; marked_len = n; depth = d }) (depth_is plain a.depth none)

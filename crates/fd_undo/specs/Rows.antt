@@ -1,19 +1,79 @@
--- Spans that are whole rows of a tile.
-use Rattle.std.specs.Prelude.{◌≡◌, ℕ, ◌+◌, List, [], ◌∷◌, Some, false}
+-- Spans, and the lists in which the values of their pixels stand.
+use Rattle.std.specs.Prelude.{◌≡◌, ℕ, ◌-◌, ◌==◌, ◌&&◌, nat_le, nat_lt, Bool, false, List, [], ◌∷◌, ◌++◌, length, take, drop}
+use Rattle.std.specs.Prelude.{slice_index_or, if◌then◌else◌, replicate, Option, Some, None}
+use Rattle.std.specs.List.{sum_by, zip}
+use Rattle.fd_blend.specs.declared.channel.Colour.{Colour}
+use Rattle.fd_blend.specs.Channel.{fresh}
 use Rattle.fd_undo.specs.Span.{Span}
+use Rattle.fd_undo.specs.Frame.{KeptPixel, kept_row}
 
--- it has all pixels of a row, each its own colour in the list, and this one depth
-pub record IsRow (width depth : ℕ) (s : Span) : Type 0 where
-  pub wide : s.len ≡ width
-  pub coloured : s.one_colour ≡ false
-  pub deep : s.same_depth ≡ Some depth
+-- spans, oldest first, their values, and how many more spans, colours and depths have room
+pub record Held : Type 0 where
+  pub spans : List Span
+  pub colours : List Colour
+  pub depths : List ℕ
+  pub spans_left : ℕ
+  pub colours_left : ℕ
+  pub depths_left : ℕ
 
--- they are the rows from row y on
-abbrev pub AreRows : (width depth y : ℕ) → List Span → Type 0
-AreRows width depth y [] = Unit {0}
-AreRows width depth y (s ∷ spans) = (s.y ≡ y) × IsRow width depth s × AreRows width depth (y + 1) spans
+-- a span that nothing rests on
+abbrev pub no_span : Span
+no_span = record { x = 0; y = 0; len = 0; one_colour = false; same_depth = None }
 
--- they are rows, each right below the one before it
-pub record AreWholeRows (width depth : ℕ) (spans : List Span) : Type 0 where
-  pub y : ℕ
-  pub rows : AreRows width depth y spans
+-- whether pixel (x, y) is one of a span's
+abbrev pub span_holds : Span → ℕ → ℕ → Bool
+span_holds s x y = (s.y == y) && (nat_le s.x x && nat_lt (x - s.x) s.len)
+
+-- how many colours in the list are a span's, and the colours of its pixels: the first one for all, or the next ones
+abbrev pub listed_colours : Span → ℕ
+listed_colours s = if s.one_colour then 1 else s.len
+
+abbrev pub colours_in : Span → List Colour → List Colour
+colours_in s colours = if s.one_colour then replicate s.len (slice_index_or colours 0 fresh) else take s.len colours
+
+-- how many depths in the list are those of so many pixels, and their depths: all the same, or the next ones in the list
+abbrev pub listed_in : Option ℕ → ℕ → ℕ
+listed_in (Some depth) len = 0
+listed_in None len = len
+
+abbrev pub values_in : Option ℕ → ℕ → List ℕ → List ℕ
+values_in (Some depth) len depths = replicate len depth
+values_in None len depths = take len depths
+
+abbrev pub listed_depths : Span → ℕ
+listed_depths s = listed_in s.same_depth s.len
+
+abbrev pub depths_in : Span → List ℕ → List ℕ
+depths_in s depths = values_in s.same_depth s.len depths
+
+-- how many values of the lists are those of some spans
+abbrev pub colour_count : List Span → ℕ
+colour_count spans = sum_by (λ s. listed_colours s) spans
+
+abbrev pub depth_count : List Span → ℕ
+depth_count spans = sum_by (λ s. listed_depths s) spans
+
+-- what a span keeps, whose values stand first in the lists
+abbrev pub row_in : Span → List Colour → List ℕ → List KeptPixel
+row_in s colours depths = kept_row s.x s.y (zip (colours_in s colours) (depths_in s depths))
+
+-- what some spans keep, which take their values in turn
+abbrev pub rows_in : List Span → List Colour → List ℕ → List (List KeptPixel)
+rows_in [] colours depths = []
+rows_in (s ∷ spans) colours depths = row_in s colours depths ∷ rows_in spans (drop (listed_colours s) colours) (drop (listed_depths s) depths)
+
+abbrev pub rows_of : Held → List (List KeptPixel)
+rows_of h = rows_in h.spans h.colours h.depths
+
+-- rows one after the other
+abbrev pub joined : List (List KeptPixel) → List KeptPixel
+joined [] = []
+joined (row ∷ rows) = row ++ joined rows
+
+abbrev pub newest_row : Held → List KeptPixel
+newest_row h = slice_index_or (rows_of h) (length h.spans - 1) []
+
+-- the lists have the values of the spans, and no more
+pub record IsHeld (spans : List Span) (colours : List Colour) (depths : List ℕ) : Type 0 where
+  pub colours_counted : colour_count spans ≡ length colours
+  pub depths_counted : depth_count spans ≡ length depths

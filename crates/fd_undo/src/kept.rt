@@ -1,6 +1,6 @@
 ghost use Rattle.std.specs.Prelude.{◌≡◌, ◌≤◌, ◌++◌, length, take, slice_get, OnOk};
 ghost use Rattle.fd_undo.specs.Frame.{kept_at};
-ghost use Rattle.fd_undo.specs.Stored.{by_colour, by_depth, listed_count, pixels_of, kept_of};
+ghost use Rattle.fd_undo.specs.Rows.{colour_count, depth_count, rows_in, joined};
 
 use crate::span::Span;
 use fd_blend::Colour;
@@ -15,9 +15,9 @@ pub(crate) fn kept_in(
     y: u32,
     n: usize,
 ) -> Option<(Colour, u16)>
-    requires within { listed_count by_colour spans.now ≤ length colours.now }
-    requires depths_within { listed_count by_depth spans.now ≤ length depths.now }
-    ensures { result ≡ slice_get (kept_at (kept_of spans.now (pixels_of spans.now colours.now depths.now)) x y) n }
+    requires within { colour_count spans.now ≤ length colours.now }
+    requires depths_within { depth_count spans.now ≤ length depths.now }
+    ensures { result ≡ slice_get (kept_at (joined (rows_in spans.now colours.now depths.now)) x y) n }
 {
     let (mut first_colour, mut first_depth) = (0, 0);
     let mut left = n;
@@ -47,9 +47,9 @@ pub(crate) fn add_kept_in(
     count: usize,
     kept: &mut Vec<(Colour, u16)>,
 ) -> Result<(), AllocError>
-    requires within { listed_count by_colour spans.now ≤ length colours.now }
-    requires depths_within { listed_count by_depth spans.now ≤ length depths.now }
-    ensures { OnOk result (kept.new.items ≡ kept.old.items ++ take count (kept_at (kept_of spans.now (pixels_of spans.now colours.now depths.now)) x y)) }
+    requires within { colour_count spans.now ≤ length colours.now }
+    requires depths_within { depth_count spans.now ≤ length depths.now }
+    ensures { OnOk result (kept.new.items ≡ kept.old.items ++ take count (kept_at (joined (rows_in spans.now colours.now depths.now)) x y)) }
 {
     let (mut first_colour, mut first_depth) = (0, 0);
     let mut left = count;

@@ -3,9 +3,11 @@
 
 pub use stack::{Full, UndoStack};
 
+mod block;
 mod kept;
-mod pieces;
 mod restore;
+mod room;
+mod rows;
+mod run;
 mod span;
 mod stack;
-mod stored;

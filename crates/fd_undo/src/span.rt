@@ -2,7 +2,7 @@ ghost use Rattle.std.specs.Prelude.{◌≡◌, ◌+◌, ◌<◌, ◌≤◌, leng
 ghost use Rattle.fd_snap.specs.Limits.{most_pixels};
 ghost use Rattle.fd_blend.specs.Channel.{fresh};
 ghost use Rattle.fd_undo.specs.Packed.{unmarked};
-ghost use Rattle.fd_undo.specs.Stored.{span_holds, listed_colours, colours_in, listed_depths, depths_in};
+ghost use Rattle.fd_undo.specs.Rows.{span_holds, listed_colours, colours_in, listed_depths, depths_in};
 
 use fd_blend::Colour;
 use std::marker::Model;
@@ -37,6 +37,18 @@ impl Model for Span {
     ghost inverse = { packed };
 
     ghost inverse_ok = { packed_again };
+}
+
+impl Default for Span {
+    /// A span without pixels.
+    fn default() -> Span {
+        Span {
+            x: 0,
+            marked_y: 0,
+            marked_len: 0,
+            depth: 0,
+        }
+    }
 }
 
 impl Span {

@@ -1,7 +1,7 @@
 //! Moves that meet want of memory. All memory is taken and given back bit by bit, so that a move gets a little further each time.
-use crate::tests::frames::{colour, expect_moved, expect_pixel, flat, one_clear, session};
+use crate::tests::frames::{blend, colour, expect_moved, expect_pixel, flat, one_clear, session};
 use crate::{Answer, Session, SessionFault};
-use fd_blend::Colour;
+use fd_blend::{Colour, Factor};
 use fd_crew::Free;
 use fd_events::Event;
 use std::alloc::{AllocError, Global};
@@ -124,18 +124,29 @@ fn a_step_with_hardly_any_memory(rt: HostRuntime) -> Result<(), Fail> {
     Ok(())
 }
 
-/// The draw lies beside the target, so it reaches no tile, and no owner is asked to move.
+/// Both draws lie beside the target, so that they and the blending between them reach no tile; and blending that is set again changes nothing. No owner is
+/// asked to move. A history, which asks for memory, finds none.
 #[test]
 fn a_switch_that_reaches_nothing_wants_no_memory(rt: HostRuntime) -> Result<(), Fail> {
+    let beside = [(50, 0), (60, 0), (50, 10)];
     let mut events = Vec::new(rt.alloc());
     events.push(Event::Clear(CLEARED))?;
-    events.push(flat(rt.alloc(), [(50, 0), (60, 0), (50, 10)], CLEARED)?)?;
+    events.push(blend(true, Factor::One, Factor::One, 15)?)?;
+    events.push(flat(rt.alloc(), beside, CLEARED)?)?;
+    events.push(blend(true, Factor::One, Factor::One, 15)?)?;
+    events.push(flat(rt.alloc(), [(0, 0), (1, 0), (0, 1)], CLEARED)?)?;
+    events.push(blend(false, Factor::One, Factor::Zero, 15)?)?;
+    events.push(flat(rt.alloc(), beside, CLEARED)?)?;
     let mut session = session(rt.alloc(), 33, 1, events, 2)?;
-    expect_moved(&rt, session.goto(&rt, 2), 2);
+    expect_moved(&rt, session.goto(&rt, 7), 7);
     let pieces = exhaust(rt.alloc())?;
-    expect_moved(&rt, session.switch(&rt, 2, false), 2);
-    assert_eq!(rt; session.is_on(2), Ok(false));
-    assert_eq!(rt; session.switch(&rt, 1, false), Answer::Stopped { at: 0 });
+    for number in [2, 3, 6, 7] {
+        expect_moved(&rt, session.switch(&rt, number, false), 7);
+        assert_eq!(rt; session.is_on(number), Ok(false));
+    }
+    expect_moved(&rt, session.switch(&rt, 2, true), 7);
+    expect_moved(&rt, session.switch(&rt, 4, false), 7);
+    assert!(rt; session.history(rt.alloc(), 0, 0).is_err());
     drop(pieces);
     Ok(())
 }

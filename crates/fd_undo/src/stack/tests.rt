@@ -1,6 +1,8 @@
 ghost use Rattle.std.specs.Prelude.{◌≡◌, ◌<◌};
 
+use super::new_block;
 use crate::UndoStack;
+use crate::room::Room;
 use fd_blend::Colour;
 use fd_tile::{Place, Tile};
 use std::alloc::Global;
@@ -87,9 +89,9 @@ fn a_frame_without_pixels_stores_nothing(rt: HostRuntime) -> Result<(), Fail> {
     undo.reserve(0, 0)?;
     undo.begin();
     assert_eq!(rt; undo.frames(), 1);
-    assert!(rt; undo.stored.is_empty());
-    assert!(rt; undo.colours.len() == 0);
-    assert!(rt; undo.depths.len() == 0);
+    let held = undo.last.held();
+    assert_eq!(rt; (held.frames, held.spans, held.colours), (0, 0, 0));
+    assert!(rt; undo.full.capacity() == 0);
     Ok(())
 }
 
@@ -98,8 +100,8 @@ fn frames_that_are_forgotten_keep_nothing(rt: HostRuntime) -> Result<(), Fail> {
     let mut undo = with_two_frames(rt.alloc())?;
     undo.forget();
     expect_counts(&rt, &undo, 0, 2)?;
-    assert!(rt; undo.stored.capacity() == 0);
-    assert!(rt; undo.depths.len() == 0);
+    assert!(rt; undo.last.is_empty());
+    assert!(rt; undo.full.capacity() == 0);
     undo.reserve(1, 1)?;
     undo.begin();
     undo.keep(1, 1, &[FRESH], &[DEEP]);
@@ -164,7 +166,7 @@ fn equal_colours_are_kept_once(rt: HostRuntime) -> Result<(), Fail> {
     undo.begin();
     undo.keep(0, 0, &[RED, RED, RED], &[DEEP, 7, DEEP]);
     undo.keep(0, 1, &[RED, FRESH], &[DEEP, DEEP]);
-    assert_eq!(rt; undo.colours.piece_from(0), [RED, RED, FRESH].as_slice());
+    assert_eq!(rt; undo.last.held().colours, 3);
     expect_counts(&rt, &undo, 5, 1)?;
     assert_eq!(rt; undo.kept(0, 1, 0, 0), Some((RED, 7)));
     assert_eq!(rt; undo.kept(0, 1, 1, 0), Some((FRESH, DEEP)));
@@ -177,10 +179,108 @@ fn equal_depths_are_kept_once(rt: HostRuntime) -> Result<(), Fail> {
     undo.reserve(2, 5)?;
     undo.begin();
     undo.keep(0, 0, &[RED, RED, RED], &[DEEP, DEEP, DEEP]);
-    assert!(rt; undo.depths.len() == 0);
+    assert_eq!(rt; undo.last.held().depths, 0);
     undo.keep(0, 1, &[RED, RED], &[DEEP, 7]);
-    assert_eq!(rt; undo.depths.piece_from(0), [DEEP, 7].as_slice());
+    assert_eq!(rt; undo.last.held().depths, 2);
     assert_eq!(rt; undo.kept(0, 2, 0, 0), Some((RED, DEEP)));
     assert_eq!(rt; undo.kept(0, 1, 1, 0), Some((RED, 7)));
+    Ok(())
+}
+
+#[test]
+fn whole_rows_are_put_back(rt: HostRuntime) -> Result<(), Fail> {
+    let mut tile = Tile::fresh(rt.alloc(), SMALL)?;
+    let mut undo = UndoStack::new(rt.alloc());
+    undo.reserve(2, 4)?;
+    undo.begin();
+    undo.keep(0, 0, &[RED, FRESH], &[DEEP, DEEP]);
+    undo.keep(0, 1, &[FRESH, RED], &[DEEP, DEEP]);
+    undo.undo_top(&mut tile);
+    assert_eq!(rt; tile.row(0), [RED, FRESH].as_slice());
+    assert_eq!(rt; tile.row(1), [FRESH, RED].as_slice());
+    expect_counts(&rt, &undo, 0, 0)
+}
+
+/// Two frames of a pixel each, the second of which is in a block of its own: room for many pixels was asked for.
+fn with_two_blocks(alloc: Global) -> Result<UndoStack, Fail> {
+    let mut undo = UndoStack::new(alloc);
+    undo.reserve(1, 1)?;
+    undo.begin();
+    undo.keep(0, 0, &[FRESH], &[DEEP]);
+    undo.reserve(1, 1000)?;
+    undo.begin();
+    undo.keep(1, 1, &[RED], &[7]);
+    Ok(undo)
+}
+
+#[test]
+fn blocks_are_given_back(rt: HostRuntime) -> Result<(), Fail> {
+    let mut undo = with_two_blocks(rt.alloc())?;
+    assert_eq!(rt; undo.full.len(), 1);
+    assert_eq!(rt; undo.kept(0, 0, 0, 0), Some((FRESH, DEEP)));
+    assert_eq!(rt; undo.kept(1, 1, 1, 0), Some((RED, 7)));
+    assert_eq!(rt; undo.kept(1, 0, 0, 0), None);
+    undo.forget();
+    assert!(rt; undo.full.capacity() == 0);
+    assert!(rt; !undo.last.takes(1, 1));
+    Ok(())
+}
+
+#[test]
+fn a_block_without_frames_is_given_back(rt: HostRuntime) -> Result<(), Fail> {
+    let mut tile = Tile::fresh(rt.alloc(), SMALL)?;
+    let mut undo = UndoStack::new(rt.alloc());
+    undo.reserve(1, 1)?;
+    undo.begin();
+    undo.keep(0, 0, &[FRESH], &[DEEP]);
+    undo.reserve(1, 1000)?;
+    undo.begin();
+    undo.keep(1, 1, &[RED], &[7]);
+    undo.undo_top(&mut tile);
+    assert!(rt; undo.full.is_empty());
+    assert_eq!(rt; undo.last.held().frames, 1);
+    undo.undo_top(&mut tile);
+    assert!(rt; !undo.last.takes(1, 1));
+    expect_counts(&rt, &undo, 0, 0)?;
+    assert_eq!(rt; tile.row(1), [FRESH, RED].as_slice());
+    assert_eq!(rt; tile.depth_row(1), [DEEP, 7].as_slice());
+    Ok(())
+}
+
+#[test]
+fn room_that_is_left_is_used(rt: HostRuntime) -> Result<(), Fail> {
+    let mut undo = UndoStack::new(rt.alloc());
+    undo.reserve(1, 64)?;
+    undo.begin();
+    undo.keep(0, 0, &[RED, FRESH], &[7, 8]);
+    undo.reserve(1, 126)?;
+    assert!(rt; undo.full.is_empty());
+    undo.reserve(1, 127)?;
+    assert_eq!(rt; undo.full.len(), 1);
+    Ok(())
+}
+
+#[test]
+fn few_spans_take_no_memory(rt: HostRuntime) -> Result<(), Fail> {
+    let mut undo = UndoStack::new(rt.alloc());
+    undo.reserve(8, 0)?;
+    assert!(rt; undo.full.capacity() == 0);
+    assert!(rt; undo.last.takes(8, 0));
+    assert!(rt; !undo.last.takes(9, 0));
+    Ok(())
+}
+
+#[test]
+fn a_smaller_block_will_do(rt: HostRuntime) -> Result<(), Fail> {
+    let needed = Room::needed(1, 3);
+    let wanted = Room {
+        frames: 1,
+        spans: 1,
+        colours: usize::MAX,
+        depths: 3,
+    };
+    let block = new_block(rt.alloc(), wanted, needed)?;
+    assert!(rt; block.takes(1, 3));
+    assert!(rt; !block.takes(1, 4));
     Ok(())
 }

@@ -2,7 +2,7 @@ use crate::tests::captures::{FRESH, MASKED, TWO_CELLS, TWO_TILES, colour, sessio
 use fd_capture::{CaptureFault, read};
 use fd_crew::{Free, Outcome, run_forward};
 use fd_events::{Event, EventTable, Label, TableFault};
-use fd_owner::Owner;
+use fd_owner::{Owner, Refused};
 use fd_pam::{Device, PamFault, header, write};
 use fd_tile::{Place, Tile};
 use fd_undo::UndoStack;
@@ -126,6 +126,17 @@ fn expect_owner(rt: &impl Abort, owner: &Owner, position: u32, recorded: u64, re
     assert_eq!(rt; owner.pixel(place.left, place.top).r, red);
 }
 
+/// What a step over a table's one event comes to, on the left tile of a target of 33 by 1 pixels.
+fn step(owner: &mut Owner, table: &EventTable) -> Result<Result<(), Refused>, Fail> {
+    if table.len() != 1 || table.width() != 33 || table.height() != 1 {
+        return Err(Fail::from("one event"));
+    }
+    if owner.position() != 0 || owner.place() != PLACE {
+        return Err(Fail::from("the left tile"));
+    }
+    Ok(owner.forward(table))
+}
+
 /// An owner whose opening image is no fresh one.
 #[test]
 fn owner_forward(rt: HostRuntime) -> Result<(), Fail> {
@@ -133,11 +144,8 @@ fn owner_forward(rt: HostRuntime) -> Result<(), Fail> {
     let mut tile = Tile::fresh(rt.alloc(), PLACE)?;
     tile.set(0, 0, colour(5, 6, 7, 8));
     let mut owner = Owner::of(rt.alloc(), tile);
-    if table.len() != 1 || table.width() != 33 || table.height() != 1 {
-        return Err(Fail::from("one event"));
-    }
     println!(rt; "ready")?;
-    if owner.forward(&table).is_ok() {
+    if step(&mut owner, &table)?.is_ok() {
         println!(rt; "told Ok")?;
         assert_eq!(rt; owner.refusals(), 0);
     } else {
@@ -145,7 +153,7 @@ fn owner_forward(rt: HostRuntime) -> Result<(), Fail> {
         expect_owner(&rt, &owner, 0, 0, 5);
         assert_eq!(rt; owner.refusals(), 1);
         assert_eq!(rt; owner.refused_at(), Some(0));
-        assert!(rt; owner.forward(&table).is_ok());
+        assert!(rt; step(&mut owner, &table)?.is_ok());
     }
     expect_owner(&rt, &owner, 1, 32, 1);
     if owner.position() == 0 {

@@ -1,16 +1,32 @@
-use Rattle.std.proofs.Common.{◌≡◌, arith, to_z-of_z}
-use Rattle.fd_cover.specs.Bounds.{bounds_of, least, greatest, first_from, past}
+use Rattle.std.proofs.Common.{◌≡◌, ℤ, pos, true, false, arith}
+use Rattle.std.proofs.lemmas.Bool.{false_from_ne_true}
+use Rattle.std.proofs.lemmas.Bool.Decides.{Decides-int_eq}
+use Rattle.std.proofs.lemmas.Int.{ints}
+use Rattle.std.specs.Ordering.{int_eq}
+use Rattle.fd_cover.specs.Bounds.{bounds_of}
+use Rattle.fd_cover.specs.Cross.{cross}
+use Rattle.fd_cover.specs.declared.triangle.Tri.{Tri}
 use Rattle.fd_cover.proofs.BoundsLemmas.{same_bounds-hold}
 use Rattle.fd_cover.proofs.bounds.Bounds.of.Goals as goal
 
-pub returns-clause-value : goal.returns-clause-value
-unfolding bounds_of
-returns-clause-value c =
-    let left : c.first_from.result ≡ first_from (least c.args.triangle.now.a.x c.args.triangle.now.b.x c.args.triangle.now.c.x) = grind (arith, to_z-of_z) in
-    let top : c.first_from-2.result ≡ first_from (least c.args.triangle.now.a.y c.args.triangle.now.b.y c.args.triangle.now.c.y) = grind (arith, to_z-of_z) in
-    let right : c.past.result ≡ past (greatest c.args.triangle.now.a.x c.args.triangle.now.b.x c.args.triangle.now.c.x) = grind (arith, to_z-of_z) in
-    let bottom : c.past-2.result ≡ past (greatest c.args.triangle.now.a.y c.args.triangle.now.b.y c.args.triangle.now.c.y) = grind (arith, to_z-of_z) in
-    rw (left, top, right, bottom)
+abbrev area_of : Tri → ℤ
+area_of t = cross t.a t.b t.c
 
-pub returns-clause-covered : goal.returns-clause-covered
-returns-clause-covered c = same_bounds-hold c.args.triangle.now (record { left = c.first_from.result; top = c.first_from-2.result; right = c.past.result; bottom = c.past-2.result }) (returns-clause-value c)
+pub returns-then-area-eq0-clause-value : goal.returns-then-area-eq0-clause-value
+unfolding bounds_of
+returns-then-area-eq0-clause-value c =
+    let flat : int_eq (area_of c.args.triangle.now) (pos 0) ≡ true = (Decides-int_eq (area_of c.args.triangle.now) (pos 0)).1 (omega (arith, ints, c.area.ensures.value, c.if-area-eq0.true)) in
+    rw flat c.empty.ensures
+
+pub returns-then-area-eq0-clause-covered : goal.returns-then-area-eq0-clause-covered
+returns-then-area-eq0-clause-covered c = same_bounds-hold c.args.triangle.now c.empty.result (returns-then-area-eq0-clause-value c)
+
+pub returns-else-area-eq0-clause-value : goal.returns-else-area-eq0-clause-value
+unfolding bounds_of
+returns-else-area-eq0-clause-value c =
+    let some : int_eq (area_of c.args.triangle.now) (pos 0) ≡ false = false_from_ne_true (int_eq (area_of c.args.triangle.now) (pos 0)) (λ flat.
+    omega (arith, ints, (Decides-int_eq (area_of c.args.triangle.now) (pos 0)).0 flat, c.area.ensures.value, c.if-area-eq0.false)) in
+    rw some c.round.ensures
+
+pub returns-else-area-eq0-clause-covered : goal.returns-else-area-eq0-clause-covered
+returns-else-area-eq0-clause-covered c = same_bounds-hold c.args.triangle.now c.round.result (returns-else-area-eq0-clause-value c)

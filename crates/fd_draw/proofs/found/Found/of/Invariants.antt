@@ -9,10 +9,10 @@ use Rattle.fd_draw.proofs.found.Found.of.Given as goal
 abbrev pub invariant-loop-y : goal.invariant-loop-y
 invariant-loop-y l = record {
   size : length l.rows ≡ 32;
-  rows : AreRowSpans l.triangle l.area l.rows l.y;
-  edges : l.edges ≡ (l.triangle, l.y);
-  spans : l.demand.spans + total (row_spans (covers l.triangle) (place_in l.area)) l.y (l.area.bottom - l.y) ≡ spans_in (covers l.triangle) (place_in l.area);
-  pixels : l.demand.pixels + total (row_pixels (covers l.triangle) (place_in l.area)) l.y (l.area.bottom - l.y) ≡ pixels_in (covers l.triangle) (place_in l.area);
+  rows : AreRowSpans l.fn.edges.0 l.area l.rows l.y;
+  edges : l.edges ≡ (l.fn.edges.0, l.y);
+  spans : l.demand.spans + total (row_spans (covers l.fn.edges.0) (place_in l.area)) l.y (l.area.bottom - l.y) ≡ spans_in (covers l.fn.edges.0) (place_in l.area);
+  pixels : l.demand.pixels + total (row_pixels (covers l.fn.edges.0) (place_in l.area)) l.y (l.area.bottom - l.y) ≡ pixels_in (covers l.fn.edges.0) (place_in l.area);
   few_spans : l.demand.spans ≤ l.y - l.area.top;
   few_pixels : l.demand.pixels ≤ 32 * (l.y - l.area.top);
 }

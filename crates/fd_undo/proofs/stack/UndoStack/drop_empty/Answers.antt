@@ -1,40 +1,55 @@
-use Rattle.std.proofs.Common.{◌≡◌, ℕ, ◌<◌, ◌≤◌, ◌+◌, ◌∙◌, [], ◌++◌, replicate, refl, ap, sym, length, arith}
-use Rattle.std.specs.Prelude.{vec_capacity}
-use Rattle.fd_undo.specs.Stored.{frames_of, newest, spanned_frames, pixels_in}
-use Rattle.fd_undo.proofs.Numbers.{length-frames_of}
-use Rattle.fd_undo.proofs.Dropped.{newest_within, left_at_least, dropped_stack, dropped_frames}
+use Rattle.std.proofs.Common.{◌≡◌, ◌≤◌, ◌-◌, ◌∙◌, ◌++◌, ap, sym, subst, [], length, arith}
+use Rattle.std.specs.Prelude.{replicate}
+use Rattle.fd_undo.specs.Undo.{Undo, recorded_in}
+use Rattle.fd_undo.specs.Block.{Rise}
+use Rattle.fd_undo.specs.Stack.{frames_from, stored_in, all_stored}
+use Rattle.fd_undo.proofs.StackLemmas.{closed, dropped, frames-grow, length-frames, recorded-more}
 use Rattle.fd_undo.proofs.stack.UndoStack.drop_empty.Goals as goal
+use Rattle.fd_undo.proofs.stack.UndoStack.drop_empty.Goals.{After-max-self-inside}
 
-pub after_newest-requires : goal.after_newest-requires
-after_newest-requires c = λ some.
-    let s = c.self.inside in
-    let there : 0 < length s.stored.items = omega (arith, some, ap length c.deref.ensures.value) in
-    let within = newest_within s.count s.stored.items s.spans s.colours s.depths (vec_capacity s.stored) s.recorded s.spans_left s.pixels_left s.frame_left c.self.invariant there in
-    omega (arith, within, ap (λ stored. (newest stored).number) c.deref.ensures.value, c.self.ranges)
+-- how many frames there are
+size : (c : After-max-self-inside) → length c.args.self.now.frames ≡ c.self.inside.count
+size c =
+    omega (
+      arith,
+      ap (λ (u : Undo). length u.frames) c.self.view_is,
+      length-frames 0 (all_stored c.self.inside.full.items c.self.inside.last) c.self.inside.count c.self.invariant.rise,
+    )
+
+-- the stored frames are all left
+left : (c : After-max-self-inside) → Rise 0 (all_stored c.refill.new.full.items c.refill.new.last) c.max-self-inside.result
+    × (c.max-self-inside.result ≤ c.self.inside.count)
+left c =
+    dropped (stored_in c.refill.new.full.items) c.refill.new.last.frames c.self.inside.count c.args.to c.after_newest.result c.max-self-inside.result
+    (subst (λ l. Rise 0 l c.self.inside.count) (sym c.refill.ensures.same) c.self.invariant.rise) (omega (arith, c.requires, size c))
+    c.after_newest.ensures.some c.after_newest.ensures.none c.refill.ensures.some c.max-self-inside.ensures
+
+grown : (c : After-max-self-inside) → frames_from 0 (all_stored c.self.inside.full.items c.self.inside.last) c.self.inside.count
+    ≡ frames_from 0 (all_stored c.refill.new.full.items c.refill.new.last) c.max-self-inside.result ++ replicate
+    (c.self.inside.count - c.max-self-inside.result) []
+grown c =
+    ap (λ l. frames_from 0 l c.self.inside.count) (sym c.refill.ensures.same)
+    ∙ frames-grow 0 (all_stored c.refill.new.full.items c.refill.new.last) c.max-self-inside.result c.self.inside.count (left c).0 (left c).1
 
 pub invariant_of-self : goal.invariant_of-self
 invariant_of-self c =
-    let s = c.self.inside in
-    let fits : c.args.to ≤ s.count = omega (arith, c.requires, ap (λ u. length u.frames) c.self.view_is, length-frames_of s.count (spanned_frames s.spans.items s.stored.items) (pixels_in (spanned_frames s.spans.items s.stored.items) s.colours.items s.depths.items)) in
-    dropped_stack s.count s.stored.items s.spans s.colours s.depths (vec_capacity s.stored) s.recorded s.frame_left s.spans_left s.pixels_left c.self.invariant c.args.to c.after_newest.result c.max-self-inside.result fits
-    (λ some. c.after_newest.ensures.some (omega (arith, some, ap length c.deref.ensures.value)) ∙ ap (λ stored. (newest stored).number + 1) c.deref.ensures.value)
-    (λ none. c.after_newest.ensures.none (omega (arith, none, ap length c.deref.ensures.value))) c.max-self-inside.ensures
+    let d = (goal.at-invariant_of-self c).After-max-self-inside in
+    let n = c.max-self-inside.result in
+    closed c.refill.new.full.items c.refill.new.last n c.self.inside.recorded c.refill.ensures.have (left d).0
+    (c.self.invariant.counted ∙ ap recorded_in (grown d)
+    ∙ recorded-more (frames_from 0 (all_stored c.refill.new.full.items c.refill.new.last) n) (c.self.inside.count - n))
+    (omega (arith, c.self.invariant.countable))
 
-pub returns : goal.returns
-returns c =
-    let s = c.self.inside in
-    let fs = spanned_frames s.spans.items s.stored.items in
-    let cs = pixels_in (spanned_frames s.spans.items s.stored.items) s.colours.items s.depths.items in
-    let left = c.max-self-inside.result in
-    let all = length-frames_of s.count fs cs in
-    let fits : c.args.to ≤ s.count = omega (arith, c.requires, ap (λ u. length u.frames) c.self.view_is, all) in
-    let some = λ (some : 0 < length s.stored.items). c.after_newest.ensures.some (omega (arith, some, ap length c.deref.ensures.value)) ∙ ap (λ stored. (newest stored).number + 1) c.deref.ensures.value in
-    let none = λ (none : length s.stored.items ≡ 0). c.after_newest.ensures.none (omega (arith, none, ap length c.deref.ensures.value)) in
-    let least = left_at_least s.count s.stored.items s.spans s.colours s.depths (vec_capacity s.stored) s.recorded s.frame_left s.spans_left s.pixels_left c.self.invariant c.args.to c.after_newest.result left fits some none c.max-self-inside.ensures in
-    let frames = dropped_frames s.count s.stored.items s.spans s.colours s.depths (vec_capacity s.stored) s.recorded s.frame_left s.spans_left s.pixels_left c.self.invariant c.args.to c.after_newest.result left fits some none c.max-self-inside.ensures in
-    let some_left = length-frames_of left fs cs in
-    record {
-      left = omega (arith, least, some_left);
-      dropped = ap (λ u. u.frames) (sym c.self.view_is) ∙ frames ∙ ap (λ (n : ℕ). frames_of left fs cs ++ replicate n []) (omega (arith, all, some_left, ap (λ u. length u.frames) c.self.view_is));
-      no_room = refl;
-    }
+pub returns-clause-left : goal.returns-clause-left
+returns-clause-left c =
+    let d = (goal.at-returns-clause-left c).After-max-self-inside in
+    omega (arith, length-frames 0 (all_stored c.refill.new.full.items c.refill.new.last) c.max-self-inside.result (left d).0, c.max-self-inside.ensures)
+
+pub returns-clause-dropped : goal.returns-clause-dropped
+returns-clause-dropped c =
+    let d = (goal.at-returns-clause-dropped c).After-max-self-inside in
+    let n = c.max-self-inside.result in
+    let all = frames_from 0 (all_stored c.refill.new.full.items c.refill.new.last) n in
+    sym (ap (λ (u : Undo). u.frames) c.self.view_is) ∙ grown d
+    ∙ ap (λ k. all ++ replicate k []) {x = c.self.inside.count - n} {y = length c.args.self.now.frames - length all}
+    (omega (arith, size d, length-frames 0 (all_stored c.refill.new.full.items c.refill.new.last) n (left d).0))

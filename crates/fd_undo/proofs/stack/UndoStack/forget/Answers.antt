@@ -1,25 +1,24 @@
-use Rattle.std.proofs.Common.{◌∙◌, ap, false, List, []}
-use Rattle.std.specs.Prelude.{vec_capacity}
-use Rattle.fd_undo.specs.declared.stored.StoredFrame.{StoredFrame}
-use Rattle.fd_undo.specs.Frame.{KeptPixel}
-use Rattle.fd_undo.specs.Undo.{Undo}
-use Rattle.fd_undo.specs.Stored.{frames_of, pixels_in, spanned_frames}
-use Rattle.fd_undo.proofs.Forgets.{empty_frames, empty_stack}
+use Rattle.std.proofs.Common.{◌≡◌, ◌++◌, ◌∙◌, ap, sym, subst, List, [], length, arith}
+use Rattle.fd_undo.specs.Undo.{Undo, recorded_in, without_room}
+use Rattle.fd_undo.specs.Block.{Filled, Rise}
+use Rattle.fd_undo.specs.Stack.{frames_from, stored_in, all_stored, HaveFrames}
+use Rattle.fd_undo.proofs.StackLemmas.{closed, frames-emptied, recorded-emptied, length-frames}
 use Rattle.fd_undo.proofs.stack.UndoStack.forget.Goals as goal
+
+none : (full : List Filled) (last : Filled) → full ≡ [] → last.frames ≡ [] → all_stored full last ≡ []
+none full last no_block no_frame = ap (λ l. stored_in l ++ last.frames) no_block ∙ no_frame
 
 pub invariant_of-self : goal.invariant_of-self
 invariant_of-self c =
-    empty_stack c.self.inside.count c.new.result.items c.truncate.new.self c.truncate-2.new.self c.truncate-3.new.self (vec_capacity c.new.result) c.new.ensures.items c.truncate.ensures.items
-    c.truncate-2.ensures.items c.truncate-3.ensures.items
+    let empty = none c.new.result.items c.empty.result c.new.ensures.items c.empty.ensures in
+    closed c.new.result.items c.empty.result c.self.inside.count 0 (subst (λ l. HaveFrames l) (sym c.new.ensures.items) (λ k d h. absurd (omega arith)))
+    (subst (λ l. Rise 0 l c.self.inside.count) (sym empty) (omega arith))
+    (sym (ap (λ l. recorded_in (frames_from 0 l c.self.inside.count)) empty ∙ recorded-emptied c.self.inside.count)) (omega arith)
 
 pub returns : goal.returns
 returns c =
     let s = c.self.inside in
-    let spans = c.truncate.new.self.items in
-    let colours = c.truncate-2.new.self.items in
-    let depths = c.truncate-3.new.self.items in
-    let emptied : List (List KeptPixel) → Undo = λ frames. record { frames = frames; frame_left = false; spans_left = 0; pixels_left = 0 } in
-    rw (← c.self.view_is)
-    (ap emptied
-    (ap (λ (l : List StoredFrame). frames_of s.count (spanned_frames spans l) (pixels_in (spanned_frames spans l) colours depths)) c.new.ensures.items
-    ∙ empty_frames s.count (spanned_frames s.spans.items s.stored.items) (pixels_in (spanned_frames s.spans.items s.stored.items) s.colours.items s.depths.items) (pixels_in [] colours depths)))
+    ap without_room
+    (ap (λ l. frames_from 0 l c.self.inside.count) (none c.new.result.items c.empty.result c.new.ensures.items c.empty.ensures)
+    ∙ frames-emptied c.args.self.now.frames c.self.inside.count
+    (omega (arith, ap (λ (u : Undo). length u.frames) c.self.view_is, length-frames 0 (all_stored s.full.items s.last) s.count c.self.invariant.rise)))

@@ -1,0 +1,16 @@
+use Rattle.std.proofs.Common.{◌≡◌, ◌≤◌, length, ap, sym, subst, arith}
+use Rattle.fd_events.specs.Table.{Table, table_of}
+use Rattle.fd_events.specs.Far.{AreFar}
+use Rattle.fd_events.proofs.IndexLemmas.{far_from}
+use Rattle.fd_events.proofs.table.EventTable.next_indexed.Goals as goal
+
+pub next-requires : goal.next-requires
+next-requires c =
+    let last = rw (← c.self.view_is) at c.requires.last in
+    record { order = c.requires.order; small = omega (arith, last, c.self.invariant.0.max_events); sides = c.self.invariant.4.sides }
+
+pub returns-clause-far : goal.returns-clause-far
+returns-clause-far c =
+    let fields = c.self.inside in
+    rw (← c.self.view_is)
+    (far_from (table_of fields.version fields.width fields.height fields.events.items fields.flags.items) fields.index fields.reaches.items c.args.from c.next.result c.args.window c.self.invariant.2 c.self.invariant.4 c.next.ensures.passed)

@@ -1,0 +1,137 @@
+//! What a switch of an event that was gone through changes.
+ghost use Rattle.std.specs.Prelude.{◌≡◌, ℕ, ◌≤◌, Bool, IsTrue, Some, length};
+ghost use Rattle.fd_tile.specs.declared.place.Place.{Place};
+ghost use Rattle.fd_events.specs.declared.pipeline.Pipeline.{Pipeline};
+ghost use Rattle.fd_events.specs.Pipeline.{state_after};
+ghost use Rattle.fd_events.specs.Reach.{HoldsWritten};
+ghost use Rattle.fd_events.specs.Table.{with_flag, flag_at, state_at};
+ghost use Rattle.fd_owner.specs.Shown.{IsInside};
+ghost use Rattle.fd_owner.specs.Untouched.{Misses};
+ghost use Rattle.fd_session.specs.Switch.{HoldsChanged, HoldsByState, HoldsSwitched, IsSpared};
+
+use fd_cover::Bounds;
+use fd_events::{Event, EventTable, Pipeline};
+use fd_owner::Owner;
+use fd_tile::Place;
+
+/// A switch of an event, with the table as it is after it.
+#[derive(Clone, Copy, Debug)]
+pub(crate) struct Switch {
+    pub number: u32,
+    /// Whether the event was on before.
+    pub was_on: bool,
+    /// The position of the owners.
+    pub position: u32,
+    /// A box round all that changes up to this position.
+    pub reach: Bounds,
+}
+
+/// The state after an event.
+fn state_past(state: Pipeline, event: &Event) -> Pipeline
+    ensures { result ≡ state_after event.now state }
+{
+    match event {
+        Event::SetRaster(raster) => Pipeline {
+            raster: *raster,
+            ..state
+        },
+        Event::SetScissor(scissor) => Pipeline {
+            scissor: *scissor,
+            ..state
+        },
+        Event::SetBlend(blend) => Pipeline {
+            blend: *blend,
+            ..state
+        },
+        Event::SetFactor(factor) => Pipeline {
+            factor: *factor,
+            ..state
+        },
+        Event::SetDepth(depth) => Pipeline {
+            depth: *depth,
+            ..state
+        },
+        Event::Clear(_) | Event::DepthClear(_) | Event::Draw(_) | Event::Marker(_) => state,
+    }
+}
+
+/// The box of the pixels that an event can write otherwise in another state, by the box of all that it can write. A clear asks no state.
+fn reach_by_state(event: &Event, reach: Bounds) -> Bounds
+    ensures { (width height : ℕ) → HoldsWritten reach width height event.now → HoldsByState result width height event.now }
+{
+    match event {
+        Event::Draw(_) => reach,
+        _ => Bounds::empty(),
+    }
+}
+
+/// A box round all that a switch of an event changes up to a position, where the state after the event was this one: what the event itself can write, and
+/// as long as the state is another one than it was, what later draws can.
+fn changed_reach(table: &EventTable, number: u32, after: Pipeline, to: u32) -> Bounds
+    requires first { 1 ≤ number }
+    requires last { number ≤ to }
+    requires within { to ≤ length table.now.events }
+    ensures { (was : Bool) → after ≡ state_at (with_flag table.now number was) number → HoldsChanged result (with_flag table.now number was) table.now to }
+{
+    let mut reach = table.reach(number);
+    let mut state = after;
+    let mut at = number;
+    while at < to && state != *table.state_before(at + 1) {
+        at += 1;
+        if table.is_on(at) {
+            let event = table.event(at);
+            reach = reach.join(reach_by_state(event, table.reach(at)));
+            state = state_past(state, event);
+        }
+    }
+    reach
+}
+
+/// Whether a box holds no pixel of a place on the table's target.
+fn misses(table: &EventTable, reach: Bounds, place: Place) -> bool
+    requires { IsInside place table.now }
+    ensures { IsTrue result → Misses reach place }
+{
+    let (_width, _height) = (table.width(), table.height());
+    place.left + place.width <= reach.left
+        || reach.right <= place.left
+        || place.top + place.height <= reach.top
+        || reach.bottom <= place.top
+}
+
+impl Switch {
+    /// Switches an event on or off that owners at a position have gone through.
+    pub(crate) fn make(table: &mut EventTable, number: u32, on: bool, position: u32) -> Switch
+        requires first { 1 ≤ number }
+        requires last { number ≤ position }
+        requires within { position ≤ length table.old.events }
+        ensures table { table.new ≡ with_flag table.old number on }
+        ensures number { result.number ≡ number }
+        ensures was_on { flag_at table.old number ≡ Some result.was_on }
+        ensures position { result.position ≡ position }
+        ensures reach { HoldsSwitched table.new result }
+    {
+        let _count = table.len();
+        let was_on = table.is_on(number);
+        let after = *table.state_before(number + 1);
+        table.set_on(number, on);
+        Switch {
+            number,
+            was_on,
+            position,
+            reach: changed_reach(table, number, after, position),
+        }
+    }
+
+    /// Whether an owner's tile is the same as before the switch.
+    pub(crate) fn spares(&self, table: &EventTable, owner: &Owner) -> bool
+        requires reach { HoldsSwitched table.now self.now }
+        requires inside { IsInside owner.now.place table.now }
+        ensures { IsTrue result → IsSpared table.now self.now owner.now.place }
+    {
+        misses(table, self.reach, owner.place())
+    }
+}
+
+#[cfg(test)]
+mod tests;

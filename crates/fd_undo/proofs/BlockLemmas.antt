@@ -1,0 +1,220 @@
+-- Frames between marks.
+use Rattle.std.proofs.Common.{subst, ◌≡◌, ◌≢◌, ℕ, zero, suc, ◌+◌, ◌-◌, ◌^◌, ◌<◌, ◌≤◌, ◌∙◌, List, [], ◌∷◌, ◌++◌, length, get_or, take, drop, refl, sym}
+use Rattle.std.proofs.Common.{ap, arith, length-append, length-drop, cond, eqb}
+use Rattle.std.proofs.lemmas.Bool.{eq-eqb, ne_eqb}
+use Rattle.std.proofs.lemmas.List.{length-take, take_all, take-take, drop-take, drop-append-le, take-append-le, get_or_push}
+use Rattle.fd_undo.specs.declared.block.Mark.{Mark}
+use Rattle.fd_undo.specs.Span.{Span}
+use Rattle.fd_undo.specs.Frame.{KeptPixel}
+use Rattle.fd_undo.specs.Rows.{colour_count, depth_count, joined}
+use Rattle.fd_undo.specs.Block.{Frame, no_frame, newest, others, found, Rise, next, marked, IsMarked, no_mark, number_at, NumbersRise}
+use Rattle.fd_undo.proofs.FrameLemmas.{others-push, newest-push, others-newest}
+use Rattle.fd_undo.proofs.RowLemmas.{joined-push}
+
+-- what a frame keeps: the rows from one up to another
+abbrev pub part : ℕ → ℕ → List (List KeptPixel) → List KeptPixel
+part first end rows = joined (take (end - first) (drop first rows))
+
+-- it rests on the rows up to its end alone
+part-same : (first end most : ℕ) (rows rows' : List (List KeptPixel)) → first ≤ end → end ≤ most → take most rows ≡ take most rows'
+    → part first end rows ≡ part first end rows'
+part-same first end most rows rows' ordered within same =
+    let n : ℕ = end - first in
+    let whole : first + (end - first) ≡ end = omega arith in
+    let cut : take (first + (end - first)) rows ≡ take (first + (end - first)) rows' =
+    sym (take-take (first + (end - first)) most rows (omega (arith, whole))) ∙ ap (λ l. take (first + n) l) same
+    ∙ take-take (first + (end - first)) most rows' (omega (arith, whole)) in
+    ap joined (sym (drop-take first n rows) ∙ ap (λ l. drop first l) cut ∙ drop-take first n rows')
+
+-- the frame of a mark
+abbrev pub frame : Mark → ℕ → List (List KeptPixel) → Frame
+frame m end rows = record { number = m.number; kept = part m.span end rows }
+
+-- what a mark says
+pub record IsMark (m : Mark) (spans : List Span) : Type 0 where
+  pub number : m.number < 2 ^ 32
+  pub colour : m.colour ≡ colour_count (take m.span spans)
+  pub depth : m.depth ≡ depth_count (take m.span spans)
+
+next-push : (marks : List Mark) (m : Mark) (end : ℕ) → next (marks ++ m ∷ []) end ≡ next marks m.span
+next-push [] m end = refl
+next-push (t ∷ marks) m end = refl
+
+marked-push : (marks : List Mark) (m : Mark) (rows : List (List KeptPixel)) (end : ℕ)
+    → marked (marks ++ m ∷ []) rows end ≡ marked marks rows m.span ++ frame m end rows ∷ []
+marked-push [] m rows end = refl
+marked-push (t ∷ marks) m rows end =
+    ap (λ n. frame t n rows ∷ marked (marks ++ m ∷ []) rows end) (next-push marks m end)
+    ∙ ap (λ l. frame t (next marks m.span) rows ∷ l) (marked-push marks m rows end)
+
+pub marks-push : (marks : List Mark) (m : Mark) (spans : List Span) (end : ℕ) → IsMarked marks spans m.span → IsMark m spans → m.span ≤ end
+    → IsMarked (marks ++ m ∷ []) spans end
+marks-push [] m spans end is says within = (says.number, within, says.colour, says.depth, tt)
+marks-push (t ∷ marks) m spans end is says within =
+    (is.0, omega (arith, is.1, next-push marks m end), is.2, is.3, marks-push marks m spans end is.4 says within)
+
+next-within : (marks : List Mark) (spans : List Span) (end : ℕ) → IsMarked marks spans end → next marks end ≤ end
+next-within [] spans end is = omega arith
+next-within (t ∷ marks) spans end is = omega (arith, is.1, next-within marks spans end is.4)
+
+marks-pop : (marks : List Mark) (m : Mark) (spans : List Span) (end : ℕ) → IsMarked (marks ++ m ∷ []) spans end
+    → IsMarked marks spans m.span × IsMark m spans × (m.span ≤ end)
+marks-pop [] m spans end is = (tt, record { number = is.0; colour = is.2; depth = is.3 }, is.1)
+marks-pop (t ∷ marks) m spans end is =
+    let rest : IsMarked marks spans m.span × IsMark m spans × (m.span ≤ end) = marks-pop marks m spans end is.4 in
+    ((is.0, omega (arith, is.1, next-push marks m end), is.2, is.3, rest.0), rest.1, rest.2)
+
+-- frames up to a row rest on the rows and the spans up to there
+marked-same : (marks : List Mark) (spans : List Span) (rows rows' : List (List KeptPixel)) (end most : ℕ) → IsMarked marks spans end → end ≤ most
+    → take most rows ≡ take most rows' → marked marks rows end ≡ marked marks rows' end
+marked-same [] spans rows rows' end most is within same = refl
+marked-same (t ∷ marks) spans rows rows' end most is within same =
+    let low : next marks end ≤ end = next-within marks spans end is.4 in
+    ap (λ k. record {
+      number =
+          t.number;
+      kept = k;
+    } ∷ marked marks rows end) (part-same t.span (next marks end) most rows rows' is.1 (omega (arith, low, within)) same)
+    ∙ ap (λ l. frame t (next marks end) rows' ∷ l) (marked-same marks spans rows rows' end most is.4 within same)
+
+marks-same : (marks : List Mark) (spans spans' : List Span) (end most : ℕ) → IsMarked marks spans end → end ≤ most → take most spans ≡ take most spans'
+    → IsMarked marks spans' end
+marks-same [] spans spans' end most is within same = tt
+marks-same (t ∷ marks) spans spans' end most is within same =
+    let low : next marks end ≤ end = next-within marks spans end is.4 in
+    let short : t.span ≤ most = omega (arith, low, is.1, within) in
+    let cut : take t.span spans ≡ take t.span spans' =
+    sym (take-take t.span most spans short) ∙ ap (λ l. take t.span l) same ∙ take-take t.span most spans' short in
+    (is.0, is.1, is.2 ∙ ap colour_count cut, is.3 ∙ ap depth_count cut, marks-same marks spans spans' end most is.4 within same)
+
+pub length-marked : (marks : List Mark) (rows : List (List KeptPixel)) (end : ℕ) → length (marked marks rows end) ≡ length marks
+length-marked [] rows end = refl
+length-marked (t ∷ marks) rows end = ap (λ n. suc n) (length-marked marks rows end)
+
+-- ---- the newest frame and those before it, where the last mark was taken off
+pub record TopFrame (low : List Mark) (m : Mark) (spans : List Span) (rows : List (List KeptPixel)) (frames : List Frame) : Type 0 where
+  pub newest_is : newest frames ≡ record { number = m.number; kept = joined (drop m.span rows) }
+  pub others_are : others frames ≡ marked low rows m.span
+  pub marks : IsMarked low spans m.span
+  pub mark : IsMark m spans
+  pub within : m.span ≤ length spans
+
+pub top_frame : (marks low : List Mark) (m : Mark) (spans : List Span) (rows : List (List KeptPixel)) (frames : List Frame) → marks ≡ low ++ m ∷ []
+    → length rows ≡ length spans
+    → IsMarked marks spans (length spans) → marked marks rows (length spans) ≡ frames → TopFrame low m spans rows frames
+top_frame marks low m spans rows frames split size is shown =
+    let f : Frame = record { number = m.number; kept = joined (drop m.span rows) } in
+    let popped : IsMarked low spans m.span × IsMark m spans × (m.span ≤ length spans) =
+    marks-pop low m spans (length spans) (subst (λ l. IsMarked l spans (length spans)) split is) in
+    let all : frames ≡ marked low rows m.span ++ f ∷ [] =
+    sym shown ∙ ap (λ l. marked l rows (length spans)) split ∙ marked-push low m rows (length spans)
+    ∙ ap (λ l. marked low rows m.span ++ record {
+      number =
+          m.number;
+      kept = joined l;
+    } ∷ []) (take_all (length spans - m.span) (drop m.span rows) (omega (arith, length-drop m.span rows, size))) in
+    record {
+      newest_is = ap newest all ∙ newest-push (marked low rows m.span) f no_frame;
+      others_are = ap (λ l. others l) all ∙ others-push (marked low rows m.span) f;
+      marks = popped.0;
+      mark = popped.1;
+      within = popped.2;
+    }
+
+-- one more frame
+pub one_more : (marks : List Mark) (m : Mark) (spans : List Span) (rows : List (List KeptPixel)) (frames : List Frame) → m.span ≡ length spans
+    → marked marks rows (length spans) ≡ frames
+    → marked (marks ++ m ∷ []) rows (length spans) ≡ frames ++ record { number = m.number; kept = [] } ∷ []
+one_more marks m spans rows frames at shown =
+    let none : length spans - m.span ≡ 0 = omega (arith, at) in
+    marked-push marks m rows (length spans)
+    ∙ ap (λ k. marked marks rows m.span ++ record { number = m.number; kept = joined (take k (drop m.span rows)) } ∷ []) none
+    ∙ ap (λ k. marked marks rows k ++ record { number = m.number; kept = [] } ∷ []) at
+    ∙ ap (λ l. l ++ record { number = m.number; kept = [] } ∷ []) shown
+
+-- ---- more is kept in the newest frame
+module _ (low : List Mark) (m : Mark) (spans spans' : List Span) (rows rows' : List (List KeptPixel)) (frames : List Frame) (row : List KeptPixel)
+    (t : TopFrame low m spans rows frames)
+    (same : take m.span spans ≡ take m.span spans') (long : m.span ≤ length spans') (size : length rows' ≡ length spans')
+    (rows_same : take m.span rows ≡ take m.span rows')
+    (more : joined (drop m.span rows') ≡ joined (drop m.span rows) ++ row) where
+  pub more_marks : IsMarked (low ++ m ∷ []) spans' (length spans')
+  more_marks =
+      marks-push low m spans' (length spans') (marks-same low spans spans' m.span m.span t.marks (omega arith) same)
+      (record { number = t.mark.number; colour = t.mark.colour ∙ ap colour_count same; depth = t.mark.depth ∙ ap depth_count same }) long
+
+  pub more_frames : marked (low ++ m ∷ []) rows' (length spans') ≡ others frames ++ record {
+    number =
+        (newest frames).number;
+    kept = (newest frames).kept ++ row;
+  } ∷ []
+  more_frames =
+      marked-push low m rows' (length spans')
+      ∙ ap (λ l. l ++ frame m (length spans') rows' ∷ [])
+      (sym (marked-same low spans rows rows' m.span m.span t.marks (omega arith) rows_same) ∙ sym t.others_are)
+      ∙ ap (λ l. others frames ++ record {
+        number =
+            m.number;
+        kept = joined l;
+      } ∷ []) (take_all (length spans' - m.span) (drop m.span rows') (omega (arith, length-drop m.span rows', size)))
+      ∙ ap (λ k. others frames ++ record { number = m.number; kept = k } ∷ []) more
+      ∙ ap (λ (f : Frame). others frames ++ record { number = f.number; kept = f.kept ++ row } ∷ []) (sym t.newest_is)
+
+-- the frames before the newest one rest on the rows before its own
+pub fewer : (low : List Mark) (m : Mark) (spans left : List Span) (rows rows_left : List (List KeptPixel)) (frames : List Frame)
+    → TopFrame low m spans rows frames
+    → left ≡ take m.span spans → rows_left ≡ take m.span rows
+    → length left ≡ m.span × (marked low rows_left (length left) ≡ others frames) × IsMarked low left (length left)
+fewer low m spans left rows rows_left frames t is rows_are =
+    let n : ℕ = m.span in
+    let size : length left ≡ m.span = ap length is ∙ length-take m.span spans ∙ omega (arith, t.within) in
+    let same : take n spans ≡ take n left = sym (take-take n n spans (omega arith)) ∙ ap (λ l. take n l) (sym is) in
+    let rows_same : take n rows ≡ take n rows_left = sym (take-take n n rows (omega arith)) ∙ ap (λ l. take n l) (sym rows_are) in (
+      size,
+      ap (λ k. marked low rows_left k) size ∙ sym (marked-same low spans rows rows_left n n t.marks (omega arith) rows_same) ∙ sym t.others_are,
+      subst (λ k. IsMarked low left k) (sym size) (marks-same low spans left n n t.marks (omega arith) same),
+    )
+
+-- ---- a frame that is looked for by its number
+pub this_number : (f : Frame) (frames : List Frame) (n : ℕ) → f.number ≡ n → found n (f ∷ frames) ≡ f.kept
+this_number f frames n same = ap (λ b. cond b f.kept (found n frames)) (eq-eqb f.number n same)
+
+pub other_number : (f : Frame) (frames : List Frame) (n : ℕ) → f.number ≢ n → found n (f ∷ frames) ≡ found n frames
+other_number f frames n other = ap (λ b. cond b f.kept (found n frames)) (ne_eqb f.number n other)
+
+rise-at : (marks : List Mark) (rows : List (List KeptPixel)) (end i count a : ℕ) → Rise i (marked marks rows end) count → a < length marks
+    → i ≤ number_at marks a
+rise-at [] rows end i count a is within = absurd (omega arith)
+rise-at (m ∷ marks) rows end i count zero is within = is.0
+rise-at (m ∷ marks) rows end i count (suc a) is within =
+    omega (arith, is.0, rise-at marks rows end (m.number + 1) count a is.1 (omega arith))
+
+pub marks-rise : (marks : List Mark) (rows : List (List KeptPixel)) (end i count : ℕ) → Rise i (marked marks rows end) count → NumbersRise marks
+marks-rise [] rows end i count is a b before within = absurd (omega arith)
+marks-rise (m ∷ marks) rows end i count is a zero before within = absurd (omega arith)
+marks-rise (m ∷ marks) rows end i count is zero (suc b) before within =
+    omega (arith, rise-at marks rows end (m.number + 1) count b is.1 (omega arith))
+marks-rise (m ∷ marks) rows end i count is (suc a) (suc b) before within = marks-rise marks rows end (m.number + 1) count is.1 a b (omega arith) (omega arith)
+
+pub found-at : (marks : List Mark) (rows : List (List KeptPixel)) (end i count a : ℕ) → Rise i (marked marks rows end) count → a < length marks
+    → found (number_at marks a) (marked marks rows end) ≡ part (get_or marks a no_mark).span (next (drop (suc a) marks) end) rows
+found-at [] rows end i count a is within = absurd (omega arith)
+found-at (m ∷ marks) rows end i count zero is within = this_number (frame m (next marks end) rows) (marked marks rows end) m.number refl
+found-at (m ∷ marks) rows end i count (suc a) is within =
+    let later : m.number + 1 ≤ number_at marks a = rise-at marks rows end (m.number + 1) count a is.1 (omega arith) in
+    other_number (frame m (next marks end) rows) (marked marks rows end) (number_at marks a) (λ e. absurd (omega (arith, later)))
+    ∙ found-at marks rows end (m.number + 1) count a is.1 (omega arith)
+
+pub found-none : (marks : List Mark) (rows : List (List KeptPixel)) (end n : ℕ) → ((a : ℕ) → a < length marks → number_at marks a ≢ n)
+    → found n (marked marks rows end) ≡ []
+found-none [] rows end n none = refl
+found-none (m ∷ marks) rows end n none =
+    other_number (frame m (next marks end) rows) (marked marks rows end) n (none 0 (omega arith))
+    ∙ found-none marks rows end n (λ a within. none (suc a) (omega arith))
+
+-- what the mark at a place says
+pub mark-at : (marks : List Mark) (spans : List Span) (end a : ℕ) → IsMarked marks spans end → a < length marks
+    → IsMark (get_or marks a no_mark) spans × ((get_or marks a no_mark).span ≤ next (drop (suc a) marks) end) × (next (drop (suc a) marks) end ≤ end)
+mark-at [] spans end a is within = absurd (omega arith)
+mark-at (m ∷ marks) spans end zero is within = (record { number = is.0; colour = is.2; depth = is.3 }, is.1, next-within marks spans end is.4)
+mark-at (m ∷ marks) spans end (suc a) is within = mark-at marks spans end a is.4 (omega arith)

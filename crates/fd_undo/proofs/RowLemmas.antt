@@ -1,0 +1,156 @@
+-- Rows of spans.
+use Rattle.std.proofs.Common.{◌≡◌, ℕ, zero, suc, ◌+◌, ◌-◌, ◌<◌, ◌≤◌, ◌∙◌, List, [], ◌∷◌, ◌++◌, length, get_or, take, drop, refl, sym, ap, arith}
+use Rattle.std.proofs.Common.{sum_by, length-append, length-drop, append_assoc}
+use Rattle.std.proofs.lemmas.List.{drop-append-le, take-append-drop, length-take, drop-drop, append-nil, take_all, drop_all, drop_more}
+use Rattle.std.proofs.lemmas.List.Sums.{sum_by_push, sum_by-cons}
+use Rattle.fd_blend.specs.declared.channel.Colour.{Colour}
+use Rattle.fd_undo.specs.Span.{Span}
+use Rattle.fd_undo.specs.Frame.{KeptPixel}
+use Rattle.fd_undo.specs.Block.{others}
+use Rattle.fd_undo.specs.Rows.{listed_colours, listed_depths, colour_count, depth_count, row_in, rows_in, rows_of, joined, newest_row, Held, IsHeld}
+use Rattle.fd_undo.proofs.FrameLemmas.{others-push, newest-push, others-newest}
+use Rattle.fd_undo.proofs.SpanLemmas.{row_in-more}
+
+-- ---- rows one after the other
+pub joined-append : (rows more : List (List KeptPixel)) → joined (rows ++ more) ≡ joined rows ++ joined more
+joined-append [] more = refl
+joined-append (r ∷ rows) more = ap (λ l. r ++ l) (joined-append rows more) ∙ sym (append_assoc r (joined rows) (joined more))
+
+pub joined-push : (rows : List (List KeptPixel)) (row : List KeptPixel) → joined (rows ++ row ∷ []) ≡ joined rows ++ row
+joined-push rows row = joined-append rows (row ∷ []) ∙ ap (λ l. joined rows ++ l) (append-nil row)
+
+-- the rows from one on, cut at another
+pub joined-cut : (rows : List (List KeptPixel)) (first n : ℕ) → first ≤ n → n ≤ length rows
+    → joined (drop first rows) ≡ joined (drop first (take n rows)) ++ joined (drop n rows)
+joined-cut rows first n low high =
+    ap (λ l. joined (drop first l)) (sym (take-append-drop n rows))
+    ∙ ap joined (drop-append-le first (take n rows) (drop n rows) (omega (arith, low, high, length-take n rows)))
+    ∙ joined-append (drop first (take n rows)) (drop n rows)
+
+-- ---- the values of some spans
+pub colours-cons : (s : Span) (spans : List Span) → colour_count (s ∷ spans) ≡ listed_colours s + colour_count spans
+colours-cons s spans = sum_by-cons (λ (r : Span). listed_colours r) s spans
+
+pub depths-cons : (s : Span) (spans : List Span) → depth_count (s ∷ spans) ≡ listed_depths s + depth_count spans
+depths-cons s spans = sum_by-cons (λ (r : Span). listed_depths r) s spans
+
+pub colours-push : (spans : List Span) (s : Span) → colour_count (spans ++ s ∷ []) ≡ colour_count spans + listed_colours s
+colours-push spans s = sum_by_push (λ (r : Span). listed_colours r) spans s
+
+pub depths-push : (spans : List Span) (s : Span) → depth_count (spans ++ s ∷ []) ≡ depth_count spans + listed_depths s
+depths-push spans s = sum_by_push (λ (r : Span). listed_depths r) spans s
+
+pub length-rows_in : (spans : List Span) (cs : List Colour) (ds : List ℕ) → length (rows_in spans cs ds) ≡ length spans
+length-rows_in [] cs ds = refl
+length-rows_in (s ∷ spans) cs ds = ap (λ n. suc n) (length-rows_in spans (drop (listed_colours s) cs) (drop (listed_depths s) ds))
+
+-- the values behind those of some spans are those of the next span
+pub rows_in-push : (spans : List Span) (cs more : List Colour) (ds deep : List ℕ) (s : Span) → colour_count spans ≡ length cs → depth_count spans ≡ length ds
+    → rows_in (spans ++ s ∷ []) (cs ++ more) (ds ++ deep) ≡ rows_in spans cs ds ++ row_in s more deep ∷ []
+rows_in-push [] [] more [] deep s counted deep_counted = refl
+rows_in-push [] [] more (d ∷ ds) deep s counted deep_counted = absurd (omega arith)
+rows_in-push [] (c ∷ cs) more ds deep s counted deep_counted = absurd (omega arith)
+rows_in-push (t ∷ spans) cs more ds deep s counted deep_counted =
+    let n : ℕ = listed_colours t in
+    let m : ℕ = listed_depths t in
+    let all : listed_colours t + colour_count spans ≡ length cs = sym (colours-cons t spans) ∙ counted in
+    let deep_all : listed_depths t + depth_count spans ≡ length ds = sym (depths-cons t spans) ∙ deep_counted in
+    let short : listed_colours t ≤ length cs = omega (arith, all) in
+    let deep_short : listed_depths t ≤ length ds = omega (arith, deep_all) in
+    ap (λ l. l ∷ rows_in (spans ++ s ∷ []) (drop n (cs ++ more)) (drop m (ds ++ deep))) (row_in-more t cs more ds deep short deep_short)
+    ∙ ap (λ l. row_in t cs ds ∷ rows_in (spans ++ s ∷ []) l (drop m (ds ++ deep))) (drop-append-le n cs more short)
+    ∙ ap (λ l. row_in t cs ds ∷ rows_in (spans ++ s ∷ []) (drop n cs ++ more) l) (drop-append-le m ds deep deep_short)
+    ∙ ap (λ l. row_in t cs ds ∷ l)
+    (rows_in-push spans (drop n cs) more (drop m ds) deep s (omega (arith, all, length-drop (listed_colours t) cs)) (omega (
+      arith,
+      deep_all,
+      length-drop (listed_depths t) ds,
+    )))
+
+-- the rows from span k on, and those before it
+pub rows_in-drop : (spans : List Span) (cs : List Colour) (ds : List ℕ) (k : ℕ)
+    → rows_in (drop k spans) (drop (colour_count (take k spans)) cs) (drop (depth_count (take k spans)) ds) ≡ drop k (rows_in spans cs ds)
+rows_in-drop spans cs ds zero = refl
+rows_in-drop [] cs ds (suc k) = refl
+rows_in-drop (s ∷ spans) cs ds (suc k) =
+    let n : ℕ = colour_count (take k spans) in
+    let m : ℕ = depth_count (take k spans) in
+    ap (λ l. rows_in (drop k spans) l (drop (depth_count (s ∷ take k spans)) ds))
+    (ap (λ i. drop i cs) (colours-cons s (take k spans)) ∙ sym (drop-drop n (listed_colours s) cs))
+    ∙ ap (λ l. rows_in (drop k spans) (drop n (drop (listed_colours s) cs)) l)
+    (ap (λ i. drop i ds) (depths-cons s (take k spans)) ∙ sym (drop-drop m (listed_depths s) ds))
+    ∙ rows_in-drop spans (drop (listed_colours s) cs) (drop (listed_depths s) ds) k
+
+pub rows_in-take : (spans : List Span) (cs : List Colour) (ds : List ℕ) (k : ℕ) → rows_in (take k spans) cs ds ≡ take k (rows_in spans cs ds)
+rows_in-take spans cs ds zero = refl
+rows_in-take [] cs ds (suc k) = refl
+rows_in-take (s ∷ spans) cs ds (suc k) = ap (λ l. row_in s cs ds ∷ l) (rows_in-take spans (drop (listed_colours s) cs) (drop (listed_depths s) ds) k)
+
+-- so many spans have no more values than all
+pub colours-take : (spans : List Span) (k : ℕ) → colour_count (take k spans) + colour_count (drop k spans) ≡ colour_count spans
+colours-take spans zero = omega arith
+colours-take [] (suc k) = refl
+colours-take (s ∷ spans) (suc k) = omega (arith, colours-cons s (take k spans), colours-cons s spans, colours-take spans k)
+
+pub depths-take : (spans : List Span) (k : ℕ) → depth_count (take k spans) + depth_count (drop k spans) ≡ depth_count spans
+depths-take spans zero = omega arith
+depths-take [] (suc k) = refl
+depths-take (s ∷ spans) (suc k) = omega (arith, depths-cons s (take k spans), depths-cons s spans, depths-take spans k)
+
+-- ---- what is known where the last span was taken off, whose values stand from `start` and `deep_start` on
+pub record Taken (spans low : List Span) (s : Span) (cs : List Colour) (ds : List ℕ) (start deep_start : ℕ) : Type 0 where
+  pub newest : get_or (rows_in spans cs ds) (length spans - 1) [] ≡ row_in s (drop start cs) (drop deep_start ds)
+  pub rest : rows_in low (take start cs) (take deep_start ds) ≡ take (length spans - 1) (rows_in spans cs ds)
+  pub held : IsHeld low (take start cs) (take deep_start ds)
+  pub long : length (drop start cs) ≡ listed_colours s
+  pub deep_long : length (drop deep_start ds) ≡ listed_depths s
+
+pub taken : (spans low : List Span) (s : Span) (cs : List Colour) (ds : List ℕ) (start deep_start : ℕ) → spans ≡ low ++ s ∷ [] → IsHeld spans cs ds
+    → start ≡ length cs - listed_colours s → deep_start ≡ length ds - listed_depths s → Taken spans low s cs ds start deep_start
+taken spans low s cs ds start deep_start split is at deep_at =
+    let sizes : colour_count low + listed_colours s ≡ length cs = sym (colours-push low s) ∙ ap colour_count (sym split) ∙ is.colours_counted in
+    let deep_sizes : depth_count low + listed_depths s ≡ length ds = sym (depths-push low s) ∙ ap depth_count (sym split) ∙ is.depths_counted in
+    let lower : colour_count low ≡ length (take start cs) = omega (arith, sizes, at, length-take start cs) in
+    let deep_lower : depth_count low ≡ length (take deep_start ds) = omega (arith, deep_sizes, deep_at, length-take deep_start ds) in
+    let front : List (List KeptPixel) = rows_in low (take start cs) (take deep_start ds) in
+    let last : List KeptPixel = row_in s (drop start cs) (drop deep_start ds) in
+    let all : rows_in spans cs ds ≡ rows_in low (take start cs) (take deep_start ds) ++ row_in s (drop start cs) (drop deep_start ds) ∷ [] =
+    ap (λ l. rows_in l cs ds) split
+    ∙ ap (λ l. rows_in (low ++ s ∷ []) l ds) (sym (take-append-drop start cs))
+    ∙ ap (λ l. rows_in (low ++ s ∷ []) (take start cs ++ drop start cs) l) (sym (take-append-drop deep_start ds))
+    ∙ rows_in-push low (take start cs) (drop start cs) (take deep_start ds) (drop deep_start ds) s lower deep_lower in
+    let count : length spans ≡ length (rows_in spans cs ds) = sym (length-rows_in spans cs ds) in
+    record {
+      newest = ap (λ n. get_or (rows_in spans cs ds) (n - 1) []) count ∙ ap (λ l. get_or l (length l - 1) []) all ∙ newest-push front last [];
+      rest = sym (ap (λ n. take (n - 1) (rows_in spans cs ds)) count ∙ ap (λ l. others l) all ∙ others-push front last);
+      held = record { colours_counted = lower; depths_counted = deep_lower };
+      long = omega (arith, sizes, at, length-drop start cs);
+      deep_long = omega (arith, deep_sizes, deep_at, length-drop deep_start ds);
+    }
+
+pub tail_is : {V : Type 0} (start : ℕ) (values : List V) → take (length values - start) (drop start values) ≡ drop start values
+tail_is start values = take_all (length values - start) (drop start values) (omega (arith, length-drop start values))
+
+-- the newest row is the last one
+pub newest_is : (h : Held) → 0 < length h.spans → joined (drop (length h.spans - 1) (rows_of h)) ≡ newest_row h
+newest_is h some =
+    let count : length (rows_of h) ≡ length h.spans = length-rows_in h.spans h.colours h.depths in
+    ap joined (drop_more (rows_of h) (length h.spans - 1) [] (omega (arith, count, some)))
+    ∙ ap (λ l. newest_row h ++ joined l) (drop_all (length h.spans - 1 + 1) (rows_of h) (omega (arith, count, some)))
+    ∙ append-nil (newest_row h)
+
+-- more values at the end of the lists change nothing
+pub rows_in-more : (spans : List Span) (cs more : List Colour) (ds : List ℕ) → colour_count spans ≤ length cs → depth_count spans ≤ length ds
+    → rows_in spans (cs ++ more) ds ≡ rows_in spans cs ds
+rows_in-more [] cs more ds fits deep_fits = refl
+rows_in-more (s ∷ spans) cs more ds fits deep_fits =
+    let n : ℕ = listed_colours s in
+    let m : ℕ = listed_depths s in
+    let short : listed_colours s ≤ length cs = omega (arith, fits, colours-cons s spans) in
+    let own : row_in s (cs ++ more) ds ≡ row_in s cs ds =
+    ap (λ l. row_in s (cs ++ more) l) (sym (append-nil ds)) ∙ row_in-more s cs more ds [] short (omega (arith, deep_fits, depths-cons s spans)) in
+    ap (λ l. l ∷ rows_in spans (drop n (cs ++ more)) (drop m ds)) own
+    ∙ ap (λ l. row_in s cs ds ∷ rows_in spans l (drop m ds)) (drop-append-le n cs more short)
+    ∙ ap (λ l. row_in s cs ds ∷ l)
+    (rows_in-more spans (drop n cs) more (drop m ds) (omega (arith, fits, colours-cons s spans, length-drop (listed_colours s) cs))
+    (omega (arith, deep_fits, depths-cons s spans, length-drop (listed_depths s) ds)))

@@ -1,0 +1,258 @@
+ghost use Rattle.std.specs.Prelude.{◌≡◌, ◌≢◌, ℕ, suc, ◌+◌, ◌-◌, ◌^◌, ◌<◌, ◌≤◌, [], ◌∷◌, ◌++◌, length, drop, replicate, slice_index_or};
+ghost use Rattle.std.specs.Prelude.{All, None, IfOk, IfSome, true, false};
+ghost use Rattle.std.specs.List.{zip};
+ghost use Rattle.fd_snap.specs.Limits.{most_pixels};
+ghost use Rattle.fd_tile.specs.Place.{Holds};
+ghost use Rattle.fd_undo.specs.Frame.{kept_row, restored};
+ghost use Rattle.fd_undo.specs.Rows.{colour_count, depth_count, rows_in, joined};
+ghost use Rattle.fd_undo.specs.Block.{Frame, Filled, newest, others, with_row, found, first_number, Rise, NumbersRise, no_mark, next};
+
+use crate::room::Room;
+use crate::rows::Rows;
+use crate::span::Span;
+use fd_blend::Colour;
+use fd_tile::Tile;
+use smallvec::SmallVec;
+use std::alloc::{AllocError, Global};
+use std::marker::Model;
+
+/// So many marks stand in the block itself, and more in memory of their own.
+const MARKS_INSIDE: usize = 4;
+
+/// Where the frame of a number begins in its block: its first span, its first colour and its first depth.
+#[derive(Clone, Copy, Default)]
+pub(crate) struct Mark {
+    number: u32,
+    span: u32,
+    colour: u32,
+    depth: u32,
+}
+
+/// Frames that follow one another, in lists that were made with room and never grow.
+#[derive(Drop)]
+pub(crate) struct Block {
+    marks: SmallVec<Mark, MARKS_INSIDE>,
+    rows: Rows,
+}
+
+impl Model for Block {
+    ghost use Rattle.std.specs.Prelude.{◌-◌, length};
+    ghost use Rattle.fd_undo.specs.Rows.{rows_of};
+    ghost use Rattle.fd_undo.specs.Block.{Filled, marked, marks_left, IsMarked};
+
+    ghost Value = { Filled };
+
+    ghost view = { λ b. record {
+      frames = marked b.marks.items (rows_of b.rows) (length b.rows.spans);
+      frames_left = marks_left b.rows (b.marks.capacity - length b.marks.items);
+      spans_left = b.rows.spans_left;
+      colours_left = b.rows.colours_left;
+      depths_left = b.rows.depths_left;
+    } };
+
+    ghost invariant = { λ b. IsMarked b.marks.items b.rows.spans (length b.rows.spans) };
+}
+
+impl Block {
+    /// A block without frames, which has room for so many frames, spans and values.
+    pub(crate) fn with_room(alloc: Global, room: Room) -> Result<Block, AllocError>
+        ensures frames { IfOk result (λ b. b.frames ≡ []) }
+        ensures room { IfOk result (λ b. (room.frames ≤ b.frames_left) × (room.spans ≤ b.spans_left)
+            × (room.colours ≤ b.colours_left) × (room.depths ≤ b.depths_left)) }
+    {
+        Ok(Block {
+            marks: SmallVec::with_capacity(alloc, room.frames)?,
+            rows: Rows::with_room(alloc, room)?,
+        })
+    }
+
+    /// A block without frames and without room for pixels, which takes no memory.
+    pub(crate) fn empty(alloc: Global) -> Block
+        ensures { result.frames ≡ [] }
+    {
+        Block {
+            marks: SmallVec::new(alloc),
+            rows: Rows::empty(alloc),
+        }
+    }
+
+    /// Whether it has no frame.
+    pub(crate) fn is_empty(&self) -> bool
+        ensures yes { result ≡ true → self.now.frames ≡ [] }
+        ensures no { result ≡ false → 0 < length self.now.frames }
+    {
+        self.marks.is_empty()
+    }
+
+    /// Whether one more frame of so many spans and pixels has room.
+    pub(crate) fn takes(&self, spans: usize, pixels: usize) -> bool
+        ensures { result ≡ true → (0 < self.now.frames_left) × (spans ≤ self.now.spans_left)
+            × (pixels ≤ self.now.colours_left) × (pixels ≤ self.now.depths_left) }
+    {
+        self.marks.len() < self.marks.capacity()
+            && is_countable(&self.rows)
+            && self.rows.takes(spans, pixels)
+    }
+
+    /// How many frames, spans, colours and depths it holds.
+    pub(crate) fn held(&self) -> Room {
+        Room {
+            frames: self.marks.len(),
+            spans: self.rows.len(),
+            colours: self.rows.colours(),
+            depths: self.rows.depths(),
+        }
+    }
+
+    /// Whether its newest frame has this number.
+    pub(crate) fn is_newest(&self, number: usize) -> bool
+        ensures yes { result ≡ true → (0 < length self.now.frames) × ((newest self.now.frames).number ≡ number) }
+        ensures no { result ≡ false → 0 < length self.now.frames → (newest self.now.frames).number ≢ number }
+    {
+        !self.is_empty() && self.newest_number() == number
+    }
+
+    /// The number of the newest frame.
+    pub(crate) fn newest_number(&self) -> usize
+        requires { 0 < length self.now.frames }
+        ensures value { result ≡ (newest self.now.frames).number }
+        ensures small { result < 2 ^ 32 }
+    {
+        let marks = self.marks.as_slice();
+        mark_at(marks, marks.len() - 1).number as usize
+    }
+
+    /// The number of the oldest frame, or 0.
+    pub(crate) fn first_number(&self) -> usize
+        ensures { result ≡ first_number self.now.frames }
+    {
+        match self.marks.as_slice() {
+            [] => 0,
+            [mark, ..] => mark.number as usize,
+        }
+    }
+
+    /// Begins a frame, which keeps nothing yet.
+    pub(crate) fn begin(&mut self, number: usize)
+        requires room { 0 < self.old.frames_left }
+        requires small { number < 2 ^ 32 }
+        ensures frames { self.new.frames ≡ self.old.frames ++ record { number = number; kept = [] } ∷ [] }
+        ensures spans_left { self.new.spans_left ≡ self.old.spans_left }
+        ensures colours_left { self.new.colours_left ≡ self.old.colours_left }
+        ensures depths_left { self.new.depths_left ≡ self.old.depths_left }
+    {
+        let mark = Mark {
+            number: number as u32,
+            span: self.rows.len() as u32,
+            colour: self.rows.colours() as u32,
+            depth: self.rows.depths() as u32,
+        };
+        self.marks.push_reserved(mark);
+    }
+
+    /// Keeps the colours and the depths of row y from column x on in the newest frame, where it may be known that all depths are this one.
+    pub(crate) fn keep(
+        &mut self,
+        x: u32,
+        y: u32,
+        old: &[Colour],
+        depths: &[u16],
+        known: Option<u16>,
+    )
+        requires begun { 0 < length self.old.frames }
+        requires span { 0 < self.old.spans_left }
+        requires colours { length old.now ≤ self.old.colours_left }
+        requires depths { length depths.now ≤ self.old.depths_left }
+        requires equal { length depths.now ≡ length old.now }
+        requires right { x + length old.now ≤ most_pixels }
+        requires bottom { y ≤ most_pixels }
+        requires known { IfSome known (λ depth. depths.now ≡ replicate (length depths.now) depth) }
+        ensures frames { self.new.frames ≡ with_row self.old.frames (kept_row x y (zip old.now depths.now)) }
+        ensures spans_left { self.new.spans_left + 1 ≡ self.old.spans_left }
+        ensures colours_left { self.old.colours_left ≤ self.new.colours_left + length old.now }
+        ensures depths_left { self.old.depths_left ≤ self.new.depths_left + length depths.now }
+    {
+        self.rows.keep(x, y, old, depths, known);
+    }
+
+    /// Writes the newest frame back and drops it, and says how many pixels it kept.
+    pub(crate) fn undo(&mut self, tile: &mut Tile) -> usize
+        requires some { 0 < length self.old.frames }
+        requires inside { All (λ k. Holds tile.old.place k.x k.y) (newest self.old.frames).kept }
+        requires countable { length (newest self.old.frames).kept < 2 ^ 64 }
+        ensures tile { tile.new ≡ restored (newest self.old.frames).kept tile.old }
+        ensures pixels { result ≡ length (newest self.old.frames).kept }
+        ensures frames { self.new.frames ≡ others self.old.frames }
+    {
+        let mark = take_last(&mut self.marks);
+        self.rows.undo_to(mark.span as usize, tile)
+    }
+
+    /// The spans of the frame of this number, and colours and depths that begin with its own.
+    pub(crate) fn parts_of(&self, number: usize) -> Option<(&[Span], &[Colour], &[u16])>
+        requires { (count : ℕ) × Rise 0 self.now.frames count }
+        ensures within { IfSome result (λ r. (colour_count r.0.now ≤ length r.1.now) × (depth_count r.0.now ≤ length r.2.now)) }
+        ensures there { IfSome result (λ r. joined (rows_in r.0.now r.1.now r.2.now) ≡ found number self.now.frames) }
+        ensures absent { result ≡ None → found number self.now.frames ≡ [] }
+    {
+        let marks = self.marks.as_slice();
+        let place = place_of(marks, number)?;
+        let mark = mark_at(marks, place);
+        let end = end_of(marks, place, self.rows.len());
+        Some(
+            self.rows.parts(
+                mark.span as usize,
+                end,
+                mark.colour as usize,
+                mark.depth as usize,
+            ),
+        )
+    }
+}
+
+/// Whether each place behind what is listed can be said by a mark.
+fn is_countable(rows: &Rows) -> bool
+    ensures { result ≡ true → (length rows.now.spans < 2 ^ 32) × (length rows.now.colours < 2 ^ 32) × (length rows.now.depths < 2 ^ 32) }
+{
+    let most = u32::MAX as usize;
+    rows.len() <= most && rows.colours() <= most && rows.depths() <= most
+}
+
+/// Takes the last mark off.
+fn take_last(marks: &mut SmallVec<Mark, MARKS_INSIDE>) -> Mark
+    requires { 0 < length marks.old.items }
+    ensures items { marks.old.items ≡ marks.new.items ++ result ∷ [] }
+{
+    marks.pop().unwrap()
+}
+
+/// The mark at a place.
+fn mark_at(marks: &[Mark], place: usize) -> Mark
+    requires { place < length marks.now }
+    ensures { result ≡ slice_index_or marks.now place no_mark }
+{
+    marks[place]
+}
+
+/// Where the mark of this number is, if there is one.
+fn place_of(marks: &[Mark], number: usize) -> Option<usize>
+    requires { NumbersRise marks.now }
+    ensures there { IfSome result (λ place. (place < length marks.now) × ((slice_index_or marks.now place no_mark).number ≡ number)) }
+    ensures absent { result ≡ None → (place : ℕ) → place < length marks.now → (slice_index_or marks.now place no_mark).number ≢ number }
+{
+    marks
+        .binary_search_by_key(&number, |mark| mark.number as usize)
+        .ok()
+}
+
+/// Where the frame of a mark ends: where the next one begins, or at the end.
+fn end_of(marks: &[Mark], place: usize, end: usize) -> usize
+    requires { place < length marks.now }
+    ensures { result ≡ next (drop (suc place) marks.now) end }
+{
+    if place + 1 < marks.len() {
+        marks[place + 1].span as usize
+    } else {
+        end
+    }
+}
