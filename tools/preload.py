@@ -19,7 +19,7 @@ class Runner:
         subprocess.run([*clang, "-O2", "-shared", "-nostdlib", "-fPIC", "-o", self.library, TOP / "tools/refuse.c"], check=True)
 
     def run(self, words, given=b"", memory=None, threads=None):
-        """What a run gave, and how many allocations and threads it asked for. A plan is a number, or one with a + for all from there on."""
+        """What a run gave, and how many allocations and threads it asked for. A plan is a number, with a + all from there on, with a dot all until it writes."""
         plan = {"REFUSE_MEMORY": memory, "REFUSE_THREADS": threads, "REFUSE_TOLD": self.told, "LD_PRELOAD": self.library}
         environment = {**os.environ, **{name: str(value) for name, value in plan.items() if value}}
         self.told.unlink(missing_ok=True)
