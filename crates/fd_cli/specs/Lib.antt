@@ -11,4 +11,7 @@ pub mod Report
 pub mod Listing
 pub mod Agreeing
 pub mod Counting
+pub mod Transcript
+pub mod Output
+pub mod Program
 pub mod VersionOne

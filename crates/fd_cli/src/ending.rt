@@ -92,7 +92,7 @@ fn capture_status(fault: CaptureFault) -> u8
 }
 
 impl Ending {
-    ghost use Rattle.std.specs.Prelude.{◌≡◌, ℕ, is_ok};
+    ghost use Rattle.std.specs.Prelude.{◌≡◌, ◌<◌, ℕ, length, is_ok, OnErr};
     ghost use Rattle.fd_cli.specs.Report.{status_of, report_of};
     ghost use Rattle.fd_pam.specs.Transfer.{Puts};
     ghost use Rattle.fd_pam.specs.Transfer.{CountsFailure};
@@ -133,8 +133,9 @@ impl Ending {
 
     /// Puts the line that tells of the ending, which is empty where all was done. It does not flush.
     pub fn report<W: Sink>(&self, sink: &mut W) -> Result<(), Failed>
-        // The whole line was put, or a front of it.
-        ensures puts { (count : ℕ) × Puts (W.contents sink.old) (W.contents sink.new) 0 count (report_of self.now) (is_ok result) }
+        // The whole line was put, or where the device failed a front of it and not all.
+        ensures puts { (count : ℕ) × Puts (W.contents sink.old) (W.contents sink.new) 0 count (report_of self.now) (is_ok result)
+            × OnErr result (count < length (report_of self.now)) }
         ensures failures { CountsFailure (W.failure_count sink.old) (W.failure_count sink.new) (is_ok result) }
     {
         let mut sent = 0;

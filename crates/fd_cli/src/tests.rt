@@ -14,6 +14,7 @@ use std::thread::Threads;
 mod captures;
 mod devices;
 mod failing_devices;
+mod programs;
 
 /// What these lines of input write, whatever the number of workers.
 fn expect_replies<T: Abort + Threads + Sync>(

@@ -2,10 +2,11 @@
 #![tactic(auto)]
 
 ghost use Rattle.std.specs.Prelude.{◌≤◌};
+ghost use Rattle.fd_cli.specs.Program.{AsksWorkers};
 
 use clap::error::ErrorKind;
 use clap::{ArgMatches, Error};
-use fd_cli::{Ending, image, list_events, serve};
+use fd_cli::{Devices, Ending, Request, perform};
 use fd_pam::{Device, send};
 use screen::Screen;
 use std::alloc::Global;
@@ -50,41 +51,43 @@ fn read_capture(rt: &impl Files, alloc: Global, path: &str) -> Result<Vec<u8>, i
     Ok(bytes)
 }
 
-/// Does what the words ask for with a capture's bytes. Threads are started by a handle of their own, which is `main`'s runtime.
-fn perform<T: Threads + Sync>(
+/// What the words ask for.
+fn request_of(name: &str, matches: &ArgMatches) -> Request
+    ensures { AsksWorkers result }
+{
+    match name {
+        "image" => Request::Image {
+            workers: workers(matches),
+            at: matches.get_one::<u32>("at"),
+        },
+        "events" => Request::Events,
+        _ => Request::Run {
+            workers: workers(matches),
+        },
+    }
+}
+
+/// Does what is asked for with a capture's bytes, and gives the status. Threads are started by a handle of their own, which is `main`'s runtime.
+fn perform_here<T: Threads + Sync>(
     rt: &HostRuntime,
     threads: &T,
-    name: &str,
-    matches: &ArgMatches,
+    request: Request,
     capture: &[u8],
-) -> Ending {
-    let alloc = rt.alloc();
-    let errors = rt.stderr();
-    let shows_moves = errors.is_terminal();
-    let output = Device::new(io::writer(rt));
-    let mut screen = Screen::new(output, errors, rt.stdout().is_terminal(), shows_moves);
-    match name {
-        "image" => {
-            let at = matches.get_one::<u32>("at");
-            image(threads, alloc, capture, workers(matches), at, &mut screen)
-        }
-        "events" => list_events(alloc, capture, &mut screen),
-        _ => {
-            let reader = rt.reader();
-            if reader.is_terminal() {
-                let _ = rt.eprintln(WAITING);
-            }
-            let mut source = Device::new(reader);
-            serve(
-                threads,
-                alloc,
-                capture,
-                workers(matches),
-                &mut source,
-                &mut screen,
-            )
-        }
+) -> u8
+    requires { AsksWorkers request }
+{
+    let reader = rt.reader();
+    if matches!(request, Request::Run { .. }) && reader.is_terminal() {
+        let _ = rt.eprintln(WAITING);
     }
+    let (output, errors) = (Device::new(io::writer(rt)), rt.stderr());
+    let shows_moves = errors.is_terminal();
+    let mut devices = Devices {
+        source: Device::new(reader),
+        sink: Screen::new(output, errors, rt.stdout().is_terminal(), shows_moves),
+        errors: Device::new(rt.stderr()),
+    };
+    perform(threads, rt.alloc(), request, capture, &mut devices)
 }
 
 /// Says how the run ended, on standard error, and gives the status.
@@ -150,7 +153,7 @@ fn run<T: Threads + Sync>(rt: &HostRuntime, threads: &T) -> u8 {
     };
     let path = matches.get_str("CAPTURE").unwrap_or("");
     match read_capture(rt, alloc, path) {
-        Ok(capture) => report(rt, &perform(rt, threads, name, matches, &capture)),
+        Ok(capture) => perform_here(rt, threads, request_of(name, matches), &capture),
         Err(error) if error.kind() == io::ErrorKind::OutOfMemory => report(rt, &Ending::Memory),
         Err(_) => {
             let _ = rt.eprintln("framedbg: cannot read capture");
