@@ -1,5 +1,5 @@
--- What a call does to the failure counts of its reader and its writer, by how it ends.
-use Rattle.std.specs.Prelude.{◌≡◌, ℕ, false}
+-- What a call does to the failure counts of its reader and its writer, by how it ends, and whether all that it wrote was passed on.
+use Rattle.std.specs.Prelude.{◌≡◌, ℕ, Bool, true, false}
 use Rattle.fd_pam.specs.Transfer.{CountsFailure}
 use Rattle.fd_cli.specs.declared.ending.Ending.{Ending}
 use Rattle.fd_cli.specs.declared.ending.Ending.TheVariants.{Done, Capture, NoSuchPosition, Read, Write, TooMuch, Memory}
@@ -23,3 +23,17 @@ CountsReader Read old new = CountsFailure old new false
 CountsReader (Write sent) old new = new ≡ old
 CountsReader TooMuch old new = new ≡ old
 CountsReader Memory old new = new ≡ old
+
+-- Where all bytes had been passed on, they are again.
+abbrev pub StaysFlushed : Bool → Bool → Type 0
+StaysFlushed old new = old ≡ true → new ≡ true
+
+-- A call that wrote something, and whose writer did not fail, ends with all of it passed on.
+abbrev pub EndsFlushed : Ending → Bool → Bool → Type 0
+EndsFlushed Done old new = StaysFlushed old new
+EndsFlushed Read old new = StaysFlushed old new
+EndsFlushed TooMuch old new = StaysFlushed old new
+EndsFlushed (Write sent) old new = Unit {0}
+EndsFlushed (Capture fault) old new = Unit {0}
+EndsFlushed NoSuchPosition old new = Unit {0}
+EndsFlushed Memory old new = Unit {0}

@@ -5,7 +5,7 @@ use Rattle.fd_pam.specs.Transfer.{Puts, CountsFailure}
 use Rattle.fd_cli.specs.declared.ending.Ending.{Ending}
 use Rattle.fd_cli.specs.declared.program.Request.{Request}
 use Rattle.fd_cli.specs.declared.program.Request.TheVariants.{Run, Image, Events}
-use Rattle.fd_cli.specs.Counting.{CountsReader, CountsWriter}
+use Rattle.fd_cli.specs.Counting.{CountsReader, CountsWriter, EndsFlushed}
 use Rattle.fd_cli.specs.Listing.{WritesImage, ListsEvents}
 use Rattle.fd_cli.specs.Opening.{RefusesTooLong}
 use Rattle.fd_cli.specs.Output.{Outputs}
@@ -34,8 +34,8 @@ abbrev pub shown : Option (List ℕ) → ℕ → Shown
 shown bytes failures = record { bytes = bytes; failures = failures }
 
 -- From bytes to bytes: some of the input was taken and some output written, as the request has it; a reader or a writer failed only where the ending says so;
--- the errors were told the ending's line, or a front of it where that device failed; and the status is the ending's.
-pub record Performs (request : Request) (capture : List ℕ) (input_old input_new output_old output_new errors_old errors_new : Shown) (ended : Bool) (status : ℕ) : Type 0 where
+-- all that was written was passed on unless the writer failed; the errors were told the ending's line, or a front of it where that device failed; and the status is the ending's.
+pub record Performs (request : Request) (capture : List ℕ) (input_old input_new output_old output_new errors_old errors_new : Shown) (flushed_old flushed_new ended : Bool) (status : ℕ) : Type 0 where
   pub ending : Ending
   pub taken : List ℕ
   pub written : List ℕ
@@ -47,6 +47,7 @@ pub record Performs (request : Request) (capture : List ℕ) (input_old input_ne
   pub too_long : RefusesTooLong capture ending
   pub reads : CountsReader ending input_old.failures input_new.failures
   pub writes : CountsWriter ending output_old.failures output_new.failures
+  pub passed_on : EndsFlushed ending flushed_old flushed_new
   pub says : Puts errors_old.bytes errors_new.bytes 0 count (report_of ending) told
   pub tells : CountsFailure errors_old.failures errors_new.failures told
   pub breaks_off : told ≡ false → count < length (report_of ending)

@@ -1,7 +1,7 @@
 //! The image of a capture at a position.
 ghost use Rattle.std.specs.Prelude.{◌≡◌, ◌≤◌, ℕ, List};
 ghost use Rattle.std.specs.Io.KnownBytes.{Appends};
-ghost use Rattle.fd_cli.specs.Counting.{CountsWriter};
+ghost use Rattle.fd_cli.specs.Counting.{CountsWriter, EndsFlushed};
 ghost use Rattle.fd_cli.specs.Opening.{RefusesTooLong};
 ghost use Rattle.fd_cli.specs.Listing.{ShowsState, ImagesTable, WritesImage};
 ghost use Rattle.fd_session.specs.Machine.{Jumps};
@@ -24,6 +24,7 @@ fn draw_to<T: Threads + Sync, W: Sink>(
     requires { picture.old.position ≤ to }
     ensures jumps { Jumps picture.old to result picture.new }
     ensures bytes { W.contents sink.new ≡ W.contents sink.old }
+    ensures flushed { W.is_flushed sink.new ≡ W.is_flushed sink.old }
     ensures failures { W.failure_count sink.new ≡ W.failure_count sink.old }
 {
     let from = picture.position();
@@ -45,6 +46,7 @@ fn draw_to<T: Threads + Sync, W: Sink>(
 fn write_shown<W: Sink>(alloc: Global, picture: &Picture, sink: &mut W) -> Ending
     ensures writes { (written : List ℕ) × Appends (W.contents sink.old) (W.contents sink.new) written × ShowsState picture.now written result }
     ensures failures { CountsWriter result (W.failure_count sink.old) (W.failure_count sink.new) }
+    ensures flushed { EndsFlushed result (W.is_flushed sink.old) (W.is_flushed sink.new) }
 {
     let table = picture.table();
     let sent = pam_len(table.width(), table.height());
@@ -70,6 +72,7 @@ fn write_table<T: Threads + Sync, W: Sink>(
     requires { (1 ≤ workers) × (workers ≤ 64) }
     ensures writes { (written : List ℕ) × Appends (W.contents sink.old) (W.contents sink.new) written × ImagesTable table at written result }
     ensures failures { CountsWriter result (W.failure_count sink.old) (W.failure_count sink.new) }
+    ensures flushed { EndsFlushed result (W.is_flushed sink.old) (W.is_flushed sink.new) }
 {
     let to = at.unwrap_or(table.len());
     let Ok(mut picture) = Picture::start(alloc, table, workers) else {
@@ -98,6 +101,7 @@ pub fn image<T: Threads + Sync, W: Sink>(
     ensures too_long { RefusesTooLong capture.now result }
     // The writer failed only where its count of failures tells so.
     ensures failures { CountsWriter result (W.failure_count sink.old) (W.failure_count sink.new) }
+    ensures flushed { EndsFlushed result (W.is_flushed sink.old) (W.is_flushed sink.new) }
 {
     match open(alloc, capture) {
         Ok(table) => write_table(rt, alloc, table, workers, at, sink),

@@ -1,12 +1,12 @@
 //! The list of a capture's events.
-ghost use Rattle.std.specs.Prelude.{◌≡◌, ◌<◌, ◌+◌, ◌^◌, ℕ, List, is_ok};
+ghost use Rattle.std.specs.Prelude.{◌≡◌, ◌<◌, ◌+◌, ◌^◌, ℕ, List, is_ok, OnOk, true};
 ghost use Rattle.std.specs.Io.KnownBytes.{Appends};
 ghost use Rattle.fd_cli.specs.Limits.{most_reply_bytes};
 ghost use Rattle.fd_cli.specs.Opening.{RefusesTooLong};
 ghost use Rattle.fd_cli.specs.Listing.{WritesText, ListsEvents};
 ghost use Rattle.fd_cli.specs.Text.{event_list};
 ghost use Rattle.fd_pam.specs.Transfer.{Puts, CountsFailure};
-ghost use Rattle.fd_cli.specs.Counting.{CountsWriter};
+ghost use Rattle.fd_cli.specs.Counting.{CountsWriter, EndsFlushed};
 
 use crate::ending::Ending;
 use crate::events::send_events;
@@ -19,6 +19,7 @@ use std::alloc::Global;
 fn send_list<W: Sink>(table: &EventTable, sink: &mut W, sent: &mut u64) -> Result<(), Failed>
     requires { sent.old + most_reply_bytes < 2 ^ 64 }
     ensures puts { Puts (W.contents sink.old) (W.contents sink.new) sent.old sent.new (event_list table.now 0) (is_ok result) }
+    ensures flushed { OnOk result (W.is_flushed sink.new ≡ true) }
     ensures failures { CountsFailure (W.failure_count sink.old) (W.failure_count sink.new) (is_ok result) }
 {
     send_events(table, 0, sink, sent)?;
@@ -29,6 +30,7 @@ fn send_list<W: Sink>(table: &EventTable, sink: &mut W, sent: &mut u64) -> Resul
 fn list_table<W: Sink>(table: &EventTable, sink: &mut W) -> Ending
     ensures writes { (written : List ℕ) × Appends (W.contents sink.old) (W.contents sink.new) written × WritesText (event_list table.now 0) written result }
     ensures failures { CountsWriter result (W.failure_count sink.old) (W.failure_count sink.new) }
+    ensures flushed { EndsFlushed result (W.is_flushed sink.old) (W.is_flushed sink.new) }
 {
     let mut sent = 0;
     match send_list(table, sink, &mut sent) {
@@ -45,6 +47,7 @@ pub fn list_events<W: Sink>(alloc: Global, capture: &[u8], sink: &mut W) -> Endi
     ensures too_long { RefusesTooLong capture.now result }
     // The writer failed only where its count of failures tells so.
     ensures failures { CountsWriter result (W.failure_count sink.old) (W.failure_count sink.new) }
+    ensures flushed { EndsFlushed result (W.is_flushed sink.old) (W.is_flushed sink.new) }
 {
     match open(alloc, capture) {
         Ok(table) => list_table(&table, sink),

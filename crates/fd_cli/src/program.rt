@@ -1,7 +1,7 @@
 //! The program, once its words and its capture are read.
 ghost use Rattle.std.specs.Prelude.{◌≡◌, ℕ, List};
 ghost use Rattle.std.specs.Io.KnownBytes.{Consumes, Appends};
-ghost use Rattle.fd_cli.specs.Counting.{CountsReader, CountsWriter};
+ghost use Rattle.fd_cli.specs.Counting.{CountsReader, CountsWriter, EndsFlushed};
 ghost use Rattle.fd_cli.specs.Opening.{RefusesTooLong};
 ghost use Rattle.fd_cli.specs.Program.{AsksWorkers, Does, Performs, shown};
 
@@ -48,6 +48,7 @@ fn do_request<T: Threads + Sync, R: Source, W: Sink>(
     ensures too_long { RefusesTooLong capture.now result }
     ensures read { CountsReader result (R.failure_count source.old) (R.failure_count source.new) }
     ensures write { CountsWriter result (W.failure_count sink.old) (W.failure_count sink.new) }
+    ensures flushed { EndsFlushed result (W.is_flushed sink.old) (W.is_flushed sink.new) }
 {
     match request {
         Request::Run { workers } => serve(rt, alloc, capture, workers, source, sink),
@@ -72,7 +73,7 @@ pub fn perform<T: Threads + Sync, R: Source, W: Sink, E: Sink>(
         (shown (R.remaining devices.old.source) (R.failure_count devices.old.source)) (shown (R.remaining devices.new.source) (R.failure_count devices.new.source))
         (shown (W.contents devices.old.sink) (W.failure_count devices.old.sink)) (shown (W.contents devices.new.sink) (W.failure_count devices.new.sink))
         (shown (E.contents devices.old.errors) (E.failure_count devices.old.errors)) (shown (E.contents devices.new.errors) (E.failure_count devices.new.errors))
-        (R.has_ended devices.new.source) result }
+        (W.is_flushed devices.old.sink) (W.is_flushed devices.new.sink) (R.has_ended devices.new.source) result }
 {
     let ending = do_request(
         rt,

@@ -1,7 +1,7 @@
 //! A run, byte by byte of its input.
 ghost use Rattle.std.specs.Prelude.{◌≡◌, ◌<◌, ◌+◌, ◌^◌, ◌⊎◌, ℕ, [], ◌∷◌, Err, OnOk, IfErr};
 ghost use Rattle.fd_cli.specs.Limits.{most_reply_bytes};
-ghost use Rattle.fd_cli.specs.Counting.{CountsWriter};
+ghost use Rattle.fd_cli.specs.Counting.{CountsWriter, StaysFlushed, EndsFlushed};
 
 use crate::ending::Ending;
 use crate::reply::answer;
@@ -42,6 +42,8 @@ impl Progress {
         ensures advances { Advances self.old self.new (W.contents sink.old) (W.contents sink.new) (byte ∷ []) result }
         ensures room { OnOk result (HasRoom self.new) }
         ensures ok { OnOk result (W.failure_count sink.new ≡ W.failure_count sink.old) }
+        ensures passed_on { OnOk result (StaysFlushed (W.is_flushed sink.old) (W.is_flushed sink.new)) }
+        ensures flushed { IfErr result (λ ending. EndsFlushed ending (W.is_flushed sink.old) (W.is_flushed sink.new)) }
         ensures write { IfErr result (λ ending. CountsWriter ending (W.failure_count sink.old) (W.failure_count sink.new)) }
     {
         if self.bytes >= MAX_BYTES || self.lines >= MAX_LINES {
@@ -73,6 +75,8 @@ impl Progress {
         ensures advances { Advances self.old self.new (W.contents sink.old) (W.contents sink.new) bytes.now result }
         ensures room { OnOk result (HasRoom self.new) }
         ensures ok { OnOk result (W.failure_count sink.new ≡ W.failure_count sink.old) }
+        ensures passed_on { OnOk result (StaysFlushed (W.is_flushed sink.old) (W.is_flushed sink.new)) }
+        ensures flushed { IfErr result (λ ending. EndsFlushed ending (W.is_flushed sink.old) (W.is_flushed sink.new)) }
         ensures write { IfErr result (λ ending. CountsWriter ending (W.failure_count sink.old) (W.failure_count sink.new)) }
     {
         for byte in bytes {
@@ -92,6 +96,7 @@ impl Progress {
         ensures finishes { Finishes self.old (W.contents sink.old) (W.contents sink.new) result }
         ensures only { (result ≡ Ending.Done) ⊎ ((sent : ℕ) × (result ≡ Ending.Write sent)) }
         ensures write { CountsWriter result (W.failure_count sink.old) (W.failure_count sink.new) }
+        ensures flushed { EndsFlushed result (W.is_flushed sink.old) (W.is_flushed sink.new) }
     {
         if self.line.is_empty() {
             return Ending::Done;

@@ -1,5 +1,5 @@
 //! The replies to commands.
-ghost use Rattle.std.specs.Prelude.{◌≡◌, ℕ, ◌<◌, ◌≤◌, ◌+◌, ◌^◌, ◌↔◌, List, Result, Ok, IsTrue, IfOk, length, is_ok, true};
+ghost use Rattle.std.specs.Prelude.{◌≡◌, ℕ, ◌<◌, ◌≤◌, ◌+◌, ◌^◌, ◌↔◌, List, Result, Ok, IsTrue, IfOk, OnOk, length, is_ok, true};
 ghost use Rattle.fd_cli.specs.Limits.{most_reply_bytes};
 ghost use Rattle.fd_blend.specs.declared.channel.Colour.{Colour};
 ghost use Rattle.fd_history.specs.declared.entry.Entry.{Entry};
@@ -140,6 +140,7 @@ pub(crate) fn answer<T: Threads + Sync, W: Sink>(
     requires { sent.old + most_reply_bytes < 2 ^ 64 }
     ensures replies { Replies session.old (command_of line.now) session.new (W.contents sink.old) (W.contents sink.new) sent.old sent.new (is_ok result) }
     ensures quit { IfOk result (λ quit. IsTrue quit ↔ (command_of line.now ≡ Ok Command.Quit)) }
+    ensures flushed { OnOk result (W.is_flushed sink.new ≡ true) }
     ensures failures { CountsFailure (W.failure_count sink.old) (W.failure_count sink.new) (is_ok result) }
 {
     let command = read_command(line);

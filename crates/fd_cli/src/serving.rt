@@ -3,7 +3,7 @@ ghost use Rattle.std.specs.Prelude.{◌≡◌, ◌≤◌, ℕ, List, length};
 ghost use Rattle.std.specs.Io.KnownBytes.{Consumes, Appends};
 ghost use Rattle.fd_cli.specs.Opening.{RefusesTooLong};
 ghost use Rattle.fd_cli.specs.Serving.{Serves, ServesCapture};
-ghost use Rattle.fd_cli.specs.Counting.{CountsReader, CountsWriter};
+ghost use Rattle.fd_cli.specs.Counting.{CountsReader, CountsWriter, EndsFlushed};
 
 use crate::ending::Ending;
 use crate::opening::open;
@@ -30,6 +30,7 @@ fn serve_table<T: Threads + Sync, R: Source, W: Sink>(
         × (length taken ≤ 268435457) × Serves table taken written result (R.has_ended source.new) }
     ensures read { CountsReader result (R.failure_count source.old) (R.failure_count source.new) }
     ensures write { CountsWriter result (W.failure_count sink.old) (W.failure_count sink.new) }
+    ensures flushed { EndsFlushed result (W.is_flushed sink.old) (W.is_flushed sink.new) }
 {
     let Ok(session) = Session::start(alloc, table, workers) else {
         return Ending::Memory;
@@ -77,6 +78,7 @@ pub fn serve<T: Threads + Sync, R: Source, W: Sink>(
     // The reader or the writer failed only where its count of failures tells so.
     ensures read { CountsReader result (R.failure_count source.old) (R.failure_count source.new) }
     ensures write { CountsWriter result (W.failure_count sink.old) (W.failure_count sink.new) }
+    ensures flushed { EndsFlushed result (W.is_flushed sink.old) (W.is_flushed sink.new) }
 {
     match open(alloc, capture) {
         Ok(table) => serve_table(rt, alloc, table, workers, source, sink),

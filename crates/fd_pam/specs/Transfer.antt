@@ -13,6 +13,16 @@ abbrev pub CountsFailure : ℕ → ℕ → Bool → Type 0
 CountsFailure old new true = new ≡ old
 CountsFailure old new false = new ≡ min (old + 1) (2 ^ 64 - 1)
 
+-- Bytes that a put takes are not passed on before the next flush that succeeds, as far as anybody can say.
+abbrev pub PutsOff : {E : Type 0} → Bool → Bool → Result ℕ E → Type 0
+PutsOff old new (Ok n) = new ≡ (old && n == 0)
+PutsOff old new (Err e) = new ≡ old
+
+-- A flush that succeeds passes on what was put before.
+abbrev pub PassesOn : Bool → Bool → Bool → Type 0
+PassesOn old new true = new ≡ true
+PassesOn old new false = new ≡ old
+
 -- A fill gives a front of the bytes still to come, and none where it fails. The end is a fill that had room and gave none.
 abbrev pub Fills : {E : Type 0} → Option (List ℕ) → Option (List ℕ) → Bool → Bool → List ℕ → Result ℕ E → Type 0
 Fills old new ended_old ended_new buffer (Ok n) =

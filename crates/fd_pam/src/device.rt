@@ -1,7 +1,9 @@
 ghost use Rattle.std.specs.Prelude.{◌≡◌, ◌<◌, ◌≤◌, ◌+◌, ◌-◌, ◌^◌, ◌||◌, ◌&&◌, ℕ, List, Option, None, Bool, false, length, take, IfOk, OnErr, OnOk, is_ok};
 ghost use Rattle.std.specs.Io.KnownBytes.{Consumes, Appends, Keeps};
-ghost use Rattle.fd_pam.specs.Transfer.{Fills, Takes, CountsFailure, Puts};
+ghost use Rattle.fd_pam.specs.Device.{ReadJudged, WriteJudged};
+ghost use Rattle.fd_pam.specs.Transfer.{Fills, Takes, CountsFailure, PutsOff, PassesOn, Puts};
 
+use std::io;
 use std::io::{Read, Write};
 use thiserror::Error;
 
@@ -41,16 +43,21 @@ pub trait Sink {
     ghost contents: { Self → Option (List ℕ) } = { λ _. None };
 
     /// How many calls failed, up to the largest `u64`.
+    /// All bytes that it took were passed on.
+    ghost is_flushed: { Self → Bool };
+
     ghost failure_count: { Self → ℕ };
 
     /// Takes a front of these bytes, one at least where there are any.
     fn put(&mut self, bytes: &[u8]) -> Result<usize, Failed>
         ensures bytes { Takes (contents self.old) (contents self.new) bytes.now result }
+        ensures flushed { PutsOff (is_flushed self.old) (is_flushed self.new) result }
         ensures failures { CountsFailure (failure_count self.old) (failure_count self.new) (is_ok result) };
 
     /// Passes on what was put before. It moves no byte of its own.
     fn flush(&mut self) -> Result<(), Failed>
         ensures bytes { Keeps (contents self.old) (contents self.new) }
+        ensures flushed { PassesOn (is_flushed self.old) (is_flushed self.new) (is_ok result) }
         ensures failures { CountsFailure (failure_count self.old) (failure_count self.new) (is_ok result) };
 
     /// How many calls of `put` and `flush` failed.
@@ -60,6 +67,7 @@ pub trait Sink {
     /// Is told, between the parts of a long move, at which position it is and to which it goes. It moves no byte, and can't fail.
     fn on_the_way(&mut self, _at: u32, _to: u32)
         ensures bytes { contents self.new ≡ contents self.old }
+        ensures flushed { is_flushed self.new ≡ is_flushed self.old }
         ensures failures { failure_count self.new ≡ failure_count self.old }
     {}
 }
@@ -80,11 +88,29 @@ pub fn send<W: Sink>(sink: &mut W, sent: &mut u64, bytes: &[u8]) -> Result<(), F
     Ok(())
 }
 
+/// What a read comes to: its count, or a failure, whatever the error is.
+fn judge_read(outcome: io::Result<usize>) -> Result<usize, Failed>
+    ensures { ReadJudged outcome result }
+{
+    outcome.map_err(|_| Failed)
+}
+
+/// What a write of so many bytes comes to. One that takes none of some is a failure, and so is one that was interrupted.
+fn judge_write(outcome: io::Result<usize>, length: usize) -> Result<usize, Failed>
+    ensures { WriteJudged outcome length result }
+{
+    match outcome {
+        Ok(count) if count > 0 || length == 0 => Ok(count),
+        _ => Err(Failed),
+    }
+}
+
 /// A source over a reader, or a sink over a writer, which counts the calls that fail.
 #[derive(Drop)]
 pub struct Device<T> {
     inner: T,
     ended: bool,
+    flushed: bool,
     failures: u64,
 }
 
@@ -98,6 +124,7 @@ impl<T> Device<T> {
         Device {
             inner,
             ended: false,
+            flushed: true,
             failures: 0,
         }
     }
@@ -119,7 +146,7 @@ impl<T: Read> Source for Device<T> {
     ghost failure_count = { λ d. d.failures };
 
     fn fill(&mut self, buffer: &mut [u8]) -> Result<usize, Failed> {
-        let Ok(count) = self.inner.read(buffer) else {
+        let Ok(count) = judge_read(self.inner.read(buffer)) else {
             self.failures = self.failures.saturating_add(1);
             return Err(Failed);
         };
@@ -139,16 +166,17 @@ impl<T: Read> Source for Device<T> {
 impl<T: Write> Sink for Device<T> {
     ghost contents = { λ d. T.contents d.inner };
 
+    ghost is_flushed = { λ d. d.flushed };
+
     ghost failure_count = { λ d. d.failures };
 
     fn put(&mut self, bytes: &[u8]) -> Result<usize, Failed> {
-        match self.inner.write(bytes) {
-            Ok(count) if count > 0 || bytes.is_empty() => Ok(count),
-            _ => {
-                self.failures = self.failures.saturating_add(1);
-                Err(Failed)
-            }
-        }
+        let Ok(count) = judge_write(self.inner.write(bytes), bytes.len()) else {
+            self.failures = self.failures.saturating_add(1);
+            return Err(Failed);
+        };
+        self.flushed = self.flushed && count == 0;
+        Ok(count)
     }
 
     fn flush(&mut self) -> Result<(), Failed> {
@@ -156,6 +184,7 @@ impl<T: Write> Sink for Device<T> {
             self.failures = self.failures.saturating_add(1);
             return Err(Failed);
         }
+        self.flushed = true;
         Ok(())
     }
 

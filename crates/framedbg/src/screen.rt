@@ -49,6 +49,8 @@ impl<S: Sink, E: Write> Screen<S, E> {
 impl<S: Sink, E: Write> Sink for Screen<S, E> {
     ghost contents = { λ s. S.contents s.replies };
 
+    ghost is_flushed = { λ s. S.is_flushed s.replies };
+
     ghost failure_count = { λ s. S.failure_count s.replies };
 
     fn put(&mut self, bytes: &[u8]) -> Result<usize, Failed> {

@@ -11,6 +11,7 @@ invariant-loop-sink g l =
       from : l.from ≡ l.fn.picture.position;
       to : l.to ≡ l.fn.to;
       bytes : g.W.Sink.contents l.sink ≡ g.W.Sink.contents l.fn.sink;
+      flushed : g.W.Sink.is_flushed l.sink ≡ g.W.Sink.is_flushed l.fn.sink;
       failures : g.W.Sink.failure_count l.sink ≡ g.W.Sink.failure_count l.fn.sink;
     }
 

@@ -17,6 +17,7 @@ loop-count-init g c =
       room = omega arith;
       read = refl;
       write = refl;
+      flushed = λ was. was;
     }
 
 pub returns-then-count-eq0-clause-serves : goal.returns-then-count-eq0-clause-serves
@@ -105,4 +106,5 @@ loop-count-preserved g c =
       room = c.in_default-take_bytes.ensures.room;
       read = c.in-Ok-fill.ensures.failures ∙ inv.read;
       write = c.in_default-take_bytes.ensures.ok ∙ inv.write;
+      flushed = λ was. c.in_default-take_bytes.ensures.passed_on (inv.flushed was);
     }

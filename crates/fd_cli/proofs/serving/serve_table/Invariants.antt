@@ -1,5 +1,6 @@
 use Rattle.std.proofs.Common.{◌≡◌, ◌-◌, ℕ, List}
 use Rattle.std.specs.Io.KnownBytes.{Consumes, Appends}
+use Rattle.fd_cli.specs.Counting.{StaysFlushed}
 use Rattle.fd_cli.specs.Progress.{HasRoom, IsServing}
 use Rattle.fd_cli.proofs.serving.serve_table.Given as goal
 
@@ -14,6 +15,7 @@ invariant-loop-count g l =
       room : HasRoom l.progress;
       read : g.R.Source.failure_count l.source ≡ g.R.Source.failure_count l.fn.source;
       write : g.W.Sink.failure_count l.sink ≡ g.W.Sink.failure_count l.fn.sink;
+      flushed : StaysFlushed (g.W.Sink.is_flushed l.fn.sink) (g.W.Sink.is_flushed l.sink);
     }
 
 abbrev pub decreases-loop-count : goal.decreases-loop-count

@@ -7,7 +7,7 @@ use Rattle.fd_cli.proofs.progress.Progress.take_bytes.Goals as goal
 
 pub loop-byte-init : goal.loop-byte-init
 loop-byte-init g c =
-    record { advances = advance_none c.args.self.now (g.W.Sink.contents c.args.sink.now); room = c.requires; failures = refl }
+    record { advances = advance_none c.args.self.now (g.W.Sink.contents c.args.sink.now); room = c.requires; failures = refl; flushed = λ was. was }
 
 pub returns-in_err-take_byte-clause-advances : goal.returns-in_err-take_byte-clause-advances
 returns-in_err-take_byte-clause-advances g c =
@@ -29,4 +29,5 @@ loop-byte-preserved g c =
           (advance_then _ c.loop-byte.self _ _ (g.W.Sink.contents c.loop-byte.sink) _ _ _ (Ok tt) c.loop-byte.invariant.advances c.in_ok-take_byte.ensures.advances);
       room = c.in_ok-take_byte.ensures.room;
       failures = c.in_ok-take_byte.ensures.ok ∙ c.loop-byte.invariant.failures;
+      flushed = λ was. c.in_ok-take_byte.ensures.passed_on (c.loop-byte.invariant.flushed was);
     }
