@@ -16,8 +16,8 @@ import tempfile
 from wrong_versions import all_seen, exchanged
 
 TOOLS = pathlib.Path(__file__).resolve().parent
-NOTE, RUN, PREPARE = "passed_over.py", "run_tests", "prepare_machine"
-TESTS = {NOTE: "test_passed_over.py", RUN: "test_run_tests.py", PREPARE: "test_prepare_machine.py"}
+NOTE, RUN, PREPARE, GATE = "passed_over.py", "run_tests", "prepare_machine", "check_gate"
+TESTS = {NOTE: "test_passed_over.py", RUN: "test_run_tests.py", PREPARE: "test_prepare_machine.py", GATE: "test_check_gate.py"}
 OTHERS = (*TESTS, *TESTS.values(), "machine_packages.txt")
 MUTATIONS = [   # name, tool, text, what stands there instead, test
     ("noted: with CI=true it goes on", NOTE, '        sys.exit(f"passed over, which', '        print(f"passed over, which', "PassedOver.test_it_fails_where_nobody_looks"),
@@ -34,6 +34,12 @@ MUTATIONS = [   # name, tool, text, what stands there instead, test
     ("run: no list", RUN, '    subprocess.run([sys.executable, PASSED_OVER, "--list"], check=True)', "    pass", "RunsTests.test_what_was_passed_over_is_listed_last"),
     ("run: nothing is forgotten", RUN, '    subprocess.run([sys.executable, PASSED_OVER, "--begin"], check=True)', "    pass", "RunsTests.test_what_was_passed_over_is_listed_last"),
     ("run: all words name all parts", RUN, "any(word in line for word in words)", "True", "RunsTests.test_words"),
+    ("gate: a fault is no fault", GATE, "if gate.returncode or empty:", "if empty:", "ChecksTheGate.test_a_gate_that_fails"),
+    ("gate: edits that can't be applied pass", GATE, '"BAD EDIT"', '"no such words"', "ChecksTheGate.test_an_edit_that_cannot_be_applied"),
+    ("gate: edits that take names away pass", GATE, '"says little of the contract"', '"no such words"', "ChecksTheGate.test_an_edit_that_takes_a_name_away"),
+    ("gate: an edit that shows nothing is no fault", GATE, "if gate.returncode or empty:", "if gate.returncode:", "ChecksTheGate.test_an_edit_that_takes_a_name_away"),
+    ("gate: any line is an edit", GATE, '.startswith(EDIT) and', '.startswith("") and', "ChecksTheGate.test_words_elsewhere_are_no_edit"),
+    ("gate: silent", GATE, '            print(line, end="", flush=True)', "            pass", "ChecksTheGate.test_a_gate_that_passes"),
     ("prepared: half installed is there", PREPARE, "s/ installed$//p", "s/ .*$//p", "PreparesMachine.test_half_installed_is_missing"),
     ("prepared: by anybody", PREPARE, '"$(id -u)" != 0', '"$(id -u)" = -', "PreparesMachine.test_nothing_is_installed_unasked"),
     ("prepared: for ever", PREPARE, 'timeout --kill-after=10 "$seconds" apt-get', "apt-get", "PreparesMachine.test_it_does_not_hang"),
