@@ -1,4 +1,4 @@
--- The output merger: a source drawn over a destination.
+-- Promised. The output merger: a source drawn over a destination.
 -- Direct3D 11.3 functional specification, section 17, output merger.
 use Rattle.std.specs.Prelude.{ℕ, Bool, not, ◌&&◌, if◌then◌else◌}
 use Rattle.fd_blend.specs.declared.channel.Colour.{Colour}

@@ -1,4 +1,4 @@
--- One source that is drawn over many destinations.
+-- Working. One source that is drawn over many destinations.
 use Rattle.std.specs.Prelude.{◌≡◌, ℕ, ◌*◌, ◌<◌, true, List, [], ◌∷◌, length, slice_index}
 use Rattle.fd_blend.specs.declared.channel.Colour.{Colour}
 use Rattle.fd_blend.specs.declared.channel.Channel.{Channel}

@@ -1,4 +1,4 @@
--- Colours and their four channels.
+-- Promised. Colours and their four channels.
 use Rattle.std.specs.Prelude.{ℕ}
 use Rattle.fd_blend.specs.declared.channel.Colour.{Colour}
 use Rattle.fd_blend.specs.declared.channel.Channel.{Channel}

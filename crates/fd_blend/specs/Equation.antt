@@ -1,4 +1,4 @@
--- The factors and operations of a blend equation.
+-- Promised. The factors and operations of a blend equation.
 -- Direct3D 11.3 functional specification, section 17, output merger.
 use Rattle.std.specs.Prelude.{ℕ, ◌-◌, ◌*◌, min, max, Bool, true, false, not, ◌&&◌, ◌||◌, pos, ◌+ℤ◌, ◌-ℤ◌}
 use Rattle.fd_blend.specs.declared.channel.Colour.{Colour}

@@ -1,7 +1,7 @@
 //! The blend equation of a state as lanes take it, resolved once for a row.
 ghost use Rattle.std.specs.Prelude.{◌≡◌, ℕ, ◌+◌, ◌<◌, ◌≤◌, length, [], ◌∷◌, IsTrue, ◌||◌, nat_lt, nat_le, slice_index, if◌then◌else◌};
 ghost use Rattle.fd_blend.specs.Mask.{writes};
-ghost use Rattle.fd_blend.specs.Resolved.{place_of, position_of, flip_of, weighted_part, positions_of, flips_of, written_of};
+ghost use Rattle.fd_blend.specs.Resolved.{channel_place, factor_position, flip_of, weighted_part, positions_of, flips_of, written_of};
 
 use crate::channel::{Channel, Colour};
 use crate::equation::{BlendOp, Factor, Part};
@@ -22,7 +22,7 @@ const COPY: Part = Part {
 impl Channel {
     /// The channel's place in a colour.
     fn place(self) -> u8
-        ensures { result ≡ place_of self }
+        ensures { result ≡ channel_place self }
     {
         match self {
             Channel::Red => 0,
@@ -37,7 +37,7 @@ impl Factor {
     /// Where the factor's channel of the first of two pixels stands, of which the sources' bytes come first and the destinations' next;
     /// 128 where it is none of them. The second pixel's is four further.
     fn position(self, channel: Channel) -> u8
-        ensures value { result ≡ position_of self channel }
+        ensures value { result ≡ factor_position self channel }
         ensures bound { result ≤ 128 }
     {
         match self {

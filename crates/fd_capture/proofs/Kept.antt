@@ -3,8 +3,8 @@ use Rattle.std.proofs.Common.{◌≡◌, ℕ, List, Option, Some, None, true, co
 use Rattle.serde_json.specs.Data.{Data, object, Members}
 use Rattle.serde_json.specs.Find.{get_member, as_bool, as_str, as_i64}
 use Rattle.fd_json.specs.Clipped.{clipped}
-use Rattle.fd_capture.specs.Field.{between, number_between, colour_of, rect_of, part_of, vertices_at, indices_at, indices_of, array_of, all_of, vertex_of, unsigned_32}
-use Rattle.fd_capture.specs.Kind.{clear_of, raster_of, scissor_of, blend_of, factor_of, draw_of, marker_of, depth_of, depth_clear_of}
+use Rattle.fd_capture.specs.Field.{between, number_between, colour_of_data, rect_of_data, part_of_data, vertices_member, indices_member, indices_of, array_of, all_of, vertex_of, unsigned_32}
+use Rattle.fd_capture.specs.Kind.{clear_event, raster_event, scissor_event, blend_event, factor_of, draw_event, marker_event, depth_event, depth_clear_event}
 use Rattle.fd_capture.specs.Fault.{◌>>=◌}
 use Rattle.fd_capture.specs.declared.fault.EventFault.TheVariants.{BadField}
 use Rattle.fd_capture.specs.Capture.{event_of, event_of_kind}
@@ -26,34 +26,34 @@ module _ (kept found : Members) (clips : Clips kept found) where
   pub kind-kept : option_and_then as_str (get_member (codes "kind") kept) ≡ option_and_then as_str (get_member (codes "kind") found)
   kind-kept = member-kept as_str text-clipped (codes "kind") refl
 
-  pub clear-kept : clear_of (object kept) ≡ clear_of (object found)
-  clear-kept = rw (member-kept colour_of colour-clipped (codes "color") refl) refl
+  pub clear-kept : clear_event (object kept) ≡ clear_event (object found)
+  clear-kept = rw (member-kept colour_of_data colour-clipped (codes "color") refl) refl
 
   pub factor-kept : factor_of (object kept) ≡ factor_of (object found)
-  factor-kept = rw (member-kept colour_of colour-clipped (codes "color") refl) refl
+  factor-kept = rw (member-kept colour_of_data colour-clipped (codes "color") refl) refl
 
-  pub scissor-kept : scissor_of (object kept) ≡ scissor_of (object found)
-  scissor-kept = rw (member-kept rect_of rect-clipped (codes "rect") refl) refl
+  pub scissor-kept : scissor_event (object kept) ≡ scissor_event (object found)
+  scissor-kept = rw (member-kept rect_of_data rect-clipped (codes "rect") refl) refl
 
-  pub raster-kept : raster_of (object kept) ≡ raster_of (object found)
+  pub raster-kept : raster_event (object kept) ≡ raster_event (object found)
   raster-kept = rw (member-kept as_str text-clipped (codes "cull") refl, member-kept as_bool flag-clipped (codes "front_ccw") refl, member-kept as_bool flag-clipped (codes "scissor") refl) refl
 
-  pub blend-kept : blend_of (object kept) ≡ blend_of (object found)
+  pub blend-kept : blend_event (object kept) ≡ blend_event (object found)
   blend-kept =
       rw (
         member-kept as_bool flag-clipped (codes "enable") refl,
-        member-kept part_of part-clipped (codes "rgb") refl,
-        member-kept part_of part-clipped (codes "alpha") refl,
+        member-kept part_of_data part-clipped (codes "rgb") refl,
+        member-kept part_of_data part-clipped (codes "alpha") refl,
         member-kept (number_between 0 15) (number_between-clipped 0 15) (codes "mask") refl,
       ) refl
 
-  pub depth-kept : depth_of (object kept) ≡ depth_of (object found)
+  pub depth-kept : depth_event (object kept) ≡ depth_event (object found)
   depth-kept = rw (member-kept as_bool flag-clipped (codes "enable") refl, member-kept as_bool flag-clipped (codes "write") refl, member-kept as_str text-clipped (codes "func") refl) refl
 
-  pub depth_clear-kept : depth_clear_of (object kept) ≡ depth_clear_of (object found)
+  pub depth_clear-kept : depth_clear_event (object kept) ≡ depth_clear_event (object found)
   depth_clear-kept = rw (member-kept (number_between 0 65535) (number_between-clipped 0 65535) (codes "depth") refl) refl
 
-  pub marker-kept : marker_of (object kept) ≡ marker_of (object found)
+  pub marker-kept : marker_event (object kept) ≡ marker_event (object found)
   marker-kept = rw (member-kept as_str text-clipped (codes "name") refl) refl
 
 -- the vertices and the indices of a draw, from what was read of them
@@ -61,7 +61,7 @@ vertices_from : (version : ℕ) (o : Option Data) → well_formed (option_map (v
 vertices_from version None = refl
 vertices_from version (Some d) = refl
 
-pub vertices-found : (version : ℕ) (found : Members) → well_formed (option_map (vertices_of version) (get_member (codes "vertices") found)) ≡ vertices_at version "vertices" (object found)
+pub vertices-found : (version : ℕ) (found : Members) → well_formed (option_map (vertices_of version) (get_member (codes "vertices") found)) ≡ vertices_member version "vertices" (object found)
 vertices-found version found = vertices_from version (get_member (codes "vertices") found)
 
 some_list : (o : Option (List ℕ)) → listed_indices (Some o) ≡ option_and_then (λ (is : List ℕ). Some (Some is)) o
@@ -76,11 +76,11 @@ indices_from : (o : Option Data) → listed_indices (option_map indices_of_array
 indices_from None = refl
 indices_from (Some d) = some_list (indices_of_array d) ∙ joined (array_of d)
 
-pub indices-found : (found : Members) → listed_indices (option_map indices_of_array (get_member (codes "indices") found)) ≡ indices_at "indices" (object found)
+pub indices-found : (found : Members) → listed_indices (option_map indices_of_array (get_member (codes "indices") found)) ≡ indices_member "indices" (object found)
 indices-found found = indices_from (get_member (codes "indices") found)
 
 module _ (version : ℕ) (kept found : Members) (clips : Clips kept found) where
-  draw-kept : draw_from (object kept) (option_map (vertices_of version) (get_member (codes "vertices") found)) (option_map indices_of_array (get_member (codes "indices") found)) ≡ draw_of version (object found)
+  draw-kept : draw_from (object kept) (option_map (vertices_of version) (get_member (codes "vertices") found)) (option_map indices_of_array (get_member (codes "indices") found)) ≡ draw_event version (object found)
   draw-kept = rw (member-kept kept found clips as_str text-clipped (codes "interp") refl, vertices-found version found, indices-found found) refl
 
   kinds-kept : (kind : List ℕ) → event_of_kind_from version kind (object kept) (option_map (vertices_of version) (get_member (codes "vertices") found)) (option_map indices_of_array (get_member (codes "indices") found)) ≡ event_of_kind version kind (object found)

@@ -10,7 +10,7 @@ use Rattle.fd_events.specs.Table.{Table, all_on}
 use Rattle.fd_capture.specs.declared.fault.CaptureFault.{CaptureFault}
 use Rattle.fd_capture.specs.declared.fault.CaptureFault.TheVariants.{TooLong, NotJson, NotCapture, Version, Size, TooMany, UnknownEvent, BadField, Memory}
 use Rattle.fd_capture.specs.Fault.{Fails, Gives, ◌>>=◌}
-use Rattle.fd_capture.specs.Field.{array_of, number_between, number_at, text_at}
+use Rattle.fd_capture.specs.Field.{array_of, number_between, number_member, text_member}
 use Rattle.fd_capture.specs.Capture.{events_from, table_of_value}
 use Rattle.fd_capture.specs.Streamed.{Clips}
 use Rattle.fd_capture.specs.Listed.{GivesListed, few_events}
@@ -70,7 +70,7 @@ module _ (kept found : Members) (clips : Clips kept found) where
         member-kept kept found clips (number_between 1 most_pixels) (number_between-clipped 1 most_pixels) (codes "height") refl,
       ) refl
 
-  pub version-kept : number_at "version" 1 2 (object kept) ≡ number_at "version" 1 2 (object found)
+  pub version-kept : number_member "version" 1 2 (object kept) ≡ number_member "version" 1 2 (object found)
   version-kept = member-kept kept found clips (number_between 1 2) (number_between-clipped 1 2) (codes "version") refl
 
 -- ---- the table
@@ -86,27 +86,27 @@ module _ (version : ℕ) (result : Result Table CaptureFault) where
       let as_read : Gives (λ (v : Vec Event Global). v.items) read (few_events v ds) = subst (λ (n : ℕ). Gives (λ (v : Vec Event Global). v.items) read (few_events n ds)) (sym in_version) gives in
       subst (Gives here result) (sym (limited v ds (λ es. Ok (all_on v w h es)))) (through result read (few_events v ds) (λ es. Ok (all_on v w h es)) as_read is)
 
-  table_is : (d : Data) (format : Option (List ℕ)) (read : Option ReadEvents) (listed : Option (List Data)) → text_at "format" d ≡ format → GivesListed version read listed → IsReadIn version (number_at "version" 1 2 d)
-      → Gives here result (ok_or (option_and_then (λ text. cond (bytes_eq text (codes "framedbg")) read None) format) NotCapture >>= λ found. ok_or (number_at "version" 1 2 d) Version >>= λ v. ok_or (number_at "width" 1 most_pixels d) Size >>= λ w. ok_or (number_at "height" 1 most_pixels d) Size >>= λ h. found >>= λ (es : Vec Event Global). Ok (all_on v w h es.items))
-      → Gives here result (ok_or (option_and_then (λ text. cond (bytes_eq text (codes "framedbg")) listed None) format) NotCapture >>= λ ds. ok_or (number_at "version" 1 2 d) Version >>= λ v. ok_or (number_at "width" 1 most_pixels d) Size >>= λ w. ok_or (number_at "height" 1 most_pixels d) Size >>= λ h. (cond (nat_lt most_events (length ds)) (Err TooMany) (Ok ds)) >>= λ few. events_from v 1 few >>= λ es. Ok (all_on v w h es))
+  table_is : (d : Data) (format : Option (List ℕ)) (read : Option ReadEvents) (listed : Option (List Data)) → text_member "format" d ≡ format → GivesListed version read listed → IsReadIn version (number_member "version" 1 2 d)
+      → Gives here result (ok_or (option_and_then (λ text. cond (bytes_eq text (codes "framedbg")) read None) format) NotCapture >>= λ found. ok_or (number_member "version" 1 2 d) Version >>= λ v. ok_or (number_member "width" 1 most_pixels d) Size >>= λ w. ok_or (number_member "height" 1 most_pixels d) Size >>= λ h. found >>= λ (es : Vec Event Global). Ok (all_on v w h es.items))
+      → Gives here result (ok_or (option_and_then (λ text. cond (bytes_eq text (codes "framedbg")) listed None) format) NotCapture >>= λ ds. ok_or (number_member "version" 1 2 d) Version >>= λ v. ok_or (number_member "width" 1 most_pixels d) Size >>= λ w. ok_or (number_member "height" 1 most_pixels d) Size >>= λ h. (cond (nat_lt most_events (length ds)) (Err TooMany) (Ok ds)) >>= λ few. events_from v 1 few >>= λ es. Ok (all_on v w h es))
   table_is d None read listed same gives in_version is = is
   table_is d (Some text) read listed same gives in_version is = by_text (bytes_eq text (codes "framedbg")) read listed gives is
     where
       by_text : (b : Bool) (read : Option ReadEvents) (listed : Option (List Data)) → GivesListed version read listed
-          → Gives here result (ok_or (cond b read None) NotCapture >>= λ found. ok_or (number_at "version" 1 2 d) Version >>= λ v. ok_or (number_at "width" 1 most_pixels d) Size >>= λ w. ok_or (number_at "height" 1 most_pixels d) Size >>= λ h. found >>= λ (es : Vec Event Global). Ok (all_on v w h es.items))
-          → Gives here result (ok_or (cond b listed None) NotCapture >>= λ ds. ok_or (number_at "version" 1 2 d) Version >>= λ v. ok_or (number_at "width" 1 most_pixels d) Size >>= λ w. ok_or (number_at "height" 1 most_pixels d) Size >>= λ h. (cond (nat_lt most_events (length ds)) (Err TooMany) (Ok ds)) >>= λ few. events_from v 1 few >>= λ es. Ok (all_on v w h es))
+          → Gives here result (ok_or (cond b read None) NotCapture >>= λ found. ok_or (number_member "version" 1 2 d) Version >>= λ v. ok_or (number_member "width" 1 most_pixels d) Size >>= λ w. ok_or (number_member "height" 1 most_pixels d) Size >>= λ h. found >>= λ (es : Vec Event Global). Ok (all_on v w h es.items))
+          → Gives here result (ok_or (cond b listed None) NotCapture >>= λ ds. ok_or (number_member "version" 1 2 d) Version >>= λ v. ok_or (number_member "width" 1 most_pixels d) Size >>= λ w. ok_or (number_member "height" 1 most_pixels d) Size >>= λ h. (cond (nat_lt most_events (length ds)) (Err TooMany) (Ok ds)) >>= λ few. events_from v 1 few >>= λ es. Ok (all_on v w h es))
       by_text false read listed gives is = is
       by_text true None None gives is = is
       by_text true None (Some ds) gives is = absurd gives
       by_text true (Some r) None gives is = absurd gives
-      by_text true (Some r) (Some ds) gives is = sized ds r (number_at "version" 1 2 d) (number_at "width" 1 most_pixels d) (number_at "height" 1 most_pixels d) in_version gives is
+      by_text true (Some r) (Some ds) gives is = sized ds r (number_member "version" 1 2 d) (number_member "width" 1 most_pixels d) (number_member "height" 1 most_pixels d) in_version gives is
 
   -- what the kept members and the events give is what the capture gives
-  pub table-read : (kept found : Members) (read : Option ReadEvents) → Clips kept found → GivesListed version read (option_and_then array_of (get_member (codes "events") found)) → IsReadIn version (number_at "version" 1 2 (object found))
+  pub table-read : (kept found : Members) (read : Option ReadEvents) → Clips kept found → GivesListed version read (option_and_then array_of (get_member (codes "events") found)) → IsReadIn version (number_member "version" 1 2 (object found))
       → Gives here result (table_from (object kept) read) → Gives here result (table_of_value (object found))
   unfolding table_of_value
   table-read kept found read clips gives in_version is =
-      table_is (object found) (text_at "format" (object found)) read (option_and_then array_of (get_member (codes "events") found)) refl gives in_version
+      table_is (object found) (text_member "format" (object found)) read (option_and_then array_of (get_member (codes "events") found)) refl gives in_version
       (subst (Gives here result) (table-kept kept found clips read) is)
 
 -- a value that is no object is no capture
@@ -126,7 +126,7 @@ in_its_version version None (Some r) in_version are = tt
 in_its_version version (Some v) (Some r) in_version are = rw in_version are
 
 read_then : (d : Data) (read : Option ReadEvents) (r : ReadEvents) → listed_from d read ≡ Some r → read ≡ Some r
-read_then d read r is = by_format (text_at "format" d) is
+read_then d read r is = by_format (text_member "format" d) is
   where
     by_format : (format : Option (List ℕ)) → option_and_then (λ text. cond (bytes_eq text (codes "framedbg")) read None) format ≡ Some r → read ≡ Some r
     by_format None is = absurd (cc)

@@ -24,11 +24,11 @@ use Rattle.fd_capture.specs.declared.fault.EventFault.{EventFault}
 use Rattle.fd_capture.specs.declared.fault.EventFault.TheVariants.{BadField, UnknownEvent}
 use Rattle.fd_events.specs.declared.event.Event.TheVariants.{Draw}
 use Rattle.fd_capture.specs.Fault.{map_fault, numbered, ◌>>=◌}
-use Rattle.fd_capture.specs.Field.{text_at, number_at, colour_at, flag_at, rect_at, part_at, signed_at, position_of, vertex_of, vertices_at, array_at, indices_at, all_of, between, number_between, whole_number}
+use Rattle.fd_capture.specs.Field.{text_member, number_member, colour_member, flag_member, rect_member, part_member, signed_member, position_within, vertex_of, vertices_member, array_member, indices_member, all_of, between, number_between, whole_number}
 use Rattle.fd_snap.specs.Limits.{most_pixels, position_limit}
 use Rattle.fd_events.specs.Limits.{most_events}
 use Rattle.fd_capture.specs.Limits.{most_bytes}
-use Rattle.fd_capture.specs.Kind.{draw_of, clear_of, raster_of, scissor_of, blend_of, factor_of, marker_of}
+use Rattle.fd_capture.specs.Kind.{draw_event, clear_event, raster_event, scissor_event, blend_event, factor_of, marker_event}
 use Rattle.fd_capture.specs.Spelling.{spelled_cull, spelled_interp}
 use Rattle.fd_capture.specs.Capture.{event_of, event_of_kind, event_numbered, events_from, listed_events, json_of, table_of_value, capture_of}
 use Rattle.fd_capture.specs.VersionOne as one
@@ -73,36 +73,36 @@ between_stays : (z : ℤ) → Stays (between 1 one.most_pixels z) (between 1 mos
 between_stays (pos n) = under n (nat_le 1 n && nat_le n 2048) (nat_le 1 n && nat_le n 16384) (λ is. grind (arith, nat_tests))
 between_stays (negsuc n) = tt
 
-position_stays : (x y : ℤ) → Stays (one.position_of x y) (position_of x y)
+position_stays : (x y : ℤ) → Stays (one.position_of x y) (position_within x y)
 position_stays x y = under (record { x = x; y = y }) (nat_le (unsigned_abs x) one.position_limit && nat_le (unsigned_abs y) one.position_limit)
     (nat_le (unsigned_abs x) position_limit && nat_le (unsigned_abs y) position_limit) (λ is. grind (arith, nat_tests))
 
-side_stays : (name : String) (d : Data) → Stays (number_at name 1 one.most_pixels d) (number_at name 1 most_pixels d)
+side_stays : (name : String) (d : Data) → Stays (number_member name 1 one.most_pixels d) (number_member name 1 most_pixels d)
 side_stays name d = next (get (codes name) d) _ _ _ (stays (get (codes name) d)) (λ value. next (whole_number value) _ _ _ (stays (whole_number value)) between_stays)
 
 vertex_stays : (d : Data) → Stays (one.vertex_of d) (vertex_of 1 d)
 vertex_stays d =
-    next (signed_at "x" d) _ _ _ (stays (signed_at "x" d)) (λ x. next (signed_at "y" d) _ _ _ (stays (signed_at "y" d)) (λ y.
-    next (one.position_of x y) (position_of x y) _ _ (position_stays x y) (λ position. stays (colour_at "color" d >>? λ colour. Some (record { pos = position; colour = colour; z = 0 })))))
+    next (signed_member "x" d) _ _ _ (stays (signed_member "x" d)) (λ x. next (signed_member "y" d) _ _ _ (stays (signed_member "y" d)) (λ y.
+    next (one.position_of x y) (position_within x y) _ _ (position_stays x y) (λ position. stays (colour_member "color" d >>? λ colour. Some (record { pos = position; colour = colour; z = 0 })))))
 
 vertices_stay : (ds : List Data) → Stays (all_of one.vertex_of ds) (all_of (vertex_of 1) ds)
 vertices_stay [] = refl
 vertices_stay (d ∷ ds) =
     next (one.vertex_of d) (vertex_of 1 d) _ _ (vertex_stays d) (λ v. next (all_of one.vertex_of ds) (all_of (vertex_of 1) ds) _ _ (vertices_stay ds) (λ vs. refl))
 
-draw_stays : (d : Data) → Stays (one.draw_of d) (draw_of 1 d)
+draw_stays : (d : Data) → Stays (one.draw_of d) (draw_event 1 d)
 draw_stays d =
-    next (text_at "interp" d >>? spelled_interp) _ _ _ (stays (text_at "interp" d >>? spelled_interp)) (λ interp.
-    next (one.vertices_at "vertices" d) (vertices_at 1 "vertices" d) _ _ (next (array_at "vertices" d) _ _ _ (stays (array_at "vertices" d)) vertices_stay) (λ vertices.
-    stays (indices_at "indices" d >>? λ indices. result_ok (one.made vertices indices interp) >>? λ draw. Some (Draw draw))))
+    next (text_member "interp" d >>? spelled_interp) _ _ _ (stays (text_member "interp" d >>? spelled_interp)) (λ interp.
+    next (one.vertices_at "vertices" d) (vertices_member 1 "vertices" d) _ _ (next (array_member "vertices" d) _ _ _ (stays (array_member "vertices" d)) vertices_stay) (λ vertices.
+    stays (indices_member "indices" d >>? λ indices. result_ok (one.made vertices indices interp) >>? λ draw. Some (Draw draw))))
 
 kind_stays : (kind : List ℕ) (d : Data) → StaysOk (one.event_of_kind kind d) (event_of_kind 1 kind d)
 kind_stays kind d =
-    alike (bytes_eq kind (codes "clear")) (ok_or (clear_of d) BadField) _ _ (alike (bytes_eq kind (codes "raster")) (ok_or (raster_of d) BadField) _ _
-    (alike (bytes_eq kind (codes "scissor")) (ok_or (scissor_of d) BadField) _ _ (alike (bytes_eq kind (codes "blend")) (ok_or (blend_of d) BadField) _ _
+    alike (bytes_eq kind (codes "clear")) (ok_or (clear_event d) BadField) _ _ (alike (bytes_eq kind (codes "raster")) (ok_or (raster_event d) BadField) _ _
+    (alike (bytes_eq kind (codes "scissor")) (ok_or (scissor_event d) BadField) _ _ (alike (bytes_eq kind (codes "blend")) (ok_or (blend_event d) BadField) _ _
     (alike (bytes_eq kind (codes "factor")) (ok_or (factor_of d) BadField) _ _
-    (either (bytes_eq kind (codes "draw")) _ _ _ _ (or_stays (one.draw_of d) (draw_of 1 d) BadField (draw_stays d))
-    (stays_ok (cond (bytes_eq kind (codes "marker")) (ok_or (marker_of d) BadField) (Err UnknownEvent))))))))
+    (either (bytes_eq kind (codes "draw")) _ _ _ _ (or_stays (one.draw_of d) (draw_event 1 d) BadField (draw_stays d))
+    (stays_ok (cond (bytes_eq kind (codes "marker")) (ok_or (marker_event d) BadField) (Err UnknownEvent))))))))
   where
     alike : (b : Bool) (e r s : Result Event EventFault) → StaysOk r s → StaysOk (cond b e r) (cond b e s)
     alike true e r s rest = stays_ok e
@@ -113,7 +113,7 @@ kind_stays kind d =
     either false e f r s first rest = rest
 
 number_stays : (number : ℕ) (d : Data) → StaysOk (one.event_numbered number d) (event_numbered 1 number d)
-number_stays number d = kept (one.event_of d) (event_of 1 d) (next_ok (ok_or (text_at "kind" d) BadField) _ _ _ (stays_ok (ok_or (text_at "kind" d) BadField)) (λ kind. kind_stays kind d))
+number_stays number d = kept (one.event_of d) (event_of 1 d) (next_ok (ok_or (text_member "kind" d) BadField) _ _ _ (stays_ok (ok_or (text_member "kind" d) BadField)) (λ kind. kind_stays kind d))
   where
     kept : (r s : Result Event EventFault) → StaysOk r s → StaysOk (map_fault (numbered number) r) (map_fault (numbered number) s)
     kept (Err fault) s first = tt
@@ -148,7 +148,7 @@ IsZero v = v.z ≡ 0
 
 vertex_zero : (d : Data) → IfSome (one.vertex_of d) IsZero
 vertex_zero d =
-    through IsZero (signed_at "x" d) _ (λ x. through IsZero (signed_at "y" d) _ (λ y. through IsZero (one.position_of x y) _ (λ position. through IsZero (colour_at "color" d) _ (λ colour. refl))))
+    through IsZero (signed_member "x" d) _ (λ x. through IsZero (signed_member "y" d) _ (λ y. through IsZero (one.position_of x y) _ (λ position. through IsZero (colour_member "color" d) _ (λ colour. refl))))
 
 all_zero : (ds : List Data) → IfSome (all_of one.vertex_of ds) (λ vs. All IsZero vs)
 all_zero [] = All-nil IsZero
@@ -182,24 +182,24 @@ nothing_or false o flat = flat
 
 flat_kind : (kind : List ℕ) (d : Data) → IfOk (one.event_of_kind kind d) IsFlat
 flat_kind kind d =
-    either (bytes_eq kind (codes "clear")) _ _ (or_fault (clear_of d) (any (colour_at "color" d) _ (λ colour. tt)))
+    either (bytes_eq kind (codes "clear")) _ _ (or_fault (clear_event d) (any (colour_member "color" d) _ (λ colour. tt)))
     (either (bytes_eq kind (codes "raster")) _ _
-    (or_fault (raster_of d) (any (text_at "cull" d >>? spelled_cull) _ (λ cull. any (flag_at "front_ccw" d) _ (λ ccw. any (flag_at "scissor" d) _ (λ scissor. tt)))))
-    (either (bytes_eq kind (codes "scissor")) _ _ (or_fault (scissor_of d) (any (rect_at "rect" d) _ (λ rect. tt)))
+    (or_fault (raster_event d) (any (text_member "cull" d >>? spelled_cull) _ (λ cull. any (flag_member "front_ccw" d) _ (λ ccw. any (flag_member "scissor" d) _ (λ scissor. tt)))))
+    (either (bytes_eq kind (codes "scissor")) _ _ (or_fault (scissor_event d) (any (rect_member "rect" d) _ (λ rect. tt)))
     (either (bytes_eq kind (codes "blend")) _ _
-    (or_fault (blend_of d)
-    (any (flag_at "enable" d) _ (λ enable. any (part_at "rgb" d) _ (λ rgb. any (part_at "alpha" d) _ (λ alpha. any (number_at "mask" 0 15 d) _ (λ mask. nothing_or (has_colour_factor alpha) _ tt))))))
-    (either (bytes_eq kind (codes "factor")) _ _ (or_fault (factor_of d) (any (colour_at "color" d) _ (λ colour. tt)))
+    (or_fault (blend_event d)
+    (any (flag_member "enable" d) _ (λ enable. any (part_member "rgb" d) _ (λ rgb. any (part_member "alpha" d) _ (λ alpha. any (number_member "mask" 0 15 d) _ (λ mask. nothing_or (has_colour_factor alpha) _ tt))))))
+    (either (bytes_eq kind (codes "factor")) _ _ (or_fault (factor_of d) (any (colour_member "color" d) _ (λ colour. tt)))
     (either (bytes_eq kind (codes "draw")) _ _
     (or_fault (one.draw_of d)
-    (any (text_at "interp" d >>? spelled_interp) _ (λ interp.
-    after (λ vs. All IsZero vs) (one.vertices_at "vertices" d) _ (through (λ vs. All IsZero vs) (array_at "vertices" d) _ all_zero) (λ vertices zeros.
-    any (indices_at "indices" d) _ (λ indices.
+    (any (text_member "interp" d >>? spelled_interp) _ (λ interp.
+    after (λ vs. All IsZero vs) (one.vertices_at "vertices" d) _ (through (λ vs. All IsZero vs) (array_member "vertices" d) _ all_zero) (λ vertices zeros.
+    any (indices_member "indices" d) _ (λ indices.
     after (λ draw. All IsZero draw.vertices) (result_ok (one.made vertices indices interp)) _ (made_of vertices indices interp zeros) (λ draw holds. holds))))))
-    (either (bytes_eq kind (codes "marker")) _ _ (or_fault (marker_of d) (any (text_at "name" d) _ (λ name. any (result_ok (labelled name)) _ (λ label. tt)))) tt))))))
+    (either (bytes_eq kind (codes "marker")) _ _ (or_fault (marker_event d) (any (text_member "name" d) _ (λ name. any (result_ok (labelled name)) _ (λ label. tt)))) tt))))))
 
 flat_numbered : (number : ℕ) (d : Data) → IfOk (one.event_numbered number d) IsFlat
-flat_numbered number d = kept (one.event_of d) (read (ok_or (text_at "kind" d) BadField))
+flat_numbered number d = kept (one.event_of d) (read (ok_or (text_member "kind" d) BadField))
   where
     read : (kind : Result (List ℕ) EventFault) → IfOk (kind >>= λ k. one.event_of_kind k d) IsFlat
     read (Ok kind) = flat_kind kind d
@@ -238,7 +238,7 @@ with_nothing : {A : Type 0} (r s : Result A CaptureFault) → StaysOk r s → If
 with_nothing (Ok a) s first = (first, tt)
 with_nothing (Err e) s first = tt
 
-first_version : (d : Data) → IfOk (ok_or (number_at "version" 1 1 d) Version) (λ v. (ok_or (number_at "version" 1 2 d) Version ≡ Ok v) × (v ≡ 1))
+first_version : (d : Data) → IfOk (ok_or (number_member "version" 1 1 d) Version) (λ v. (ok_or (number_member "version" 1 2 d) Version ≡ Ok v) × (v ≡ 1))
 first_version d = of_value (get (codes "version") d)
   where
     of_number : (z : ℤ) → IfOk (ok_or (between 1 1 z) Version) (λ v. (ok_or (between 1 2 z) Version ≡ Ok v) × (v ≡ 1))
@@ -272,9 +272,9 @@ table_stays : (d : Data) → Reads (one.table_of_value d) (table_of_value d)
 unfolding table_of_value one.table_of_value
 table_stays d =
     reads _ (ok_or (listed_events d) NotCapture) _ _ _ (with_nothing _ _ (stays_ok (ok_or (listed_events d) NotCapture))) (λ listed _.
-    reads (λ v. v ≡ 1) (ok_or (number_at "version" 1 1 d) Version) _ _ _ (first_version d) (λ version is_one. rw is_one (
-    reads _ (ok_or (number_at "width" 1 one.most_pixels d) Size) _ _ _ (with_nothing _ _ (or_stays _ _ Size (side_stays "width" d))) (λ width _.
-    reads _ (ok_or (number_at "height" 1 one.most_pixels d) Size) _ _ _ (with_nothing _ _ (or_stays _ _ Size (side_stays "height" d))) (λ height _.
+    reads (λ v. v ≡ 1) (ok_or (number_member "version" 1 1 d) Version) _ _ _ (first_version d) (λ version is_one. rw is_one (
+    reads _ (ok_or (number_member "width" 1 one.most_pixels d) Size) _ _ _ (with_nothing _ _ (or_stays _ _ Size (side_stays "width" d))) (λ width _.
+    reads _ (ok_or (number_member "height" 1 one.most_pixels d) Size) _ _ _ (with_nothing _ _ (or_stays _ _ Size (side_stays "height" d))) (λ height _.
     reads _ (cond (nat_lt one.most_events (length listed)) (Err TooMany) (Ok listed)) _ _ _ (with_nothing _ _ (few_stay listed)) (λ few _.
     found width height (one.events_from 1 few) (events_from 1 1 few) (events_stay 1 few) (flat_events 1 few)))))))
   where

@@ -12,11 +12,11 @@ use Rattle.fd_capture.specs.declared.fault.CaptureFault.{CaptureFault}
 use Rattle.fd_capture.specs.declared.fault.EventFault.{EventFault}
 use Rattle.fd_capture.specs.declared.fault.EventFault.TheVariants.{BadField}
 use Rattle.fd_capture.specs.Fault.{map_fault, numbered, ◌>>=◌ as ◌>>=r◌}
-use Rattle.fd_capture.specs.Field.{◌>>=◌, text_at, number_at, colour_at, flag_at, rect_at, part_at, vertices_at, indices_at}
+use Rattle.fd_capture.specs.Field.{◌>>=◌, text_member, number_member, colour_member, flag_member, rect_member, part_member, vertices_member, indices_member}
 use Rattle.fd_capture.specs.Spelling.{spelled_cull, spelled_interp}
 use Rattle.fd_events.specs.Draw.{made}
 use Rattle.fd_events.specs.Label.{labelled}
-use Rattle.fd_capture.specs.Kind.{clear_of, raster_of, scissor_of, blend_of, factor_of, draw_of, marker_of}
+use Rattle.fd_capture.specs.Kind.{clear_event, raster_event, scissor_event, blend_event, factor_of, draw_event, marker_event}
 use Rattle.fd_capture.specs.Capture.{event_of_kind, event_of, event_numbered, events_from}
 
 -- no event of version 2
@@ -44,25 +44,25 @@ nothing_or false o plain = plain
 
 plain_kind : (kind : List ℕ) (d : Data) → PlainResult (event_of_kind 1 kind d)
 plain_kind kind d =
-    either (bytes_eq kind (codes "clear")) _ _ (or_fault (clear_of d) (after (colour_at "color" d) _ (λ colour. refl)))
+    either (bytes_eq kind (codes "clear")) _ _ (or_fault (clear_event d) (after (colour_member "color" d) _ (λ colour. refl)))
     (either (bytes_eq kind (codes "raster")) _ _
-    (or_fault (raster_of d) (after (text_at "cull" d >>= spelled_cull) _ (λ cull. after (flag_at "front_ccw" d) _ (λ ccw. after (flag_at "scissor" d) _ (λ scissor. refl)))))
-    (either (bytes_eq kind (codes "scissor")) _ _ (or_fault (scissor_of d) (after (rect_at "rect" d) _ (λ rect. refl)))
+    (or_fault (raster_event d) (after (text_member "cull" d >>= spelled_cull) _ (λ cull. after (flag_member "front_ccw" d) _ (λ ccw. after (flag_member "scissor" d) _ (λ scissor. refl)))))
+    (either (bytes_eq kind (codes "scissor")) _ _ (or_fault (scissor_event d) (after (rect_member "rect" d) _ (λ rect. refl)))
     (either (bytes_eq kind (codes "blend")) _ _
-    (or_fault (blend_of d)
-    (after (flag_at "enable" d) _ (λ enable. after (part_at "rgb" d) _ (λ rgb. after (part_at "alpha" d) _ (λ alpha. after (number_at "mask" 0 15 d) _ (λ mask. nothing_or (has_colour_factor alpha) _ refl))))))
-    (either (bytes_eq kind (codes "factor")) _ _ (or_fault (factor_of d) (after (colour_at "color" d) _ (λ colour. refl)))
+    (or_fault (blend_event d)
+    (after (flag_member "enable" d) _ (λ enable. after (part_member "rgb" d) _ (λ rgb. after (part_member "alpha" d) _ (λ alpha. after (number_member "mask" 0 15 d) _ (λ mask. nothing_or (has_colour_factor alpha) _ refl))))))
+    (either (bytes_eq kind (codes "factor")) _ _ (or_fault (factor_of d) (after (colour_member "color" d) _ (λ colour. refl)))
     (either (bytes_eq kind (codes "draw")) _ _
-    (or_fault (draw_of 1 d)
-    (after (text_at "interp" d >>= spelled_interp) _ (λ interp. after (vertices_at 1 "vertices" d) _ (λ vertices. after (indices_at "indices" d) _ (λ indices. after (result_ok (made vertices indices interp)) _ (λ draw. refl))))))
-    (either (bytes_eq kind (codes "marker")) _ _ (or_fault (marker_of d) (after (text_at "name" d) _ (λ name. after (result_ok (labelled name)) _ (λ label. refl)))) tt))))))
+    (or_fault (draw_event 1 d)
+    (after (text_member "interp" d >>= spelled_interp) _ (λ interp. after (vertices_member 1 "vertices" d) _ (λ vertices. after (indices_member "indices" d) _ (λ indices. after (result_ok (made vertices indices interp)) _ (λ draw. refl))))))
+    (either (bytes_eq kind (codes "marker")) _ _ (or_fault (marker_event d) (after (text_member "name" d) _ (λ name. after (result_ok (labelled name)) _ (λ label. refl)))) tt))))))
 
 plain_read : (kind : Result (List ℕ) EventFault) (d : Data) → PlainResult (kind >>=r λ k. event_of_kind 1 k d)
 plain_read (Ok kind) d = plain_kind kind d
 plain_read (Err fault) d = tt
 
 plain_numbered : (number : ℕ) (d : Data) → PlainResult (event_numbered 1 number d)
-plain_numbered number d = kept (event_of 1 d) (plain_read (ok_or (text_at "kind" d) BadField) d)
+plain_numbered number d = kept (event_of 1 d) (plain_read (ok_or (text_member "kind" d) BadField) d)
   where
     kept : (read : Result Event EventFault) → PlainResult read → PlainResult (map_fault (numbered number) read)
     kept (Ok e) plain = plain

@@ -14,7 +14,7 @@ use Rattle.fd_capture.specs.declared.fault.CaptureFault.{CaptureFault}
 use Rattle.fd_capture.specs.declared.fault.CaptureFault.TheVariants.{NotJson, NotCapture, TooMany}
 use Rattle.fd_capture.specs.declared.head.Head.{Head}
 use Rattle.fd_capture.specs.Fault.{◌>>=◌}
-use Rattle.fd_capture.specs.Field.{number_at}
+use Rattle.fd_capture.specs.Field.{number_member}
 use Rattle.fd_capture.specs.Limits.{most_bytes}
 use Rattle.fd_capture.specs.Capture.{event_numbered, events_from, table_of_value, json_of, capture_of}
 use Rattle.fd_capture.specs.Listed.{GivesListed}
@@ -52,15 +52,15 @@ are_of_version version (Some (Ok events)) (Some ds) bounds gives = few (nat_lt m
 
 -- ---- the version of a text
 
-pub head_version : (version : ℕ) (head : Head) (found : Members) → HasHead version head found → number_at "version" 1 2 (view head.members) ≡ number_at "version" 1 2 (object found)
-head_version version head found has = ap (λ (d : Data). number_at "version" 1 2 d) has.1 ∙ version-kept has.0 found has.2
+pub head_version : (version : ℕ) (head : Head) (found : Members) → HasHead version head found → number_member "version" 1 2 (view head.members) ≡ number_member "version" 1 2 (object found)
+head_version version head found has = ap (λ (d : Data). number_member "version" 1 2 d) has.1 ∙ version-kept has.0 found has.2
 
 -- however often a text is read, its version is the same
 pub same_version : (bytes : List ℕ) (version other : ℕ) (head again : Head) (found second : Members) → read bytes ≡ Some (object found) → read bytes ≡ Some (object second) → HasHead version head found → HasHead other again second
-    → number_at "version" 1 2 (view again.members) ≡ number_at "version" 1 2 (view head.members)
+    → number_member "version" 1 2 (view again.members) ≡ number_member "version" 1 2 (view head.members)
 same_version bytes version other head again found second is is_again has has_again =
     let same : object second ≡ object found = cc in
-    head_version other again second has_again ∙ ap (λ (d : Data). number_at "version" 1 2 d) same ∙ sym (head_version version head found has)
+    head_version other again second has_again ∙ ap (λ (d : Data). number_member "version" 1 2 d) same ∙ sym (head_version version head found has)
 
 pub read_in-or : (found : Option ℕ) (likely : ℕ) → IsReadIn (unwrap_or found likely) found
 read_in-or None likely = tt

@@ -1,4 +1,4 @@
--- What the values and members of a capture (RFC 8259) stand for.
+-- Promised. What the values and members of a capture (RFC 8259) stand for.
 use Rattle.std.specs.Prelude.{ℕ, ◌-◌, ◌^◌, ℤ, pos, negsuc, int_le, unsigned_abs, codes, Bool, Option, Some, None, option_map, option_and_then, List, [], ◌∷◌, nat_le, ◌&&◌, ◌==◌, if◌then◌else◌}
 use Prim.Native.String.{String}
 use Rattle.serde_json.specs.Data.{Data, Items, no_items, item}
@@ -58,8 +58,8 @@ colour_of_list (r ∷ g ∷ b ∷ a ∷ []) = do
   Some (record { r = red; g = green; b = blue; a = alpha })
 colour_of_list others = None
 
-abbrev pub colour_of : Data → Option Colour
-colour_of d = array_of d >>= colour_of_list
+abbrev pub colour_of_data : Data → Option Colour
+colour_of_data d = array_of d >>= colour_of_list
 
 -- exactly four numbers: left, top, right, bottom
 abbrev pub rect_of_list : List Data → Option Rect
@@ -71,8 +71,8 @@ rect_of_list (l ∷ t ∷ r ∷ b ∷ []) = do
   Some (record { left = left; top = top; right = right; bottom = bottom })
 rect_of_list others = None
 
-abbrev pub rect_of : Data → Option Rect
-rect_of d = array_of d >>= rect_of_list
+abbrev pub rect_of_data : Data → Option Rect
+rect_of_data d = array_of d >>= rect_of_list
 
 -- exactly three texts: source factor, destination factor, operation
 abbrev pub part_of_list : List Data → Option Part
@@ -83,8 +83,8 @@ part_of_list (s ∷ d ∷ o ∷ []) = do
   Some (record { src = source; dst = destination; op = operation })
 part_of_list others = None
 
-abbrev pub part_of : Data → Option Part
-part_of d = array_of d >>= part_of_list
+abbrev pub part_of_data : Data → Option Part
+part_of_data d = array_of d >>= part_of_list
 
 -- what each value stands for, if all do
 abbrev pub all_of : {X : Type 0} → (Data → Option X) → List Data → Option (List X)
@@ -95,51 +95,51 @@ all_of f (d ∷ ds) = do
   Some (x ∷ xs)
 
 -- a position, if its coordinates are within the limit
-abbrev pub position_of : ℤ → ℤ → Option Point
-position_of x y = if nat_le (unsigned_abs x) position_limit && nat_le (unsigned_abs y) position_limit then Some (record { x = x; y = y }) else None
+abbrev pub position_within : ℤ → ℤ → Option Point
+position_within x y = if nat_le (unsigned_abs x) position_limit && nat_le (unsigned_abs y) position_limit then Some (record { x = x; y = y }) else None
 
 -- ---- members of an object; no other value has any
 
-abbrev pub text_at : String → Data → Option (List ℕ)
-text_at name d = get (codes name) d >>= as_str
+abbrev pub text_member : String → Data → Option (List ℕ)
+text_member name d = get (codes name) d >>= as_str
 
-abbrev pub number_at : String → ℕ → ℕ → Data → Option ℕ
-number_at name low high d = get (codes name) d >>= number_between low high
+abbrev pub number_member : String → ℕ → ℕ → Data → Option ℕ
+number_member name low high d = get (codes name) d >>= number_between low high
 
-abbrev pub array_at : String → Data → Option (List Data)
-array_at name d = get (codes name) d >>= array_of
+abbrev pub array_member : String → Data → Option (List Data)
+array_member name d = get (codes name) d >>= array_of
 
-abbrev pub colour_at : String → Data → Option Colour
-colour_at name d = get (codes name) d >>= colour_of
+abbrev pub colour_member : String → Data → Option Colour
+colour_member name d = get (codes name) d >>= colour_of_data
 
-abbrev pub flag_at : String → Data → Option Bool
-flag_at name d = get (codes name) d >>= as_bool
+abbrev pub flag_member : String → Data → Option Bool
+flag_member name d = get (codes name) d >>= as_bool
 
-abbrev pub rect_at : String → Data → Option Rect
-rect_at name d = get (codes name) d >>= rect_of
+abbrev pub rect_member : String → Data → Option Rect
+rect_member name d = get (codes name) d >>= rect_of_data
 
-abbrev pub part_at : String → Data → Option Part
-part_at name d = get (codes name) d >>= part_of
+abbrev pub part_member : String → Data → Option Part
+part_member name d = get (codes name) d >>= part_of_data
 
-abbrev pub signed_at : String → Data → Option ℤ
-signed_at name d = get (codes name) d >>= signed_32
+abbrev pub signed_member : String → Data → Option ℤ
+signed_member name d = get (codes name) d >>= signed_32
 
 -- the depth of a vertex: a member of version 2, and 0 in version 1
 abbrev pub z_of : ℕ → Data → Option ℕ
-z_of version d = if version == 2 then number_at "z" 0 65535 d else Some 0
+z_of version d = if version == 2 then number_member "z" 0 65535 d else Some 0
 
 -- a vertex in a capture of a version
 abbrev pub vertex_of : ℕ → Data → Option Vertex
 vertex_of version d = do
-  x ← signed_at "x" d
-  y ← signed_at "y" d
-  position ← position_of x y
+  x ← signed_member "x" d
+  y ← signed_member "y" d
+  position ← position_within x y
   z ← z_of version d
-  colour ← colour_at "color" d
+  colour ← colour_member "color" d
   Some (record { pos = position; colour = colour; z = z })
 
-abbrev pub vertices_at : ℕ → String → Data → Option (List Vertex)
-vertices_at version name d = array_at name d >>= all_of (vertex_of version)
+abbrev pub vertices_member : ℕ → String → Data → Option (List Vertex)
+vertices_member version name d = array_member name d >>= all_of (vertex_of version)
 
 -- indices may be missing
 abbrev pub indices_of : Option Data → Option (Option (List ℕ))
@@ -149,5 +149,5 @@ indices_of (Some d) = do
   indices ← all_of unsigned_32 listed
   Some (Some indices)
 
-abbrev pub indices_at : String → Data → Option (Option (List ℕ))
-indices_at name d = indices_of (get (codes name) d)
+abbrev pub indices_member : String → Data → Option (Option (List ℕ))
+indices_member name d = indices_of (get (codes name) d)

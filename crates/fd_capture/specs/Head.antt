@@ -1,4 +1,4 @@
--- What was read of a capture.
+-- Working. What was read of a capture.
 use Rattle.std.specs.Prelude.{◌≡◌, ◌≤◌, ℕ, List, codes, length, Option, Some, None, IfSome, option_and_then, ok_or, Result, Ok, Err, if◌then◌else◌, Vec}
 use Rattle.std.specs.Str.{bytes_eq}
 use Rattle.std.specs.declared.alloc.Global.{Global}
@@ -13,7 +13,7 @@ use Rattle.serde_json.specs.Data.{Data, Members, object}
 use Rattle.serde_json.specs.Find.{get_member, as_object}
 use Rattle.serde_json.specs.View.{view}
 use Rattle.fd_capture.specs.declared.head.Head.{Head}
-use Rattle.fd_capture.specs.Field.{array_of, text_at, number_at}
+use Rattle.fd_capture.specs.Field.{array_of, text_member, number_member}
 use Rattle.serde_json.specs.Read.{read}
 use Rattle.fd_capture.specs.Capture.{table_of_value}
 use Rattle.fd_capture.specs.Streamed.{Clips}
@@ -30,15 +30,15 @@ IsHead version (Some head) d = (found : Members) × (d ≡ object found) × HasH
 
 -- what was read of the events, if this is a capture
 abbrev pub listed_from : {X : Type 0} → Data → Option X → Option X
-listed_from d read = option_and_then (λ format. if bytes_eq format (codes "framedbg") then read else None) (text_at "format" d)
+listed_from d read = option_and_then (λ format. if bytes_eq format (codes "framedbg") then read else None) (text_member "format" d)
 
 -- the table of a capture's small members, and of what was read of its events
 abbrev pub table_from : Data → Option (Result (Vec Event Global) CaptureFault) → Result Table CaptureFault
 table_from d read = do
   found ← ok_or (listed_from d read) NotCapture
-  version ← ok_or (number_at "version" 1 2 d) Version
-  width ← ok_or (number_at "width" 1 most_pixels d) Size
-  height ← ok_or (number_at "height" 1 most_pixels d) Size
+  version ← ok_or (number_member "version" 1 2 d) Version
+  width ← ok_or (number_member "width" 1 most_pixels d) Size
+  height ← ok_or (number_member "height" 1 most_pixels d) Size
   events ← found
   Ok (all_on version width height events.items)
 

@@ -1,4 +1,4 @@
--- How long a capture is at most.
+-- Promised. How long a capture is at most.
 use Rattle.std.specs.Prelude.{ℕ}
 
 -- in bytes

@@ -1,4 +1,4 @@
--- What is made of the parts of a value, however they were read.
+-- Working. What is made of the parts of a value, however they were read.
 use Rattle.std.specs.Prelude.{◌≡◌, ◌==◌, ℕ, ℤ, List, [], ◌∷◌, Bool, true, ◌||◌, codes, Option, Some, None, option_map, Result, Ok, Err, ok_or, if◌then◌else◌}
 use Rattle.std.specs.Result.{result_ok}
 use Rattle.fd_events.specs.declared.event.Event.{Event}
@@ -6,7 +6,7 @@ use Rattle.fd_events.specs.declared.event.Event.TheVariants.{Draw}
 use Rattle.fd_events.specs.Draw.{made}
 use Rattle.fd_capture.specs.declared.fault.EventFault.{EventFault}
 use Rattle.fd_capture.specs.declared.fault.EventFault.TheVariants.{UnknownEvent, BadField}
-use Rattle.fd_capture.specs.Kind.{clear_of, raster_of, scissor_of, blend_of, factor_of, marker_of}
+use Rattle.fd_capture.specs.Kind.{clear_event, raster_event, scissor_event, blend_event, factor_of, marker_event}
 use Rattle.fd_capture.specs.Capture.{event_of_depth}
 use Rattle.fd_capture.specs.Spelling.{spelled_interp}
 use Rattle.std.specs.Str.{bytes_eq}
@@ -15,14 +15,14 @@ use Rattle.serde_json.specs.Find.{get_member}
 use Rattle.fd_json.specs.Clipped.{clipped}
 use Rattle.fd_blend.specs.declared.channel.Colour.{Colour}
 use Rattle.fd_events.specs.declared.draw.Vertex.{Vertex}
-use Rattle.fd_capture.specs.Field.{◌>>=◌, position_of, all_of, array_of, vertex_of, unsigned_32, text_at}
+use Rattle.fd_capture.specs.Field.{◌>>=◌, position_within, all_of, array_of, vertex_of, unsigned_32, text_member}
 
 -- version 1 has no depths, which are 0 in the table
 abbrev pub vertex_from : ℕ → Option ℤ → Option ℤ → Option ℕ → Option Colour → Option Vertex
 vertex_from version some_x some_y some_z some_colour = do
   x ← some_x
   y ← some_y
-  position ← position_of x y
+  position ← position_within x y
   z ← (if version == 2 then some_z else Some 0)
   colour ← some_colour
   Some (record { pos = position; colour = colour; z = z })
@@ -61,7 +61,7 @@ well_formed (Some o) = o
 
 abbrev pub draw_from : Data → Option (Option (List Vertex)) → Option (Option (List ℕ)) → Option Event
 draw_from d vs is = do
-  interp ← text_at "interp" d >>= spelled_interp
+  interp ← text_member "interp" d >>= spelled_interp
   vertices ← well_formed vs
   indices ← listed_indices is
   draw ← result_ok (made vertices indices interp)
@@ -69,13 +69,13 @@ draw_from d vs is = do
 
 abbrev pub event_of_kind_from : ℕ → List ℕ → Data → Option (Option (List Vertex)) → Option (Option (List ℕ)) → Result Event EventFault
 event_of_kind_from version kind d vs is =
-    if bytes_eq kind (codes "clear") then ok_or (clear_of d) BadField
-    else (if bytes_eq kind (codes "raster") then ok_or (raster_of d) BadField
-    else (if bytes_eq kind (codes "scissor") then ok_or (scissor_of d) BadField
-    else (if bytes_eq kind (codes "blend") then ok_or (blend_of d) BadField
+    if bytes_eq kind (codes "clear") then ok_or (clear_event d) BadField
+    else (if bytes_eq kind (codes "raster") then ok_or (raster_event d) BadField
+    else (if bytes_eq kind (codes "scissor") then ok_or (scissor_event d) BadField
+    else (if bytes_eq kind (codes "blend") then ok_or (blend_event d) BadField
     else (if bytes_eq kind (codes "factor") then ok_or (factor_of d) BadField
     else (if bytes_eq kind (codes "draw") then ok_or (draw_from d vs is) BadField
-    else (if bytes_eq kind (codes "marker") then ok_or (marker_of d) BadField
+    else (if bytes_eq kind (codes "marker") then ok_or (marker_event d) BadField
     else (if version == 2 then event_of_depth kind d
     else Err UnknownEvent)))))))
 
@@ -85,4 +85,4 @@ then_event (Err e) f = Err e
 
 -- the event of small members and of what the large ones stand for
 abbrev pub event_from : ℕ → Data → Option (Option (List Vertex)) → Option (Option (List ℕ)) → Result Event EventFault
-event_from version d vs is = then_event (ok_or (text_at "kind" d) BadField) (λ (kind : List ℕ). event_of_kind_from version kind d vs is)
+event_from version d vs is = then_event (ok_or (text_member "kind" d) BadField) (λ (kind : List ℕ). event_of_kind_from version kind d vs is)

@@ -1,5 +1,6 @@
--- What a capture of version 1 stands for: as it was defined before there was version 2, with the limits of then. A vertex has no depth, which is 0 in the table.
+-- Working. What a capture of version 1 stands for: as it was defined before there was version 2, with the limits of then. A vertex has no depth, which is 0 in the table.
 use Rattle.std.specs.Prelude.{ℕ, ℤ, ◌+◌, ◌^◌, unsigned_abs, codes, Bool, false, List, [], ◌∷◌, length, Option, Some, None, ok_or, Result, Ok, Err, nat_lt, nat_le, ◌&&◌, if◌then◌else◌}
+use Rattle.std.specs.List.{list_any}
 use Prim.Native.String.{String}
 use Rattle.std.specs.Str.{bytes_eq}
 use Rattle.std.specs.Result.{result_ok}
@@ -7,10 +8,13 @@ use Rattle.serde_json.specs.Data.{Data}
 use Rattle.fd_events.specs.declared.draw.Vertex.{Vertex}
 use Rattle.fd_cover.specs.declared.shading.Interp.{Interp}
 use Rattle.fd_events.specs.declared.event.Event.{Event}
-use Rattle.fd_events.specs.declared.event.Event.TheVariants.{Draw}
+use Rattle.fd_events.specs.declared.event.Event.TheVariants.{Draw, Marker}
 use Rattle.fd_events.specs.declared.draw.DrawFault.{DrawFault}
 use Rattle.fd_events.specs.declared.draw.DrawFault.TheVariants.{Vertices, Indices, IndexRange}
 use Rattle.fd_events.specs.Draw.{DrawList, draw_of as listed_draw}
+use Rattle.fd_events.specs.declared.label.LabelFault.{LabelFault}
+use Rattle.fd_events.specs.declared.label.LabelFault.TheVariants.{TooLong as TooLongName, Control}
+use Rattle.fd_events.specs.Label.{is_control}
 use Rattle.fd_events.specs.Indices.{are_in_range}
 use Rattle.fd_events.specs.Table.{Table, all_on}
 use Rattle.fd_snap.specs.Point.{Point}
@@ -21,8 +25,8 @@ use Rattle.fd_capture.specs.declared.fault.EventFault.TheVariants.{UnknownEvent,
 use Rattle.fd_capture.specs.Capture.{json_of, listed_events}
 use Rattle.fd_capture.specs.Fault.{numbered, map_fault, ◌>>=◌}
 use Rattle.fd_capture.specs.Field as field
-use Rattle.fd_capture.specs.Field.{text_at, number_at, array_at, colour_at, signed_at, indices_at, all_of}
-use Rattle.fd_capture.specs.Kind.{clear_of, raster_of, scissor_of, blend_of, factor_of, marker_of}
+use Rattle.fd_capture.specs.Field.{text_member, number_member, array_member, colour_member, signed_member, indices_member, all_of}
+use Rattle.fd_capture.specs.Kind.{clear_event, raster_event, scissor_event, blend_event, factor_of}
 use Rattle.fd_capture.specs.Spelling.{spelled_interp}
 
 -- ---- the limits
@@ -45,6 +49,10 @@ most_indices = 196608
 abbrev pub most_events : ℕ
 most_events = 65536
 
+-- of a marker's name
+abbrev pub most_label_bytes : ℕ
+most_label_bytes = 64
+
 -- of a capture
 abbrev pub most_bytes : ℕ
 most_bytes = 67108864
@@ -62,11 +70,11 @@ position_of x y = if nat_le (unsigned_abs x) position_limit && nat_le (unsigned_
 
 abbrev pub vertex_of : Data → Option Vertex
 vertex_of d =
-    signed_at "x" d >>? λ x. signed_at "y" d >>? λ y. position_of x y >>? λ position. colour_at "color" d >>? λ colour.
+    signed_member "x" d >>? λ x. signed_member "y" d >>? λ y. position_of x y >>? λ position. colour_member "color" d >>? λ colour.
     Some (record { pos = position; colour = colour; z = 0 })
 
 abbrev pub vertices_at : String → Data → Option (List Vertex)
-vertices_at name d = array_at name d >>? all_of vertex_of
+vertices_at name d = array_member name d >>? all_of vertex_of
 
 abbrev pub has_too_many : Option (List ℕ) → Bool
 has_too_many None = false
@@ -83,16 +91,23 @@ made vertices indices interp =
 -- there may not be too many vertices or indices, and each index names a vertex
 abbrev pub draw_of : Data → Option Event
 draw_of d =
-    (text_at "interp" d >>? spelled_interp) >>? λ interp. vertices_at "vertices" d >>? λ vertices. indices_at "indices" d >>? λ indices.
+    (text_member "interp" d >>? spelled_interp) >>? λ interp. vertices_at "vertices" d >>? λ vertices. indices_member "indices" d >>? λ indices.
     result_ok (made vertices indices interp) >>? λ draw. Some (Draw draw)
+
+-- a marker's name, or why there is none
+abbrev pub labelled : List ℕ → Result (List ℕ) LabelFault
+labelled text = if nat_lt most_label_bytes (length text) then Err TooLongName else (if list_any is_control text then Err Control else Ok text)
+
+abbrev pub marker_of : Data → Option Event
+marker_of d = text_member "name" d >>? λ name. result_ok (labelled name) >>? λ label. Some (Marker label)
 
 -- the event of a kind
 abbrev pub event_of_kind : List ℕ → Data → Result Event EventFault
 event_of_kind kind d =
-    if bytes_eq kind (codes "clear") then ok_or (clear_of d) BadField
-    else (if bytes_eq kind (codes "raster") then ok_or (raster_of d) BadField
-    else (if bytes_eq kind (codes "scissor") then ok_or (scissor_of d) BadField
-    else (if bytes_eq kind (codes "blend") then ok_or (blend_of d) BadField
+    if bytes_eq kind (codes "clear") then ok_or (clear_event d) BadField
+    else (if bytes_eq kind (codes "raster") then ok_or (raster_event d) BadField
+    else (if bytes_eq kind (codes "scissor") then ok_or (scissor_event d) BadField
+    else (if bytes_eq kind (codes "blend") then ok_or (blend_event d) BadField
     else (if bytes_eq kind (codes "factor") then ok_or (factor_of d) BadField
     else (if bytes_eq kind (codes "draw") then ok_or (draw_of d) BadField
     else (if bytes_eq kind (codes "marker") then ok_or (marker_of d) BadField
@@ -101,7 +116,7 @@ event_of_kind kind d =
 -- the event that a value stands for; a value that is no object, or whose kind is no text, is a bad field
 abbrev pub event_of : Data → Result Event EventFault
 event_of d = do
-  kind ← ok_or (text_at "kind" d) BadField
+  kind ← ok_or (text_member "kind" d) BadField
   event_of_kind kind d
 
 -- ---- all of them
@@ -122,9 +137,9 @@ events_from number (d ∷ ds) = do
 unfoldable pub table_of_value : Data → Result Table CaptureFault
 table_of_value d = do
   listed ← ok_or (listed_events d) NotCapture
-  version ← ok_or (number_at "version" 1 1 d) Version
-  width ← ok_or (number_at "width" 1 most_pixels d) Size
-  height ← ok_or (number_at "height" 1 most_pixels d) Size
+  version ← ok_or (number_member "version" 1 1 d) Version
+  width ← ok_or (number_member "width" 1 most_pixels d) Size
+  height ← ok_or (number_member "height" 1 most_pixels d) Size
   few ← (if nat_lt most_events (length listed) then Err TooMany else Ok listed)
   events ← events_from 1 few
   Ok (all_on 1 width height events)

@@ -3,7 +3,7 @@ ghost use Rattle.std.specs.Prelude.{◌≡◌, map, option_map, option_and_then}
 ghost use Rattle.serde_json.specs.Find.{as_str};
 ghost use Rattle.serde_json.specs.View.{view};
 ghost use Rattle.fd_blend.specs.Mask.{mask_of};
-ghost use Rattle.fd_capture.specs.Field.{number_between, signed_32, array_of, colour_of, rect_of, part_of};
+ghost use Rattle.fd_capture.specs.Field.{number_between, signed_32, array_of, colour_of_data, rect_of_data, part_of_data};
 ghost use Rattle.fd_capture.specs.Spelling.{spelled_factor, spelled_op};
 
 use crate::spelling;
@@ -52,7 +52,7 @@ pub(crate) fn byte(value: &Value) -> Option<u8>
 /// An array of exactly four bytes: red, green, blue and alpha.
 #[tactic(auto, using(crate::proofs::Items::arrays))]
 pub(crate) fn colour(value: &Value) -> Option<Colour>
-    ensures { result ≡ colour_of (view value.now) }
+    ensures { result ≡ colour_of_data (view value.now) }
 {
     let [r, g, b, a] = array(value)? else {
         return None;
@@ -68,7 +68,7 @@ pub(crate) fn colour(value: &Value) -> Option<Colour>
 /// An array of exactly four numbers: left, top, right and bottom.
 #[tactic(auto, using(crate::proofs::Items::rects))]
 pub(crate) fn rect(value: &Value) -> Option<Rect>
-    ensures { result ≡ rect_of (view value.now) }
+    ensures { result ≡ rect_of_data (view value.now) }
 {
     let [left, top, right, bottom] = array(value)? else {
         return None;
@@ -98,7 +98,7 @@ fn op(value: &Value) -> Option<BlendOp>
 /// An array of exactly three texts: source factor, destination factor and operation.
 #[tactic(auto, using(crate::proofs::Items::parts))]
 pub(crate) fn part(value: &Value) -> Option<Part>
-    ensures { result ≡ part_of (view value.now) }
+    ensures { result ≡ part_of_data (view value.now) }
 {
     let [src, dst, operation] = array(value)? else {
         return None;

@@ -2,7 +2,7 @@
 ghost use Rattle.std.specs.Prelude.{◌≡◌, ok_or};
 ghost use Rattle.serde_json.specs.View.{view};
 ghost use Rattle.fd_capture.specs.Fault.{GivesEvent};
-ghost use Rattle.fd_capture.specs.Kind.{clear_of, raster_of, scissor_of, blend_of, factor_of, marker_of, depth_of, depth_clear_of};
+ghost use Rattle.fd_capture.specs.Kind.{clear_event, raster_event, scissor_event, blend_event, factor_of, marker_event, depth_event, depth_clear_event};
 
 use crate::fault::EventFault;
 use crate::field::{colour, mask, part, rect};
@@ -15,14 +15,14 @@ use std::alloc::Global;
 
 /// `clear`: a colour.
 pub(crate) fn clear(event: &Value) -> Option<Event>
-    ensures { result ≡ clear_of (view event.now) }
+    ensures { result ≡ clear_event (view event.now) }
 {
     Some(Event::Clear(colour(event.get("color")?)?))
 }
 
 /// `raster`: culling, winding and whether the scissor is on.
 pub(crate) fn raster(event: &Value) -> Option<Event>
-    ensures { result ≡ raster_of (view event.now) }
+    ensures { result ≡ raster_event (view event.now) }
 {
     Some(Event::SetRaster(Raster {
         cull: spelling::cull(event.get("cull")?.as_str()?)?,
@@ -33,14 +33,14 @@ pub(crate) fn raster(event: &Value) -> Option<Event>
 
 /// `scissor`: a rectangle.
 pub(crate) fn scissor(event: &Value) -> Option<Event>
-    ensures { result ≡ scissor_of (view event.now) }
+    ensures { result ≡ scissor_event (view event.now) }
 {
     Some(Event::SetScissor(rect(event.get("rect")?)?))
 }
 
 /// `blend`: the blend state.
 pub(crate) fn blend(event: &Value) -> Option<Event>
-    ensures { result ≡ blend_of (view event.now) }
+    ensures { result ≡ blend_event (view event.now) }
 {
     let enable = event.get("enable")?.as_bool()?;
     let rgb = part(event.get("rgb")?)?;
@@ -59,7 +59,7 @@ pub(crate) fn factor(event: &Value) -> Option<Event>
 
 /// `marker`: a name.
 pub(crate) fn marker(alloc: Global, event: &Value) -> Result<Event, EventFault>
-    ensures { GivesEvent (λ event. event) result (ok_or (marker_of (view event.now)) EventFault.BadField) }
+    ensures { GivesEvent (λ event. event) result (ok_or (marker_event (view event.now)) EventFault.BadField) }
 {
     let name = event
         .get("name")
@@ -72,7 +72,7 @@ pub(crate) fn marker(alloc: Global, event: &Value) -> Result<Event, EventFault>
 
 /// `depth`: the depth state.
 pub(crate) fn depth(event: &Value) -> Option<Event>
-    ensures { result ≡ depth_of (view event.now) }
+    ensures { result ≡ depth_event (view event.now) }
 {
     Some(Event::SetDepth(Depth {
         enable: event.get("enable")?.as_bool()?,
@@ -83,7 +83,7 @@ pub(crate) fn depth(event: &Value) -> Option<Event>
 
 /// `depth_clear`: a depth.
 pub(crate) fn depth_clear(event: &Value) -> Option<Event>
-    ensures { result ≡ depth_clear_of (view event.now) }
+    ensures { result ≡ depth_clear_event (view event.now) }
 {
     Some(Event::DepthClear(field::depth(event.get("depth")?)?))
 }

@@ -2,7 +2,7 @@
 ghost use Rattle.std.specs.Prelude.{◌≡◌, ◌<◌, ◌≤◌, ◌-◌, ◌^◌, [], ◌∷◌, ◌++◌, ℤ, codes, length, map, take, Some, None, Err, IfOk, OnOk, option_map, option_and_then};
 ghost use Rattle.serde_json.specs.Data.{Data, Items, Members, object};
 ghost use Rattle.fd_json.specs.Taken.{taken, members_taken, items_taken};
-ghost use Rattle.fd_capture.specs.Field.{all_of, array_of, between, colour_of, list_of, within_32, number_between, signed_32, unsigned_32, vertex_of};
+ghost use Rattle.fd_capture.specs.Field.{all_of, array_of, between, colour_of_data, list_of, within_32, number_between, signed_32, unsigned_32, vertex_of};
 ghost use Rattle.fd_capture.specs.Streamed.{colour_from, vertex_from};
 
 use arrayvec::ArrayVec;
@@ -138,7 +138,7 @@ fn colour_from(channels: &[u8]) -> Option<Colour>
 
 /// The next value as a colour.
 fn colour(reader: &mut Reader<'_>, depth: usize) -> Result<Option<Colour>, Stop>
-    ensures ok { IfOk result (λ c. (d : Data) × (taken depth reader.old ≡ Some (d, reader.new)) × (c ≡ colour_of d)) }
+    ensures ok { IfOk result (λ c. (d : Data) × (taken depth reader.old ≡ Some (d, reader.new)) × (c ≡ colour_of_data d)) }
     ensures refused { result ≡ Err Stop.NotJson → taken depth reader.old ≡ None }
     ensures shorter { OnOk result (length reader.new < length reader.old) }
 {

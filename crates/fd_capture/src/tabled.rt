@@ -6,7 +6,7 @@ ghost use Rattle.serde_json.specs.View.{view};
 ghost use Rattle.fd_snap.specs.Limits.{most_pixels};
 ghost use Rattle.fd_events.specs.Table.{is_side};
 ghost use Rattle.fd_capture.specs.Fault.{Gives};
-ghost use Rattle.fd_capture.specs.Field.{number_between, number_at};
+ghost use Rattle.fd_capture.specs.Field.{number_between, number_member};
 ghost use Rattle.fd_capture.specs.Capture.{table_of_value};
 ghost use Rattle.fd_capture.specs.Head.{listed_from, table_from, AreOf, IsReadIn, HasHead};
 
@@ -33,7 +33,7 @@ fn listed(
 
 /// The version, if it is 1 or 2.
 pub(crate) fn version(capture: &Value) -> Option<u32>
-    ensures value { result ≡ number_at "version" 1 2 (view capture.now) }
+    ensures value { result ≡ number_member "version" 1 2 (view capture.now) }
     ensures within { IfSome result (λ version. (1 ≤ version) × (version ≤ 2)) }
 {
     number(capture.get("version")?, 1, 2)
@@ -53,7 +53,7 @@ fn table_from(
     capture: &Value,
     events: Option<Result<Vec<Event>, CaptureFault>>,
 ) -> Result<EventTable, CaptureFault>
-    requires { IfSome events (λ read. IfSome (number_at "version" 1 2 (view capture.now)) (λ version. AreOf version read)) }
+    requires { IfSome events (λ read. IfSome (number_member "version" 1 2 (view capture.now)) (λ version. AreOf version read)) }
     ensures { Gives (λ table. table) result (table_from (view capture.now) events) }
 {
     let events = listed(capture, events).ok_or(CaptureFault::NotCapture)?;
@@ -66,7 +66,7 @@ fn table_from(
 
 /// The table of a capture whose events were read as those of its version.
 pub(crate) fn table(alloc: Global, version: u32, head: Head) -> Result<EventTable, CaptureFault>
-    requires version { IsReadIn version (number_at "version" 1 2 (view head.members)) }
+    requires version { IsReadIn version (number_member "version" 1 2 (view head.members)) }
     requires events { IfSome head.events (λ read. AreOf version read) }
     ensures { (found : Members) → HasHead version head found → Gives (λ table. table) result (table_of_value (object found)) }
 {

@@ -16,7 +16,7 @@ use Rattle.fd_cli.specs.Agreeing.{NamesMemory}
 use Rattle.fd_cli.specs.Line.{command_of}
 use Rattle.fd_cli.specs.Run.{Answers}
 use Rattle.fd_cli.specs.Text.{pixel_line, entry_list, state_line, state_text}
-use Rattle.fd_cli.specs.Transcript.{Reply, moved_to, refused, switched, replied, transcript, TranscriptRuns}
+use Rattle.fd_cli.specs.Transcript.{Reply, moved_to, refusal_reply, switched, replied, transcript, TranscriptRuns}
 
 -- ---- which replies name no memory: the third byte tells them from "stopped" and "refused", and the ninth one refusal from another
 
@@ -48,7 +48,7 @@ bad state Unknown within = ((refl, refl), free _ 100 refl refl refl, within)
 bad state Arguments within = ((refl, refl), free _ 100 refl refl refl, within)
 bad state TooLong within = ((refl, refl), free _ 100 refl refl refl, within)
 
-step : (state : State) → Within state → (b : Bool) → nat_lt state.position (length state.table.events) ≡ b → Allowed state (Ok Step) (cond b (moved_to state (state.position + 1)) (refused state AtEnd))
+step : (state : State) → Within state → (b : Bool) → nat_lt state.position (length state.table.events) ≡ b → Allowed state (Ok Step) (cond b (moved_to state (state.position + 1)) (refusal_reply state AtEnd))
 step state within true is =
     let before : state.position < length state.table.events = grind (arith, nat_tests) in
     ((Moved (state.position + 1), (before, refl, refl), refl), free _ 32 refl refl refl, omega (arith, before))
@@ -56,7 +56,7 @@ step state within false is =
     let last : state.position ≡ length state.table.events = grind (arith, nat_tests) in
     ((Refused AtEnd, (last, refl), refl), free_refusal _ 49 refl refl refl, within)
 
-back : (state : State) → Within state → (b : Bool) → nat_lt 0 state.position ≡ b → Allowed state (Ok Back) (cond b (moved_to state (state.position - 1)) (refused state AtStart))
+back : (state : State) → Within state → (b : Bool) → nat_lt 0 state.position ≡ b → Allowed state (Ok Back) (cond b (moved_to state (state.position - 1)) (refusal_reply state AtStart))
 back state within true is =
     let some : 0 < state.position = grind (arith, nat_tests) in
     ((Ok (state.position - 1), (some, omega (arith, some), refl), refl), free _ 32 refl refl refl, omega (arith, within))
@@ -64,7 +64,7 @@ back state within false is =
     let none : state.position ≡ 0 = grind (arith, nat_tests) in
     ((Err AtStart, (none, refl, refl), refl), free_refusal _ 50 refl refl refl, within)
 
-jump : (state : State) (to : ℕ) → Within state → (b : Bool) → nat_le to (length state.table.events) ≡ b → Allowed state (Ok (Goto to)) (cond b (moved_to state to) (refused state NoSuchPosition))
+jump : (state : State) (to : ℕ) → Within state → (b : Bool) → nat_le to (length state.table.events) ≡ b → Allowed state (Ok (Goto to)) (cond b (moved_to state to) (refusal_reply state NoSuchPosition))
 jump state to within true is =
     let there : to ≤ length state.table.events = grind (arith, nat_tests) in
     ((Moved to, (there, refl, refl), refl), free _ 32 refl refl refl, there)
@@ -103,7 +103,7 @@ outside a b c d is h k = grind (arith, nat_tests)
 
 pixel : (state : State) (x y : ℕ) → Within state → (b : Bool) → has_pixel state x y ≡ b
     → Allowed state (Ok (Pixel x y))
-    (cond b (pixel_line state.table.version (Ok (colour_at state.table state.position x y)) (Ok (stored_at state.table state.position x y)), state) (refused state NoSuchPixel))
+    (cond b (pixel_line state.table.version (Ok (colour_at state.table state.position x y)) (Ok (stored_at state.table state.position x y)), state) (refusal_reply state NoSuchPixel))
 pixel state x y within true is =
     let there = inside x state.table.width y state.table.height is in (
       (Ok (colour_at state.table state.position x y), Ok (stored_at state.table state.position x y), (there.0, there.1, refl), (there.0, there.1, refl), refl, refl),
@@ -115,7 +115,7 @@ pixel state x y within false is =
     ((Err NoSuchPixel, Err NoSuchPixel, (refl, none), (refl, none), refl, refl), free_refusal _ 54 refl refl refl, within)
 
 history : (state : State) (x y : ℕ) → Within state → (b : Bool) → has_pixel state x y ≡ b
-    → Allowed state (Ok (History x y)) (cond b (entry_list state.table.version (history_at state.table state.position x y), state) (refused state NoSuchPixel))
+    → Allowed state (Ok (History x y)) (cond b (entry_list state.table.version (history_at state.table state.position x y), state) (refusal_reply state NoSuchPixel))
 history state x y within true is =
     let there = inside x state.table.width y state.table.height is in
     ((Ok (history_at state.table state.position x y), (there.0, there.1, refl), refl, refl), free _ 115 refl refl refl, within)

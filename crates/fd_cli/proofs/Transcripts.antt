@@ -19,7 +19,7 @@ use Rattle.fd_cli.specs.Line.{command_of}
 use Rattle.fd_cli.specs.Run.{Answers, Run}
 use Rattle.fd_cli.specs.Show.{show_text}
 use Rattle.fd_cli.specs.Text.{number_line, refusal_line, answer_line, back_line, pixel_line, entry_list, history_text}
-use Rattle.fd_cli.specs.Transcript.{Reply, moved_to, refused, switched, at_pixel, replied, transcript, WritesUpToMemory, WritesTranscript}
+use Rattle.fd_cli.specs.Transcript.{Reply, moved_to, refusal_reply, switched, at_pixel, replied, transcript, WritesUpToMemory, WritesTranscript}
 
 -- the reply and the state are these
 abbrev pub Is : List ℕ → State → Reply → Type 0
@@ -83,11 +83,11 @@ switched_anew : (old : State) (number : ℕ) (on : Bool) → switched old number
 switched_anew old number true = refl
 switched_anew old number false = refl
 
-switched_again : (old : State) (number : ℕ) (on : Bool) → switched old number on (Some on) ≡ refused old AlreadySo
+switched_again : (old : State) (number : ℕ) (on : Bool) → switched old number on (Some on) ≡ refusal_reply old AlreadySo
 switched_again old number true = refl
 switched_again old number false = refl
 
-switched_none : (old : State) (number : ℕ) (on : Bool) → switched old number on None ≡ refused old NoSuchEvent
+switched_none : (old : State) (number : ℕ) (on : Bool) → switched old number on None ≡ refusal_reply old NoSuchEvent
 switched_none old number true = refl
 switched_none old number false = refl
 
@@ -121,7 +121,7 @@ outside x y w h none = by_tests (nat_lt x w) (nat_lt y h) refl refl
 shown : (old : State) (x y : ℕ) (text : List ℕ) (r : Reply) → x < old.table.width → y < old.table.height → r ≡ (text, old) → r ≡ at_pixel old x y text
 shown old x y text r a b e = yes _ _ _ r (inside x y _ _ a b) e
 
-hidden : (old : State) (x y : ℕ) (text : List ℕ) (r : Reply) → (x < old.table.width → y < old.table.height → ⊥) → r ≡ refused old NoSuchPixel → r ≡ at_pixel old x y text
+hidden : (old : State) (x y : ℕ) (text : List ℕ) (r : Reply) → (x < old.table.width → y < old.table.height → ⊥) → r ≡ refusal_reply old NoSuchPixel → r ≡ at_pixel old x y text
 hidden old x y text r none e = no _ _ _ r (outside x y _ _ none) e
 
 pixel_or : (old : State) (x y : ℕ) (colour : Result Colour SessionFault) (depth : Result ℕ SessionFault) (text : List ℕ) (new : State)

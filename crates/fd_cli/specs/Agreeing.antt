@@ -1,4 +1,4 @@
--- Runs in which no reply tells of a want of memory.
+-- Promised. Runs in which no reply tells of a want of memory.
 use Rattle.std.specs.Prelude.{◌≡◌, ℕ, List, [], ◌∷◌, ◌++◌, codes, ◌⊎◌}
 use Rattle.fd_session.specs.declared.answer.SessionFault.TheVariants.{Memory}
 use Rattle.fd_session.specs.Machine.{State}

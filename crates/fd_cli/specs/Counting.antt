@@ -1,4 +1,4 @@
--- What a call does to the failure counts of its reader and its writer, by how it ends, and whether all that it wrote was passed on.
+-- Promised. What a call does to the failure counts of its reader and its writer, by how it ends, and whether all that it wrote was passed on.
 use Rattle.std.specs.Prelude.{◌≡◌, ℕ, Bool, true, false}
 use Rattle.fd_pam.specs.Transfer.{CountsFailure}
 use Rattle.fd_cli.specs.declared.ending.Ending.{Ending}

@@ -1,4 +1,4 @@
--- What the calls that write one text have written, by how they end.
+-- Promised. What the calls that write one text have written, by how they end.
 use Rattle.std.specs.Prelude.{◌≡◌, ℕ, ◌<◌, ◌≤◌, List, [], ◌++◌, length, Option, Some, None, Ok}
 use Rattle.fd_capture.specs.Capture.{capture_of}
 use Rattle.fd_events.specs.Table.{Table}

@@ -1,4 +1,4 @@
--- How a call on a capture ends before it does anything else.
+-- Promised. How a call on a capture ends before it does anything else.
 use Rattle.std.specs.Prelude.{◌≡◌, ◌≢◌, ◌<◌, ℕ, List, length, Result, Ok, Err}
 use Rattle.fd_capture.specs.Capture.{capture_of}
 use Rattle.fd_capture.specs.Limits.{most_bytes}

@@ -1,4 +1,4 @@
--- What `framedbg run` writes: a function of the capture's bytes and the input's, up to the first reply that tells of a want of memory.
+-- Promised. What `framedbg run` writes: a function of the capture's bytes and the input's, up to the first reply that tells of a want of memory.
 use Rattle.std.specs.Prelude.{◌≡◌, ℕ, ◌==◌, Bool, true, false, List, [], ◌∷◌, ◌++◌, length, Result, Ok, Err, ◌⊎◌, if◌then◌else◌}
 use Rattle.std.specs.List.{slice_split}
 use Rattle.fd_events.specs.Table.{Table}
@@ -9,7 +9,7 @@ use Rattle.fd_cli.specs.declared.command.Command.TheVariants.{Quit}
 use Rattle.fd_cli.specs.declared.command.CommandFault.{CommandFault}
 use Rattle.fd_cli.specs.declared.ending.Ending.{Ending}
 use Rattle.fd_cli.specs.declared.ending.Ending.TheVariants.{Done, Capture, NoSuchPosition, Read, Write, TooMuch, Memory}
-use Rattle.fd_cli.specs.Line.{command_of, is_empty}
+use Rattle.fd_cli.specs.Line.{command_of, has_no_byte}
 use Rattle.fd_cli.specs.Serving.{ServesCapture}
 use Rattle.fd_cli.specs.Transcript.{transcript, WritesUpToMemory}
 
@@ -26,7 +26,7 @@ is_quit other = false
 -- of the pieces those that are answered: none after a quit, and not the last one where it is empty
 abbrev pub answered_of : List (List ℕ) → List (List ℕ)
 answered_of [] = []
-answered_of (line ∷ []) = if is_empty line then [] else line ∷ []
+answered_of (line ∷ []) = if has_no_byte line then [] else line ∷ []
 answered_of (line ∷ next ∷ lines) = if is_quit (command_of line) then line ∷ [] else line ∷ answered_of (next ∷ lines)
 
 -- the lines of an input that are answered

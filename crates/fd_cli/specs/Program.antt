@@ -1,4 +1,4 @@
--- What the program does once its words are read: what it takes of the input, what it writes, what it says of its ending, and its status.
+-- Promised. What the program does once its words are read: what it takes of the input, what it writes, what it says of its ending, and its status.
 use Rattle.std.specs.Prelude.{◌≡◌, ℕ, ◌≤◌, ◌<◌, List, [], length, Option, Bool, false}
 use Rattle.std.specs.Io.KnownBytes.{Consumes, Appends}
 use Rattle.fd_pam.specs.Transfer.{Puts, CountsFailure}
@@ -26,16 +26,16 @@ Does (Image workers at) capture taken written ending ended = (taken ≡ []) × W
 Does Events capture taken written ending ended = (taken ≡ []) × ListsEvents capture written ending
 
 -- what a device shows: its bytes, where it tells them, and how many of its calls failed
-pub record Shown : Type 0 where
+pub record DeviceShown : Type 0 where
   pub bytes : Option (List ℕ)
   pub failures : ℕ
 
-abbrev pub shown : Option (List ℕ) → ℕ → Shown
+abbrev pub shown : Option (List ℕ) → ℕ → DeviceShown
 shown bytes failures = record { bytes = bytes; failures = failures }
 
 -- From bytes to bytes: some of the input was taken and some output written, as the request has it; a reader or a writer failed only where the ending says so;
 -- all that was written was passed on unless the writer failed; the errors were told the ending's line, or a front of it where that device failed; and the status is the ending's.
-pub record Performs (request : Request) (capture : List ℕ) (input_old input_new output_old output_new errors_old errors_new : Shown) (flushed_old flushed_new ended : Bool) (status : ℕ) : Type 0 where
+pub record Performs (request : Request) (capture : List ℕ) (input_old input_new output_old output_new errors_old errors_new : DeviceShown) (flushed_old flushed_new ended : Bool) (status : ℕ) : Type 0 where
   pub ending : Ending
   pub taken : List ℕ
   pub written : List ℕ

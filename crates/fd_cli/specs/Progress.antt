@@ -1,4 +1,4 @@
--- How far a run has come.
+-- Working. How far a run has come.
 use Rattle.std.specs.Prelude.{◌≡◌, ℕ, ◌≤◌, ◌*◌, ◌^◌, List, ◌++◌, Result, Ok, Err, Option, true, length, take}
 use Rattle.std.specs.Io.KnownBytes.{Appends}
 use Rattle.fd_cli.specs.Limits.{most_reply_bytes}
@@ -18,8 +18,8 @@ pub record IsServing (table : Table) (input text : List ℕ) (progress : Progres
   pub sent_count : progress.sent ≡ length text
 
 -- The count of bytes sent can't overflow within the bounds of input.
-abbrev pub HasRoom : Progress → Type 0
-HasRoom progress = progress.sent ≤ most_reply_bytes * progress.lines
+abbrev pub CanCount : Progress → Type 0
+CanCount progress = progress.sent ≤ most_reply_bytes * progress.lines
 
 -- So much of the input was taken and so much was written, and the run is there, or it stops among these bytes.
 abbrev pub AfterBytes : Table → List ℕ → List ℕ → Progress → Result (Unit {0}) Ending → Type 0

@@ -1,4 +1,4 @@
--- What the program says of its ending.
+-- Promised. What the program says of its ending.
 use Rattle.std.specs.Prelude.{ℕ, List, [], ◌++◌, codes, decimal}
 use Rattle.fd_capture.specs.declared.fault.CaptureFault.{CaptureFault}
 use Rattle.fd_capture.specs.declared.fault.CaptureFault.TheVariants as fault

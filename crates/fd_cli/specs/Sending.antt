@@ -1,4 +1,4 @@
--- What was sent of a text, and what waits to be sent.
+-- Working. What was sent of a text, and what waits to be sent.
 use Rattle.std.specs.Prelude.{◌≡◌, ℕ, ◌+◌, List, ◌++◌, Option, Result, Ok, Err, false, length}
 use Rattle.std.specs.Io.KnownBytes.{Appends}
 use Rattle.fd_pam.specs.Transfer.{Puts}

@@ -1,4 +1,4 @@
--- What a run of the program takes and writes, by how it ends.
+-- Promised. What a run of the program takes and writes, by how it ends.
 use Rattle.std.specs.Prelude.{◌≡◌, ◌≢◌, ℕ, ◌<◌, ◌≤◌, List, [], ◌∷◌, ◌++◌, Result, Ok, Bool, true, codes, length, Option, ◌⊎◌}
 use Rattle.std.specs.List.{AllByRecursion}
 use Rattle.fd_cli.specs.Limits.{most_reply_bytes}

@@ -1,4 +1,4 @@
--- The reply to `show`.
+-- Promised. The reply to `show`.
 use Rattle.std.specs.Prelude.{ℕ, List, ◌++◌, codes}
 use Rattle.fd_pam.specs.Pam.{pam, pam_len}
 use Rattle.fd_session.specs.Machine.{State}

@@ -1,4 +1,4 @@
--- What a run writes where memory is there: a function of the state that it begins in, and of the lines.
+-- Promised. What a run writes where memory is there: a function of the state that it begins in, and of the lines.
 use Rattle.std.specs.Prelude.{◌≡◌, ℕ, ◌+◌, ◌-◌, ◌≤◌, List, [], ◌∷◌, ◌++◌, length, Bool, true, false, ◌&&◌, nat_lt, nat_le, Option, Some, None, Result, Ok, Err, codes, ◌⊎◌, if◌then◌else◌}
 use Rattle.fd_events.specs.Table.{flag_at}
 use Rattle.fd_events.specs.Image.{colour_at, stored_at}
@@ -22,27 +22,27 @@ Reply = List ℕ × State
 abbrev pub moved_to : State → ℕ → Reply
 moved_to state at = (number_line (codes "at") at, at_position state at)
 
-abbrev pub refused : State → SessionFault → Reply
-refused state fault = (refusal_line fault, state)
+abbrev pub refusal_reply : State → SessionFault → Reply
+refusal_reply state fault = (refusal_line fault, state)
 
 -- a switch, by the flag that the event has
 abbrev pub switched : State → ℕ → Bool → Option Bool → Reply
-switched state number on None = refused state NoSuchEvent
-switched state number true (Some true) = refused state AlreadySo
-switched state number false (Some false) = refused state AlreadySo
+switched state number on None = refusal_reply state NoSuchEvent
+switched state number true (Some true) = refusal_reply state AlreadySo
+switched state number false (Some false) = refusal_reply state AlreadySo
 switched state number true (Some false) = (number_line (codes "at") state.position, with_flag_at state number true state.position)
 switched state number false (Some true) = (number_line (codes "at") state.position, with_flag_at state number false state.position)
 
 -- the reply, where the target has the pixel
 abbrev pub at_pixel : State → ℕ → ℕ → List ℕ → Reply
-at_pixel state x y text = if nat_lt x state.table.width && nat_lt y state.table.height then (text, state) else refused state NoSuchPixel
+at_pixel state x y text = if nat_lt x state.table.width && nat_lt y state.table.height then (text, state) else refusal_reply state NoSuchPixel
 
 -- what a line that reads so is answered
 abbrev pub replied : State → Result Command CommandFault → Reply
 replied state (Err fault) = (fault_line fault, state)
-replied state (Ok Step) = if nat_lt state.position (length state.table.events) then moved_to state (state.position + 1) else refused state AtEnd
-replied state (Ok Back) = if nat_lt 0 state.position then moved_to state (state.position - 1) else refused state AtStart
-replied state (Ok (Goto to)) = if nat_le to (length state.table.events) then moved_to state to else refused state NoSuchPosition
+replied state (Ok Step) = if nat_lt state.position (length state.table.events) then moved_to state (state.position + 1) else refusal_reply state AtEnd
+replied state (Ok Back) = if nat_lt 0 state.position then moved_to state (state.position - 1) else refusal_reply state AtStart
+replied state (Ok (Goto to)) = if nat_le to (length state.table.events) then moved_to state to else refusal_reply state NoSuchPosition
 replied state (Ok (On number)) = switched state number true (flag_at state.table number)
 replied state (Ok (Off number)) = switched state number false (flag_at state.table number)
 replied state (Ok (Pixel x y)) = at_pixel state x y (pixel_line state.table.version (Ok (colour_at state.table state.position x y)) (Ok (stored_at state.table state.position x y)))

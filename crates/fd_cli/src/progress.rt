@@ -28,7 +28,7 @@ pub(crate) struct Progress {
 }
 
 impl Progress {
-    ghost use Rattle.fd_cli.specs.Progress.{HasRoom, Advances, Finishes};
+    ghost use Rattle.fd_cli.specs.Progress.{CanCount, Advances, Finishes};
 
     /// Takes one byte of the input, and answers the line that it ends.
     fn take_byte<T: Threads + Sync, W: Sink>(
@@ -38,9 +38,9 @@ impl Progress {
         byte: u8,
         sink: &mut W,
     ) -> Result<(), Ending>
-        requires { HasRoom self.old }
+        requires { CanCount self.old }
         ensures advances { Advances self.old self.new (W.contents sink.old) (W.contents sink.new) (byte ∷ []) result }
-        ensures room { OnOk result (HasRoom self.new) }
+        ensures room { OnOk result (CanCount self.new) }
         ensures ok { OnOk result (W.failure_count sink.new ≡ W.failure_count sink.old) }
         ensures passed_on { OnOk result (StaysFlushed (W.is_flushed sink.old) (W.is_flushed sink.new)) }
         ensures flushed { IfErr result (λ ending. EndsFlushed ending (W.is_flushed sink.old) (W.is_flushed sink.new)) }
@@ -71,9 +71,9 @@ impl Progress {
         bytes: &[u8],
         sink: &mut W,
     ) -> Result<(), Ending>
-        requires { HasRoom self.old }
+        requires { CanCount self.old }
         ensures advances { Advances self.old self.new (W.contents sink.old) (W.contents sink.new) bytes.now result }
-        ensures room { OnOk result (HasRoom self.new) }
+        ensures room { OnOk result (CanCount self.new) }
         ensures ok { OnOk result (W.failure_count sink.new ≡ W.failure_count sink.old) }
         ensures passed_on { OnOk result (StaysFlushed (W.is_flushed sink.old) (W.is_flushed sink.new)) }
         ensures flushed { IfErr result (λ ending. EndsFlushed ending (W.is_flushed sink.old) (W.is_flushed sink.new)) }

@@ -1,4 +1,4 @@
--- Boxes of pixels, and the box round the corners of a triangle.
+-- Working. Boxes of pixels, and the box round the corners of a triangle.
 use Rattle.std.specs.Prelude.{ℕ, ◌+◌, ◌/◌, min, max, ℤ, pos, negsuc, Bool, ◌&&◌, ◌||◌, nat_le, nat_lt, IsTrue, if◌then◌else◌}
 use Rattle.std.specs.Int.{int_min, int_max}
 use Rattle.std.specs.Ordering.{int_eq}
@@ -61,8 +61,8 @@ unfoldable pub bounds_of : Tri → Bounds
 bounds_of t = if int_eq (cross t.a t.b t.c) (pos 0) then record { left = 0; top = 0; right = 0; bottom = 0 } else corner_box t
 
 -- the smallest box that holds both
-unfoldable pub joined : Bounds → Bounds → Bounds
-joined a b =
+unfoldable pub joined_box : Bounds → Bounds → Bounds
+joined_box a b =
     if is_empty a
     then b
     else (if is_empty b

@@ -1,4 +1,4 @@
--- Which pixels a triangle covers: the top-left rule.
+-- Promised. Which pixels a triangle covers: the top-left rule.
 -- Direct3D 11.3 functional specification, section 3.4.2, triangle rasterization rules.
 use Rattle.std.specs.Prelude.{ℕ, Bool, not, ◌&&◌, ◌||◌, ℤ, pos, int_lt}
 use Rattle.std.specs.Ordering.{int_eq}

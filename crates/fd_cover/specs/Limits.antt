@@ -1,4 +1,4 @@
--- How many pixels are shaded at once.
+-- Working. How many pixels are shaded at once.
 use Rattle.std.specs.Prelude.{ℕ}
 
 -- the most pixels of a row whose colours or depths are found in one call

@@ -1,4 +1,4 @@
--- A triangle at a row of pixels, by its edges: each keeps how far a pixel's centre may go before the edge leaves it out.
+-- Working. A triangle at a row of pixels, by its edges: each keeps how far a pixel's centre may go before the edge leaves it out.
 use Rattle.std.specs.Prelude.{◌≡◌, ℕ, ◌+◌, ◌*◌, ◌^◌, ◌≤◌, ◌||◌, ℤ, pos, ◌-ℤ◌, ◌*ℤ◌, int_lt, unsigned_abs, if◌then◌else◌}
 use Rattle.fd_snap.specs.Point.{Point}
 use Rattle.fd_cover.specs.declared.triangle.Tri.{Tri}

@@ -1,4 +1,4 @@
--- The source colour of a triangle at a covered pixel, in whole numbers: the exact weighted mean, rounded once.
+-- Promised. The source colour of a triangle at a covered pixel, in whole numbers: the exact weighted mean, rounded once.
 use Rattle.std.specs.Prelude.{◌≡◌, ℕ, ◌+◌, ◌*◌, ◌/◌, ◌≤◌, unsigned_abs, List, slice_index_or}
 use Rattle.std.specs.Int.{abs_diff}
 use Rattle.fd_blend.specs.declared.channel.Colour.{Colour}

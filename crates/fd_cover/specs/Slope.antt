@@ -1,4 +1,4 @@
--- How the depths of a triangle are found along a row.
+-- Working. How the depths of a triangle are found along a row.
 use Rattle.std.specs.Prelude.{◌≡◌, ℕ, ◌*◌, ◌^◌, ◌≤◌, List}
 use Rattle.fd_cover.specs.declared.triangle.Tri.{Tri}
 use Rattle.fd_cover.specs.declared.depth_rows.Slope.{Slope}

@@ -1,5 +1,5 @@
 ghost use Rattle.std.specs.Prelude.{◌≡◌, ℕ, ℤ, IsTrue};
-ghost use Rattle.fd_cover.specs.Bounds.{is_within, is_empty, HoldsCovered, HoldsBoth, IsSmallest, corner_box, bounds_of, least, greatest, first_from, past, joined};
+ghost use Rattle.fd_cover.specs.Bounds.{is_within, is_empty, HoldsCovered, HoldsBoth, IsSmallest, corner_box, bounds_of, least, greatest, first_from, past, joined_box};
 
 use crate::triangle::Tri;
 
@@ -94,9 +94,9 @@ impl Bounds {
     }
 
     /// The smallest box that holds both.
-    #[tactic(auto, unfolding(crate::specs::Bounds::joined))]
+    #[tactic(auto, unfolding(crate::specs::Bounds::joined_box))]
     pub fn join(self, other: Bounds) -> Bounds
-        ensures value { result ≡ joined self other }
+        ensures value { result ≡ joined_box self other }
         ensures both { HoldsBoth result self other }
         ensures smallest { IsSmallest result self other }
     {

@@ -11,7 +11,7 @@ use Rattle.fd_events.specs.Table.{Table}
 use Rattle.fd_tile.specs.declared.place.Place.{Place}
 use Rattle.fd_owner.specs.History.{History, position, extend, extend_to, drop_last}
 use Rattle.fd_owner.proofs.Histories.{position_extend, extend_more, extend_none, drop_extend, position_extend_to, position_drop}
-use Rattle.fd_crew.specs.World.{Lane, Worker, World, Action, look, draw, refuse, lower, leave, home, IsIn, MayDraw, AllLeft, NoneAbove, with_worker, with_history, Steps, Runs, Opens, least_or, WentOn, CrewWorld}
+use Rattle.fd_crew.specs.World.{Lane, Worker, World, Action, look, draw, refuse, lower, leave, home, IsIn, MayDraw, AllLeft, NoneAbove, with_worker, with_history, Acts, Runs, IsOpening, least_or, WentOn, CrewWorld}
 
 abbrev At : {A : Type 0} → List A → ℕ → A → Type 0
 At l i a = get_elem? l i ≡ some a
@@ -260,7 +260,7 @@ module _ (table : Table) (o target : ℕ) (x0 : World) where
       (let long = position_drop l.history in omega arith)
       (λ w p e own out. let long = position_drop l.history in omega arith)
 
-  step_kept : (x y : World) (a : Action) → I x → Steps table x a y → I y
+  step_kept : (x y : World) (a : Action) → I x → Acts table x a y → I y
   step_kept x y (look w) i s = subst I (sym s.2) (looked x w s.0 i s.1)
   step_kept x y (draw w t) i s = subst I (sym s.3) (drawn x w t s.0 s.1 i s.2)
   step_kept x y (refuse w t) i s = subst I (sym s.3) (refused' x w t s.0 s.1 i s.2)
@@ -279,7 +279,7 @@ module _ (table : Table) (o target : ℕ) (x0 : World) where
   kin_none [] f = tt
   kin_none (l ∷ ls) f = ((went_none l, f 0 l refl), kin_none ls (λ t m e. f (suc t) m e))
 
-  opened : Opens o target x0 → I x0
+  opened : IsOpening o target x0 → I x0
   opened open' =
       let within = open'.within in
       let at_target = open'.fence in

@@ -1,4 +1,4 @@
--- What a lane shows whose place has no pixel: each of its images is empty.
+-- Working. What a lane shows whose place has no pixel: each of its images is empty.
 use Rattle.std.specs.Prelude.{ℕ, [], replicate, Option}
 use Rattle.fd_owner.specs.History.{Frame}
 use Rattle.fd_owner.specs.Shown.{Shown}

@@ -1,4 +1,4 @@
--- The rule of the fence: the word is the lowest position that a worker lowered it to, and no worker saw it lower than it is.
+-- Working. The rule of the fence: the word is the lowest position that a worker lowered it to, and no worker saw it lower than it is.
 use Rattle.std.specs.Prelude.{◌≡◌, ℕ, ◌+◌, ◌-◌, ◌/◌, ◌<◌, ◌≤◌, List, [], ◌∷◌, min}
 use mathlib.Core.Option.{some}
 use lib.ListN.{get_elem?}

@@ -1,4 +1,4 @@
--- What a run does to its lanes: what it promises of them, and what each worker hands on.
+-- Working. What a run does to its lanes: what it promises of them, and what each worker hands on.
 use Rattle.std.specs.Prelude.{◌≡◌, ℕ, ◌<◌, ◌≤◌, ◌⊎◌, List, [], ◌∷◌, Some}
 use Rattle.std.specs.List.{AllZip}
 use Rattle.fd_events.specs.Table.{Table}

@@ -1,4 +1,4 @@
--- Which worker owns which lanes.
+-- Working. Which worker owns which lanes.
 use Rattle.std.specs.Prelude.{ℕ, ◌+◌, ◌-◌, ◌*◌, ◌/◌, ◌<◌, ◌≤◌, min, List, take, drop, slice_get}
 use Rattle.std.specs.Option.{option_map_or}
 use Rattle.fd_crew.specs.declared.part.Part.{Part}

@@ -1,4 +1,4 @@
--- Seats at a fence.
+-- Working. Seats at a fence.
 use Rattle.std.specs.Prelude.{◌≡◌, ℕ, []}
 use Rattle.atomic_table.specs.declared.shared.Seat.{Seat}
 use Rattle.fd_crew.specs.declared.fence.View.{View}

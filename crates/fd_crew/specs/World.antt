@@ -1,4 +1,4 @@
--- The world of a crew: lanes, the workers that own them, and a fence that only goes down. The workers' steps may come in any order.
+-- Working. The world of a crew: lanes, the workers that own them, and a fence that only goes down. The workers' steps may come in any order.
 use Rattle.std.specs.Prelude.{◌≡◌, ℕ, ◌<◌, ◌≤◌, Bool, true, false, List, [], ◌∷◌, min, slice_set}
 use mathlib.Core.Option.{Option, none, some}
 use lib.ListN.{get_elem?}
@@ -65,25 +65,25 @@ abbrev pub with_history : World → ℕ → Lane → History → World
 with_history x t l h = record { lanes = slice_set x.lanes t (record { owner = l.owner; place = l.place; history = h }); workers = x.workers; fence = x.fence; refused = x.refused }
 
 -- one allowed action, from the world x to the world y
-abbrev pub Steps : Table → World → Action → World → Type 0
-Steps table x (look w) y = (p : Worker) × IsIn x w p × (y ≡ with_worker x w (record { seen = x.fence; owed = p.owed; left = false }))
-Steps table x (draw w t) y = (p : Worker) × (l : Lane) × MayDraw x w t p l × (y ≡ with_history x t l (extend table l.place l.history))
-Steps table x (refuse w t) y =
+abbrev pub Acts : Table → World → Action → World → Type 0
+Acts table x (look w) y = (p : Worker) × IsIn x w p × (y ≡ with_worker x w (record { seen = x.fence; owed = p.owed; left = false }))
+Acts table x (draw w t) y = (p : Worker) × (l : Lane) × MayDraw x w t p l × (y ≡ with_history x t l (extend table l.place l.history))
+Acts table x (refuse w t) y =
     (p : Worker) × (l : Lane) × MayDraw x w t p l
     × (y ≡ record { lanes = x.lanes; workers = slice_set x.workers w (record { seen = p.seen; owed = some (position l.history); left = false }); fence = x.fence; refused = position l.history ∷ x.refused })
-Steps table x (lower w) y =
+Acts table x (lower w) y =
     (p : Worker) × (at : ℕ) × IsIn x w p × (p.owed ≡ some at)
     × (y ≡ record { lanes = x.lanes; workers = slice_set x.workers w (record { seen = min x.fence at; owed = none; left = false }); fence = min x.fence at; refused = x.refused })
-Steps table x (leave w) y = (p : Worker) × MayLeave x w p × (y ≡ with_worker x w (record { seen = p.seen; owed = none; left = true }))
-Steps table x (home t) y = (l : Lane) × AllLeft x × (get_elem? x.lanes t ≡ some l) × (x.fence < position l.history) × (y ≡ with_history x t l (drop_last l.history))
+Acts table x (leave w) y = (p : Worker) × MayLeave x w p × (y ≡ with_worker x w (record { seen = p.seen; owed = none; left = true }))
+Acts table x (home t) y = (l : Lane) × AllLeft x × (get_elem? x.lanes t ≡ some l) × (x.fence < position l.history) × (y ≡ with_history x t l (drop_last l.history))
 
 -- one allowed action after the other
 abbrev pub Runs : Table → World → List Action → World → Type 0
 Runs table x [] y = x ≡ y
-Runs table x (a ∷ actions) y = (z : World) × Steps table x a z × Runs table z actions y
+Runs table x (a ∷ actions) y = (z : World) × Acts table x a z × Runs table z actions y
 
 -- a world at its opening: all lanes at one position, each with an owner; all workers see the fence, which is at the target
-pub record Opens (opening target : ℕ) (x : World) : Type 0 where
+pub record IsOpening (opening target : ℕ) (x : World) : Type 0 where
   pub within : opening ≤ target
   pub fence : x.fence ≡ target
   pub refused : x.refused ≡ []
@@ -108,6 +108,6 @@ pub record WentOn (table : Table) (old new : Lane) : Type 0 where
 -- When all workers have left and no lane is above the fence, all lanes stand at the fence: at the target, or at the least position at which one refused.
 abbrev pub CrewWorld : Type 0
 CrewWorld =
-    (table : Table) (opening target : ℕ) (x y : World) (actions : List Action) → Opens opening target x → Runs table x actions y
+    (table : Table) (opening target : ℕ) (x y : World) (actions : List Action) → IsOpening opening target x → Runs table x actions y
     → AllZip (WentOn table) x.lanes y.lanes
     × (AllLeft y → NoneAbove y → ((t : ℕ) (l : Lane) → get_elem? y.lanes t ≡ some l → position l.history ≡ y.fence) × (y.fence ≡ least_or target y.refused))

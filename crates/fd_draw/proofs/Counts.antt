@@ -7,8 +7,8 @@ use Rattle.fd_cover.specs.declared.bounds.Bounds.{Bounds}
 use Rattle.fd_cover.specs.Bounds.{is_within}
 use Rattle.fd_tile.specs.declared.place.Place.{Place}
 use Rattle.fd_tile.specs.Place.{Holds, HasRow}
-use Rattle.fd_draw.specs.Area.{IsInside, IsPart, IsWrittenIn, place_in}
-use Rattle.fd_draw.specs.Demand.{total, row_pixels, row_spans, pixels_in, spans_in}
+use Rattle.fd_draw.specs.Area.{LiesIn, IsPartOfBox, IsWrittenIn, place_of_box}
+use Rattle.fd_draw.specs.Demand.{total, written_in_row, row_spans, pixels_in, spans_in}
 use Rattle.fd_draw.specs.Span.{IsRowSpan, in_span}
 use Rattle.fd_draw.specs.Writing.{in_row}
 use Rattle.fd_draw.proofs.Areas.{within_from, outside_row, outside_column}
@@ -100,17 +100,17 @@ no_pixel : (written : ℕ → ℕ → Bool) (y left width : ℕ) → ((x : ℕ) 
 no_pixel written y left width none = total_nothing (λ x. cond (written x y) 1 0) left width (λ x low high. ap (λ b. cond b 1 0) (none x low high))
 
 -- a row with a span, or without one
-pub row_pixels-span : (written : ℕ → ℕ → Bool) (p : Place) (y first last : ℕ) → IsRowSpan (λ x. written x y) p.left (p.left + p.width) (Some (first, last))
-    → row_pixels written p y ≡ last - first
-row_pixels-span written p y first last span =
+pub written_in_row-span : (written : ℕ → ℕ → Bool) (p : Place) (y first last : ℕ) → IsRowSpan (λ x. written x y) p.left (p.left + p.width) (Some (first, last))
+    → written_in_row written p y ≡ last - first
+written_in_row-span written p y first last span =
     total_span (λ x. written x y) first last p.left p.width span.same
     ∙ omega (arith, span.bounds.0, span.bounds.1, span.bounds.2)
 
-pub row_pixels-none : (written : ℕ → ℕ → Bool) (p : Place) (y : ℕ) → IsRowSpan (λ x. written x y) p.left (p.left + p.width) None → row_pixels written p y ≡ 0
-row_pixels-none written p y span = no_pixel written y p.left p.width span.same
+pub written_in_row-none : (written : ℕ → ℕ → Bool) (p : Place) (y : ℕ) → IsRowSpan (λ x. written x y) p.left (p.left + p.width) None → written_in_row written p y ≡ 0
+written_in_row-none written p y span = no_pixel written y p.left p.width span.same
 
-pub row_pixels-le : (written : ℕ → ℕ → Bool) (p : Place) (y : ℕ) → row_pixels written p y ≤ p.width
-row_pixels-le written p y = total_le (λ x. written x y) p.left p.width
+pub written_in_row-le : (written : ℕ → ℕ → Bool) (p : Place) (y : ℕ) → written_in_row written p y ≤ p.width
+written_in_row-le written p y = total_le (λ x. written x y) p.left p.width
   where
     total_le : (f : ℕ → Bool) (a n : ℕ) → total (λ x. cond (f x) 1 0) a n ≤ n
     total_le f a zero = omega arith
@@ -130,13 +130,13 @@ and_true a b is = rw is refl
 
 -- the span of a box's columns is one of the place that the box takes
 pub box_span : (covered : ℕ → ℕ → Bool) (box : Bounds) (y : ℕ) (span : Option (ℕ × ℕ)) → box.left ≤ box.right → IsRowSpan (λ x. covered x y) box.left box.right span
-    → IsRowSpan (λ x. covered x y) (place_in box).left ((place_in box).left + (place_in box).width) span
+    → IsRowSpan (λ x. covered x y) (place_of_box box).left ((place_of_box box).left + (place_of_box box).width) span
 box_span covered box y span order is =
     let right : box.left + (box.right - box.left) ≡ box.right = omega arith in
     rw right is
 
 -- a part of a box lies in the place that the box takes, and in each that the box lies in
-pub part_of_box : (part box : Bounds) → box.left ≤ box.right → box.top ≤ box.bottom → IsPart part box → IsInside part (place_in box)
+pub part_of_box : (part box : Bounds) → box.left ≤ box.right → box.top ≤ box.bottom → IsPartOfBox part box → LiesIn part (place_of_box box)
 part_of_box part box columns rows is = record {
   from_left = is.from_left;
   columns = omega (arith, is.columns);
@@ -147,18 +147,18 @@ part_of_box part box columns rows is = record {
 }
 
 -- no pixel is written in rows outside the box
-module _ (written covered : ℕ → ℕ → Bool) (p : Place) (box : Bounds) (inside : IsInside box p) (is : IsWrittenIn written covered p box) where
-  pub row_pixels-outside : (y : ℕ) → p.top ≤ y → y < p.top + p.height → (y < box.top) ⊎ (box.bottom ≤ y) → row_pixels written p y ≡ 0
-  row_pixels-outside y from to out =
+module _ (written covered : ℕ → ℕ → Bool) (p : Place) (box : Bounds) (inside : LiesIn box p) (is : IsWrittenIn written covered p box) where
+  pub written_in_row-outside : (y : ℕ) → p.top ≤ y → y < p.top + p.height → (y < box.top) ⊎ (box.bottom ≤ y) → written_in_row written p y ≡ 0
+  written_in_row-outside y from to out =
       no_pixel written y p.left p.width
       (λ x low high. is x y (record { from_left = low; to_right = high; from_top = from; to_bottom = to }) ∙ and_false (is_within box x y) (covered x y) (outside_row box x y out))
 
   pub row_spans-outside : (y : ℕ) → p.top ≤ y → y < p.top + p.height → (y < box.top) ⊎ (box.bottom ≤ y) → row_spans written p y ≡ 0
-  row_spans-outside y from to out = omega (arith, row_pixels-outside y from to out)
+  row_spans-outside y from to out = omega (arith, written_in_row-outside y from to out)
 
   -- in the others, those that are covered in it
-  row_pixels-inside : (y : ℕ) → box.top ≤ y → y < box.bottom → row_pixels written p y ≡ row_pixels covered (place_in box) y
-  row_pixels-inside y from to =
+  written_in_row-inside : (y : ℕ) → box.top ≤ y → y < box.bottom → written_in_row written p y ≡ written_in_row covered (place_of_box box) y
+  written_in_row-inside y from to =
       let held : (x : ℕ) → p.left ≤ x → x < p.left + p.width → Holds p x y =
       λ x low high. record { from_left = low; to_right = high; from_top = omega (arith, inside.from_top); to_bottom = omega (arith, inside.to_bottom) } in
       total_cut (λ x. cond (written x y) 1 0) p.left p.width box.left (box.right - box.left) inside.from_left (omega (arith, inside.columns, inside.to_right))
@@ -178,10 +178,10 @@ module _ (written covered : ℕ → ℕ → Bool) (p : Place) (box : Bounds) (in
   under y (inr high) = inr (omega (arith, inside.rows))
 
   -- the rows of the box are enough
-  pub pixels_in-rows : pixels_in written p ≡ total (row_pixels written p) box.top (box.bottom - box.top)
+  pub pixels_in-rows : pixels_in written p ≡ total (written_in_row written p) box.top (box.bottom - box.top)
   pixels_in-rows =
-      total_cut (row_pixels written p) p.top p.height box.top (box.bottom - box.top) inside.from_top (omega (arith, inside.rows, inside.to_bottom))
-      (λ y from to out. row_pixels-outside y from to (under y out))
+      total_cut (written_in_row written p) p.top p.height box.top (box.bottom - box.top) inside.from_top (omega (arith, inside.rows, inside.to_bottom))
+      (λ y from to out. written_in_row-outside y from to (under y out))
 
   pub spans_in-rows : spans_in written p ≡ total (row_spans written p) box.top (box.bottom - box.top)
   spans_in-rows =
@@ -189,37 +189,37 @@ module _ (written covered : ℕ → ℕ → Bool) (p : Place) (box : Bounds) (in
       (λ y from to out. row_spans-outside y from to (under y out))
 
   -- and what is covered in it
-  pub pixels_in-box : pixels_in written p ≡ pixels_in covered (place_in box)
+  pub pixels_in-box : pixels_in written p ≡ pixels_in covered (place_of_box box)
   pixels_in-box =
       pixels_in-rows
-      ∙ total_same (row_pixels written p) (row_pixels covered (place_in box)) box.top (box.bottom - box.top) (λ y from to. row_pixels-inside y from (omega (arith, inside.rows)))
+      ∙ total_same (written_in_row written p) (written_in_row covered (place_of_box box)) box.top (box.bottom - box.top) (λ y from to. written_in_row-inside y from (omega (arith, inside.rows)))
 
-  pub spans_in-box : spans_in written p ≡ spans_in covered (place_in box)
+  pub spans_in-box : spans_in written p ≡ spans_in covered (place_of_box box)
   spans_in-box =
       spans_in-rows
-      ∙ total_same (row_spans written p) (row_spans covered (place_in box)) box.top (box.bottom - box.top) (λ y from to. ap (λ n. min 1 n) (row_pixels-inside y from (omega (arith, inside.rows))))
+      ∙ total_same (row_spans written p) (row_spans covered (place_of_box box)) box.top (box.bottom - box.top) (λ y from to. ap (λ n. min 1 n) (written_in_row-inside y from (omega (arith, inside.rows))))
 
 -- nothing is written
 module _ (written : ℕ → ℕ → Bool) (p : Place) (none : (x y : ℕ) → Holds p x y → written x y ≡ false) where
-  no_row : (y : ℕ) → p.top ≤ y → y < p.top + p.height → row_pixels written p y ≡ 0
+  no_row : (y : ℕ) → p.top ≤ y → y < p.top + p.height → written_in_row written p y ≡ 0
   no_row y from to = no_pixel written y p.left p.width (λ x low high. none x y (record { from_left = low; to_right = high; from_top = from; to_bottom = to }))
 
   pub pixels_in-nothing : pixels_in written p ≡ 0
-  pixels_in-nothing = total_nothing (row_pixels written p) p.top p.height no_row
+  pixels_in-nothing = total_nothing (written_in_row written p) p.top p.height no_row
 
   pub spans_in-nothing : spans_in written p ≡ 0
   spans_in-nothing = total_nothing (row_spans written p) p.top p.height (λ y from to. omega (arith, no_row y from to))
 
 -- one row is written
 module _ (written : ℕ → ℕ → Bool) (p : Place) (y : ℕ) (crossed : HasRow p y) where
-  other_row : (k : ℕ) → (k < y) ⊎ (y + 1 ≤ k) → row_pixels (in_row written y) p k ≡ 0
+  other_row : (k : ℕ) → (k < y) ⊎ (y + 1 ≤ k) → written_in_row (in_row written y) p k ≡ 0
   other_row k out = no_pixel (in_row written y) k p.left p.width (λ x low high. and_false (eqb k y) (written x k) (ne_eqb k y (apart out)))
     where
       apart : (k < y) ⊎ (y + 1 ≤ k) → k ≡ y → ⊥
       apart (inl low) same = absurd (omega arith)
       apart (inr high) same = absurd (omega arith)
 
-  this_row : row_pixels (in_row written y) p y ≡ row_pixels written p y
+  this_row : written_in_row (in_row written y) p y ≡ written_in_row written p y
   this_row = total_same (λ x. cond (in_row written y x y) 1 0) (λ x. cond (written x y) 1 0) p.left p.width (λ x low high. ap (λ b. cond b 1 0) (and_true (eqb y y) (written x y) (eq-eqb y y refl)))
 
   one_row : (f : ℕ → ℕ) → ((k : ℕ) → (k < y) ⊎ (y + 1 ≤ k) → f k ≡ 0) → total f p.top p.height ≡ f y
@@ -227,22 +227,22 @@ module _ (written : ℕ → ℕ → Bool) (p : Place) (y : ℕ) (crossed : HasRo
       let alone : total f y 1 ≡ f y + 0 = refl in
       total_cut f p.top p.height y 1 crossed.from_top (omega (arith, crossed.to_bottom)) (λ k from to out. none k out) ∙ omega (arith, alone)
 
-  pub pixels_in-row : pixels_in (in_row written y) p ≡ row_pixels written p y
-  pixels_in-row = one_row (row_pixels (in_row written y) p) other_row ∙ this_row
+  pub pixels_in-row : pixels_in (in_row written y) p ≡ written_in_row written p y
+  pixels_in-row = one_row (written_in_row (in_row written y) p) other_row ∙ this_row
 
   pub spans_in-row : spans_in (in_row written y) p ≡ row_spans written p y
   spans_in-row = one_row (row_spans (in_row written y) p) (λ k out. omega (arith, other_row k out)) ∙ ap (λ n. min 1 n) this_row
 
 -- everything is written
-pub row_pixels-all : (p : Place) (y : ℕ) → row_pixels (λ _ _. true) p y ≡ p.width
-row_pixels-all p y = total_constant 1 p.left p.width ∙ omega arith
+pub written_in_row-all : (p : Place) (y : ℕ) → written_in_row (λ _ _. true) p y ≡ p.width
+written_in_row-all p y = total_constant 1 p.left p.width ∙ omega arith
 
 pub pixels_in-all : (p : Place) → pixels_in (λ _ _. true) p ≡ p.width * p.height
 pixels_in-all p =
-    total_same (row_pixels (λ _ _. true) p) (λ _. p.width) p.top p.height (λ y from to. row_pixels-all p y)
+    total_same (written_in_row (λ _ _. true) p) (λ _. p.width) p.top p.height (λ y from to. written_in_row-all p y)
     ∙ total_constant p.width p.top p.height ∙ grind arith
 
 pub spans_in-all : (p : Place) → 1 ≤ p.width → spans_in (λ _ _. true) p ≡ p.height
 spans_in-all p some =
-    total_same (row_spans (λ _ _. true) p) (λ _. 1) p.top p.height (λ y from to. omega (arith, some, row_pixels-all p y))
+    total_same (row_spans (λ _ _. true) p) (λ _. 1) p.top p.height (λ y from to. omega (arith, some, written_in_row-all p y))
     ∙ total_constant 1 p.top p.height ∙ omega arith

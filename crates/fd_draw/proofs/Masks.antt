@@ -6,7 +6,7 @@ use mir.Syntax.{w16, w64}
 use Rattle.std.specs.Int.{trailing_zeros, trailing_ones, bit_at}
 use Rattle.std.proofs.lemmas.Bool.{cases_lt}
 use Rattle.std.proofs.lemmas.Simd.{length-zip2, get_or-zip2, tops_compared, mask_l-lt, mask_l-mod, bit_mask_l}
-use Rattle.fd_draw.specs.Mask.{is_set}
+use Rattle.fd_draw.specs.Mask.{has_bit}
 
 is_one : (b : Bool) → eqb (cond b 1 0) 1 ≡ b
 is_one true = refl
@@ -23,9 +23,9 @@ module _ (t : ℕ → ℕ → Bool) (xs ys : List ℕ) (long : length xs ≡ 32)
   pub lanes_are : lanes ≡ mask_l (zip2 t xs ys)
   lanes_are = ap (λ ms. mask_l ms % 18446744073709551616) (tops_compared w16 t xs ys) ∙ mask_l-mod (zip2 t xs ys) 64 (omega (arith, size))
 
-  pub lane_set : (k : ℕ) → k < 32 → is_set lanes k ≡ t (get_or xs k 0) (get_or ys k 0)
+  pub lane_set : (k : ℕ) → k < 32 → has_bit lanes k ≡ t (get_or xs k 0) (get_or ys k 0)
   lane_set k low =
-      ap (λ m. is_set m k) lanes_are ∙ ap (λ n. eqb n 1) (bit_mask_l (zip2 t xs ys) k) ∙ is_one (get_or (zip2 t xs ys) k false)
+      ap (λ m. has_bit m k) lanes_are ∙ ap (λ n. eqb n 1) (bit_mask_l (zip2 t xs ys) k) ∙ is_one (get_or (zip2 t xs ys) k false)
       ∙ get_or-zip2 t xs ys k 0 0 false (omega (arith, long)) (omega (arith, as_long))
 
   pub lanes_bound : lanes < 2 ^ 32
@@ -35,11 +35,11 @@ module _ (t : ℕ → ℕ → Bool) (xs ys : List ℕ) (long : length xs ≡ 32)
       subst_bound h = rw size at h
 
 -- all of 32 bits
-pub ones_set : (k : ℕ) → k < 32 → is_set 4294967295 k ≡ true
+pub ones_set : (k : ℕ) → k < 32 → has_bit 4294967295 k ≡ true
 ones_set k low = ap (λ n. eqb n 1) (bit_at_ones 32 k low)
 
 -- the lowest bit is that of the remainder by 2
-pub lowest_set : (n : ℕ) → is_set n 0 ≡ eqb (n % 2) 1
+pub lowest_set : (n : ℕ) → has_bit n 0 ≡ eqb (n % 2) 1
 lowest_set n = ap (λ m. eqb m 1) (bit_at_lowest n)
 
 -- the run of equal bits that begins with the lowest
@@ -66,12 +66,12 @@ module _ (n : ℕ) (small : n < 2 ^ 32) where
             absurd (omega (arith, even, sym (bit_at_lowest n) ∙ lowest))
       ]
 
-  pub ones_alike : n % 2 ≡ 1 → (k : ℕ) → k < trailing_ones w64 n → is_set n k ≡ is_set n 0
+  pub ones_alike : n % 2 ≡ 1 → (k : ℕ) → k < trailing_ones w64 n → has_bit n k ≡ has_bit n 0
   ones_alike odd k low =
       let found = bit_at-trailing_ones w64 n (omega arith) in
       ap (λ m. eqb m 1) (found.2 k low ∙ sym (bit_at_lowest n ∙ odd))
 
-  pub zeros_alike : 0 < n → n % 2 ≡ 0 → (k : ℕ) → k < trailing_zeros w64 n → is_set n k ≡ is_set n 0
+  pub zeros_alike : 0 < n → n % 2 ≡ 0 → (k : ℕ) → k < trailing_zeros w64 n → has_bit n k ≡ has_bit n 0
   zeros_alike some even k low =
       let found = bit_at-trailing_zeros w64 n some (omega arith) in
       ap (λ m. eqb m 1) (found.2 k low ∙ sym (bit_at_lowest n ∙ even))

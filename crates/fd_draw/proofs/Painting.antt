@@ -14,7 +14,7 @@ use Rattle.fd_cover.specs.declared.bounds.Bounds.{Bounds}
 use Rattle.fd_cover.specs.Bounds.{is_within}
 use Rattle.fd_tile.specs.declared.place.Place.{Place}
 use Rattle.fd_tile.specs.Place.{Holds, HasRow}
-use Rattle.fd_tile.specs.Tile.{Pixel, fresh_pixel, TileImage, IsTileImage, with_row_in, row_of, depth_row_of, colour_of, depth_of, pixel_of, with_row_left}
+use Rattle.fd_tile.specs.Tile.{Pixel, fresh_pixel, TileImage, IsTileImage, with_row_in, row_of, depth_row_of, colour_in, depth_in, pixel_of, with_row_left}
 use Rattle.fd_tile.proofs.Pixels.{length-row_in, row_in-same, row_in-other, left_row_is, with_row_in-as_it_is, FillsPlace-with_row_in}
 use Rattle.fd_undo.specs.Frame.{KeptPixel, kept_at, kept_row, top, older}
 use Rattle.fd_undo.specs.Undo.{Undo, with_kept}
@@ -22,8 +22,8 @@ use Rattle.fd_undo.proofs.KeptAt.{kept_at-append, kept_at-other_row, kept_at-bef
 use Rattle.fd_undo.proofs.Restored.{Inside}
 use Rattle.fd_undo.proofs.FrameLemmas.{top-push, older-push}
 use Rattle.fd_undo.proofs.Zips.{length-zip_equal}
-use Rattle.fd_draw.specs.Area.{IsInside, IsWrittenIn}
-use Rattle.fd_draw.specs.Writing.{Writes, after_where, kept_where, keep_each, between, in_row}
+use Rattle.fd_draw.specs.Area.{LiesIn, IsWrittenIn}
+use Rattle.fd_draw.specs.Writing.{WritesRegion, after_where, kept_where, keep_each, columns_between, in_row}
 use Rattle.fd_draw.specs.Paints.{Paints}
 use Rattle.fd_draw.specs.Row.{changed_row}
 use Rattle.fd_draw.specs.Span.{IsRowSpan, in_span}
@@ -130,9 +130,9 @@ module _ (paint : ℕ → ℕ → Pixel → Pixel) (keep : ℕ → ℕ → Pixel
       (λ x y c held. sym (ap (λ b. cond b (keep x y c) []) (none x y held)))
       (Paints-nothing t u filled begun)
 
-  pub Writes-nothing : (spans pixels : ℕ) (written : ℕ → ℕ → Bool) (t : TileImage) (u : Undo) → IsTileImage t → u.frame_left ≡ false → ((x y : ℕ) → Holds t.place x y → written x y ≡ false)
-      → Writes spans pixels written paint keep t u t u
-  Writes-nothing spans pixels written t u filled begun none =
+  pub WritesRegion-nothing : (spans pixels : ℕ) (written : ℕ → ℕ → Bool) (t : TileImage) (u : Undo) → IsTileImage t → u.frame_left ≡ false → ((x y : ℕ) → Holds t.place x y → written x y ≡ false)
+      → WritesRegion spans pixels written paint keep t u t u
+  WritesRegion-nothing spans pixels written t u filled begun none =
       record {
         painted = Paints-unwritten written t u filled begun none;
         spans = omega arith;
@@ -239,13 +239,13 @@ module _ (written : ℕ → ℕ → Bool) (paint : ℕ → ℕ → Pixel → Pix
 
   pixel_of' : (x : ℕ) → pixel_of t' x y ≡ pair_at t cs ds x
   pixel_of' x =
-      ap (λ r. (get_or r (x - t.place.left) fresh, depth_of t' x y)) (row_in-same t.place t.rows y filled.colours crossed cs)
+      ap (λ r. (get_or r (x - t.place.left) fresh, depth_in t' x y)) (row_in-same t.place t.rows y filled.colours crossed cs)
       ∙ ap (λ r. (get_or cs (x - t.place.left) fresh, get_or r (x - t.place.left) 65535)) (row_in-same t.place t.depths y filled.depths crossed ds)
 
   other_pixel : (x z : ℕ) → Holds t.place x z → z ≢ y → pixel_of t' x z ≡ pixel_of t x z
   other_pixel x z held other =
-      ap (λ r. (get_or r (x - t.place.left) fresh, depth_of t' x z)) (row_in-other t.place t.rows y filled.colours crossed cs z held.from_top other)
-      ∙ ap (λ r. (colour_of t x z, get_or r (x - t.place.left) 65535)) (row_in-other t.place t.depths y filled.depths crossed ds z held.from_top other)
+      ap (λ r. (get_or r (x - t.place.left) fresh, depth_in t' x z)) (row_in-other t.place t.rows y filled.colours crossed cs z held.from_top other)
+      ∙ ap (λ r. (colour_in t x z, get_or r (x - t.place.left) 65535)) (row_in-other t.place t.depths y filled.depths crossed ds z held.from_top other)
 
   -- what becomes of a pixel, and what is kept of it
   abbrev Right : ℕ → ℕ → Type 0
@@ -312,7 +312,7 @@ wider None x0 x1 a b low high bounds = bounds
 wider (Some s) x0 x1 a b low high bounds = (omega (arith, bounds.0), bounds.1, omega (arith, bounds.2))
 
 -- the span of what is covered in a row of a box is that of what is written in the place's row
-pub span_written : (written covered : ℕ → ℕ → Bool) (p : Place) (box : Bounds) (y : ℕ) (span : Option (ℕ × ℕ)) → IsInside box p → IsWrittenIn written covered p box
+pub span_written : (written covered : ℕ → ℕ → Bool) (p : Place) (box : Bounds) (y : ℕ) (span : Option (ℕ × ℕ)) → LiesIn box p → IsWrittenIn written covered p box
     → box.top ≤ y → y < box.bottom → IsRowSpan (λ x. covered x y) box.left box.right span → IsRowSpan (λ x. written x y) p.left (p.left + p.width) span
 span_written written covered p box y span inside is from to given = record {
   bounds = wider span box.left box.right p.left (p.left + p.width) inside.from_left inside.to_right given.bounds;
@@ -332,7 +332,7 @@ span_written written covered p box y span inside is from to given = record {
 -- p is the place as it was read, and the rows are those as they were read and lent
 module _ (paint : ℕ → ℕ → Colour → Colour) (y first last : ℕ) (t : TileImage) (u : Undo) (p : Place) (read : p ≡ t.place) (filled : IsTileImage t) (crossed : HasRow t.place y)
     (from_left : t.place.left ≤ first) (some : first < last) (to_right : last ≤ t.place.left + t.place.width) where
-  span_at : IsRowSpan (λ x. between first last x y) t.place.left (t.place.left + t.place.width) (Some (first, last))
+  span_at : IsRowSpan (λ x. columns_between first last x y) t.place.left (t.place.left + t.place.width) (Some (first, last))
   span_at = record { bounds = (from_left, some, to_right); same = λ x low high. refl }
 
   read_left : p.left ≡ t.place.left
@@ -372,7 +372,7 @@ module _ (paint : ℕ → ℕ → Colour → Colour) (y first last : ℕ) (t : T
       let in_depths : x - first < length (part (depth_row_of t y)) = omega (arith, part_len (depth_row_of t y) wide_depths) in
       get_or-zip (part (row_of t y)) (part (depth_row_of t y)) (x - first) fresh_pixel in_colours in_depths
       ∙ ap (λ c. (c, get_or (part (depth_row_of t y)) (x - first) 65535)) (part_at (row_of t y) fresh x low high)
-      ∙ ap (λ d. (colour_of t x y, d)) (part_at (depth_row_of t y) 65535 x low high)
+      ∙ ap (λ d. (colour_in t x y, d)) (part_at (depth_row_of t y) 65535 x low high)
 
   abbrev pub painted : List Colour
   painted = changed_row (λ x c. paint x y c) first (part (row_of t y))
@@ -392,17 +392,17 @@ module _ (paint : ℕ → ℕ → Colour → Colour) (y first last : ℕ) (t : T
   new_beside : (x : ℕ) → Holds t.place x y → (x < first) ⊎ (last ≤ x) → pair_at t new_row (depth_row_of t y) x ≡ pixel_of t x y
   new_beside x held (inl low) =
       let column : x - t.place.left < first - p.left = omega (arith, held.from_left, read_left) in
-      ap (λ c. (c, depth_of t x y)) (before_part (first - p.left) (last - p.left - (first - p.left)) (row_of t y) painted fits painted_len (x - t.place.left) fresh column)
+      ap (λ c. (c, depth_in t x y)) (before_part (first - p.left) (last - p.left - (first - p.left)) (row_of t y) painted fits painted_len (x - t.place.left) fresh column)
   new_beside x held (inr high) =
       let column : first - p.left + (last - p.left - (first - p.left)) ≤ x - t.place.left = omega (arith, held.from_left, read_left, span_at.bounds.0, span_at.bounds.1) in
-      ap (λ c. (c, depth_of t x y)) (past_part (first - p.left) (last - p.left - (first - p.left)) (row_of t y) painted fits painted_len (x - t.place.left) fresh column)
+      ap (λ c. (c, depth_in t x y)) (past_part (first - p.left) (last - p.left - (first - p.left)) (row_of t y) painted fits painted_len (x - t.place.left) fresh column)
 
-  new_within : (x : ℕ) → Holds t.place x y → first ≤ x → x < last → pair_at t new_row (depth_row_of t y) x ≡ (paint x y (colour_of t x y), depth_of t x y)
+  new_within : (x : ℕ) → Holds t.place x y → first ≤ x → x < last → pair_at t new_row (depth_row_of t y) x ≡ (paint x y (colour_in t x y), depth_in t x y)
   new_within x held low high =
       let place : first - p.left + (x - first) ≡ x - t.place.left = omega (arith, read_left, span_at.bounds.0) in
       let column : first + (x - first) ≡ x = omega arith in
       let short : x - first < last - p.left - (first - p.left) = omega (arith, read_left, span_at.bounds.0) in
-      ap (λ c. (c, depth_of t x y))
+      ap (λ c. (c, depth_in t x y))
       (ap (λ k. get_or new_row k fresh) (sym place)
       ∙ in_part (first - p.left) (last - p.left - (first - p.left)) (row_of t y) painted fits painted_len (x - first) fresh short
       ∙ get_or-changed_row (λ x c. paint x y c) first (part (row_of t y)) (x - first) fresh (omega (arith, part_len (row_of t y) wide_row))
@@ -411,7 +411,7 @@ module _ (paint : ℕ → ℕ → Colour → Colour) (y first last : ℕ) (t : T
   pub Paints-code : (row lent pixels : List Colour) (deep : List ℕ) (u'' : Undo) → u.frame_left ≡ false → row ≡ row_of t y → deep ≡ depth_row_of t y → lent ≡ row_of t y
       → pixels ≡ changed_row (λ x c. paint x y c) first (part lent)
       → u'' ≡ with_kept u (kept_row first y (zip (part row) (part deep)))
-      → Paints (after_where (in_row (between first last) y) (λ x z before. (paint x z before.0, before.1))) (kept_where (in_row (between first last) y) keep_each) t u
+      → Paints (after_where (in_row (columns_between first last) y) (λ x z before. (paint x z before.0, before.1))) (kept_where (in_row (columns_between first last) y) keep_each) t u
       (with_row_left t y (put_mid (first - p.left) (last - p.left - (first - p.left)) lent pixels)) u''
   Paints-code row lent pixels deep u'' begun same same_deep same' is_painted is_kept =
       let start : ℕ = first - p.left in
@@ -426,12 +426,12 @@ module _ (paint : ℕ → ℕ → Colour → Colour) (y first last : ℕ) (t : T
       let stack : u'' ≡ with_kept u (kept_row first y old_pixels) =
       is_kept ∙ ap (λ r. with_kept u (kept_row first y (zip (part r) (part deep)))) same ∙ ap (λ d. with_kept u (kept_row first y (zip (part (row_of t y)) (part d)))) same_deep in
       let step : ℕ → ℕ → Pixel → Pixel = λ x z before. (paint x z before.0, before.1) in
-      subst (λ v. Paints (after_where (in_row (between first last) y) step) (kept_where (in_row (between first last) y) keep_each) t u v u'') (sym whole)
-      (subst (λ v. Paints (after_where (in_row (between first last) y) step) (kept_where (in_row (between first last) y) keep_each) t u (with_rows t y new_row (depth_row_of t y)) v) (sym stack)
-      (Paints-span (between first last) step y first last t u filled crossed begun span_at new_row (depth_row_of t y) old_pixels new_wide wide_depths old_long old_was new_beside new_within))
+      subst (λ v. Paints (after_where (in_row (columns_between first last) y) step) (kept_where (in_row (columns_between first last) y) keep_each) t u v u'') (sym whole)
+      (subst (λ v. Paints (after_where (in_row (columns_between first last) y) step) (kept_where (in_row (columns_between first last) y) keep_each) t u (with_rows t y new_row (depth_row_of t y)) v) (sym stack)
+      (Paints-span (columns_between first last) step y first last t u filled crossed begun span_at new_row (depth_row_of t y) old_pixels new_wide wide_depths old_long old_was new_beside new_within))
 
 -- a row of the box in which nothing is covered
-module _ (written covered : ℕ → ℕ → Bool) (y : ℕ) (t : TileImage) (box : Bounds) (inside : IsInside box t.place) (is : IsWrittenIn written covered t.place box) (from_top : box.top ≤ y) (to_bottom : y < box.bottom)
+module _ (written covered : ℕ → ℕ → Bool) (y : ℕ) (t : TileImage) (box : Bounds) (inside : LiesIn box t.place) (is : IsWrittenIn written covered t.place box) (from_top : box.top ≤ y) (to_bottom : y < box.bottom)
     (given : IsRowSpan (λ x. covered x y) box.left box.right None) where
   none_at : IsRowSpan (λ x. written x y) t.place.left (t.place.left + t.place.width) None
   none_at = span_written written covered t.place box y None inside is from_top to_bottom given
@@ -443,5 +443,5 @@ module _ (written covered : ℕ → ℕ → Bool) (y : ℕ) (t : TileImage) (box
   none_written : (x z : ℕ) → Holds t.place x z → in_row written y x z ≡ false
   none_written x z held = none_here x z held (cases_eq z y)
 
-  pub Writes-no_span : (n k : ℕ) (paint : ℕ → ℕ → Pixel → Pixel) (keep : ℕ → ℕ → Pixel → List Pixel) (u : Undo) → IsTileImage t → u.frame_left ≡ false → Writes n k (in_row written y) paint keep t u t u
-  Writes-no_span n k paint keep u filled begun = Writes-nothing paint keep n k (in_row written y) t u filled begun none_written
+  pub WritesRegion-no_span : (n k : ℕ) (paint : ℕ → ℕ → Pixel → Pixel) (keep : ℕ → ℕ → Pixel → List Pixel) (u : Undo) → IsTileImage t → u.frame_left ≡ false → WritesRegion n k (in_row written y) paint keep t u t u
+  WritesRegion-no_span n k paint keep u filled begun = WritesRegion-nothing paint keep n k (in_row written y) t u filled begun none_written

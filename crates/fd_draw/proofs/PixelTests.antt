@@ -20,20 +20,20 @@ use Rattle.fd_events.specs.declared.pipeline.Pipeline.{Pipeline}
 use Rattle.fd_events.specs.Draw.{Triangle}
 use Rattle.fd_events.specs.Image.{is_drawn, depth_of as source_depth, pixel_after_triangle, source_of}
 use Rattle.fd_tile.specs.Place.{Holds, HasRow}
-use Rattle.fd_tile.specs.Tile.{Pixel, fresh_pixel, TileImage, IsTileImage, with_row_in, with_row_left, with_depth_row, with_depth_row_left, row_of, depth_row_of, colour_of, depth_of, pixel_of}
+use Rattle.fd_tile.specs.Tile.{Pixel, fresh_pixel, TileImage, IsTileImage, with_row_in, with_row_left, with_depth_row, with_depth_row_left, row_of, depth_row_of, colour_in, depth_in, pixel_of}
 use Rattle.fd_tile.proofs.Pixels.{length-row_in, row_in-same, row_in-other, left_row_is, with_row_in-as_it_is, with_depth_row_left_is, IsTileImage-with_depth_row}
 use borrow.Rule.Slice.PartMut.{put_mid}
 use Rattle.fd_undo.specs.Frame.{kept_row}
 use Rattle.fd_undo.specs.Undo.{Undo, with_kept}
 use Rattle.fd_tile.specs.declared.place.Place.{Place}
 use Rattle.fd_draw.specs.Demand.{is_reached, pixels_in, spans_in}
-use Rattle.fd_draw.proofs.Counts.{pixels_in-row, spans_in-row, row_pixels-span, in_span-inside, in_span-after, and_false, and_true}
+use Rattle.fd_draw.proofs.Counts.{pixels_in-row, spans_in-row, written_in_row-span, in_span-inside, in_span-after, and_false, and_true}
 use Rattle.fd_draw.specs.declared.clear.Clear.TheVariants.{Colours, Depths}
 use Rattle.fd_draw.specs.Written.{cleared, kept_by_triangle}
-use Rattle.fd_draw.specs.Mask.{is_set}
+use Rattle.fd_draw.specs.Mask.{has_bit}
 use Rattle.fd_draw.specs.Paints.{Paints}
 use Rattle.fd_draw.specs.Span.{IsRowSpan}
-use Rattle.fd_draw.specs.Writing.{StoresDepths, after_where, kept_where, keep_each, between, in_row}
+use Rattle.fd_draw.specs.Writing.{StoresDepths, after_where, kept_where, keep_each, columns_between, in_row}
 use Rattle.fd_draw.proofs.Areas.{drawn_reached}
 use Rattle.fd_draw.proofs.Rows.{length-put_mid, before_part, in_part, past_part}
 use Rattle.fd_draw.proofs.Painting.{with_rows, pair_at, Paints-span, Paints-same-here, Paints-nothing, Paints-both, Paints-as}
@@ -48,20 +48,20 @@ cond_to false p other same = refl
 
 -- ---- neighbouring pixels of a row that a triangle reaches
 
-run_columns : (first last y c r : ℕ) → in_row (between first last) y c r ≡ true → (first ≤ c) × (c < last) × (r ≡ y)
+run_columns : (first last y c r : ℕ) → in_row (columns_between first last) y c r ≡ true → (first ≤ c) × (c < last) × (r ≡ y)
 run_columns first last y c r is = grind (arith, nat_tests)
 
 module _ (tri : Triangle) (interp : Interp) (s : Pipeline) (first last y : ℕ) (t : TileImage) (u : Undo) where
   abbrev Run : ℕ → ℕ → Bool
-  Run = in_row (between first last) y
+  Run = in_row (columns_between first last) y
 
   -- they all fail
-  pub Paints-failed : IsTileImage t → u.frame_left ≡ false → ((c : ℕ) → first ≤ c → c < last → is_drawn tri s c y (depth_of t c y) ≡ false)
-      → Paints (after_where (in_row (between first last) y) (pixel_after_triangle tri interp s)) (kept_where (in_row (between first last) y) (kept_by_triangle tri s)) t u t u
+  pub Paints-failed : IsTileImage t → u.frame_left ≡ false → ((c : ℕ) → first ≤ c → c < last → is_drawn tri s c y (depth_in t c y) ≡ false)
+      → Paints (after_where (in_row (columns_between first last) y) (pixel_after_triangle tri interp s)) (kept_where (in_row (columns_between first last) y) (kept_by_triangle tri s)) t u t u
   Paints-failed filled begun failed =
-      let undrawn : (c r : ℕ) → Run c r ≡ true → is_drawn tri s c r (depth_of t c r) ≡ false =
+      let undrawn : (c r : ℕ) → Run c r ≡ true → is_drawn tri s c r (depth_in t c r) ≡ false =
       λ c r here. let at = run_columns first last y c r here in rw at.2 (failed c at.0 at.1) in
-      Paints-same-here (λ c r p. p) (after_where (in_row (between first last) y) (pixel_after_triangle tri interp s)) (λ c r p. []) (kept_where (in_row (between first last) y) (kept_by_triangle tri s)) t t u u
+      Paints-same-here (λ c r p. p) (after_where (in_row (columns_between first last) y) (pixel_after_triangle tri interp s)) (λ c r p. []) (kept_where (in_row (columns_between first last) y) (kept_by_triangle tri s)) t t u u
       (λ c r inside. cond_to (Run c r) _ _ (λ here. rw (undrawn c r here) refl))
       (λ c r inside. cond_to (Run c r) _ _ (λ here. rw (undrawn c r here) refl))
       (Paints-nothing t u filled begun)
@@ -83,17 +83,17 @@ module _ (depths : List ℕ) (x y : ℕ) (t : TileImage) (filled : IsTileImage t
 
   -- what the row has for column c
   stored_at : (c : ℕ) → Holds t.place c y → (c < x) ⊎ (x ≤ c) → (c < x + length depths) ⊎ (x + length depths ≤ c)
-      → get_or stored_row (c - t.place.left) 65535 ≡ cond (between x (x + length depths) c y) (get_or depths (c - x) 65535) (depth_of t c y)
+      → get_or stored_row (c - t.place.left) 65535 ≡ cond (columns_between x (x + length depths) c y) (get_or depths (c - x) 65535) (depth_in t c y)
   stored_at c held (inl low) high =
-      let out : between x (x + length depths) c y ≡ false = grind (arith, nat_tests) in
+      let out : columns_between x (x + length depths) c y ≡ false = grind (arith, nat_tests) in
       rw out (before_part (x - t.place.left) (length depths) (depth_row_of t y) depths room refl (c - t.place.left) 65535 (omega (arith, held.from_left)))
   stored_at c held (inr low) (inl high) =
-      let in_it : between x (x + length depths) c y ≡ true = grind (arith, nat_tests) in
+      let in_it : columns_between x (x + length depths) c y ≡ true = grind (arith, nat_tests) in
       let place : x - t.place.left + (c - x) ≡ c - t.place.left = omega arith in
       rw in_it (ap (λ k. get_or stored_row k 65535) (sym place)
       ∙ in_part (x - t.place.left) (length depths) (depth_row_of t y) depths room refl (c - x) 65535 (omega arith))
   stored_at c held (inr low) (inr high) =
-      let out : between x (x + length depths) c y ≡ false = grind (arith, nat_tests) in
+      let out : columns_between x (x + length depths) c y ≡ false = grind (arith, nat_tests) in
       rw out (past_part (x - t.place.left) (length depths) (depth_row_of t y) depths room refl (c - t.place.left) 65535 (omega arith))
 
   pair_stored : (b : Bool) (p : Pixel) (d e : ℕ) → d ≡ cond b e p.1 → (p.0, d) ≡ cond b (p.0, e) p
@@ -101,16 +101,16 @@ module _ (depths : List ℕ) (x y : ℕ) (t : TileImage) (filled : IsTileImage t
   pair_stored false p d e is = ap (λ n. (p.0, n)) is
 
   pixel_stored : (c r : ℕ) → Holds t.place c r → (r ≡ y) ⊎ (r ≡ y → ⊥)
-      → pixel_of (with_depth_row t y stored_row) c r ≡ cond (in_row (between x (x + length depths)) y c r) ((pixel_of t c r).0, get_or depths (c - x) 65535) (pixel_of t c r)
+      → pixel_of (with_depth_row t y stored_row) c r ≡ cond (in_row (columns_between x (x + length depths)) y c r) ((pixel_of t c r).0, get_or depths (c - x) 65535) (pixel_of t c r)
   pixel_stored c r held (inr other) =
-      let out : in_row (between x (x + length depths)) y c r ≡ false = and_false (eqb r y) (between x (x + length depths) c r) (ne_eqb r y other) in
-      rw out (ap (λ l. (colour_of t c r, get_or l (c - t.place.left) 65535)) (row_in-other t.place t.depths y filled.depths crossed stored_row r held.from_top other))
+      let out : in_row (columns_between x (x + length depths)) y c r ≡ false = and_false (eqb r y) (columns_between x (x + length depths) c r) (ne_eqb r y other) in
+      rw out (ap (λ l. (colour_in t c r, get_or l (c - t.place.left) 65535)) (row_in-other t.place t.depths y filled.depths crossed stored_row r held.from_top other))
   pixel_stored c r held (inl same) =
       let here : Holds t.place c y = subst (λ k. Holds t.place c k) same held in
-      subst (λ k. pixel_of (with_depth_row t y stored_row) c k ≡ cond (in_row (between x (x + length depths)) y c k) ((pixel_of t c k).0, get_or depths (c - x) 65535) (pixel_of t c k)) (sym same)
-      (ap (λ l. (colour_of t c y, get_or l (c - t.place.left) 65535)) (row_in-same t.place t.depths y filled.depths crossed stored_row)
-      ∙ rw (and_true (eqb y y) (between x (x + length depths) c y) (eq-eqb y y refl))
-      (pair_stored (between x (x + length depths) c y) (pixel_of t c y) (get_or stored_row (c - t.place.left) 65535) (get_or depths (c - x) 65535) (stored_at c here (cases_lt c x) (cases_lt c (x + length depths)))))
+      subst (λ k. pixel_of (with_depth_row t y stored_row) c k ≡ cond (in_row (columns_between x (x + length depths)) y c k) ((pixel_of t c k).0, get_or depths (c - x) 65535) (pixel_of t c k)) (sym same)
+      (ap (λ l. (colour_in t c y, get_or l (c - t.place.left) 65535)) (row_in-same t.place t.depths y filled.depths crossed stored_row)
+      ∙ rw (and_true (eqb y y) (columns_between x (x + length depths) c y) (eq-eqb y y refl))
+      (pair_stored (columns_between x (x + length depths) c y) (pixel_of t c y) (get_or stored_row (c - t.place.left) 65535) (get_or depths (c - x) 65535) (stored_at c here (cases_lt c x) (cases_lt c (x + length depths)))))
 
   stored_whole : StoresDepths depths x y t (with_depth_row t y stored_row)
   stored_whole = record {
@@ -149,24 +149,24 @@ shifted_twice n a k = div-div-eq-div-mul n (2 ^ a) (2 ^ k) ∙ ap (λ m. n / m) 
 
 -- behind the pixels that are done the depths are as they were, and some in turn are drawn or not as the first of them
 module _ (tri : Triangle) (interp : Interp) (s : Pipeline) (x y done count passed : ℕ) (t t' : TileImage) (u u' : Undo)
-    (painted : Paints (after_where (in_row (between x (x + done)) y) (pixel_after_triangle tri interp s)) (kept_where (in_row (between x (x + done)) y) (kept_by_triangle tri s)) t u t' u')
+    (painted : Paints (after_where (in_row (columns_between x (x + done)) y) (pixel_after_triangle tri interp s)) (kept_where (in_row (columns_between x (x + done)) y) (kept_by_triangle tri s)) t u t' u')
     (crossed : HasRow t.place y) (from_left : t.place.left ≤ x) (to_right : x + (done + count) ≤ t.place.left + t.place.width)
-    (tests : (column : ℕ) → x ≤ column → column < x + (done + count) → is_set passed (column - x) ≡ is_drawn tri s column y (depth_of t column y))
-    (alike : (k : ℕ) → k < count → is_set (passed / 2 ^ done) k ≡ is_set (passed / 2 ^ done) 0) where
-  behind : (column : ℕ) → x + done ≤ column → column < x + (done + count) → depth_of t' column y ≡ depth_of t column y
+    (tests : (column : ℕ) → x ≤ column → column < x + (done + count) → has_bit passed (column - x) ≡ is_drawn tri s column y (depth_in t column y))
+    (alike : (k : ℕ) → k < count → has_bit (passed / 2 ^ done) k ≡ has_bit (passed / 2 ^ done) 0) where
+  behind : (column : ℕ) → x + done ≤ column → column < x + (done + count) → depth_in t' column y ≡ depth_in t column y
   behind column low high =
       let held : Holds t.place column y = record { from_left = omega arith; to_right = omega arith; from_top = crossed.from_top; to_bottom = crossed.to_bottom } in
-      let none : in_row (between x (x + done)) y column y ≡ false = and_true (eqb y y) (between x (x + done) column y) (eq-eqb y y refl) ∙ in_span-after x (x + done) column low in
+      let none : in_row (columns_between x (x + done)) y column y ≡ false = and_true (eqb y y) (columns_between x (x + done) column y) (eq-eqb y y refl) ∙ in_span-after x (x + done) column low in
       ap (λ (p : Pixel). p.1) (painted.pixels column y held ∙ ap (λ b. cond b (pixel_after_triangle tri interp s column y (pixel_of t column y)) (pixel_of t column y)) none)
 
-  rest_at : (k : ℕ) → is_set (passed / 2 ^ done) k ≡ is_set passed (done + k)
+  rest_at : (k : ℕ) → has_bit (passed / 2 ^ done) k ≡ has_bit passed (done + k)
   rest_at k = ap (λ n. eqb (n % 2) 1) (shifted_twice passed done k)
 
-  pub drawn_alike : (column : ℕ) → x + done ≤ column → column < x + (done + count) → is_drawn tri s column y (depth_of t' column y) ≡ is_set (passed / 2 ^ done) 0
+  pub drawn_alike : (column : ℕ) → x + done ≤ column → column < x + (done + count) → is_drawn tri s column y (depth_in t' column y) ≡ has_bit (passed / 2 ^ done) 0
   drawn_alike column low high =
       let place : done + (column - (x + done)) ≡ column - x = omega arith in
       ap (λ d. is_drawn tri s column y d) (behind column low high) ∙ sym (tests column (omega arith) high)
-      ∙ ap (λ k. is_set passed k) (sym place) ∙ sym (rest_at (column - (x + done)))
+      ∙ ap (λ k. has_bit passed k) (sym place) ∙ sym (rest_at (column - (x + done)))
       ∙ alike (column - (x + done)) (omega arith)
 
 -- ---- run after run of a row
@@ -187,31 +187,31 @@ module _ (paint : ℕ → ℕ → Pixel → Pixel) (keep : ℕ → ℕ → Pixel
   both_runs c = grind (arith, nat_tests)
 
   pub Paints-next : (t t' t'' : TileImage) (u u' u'' : Undo)
-      → Paints (after_where (in_row (between first middle) y) paint) (kept_where (in_row (between first middle) y) keep) t u t' u'
-      → Paints (after_where (in_row (between middle last) y) paint) (kept_where (in_row (between middle last) y) keep) t' u' t'' u''
-      → Paints (after_where (in_row (between first last) y) paint) (kept_where (in_row (between first last) y) keep) t u t'' u''
+      → Paints (after_where (in_row (columns_between first middle) y) paint) (kept_where (in_row (columns_between first middle) y) keep) t u t' u'
+      → Paints (after_where (in_row (columns_between middle last) y) paint) (kept_where (in_row (columns_between middle last) y) keep) t' u' t'' u''
+      → Paints (after_where (in_row (columns_between first last) y) paint) (kept_where (in_row (columns_between first last) y) keep) t u t'' u''
   Paints-next t t' t'' u u' u'' =
-      Paints-both paint keep (in_row (between first middle) y) (in_row (between middle last) y) (in_row (between first last) y) t t' t'' u u' u''
+      Paints-both paint keep (in_row (columns_between first middle) y) (in_row (columns_between middle last) y) (in_row (columns_between first last) y) t t' t'' u u' u''
       (λ c r. apart_columns (eqb r y) (nat_le first c && nat_lt c middle) (nat_le middle c && nat_lt c last) (not_yet c))
       (λ c r. joined_columns (eqb r y) (nat_le first c && nat_lt c middle) (nat_le middle c && nat_lt c last) (nat_le first c && nat_lt c last) (both_runs c))
 
 -- the columns of a row's span
 module _ (written : ℕ → ℕ → Bool) (p : Place) (y first last : ℕ) (crossed : HasRow p y) (span : IsRowSpan (λ x. written x y) p.left (p.left + p.width) (Some (first, last))) where
   pub row_count : pixels_in (in_row written y) p ≡ last - first
-  row_count = pixels_in-row written p y crossed ∙ row_pixels-span written p y first last span
+  row_count = pixels_in-row written p y crossed ∙ written_in_row-span written p y first last span
 
-  same_columns : (c r : ℕ) → Holds p c r → (r ≡ y) ⊎ (r ≡ y → ⊥) → in_row (between first last) y c r ≡ in_row written y c r
+  same_columns : (c r : ℕ) → Holds p c r → (r ≡ y) ⊎ (r ≡ y → ⊥) → in_row (columns_between first last) y c r ≡ in_row written y c r
   same_columns c r held (inl same) =
-      and_true (eqb r y) (between first last c r) (eq-eqb r y same)
+      and_true (eqb r y) (columns_between first last c r) (eq-eqb r y same)
       ∙ sym (span.same c held.from_left held.to_right) ∙ ap (λ k. written c k) (sym same)
       ∙ sym (and_true (eqb r y) (written c r) (eq-eqb r y same))
-  same_columns c r held (inr other) = and_false (eqb r y) (between first last c r) (ne_eqb r y other) ∙ sym (and_false (eqb r y) (written c r) (ne_eqb r y other))
+  same_columns c r held (inr other) = and_false (eqb r y) (columns_between first last c r) (ne_eqb r y other) ∙ sym (and_false (eqb r y) (written c r) (ne_eqb r y other))
 
   pub Paints-row_done : (paint : ℕ → ℕ → Pixel → Pixel) (keep : ℕ → ℕ → Pixel → List Pixel) (t t' : TileImage) (u u' : Undo) → t.place ≡ p
-      → Paints (after_where (in_row (between first last) y) paint) (kept_where (in_row (between first last) y) keep) t u t' u'
+      → Paints (after_where (in_row (columns_between first last) y) paint) (kept_where (in_row (columns_between first last) y) keep) t u t' u'
       → Paints (after_where (in_row written y) paint) (kept_where (in_row written y) keep) t u t' u'
   Paints-row_done paint keep t t' u u' placed =
-      Paints-as paint keep (in_row (between first last) y) (in_row written y) t t' u u' (λ c r held. same_columns c r (subst (λ (q : Place). Holds q c r) placed held) (cases_eq r y))
+      Paints-as paint keep (in_row (columns_between first last) y) (in_row written y) t t' u u' (λ c r held. same_columns c r (subst (λ (q : Place). Holds q c r) placed held) (cases_eq r y))
 
 -- ---- with the depth test off
 
@@ -248,7 +248,7 @@ module _ (t : TileImage) (u : Undo) (y : ℕ) (filled : IsTileImage t) (crossed 
   pub clear_spans : spans_in (in_row (λ _ _. true) y) t.place ≡ 1
   clear_spans =
       spans_in-row (λ _ _. true) t.place y crossed
-      ∙ omega (arith, row_pixels-span (λ _ _. true) t.place y t.place.left (t.place.left + t.place.width) whole_row, filled.colours.placed.wide)
+      ∙ omega (arith, written_in_row-span (λ _ _. true) t.place y t.place.left (t.place.left + t.place.width) whole_row, filled.colours.placed.wide)
 
   wide_row : length (row_of t y) ≡ t.place.width
   wide_row = length-row_in t.place t.rows y filled.colours crossed
@@ -285,7 +285,7 @@ module _ (t : TileImage) (u : Undo) (y : ℕ) (filled : IsTileImage t) (crossed 
         ∙ ap (λ depths. record { place = t.place; rows = with_row_in t.place t.rows y (replicate t.place.width colour); depths = depths }) (sym (with_row_in-as_it_is t.place t.depths y)) in
         subst (λ v. Paints (after_where (in_row (λ _ _. true) y) (λ _ _. cleared (Colours colour))) (kept_where (in_row (λ _ _. true) y) keep_each) t u v u') (sym whole)
         (Paints-whole_row (cleared (Colours colour)) (replicate t.place.width colour) (depth_row_of t y) size deep_row
-        (λ x held. ap (λ c. (c, depth_of t x y)) (get_or-replicate t.place.width (x - t.place.left) colour fresh (omega (arith, held.from_left, held.to_right)))))
+        (λ x held. ap (λ c. (c, depth_in t x y)) (get_or-replicate t.place.width (x - t.place.left) colour fresh (omega (arith, held.from_left, held.to_right)))))
 
     pub Paints-clear_depths : (depth : ℕ) (lent left : List ℕ) → lent ≡ depth_row_of t y → left ≡ replicate (length lent) depth
         → Paints (after_where (in_row (λ _ _. true) y) (λ _ _. cleared (Depths depth))) (kept_where (in_row (λ _ _. true) y) keep_each) t u (with_depth_row_left t y left) u'
@@ -298,4 +298,4 @@ module _ (t : TileImage) (u : Undo) (y : ℕ) (filled : IsTileImage t) (crossed 
         ∙ ap (λ rows. record { place = t.place; rows = rows; depths = with_row_in t.place t.depths y (replicate t.place.width depth) }) (sym (with_row_in-as_it_is t.place t.rows y)) in
         subst (λ v. Paints (after_where (in_row (λ _ _. true) y) (λ _ _. cleared (Depths depth))) (kept_where (in_row (λ _ _. true) y) keep_each) t u v u') (sym whole)
         (Paints-whole_row (cleared (Depths depth)) (row_of t y) (replicate t.place.width depth) wide_row size
-        (λ x held. ap (λ d. (colour_of t x y, d)) (get_or-replicate t.place.width (x - t.place.left) depth 65535 (omega (arith, held.from_left, held.to_right)))))
+        (λ x held. ap (λ d. (colour_in t x y, d)) (get_or-replicate t.place.width (x - t.place.left) depth 65535 (omega (arith, held.from_left, held.to_right)))))

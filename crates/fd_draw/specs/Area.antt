@@ -1,4 +1,4 @@
--- Boxes of pixels in a tile's place.
+-- Working. Boxes of pixels in a tile's place.
 use Rattle.std.specs.Prelude.{◌≡◌, ℕ, ◌+◌, ◌-◌, ◌≤◌, ◌<◌, Bool, not, ◌&&◌}
 use Rattle.fd_cover.specs.declared.bounds.Bounds.{Bounds}
 use Rattle.fd_snap.specs.Limits.{most_pixels}
@@ -17,7 +17,7 @@ abbrev pub is_closed : Raster → Rect → ℕ → ℕ → Bool
 is_closed raster rect x y = raster.scissor && not (holds rect x y)
 
 -- the box lies in the place, and no side of it is past the opposite one
-pub record IsInside (box : Bounds) (p : Place) : Type 0 where
+pub record LiesIn (box : Bounds) (p : Place) : Type 0 where
   pub from_left : p.left ≤ box.left
   pub columns : box.left ≤ box.right
   pub to_right : box.right ≤ p.left + p.width
@@ -35,7 +35,7 @@ pub record IsSmall (box : Bounds) : Type 0 where
   pub bottom : box.bottom ≤ most_pixels
 
 -- the box lies in another one and has pixels
-pub record IsPart (part box : Bounds) : Type 0 where
+pub record IsPartOfBox (part box : Bounds) : Type 0 where
   pub from_left : box.left ≤ part.left
   pub columns : part.left < part.right
   pub to_right : part.right ≤ box.right
@@ -44,12 +44,12 @@ pub record IsPart (part box : Bounds) : Type 0 where
   pub to_bottom : part.bottom ≤ box.bottom
 
 -- the box of a place's pixels
-abbrev pub box_of : Place → Bounds
-box_of p = record { left = p.left; top = p.top; right = p.left + p.width; bottom = p.top + p.height }
+abbrev pub box_of_place : Place → Bounds
+box_of_place p = record { left = p.left; top = p.top; right = p.left + p.width; bottom = p.top + p.height }
 
 -- the place that a box takes
-abbrev pub place_in : Bounds → Place
-place_in box = record { left = box.left; top = box.top; width = box.right - box.left; height = box.bottom - box.top }
+abbrev pub place_of_box : Bounds → Place
+place_of_box box = record { left = box.left; top = box.top; width = box.right - box.left; height = box.bottom - box.top }
 
 -- of the place's pixels, the box holds those that the scissor leaves
 abbrev pub IsOpen : Bounds → Raster → Rect → Place → Type 0

@@ -1,4 +1,4 @@
--- The pixels that a triangle covers in a box, row by row.
+-- Working. The pixels that a triangle covers in a box, row by row.
 use Rattle.std.specs.Prelude.{◌≡◌, ℕ, ◌+◌, ◌-◌, ◌*◌, ◌<◌, ◌≤◌, nat_lt, Option, Some, None, List, slice_index_or, if◌then◌else◌}
 use Rattle.fd_cover.specs.declared.bounds.Bounds.{Bounds}
 use Rattle.fd_cover.specs.declared.triangle.Tri.{Tri}
@@ -6,7 +6,7 @@ use Rattle.fd_cover.specs.Covers.{covers}
 use Rattle.fd_draw.specs.declared.found.Found.{Found}
 use Rattle.fd_draw.specs.declared.found.RowSpan.{RowSpan}
 use Rattle.fd_tile.specs.declared.place.TheConstants.{TILE_SIDE}
-use Rattle.fd_draw.specs.Area.{IsSmall, place_in}
+use Rattle.fd_draw.specs.Area.{IsSmall, place_of_box}
 use Rattle.fd_draw.specs.Demand.{pixels_in, spans_in}
 use Rattle.fd_draw.specs.Span.{IsRowSpan}
 
@@ -26,7 +26,7 @@ AreRowSpans t box rows bottom = (y : ℕ) → box.top ≤ y → y < bottom
 pub record IsFound (t : Tri) (f : Found) : Type 0 where
   pub small : IsSmall f.area
   pub rows : AreRowSpans t f.area f.rows f.area.bottom
-  pub spans : f.demand.spans ≡ spans_in (covers t) (place_in f.area)
-  pub pixels : f.demand.pixels ≡ pixels_in (covers t) (place_in f.area)
+  pub spans : f.demand.spans ≡ spans_in (covers t) (place_of_box f.area)
+  pub pixels : f.demand.pixels ≡ pixels_in (covers t) (place_of_box f.area)
   pub few_spans : f.demand.spans ≤ TILE_SIDE
   pub few_pixels : f.demand.pixels ≤ TILE_SIDE * TILE_SIDE

@@ -1,6 +1,6 @@
--- Numbers whose bits tell something of each pixel of a row.
+-- Working. Numbers whose bits tell something of each pixel of a row.
 use Rattle.std.specs.Prelude.{ℕ, ◌/◌, ◌%◌, ◌^◌, Bool, ◌==◌}
 
 -- bit k is 1
-abbrev pub is_set : ℕ → ℕ → Bool
-is_set mask k = (mask / 2 ^ k % 2) == 1
+abbrev pub has_bit : ℕ → ℕ → Bool
+has_bit mask k = (mask / 2 ^ k % 2) == 1

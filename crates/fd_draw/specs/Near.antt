@@ -1,4 +1,4 @@
--- Triangles that can't be drawn, as they miss what the scissor leaves of a tile.
+-- Working. Triangles that can't be drawn, as they miss what the scissor leaves of a tile.
 use Rattle.std.specs.Prelude.{◌≡◌, ℕ, ◌≤◌, ◌<◌, false, IsTrue, List, Some, slice_get}
 use Rattle.fd_cover.specs.declared.bounds.Bounds.{Bounds}
 use Rattle.fd_cover.specs.declared.triangle.Tri.{Tri}

@@ -1,4 +1,4 @@
--- What is known of an event's triangles on a place before it is drawn there.
+-- Working. What is known of an event's triangles on a place before it is drawn there.
 use Rattle.std.specs.Prelude.{◌≡◌, ℕ, ◌+◌, ◌<◌, ◌≤◌, false, List, [], ◌∷◌, Some, length, slice_get}
 use Rattle.fd_cover.specs.Covers.{covers}
 use Rattle.fd_events.specs.Bounds.{CoverNone}
@@ -11,7 +11,7 @@ use Rattle.fd_tile.specs.Place.{Holds}
 use Rattle.fd_draw.specs.declared.found.Found.{Found}
 use Rattle.fd_draw.specs.declared.plan.Planned.{Planned}
 use Rattle.fd_draw.specs.declared.plan.Plan.{Plan}
-use Rattle.fd_draw.specs.Area.{IsInside, IsWrittenIn, box_of}
+use Rattle.fd_draw.specs.Area.{LiesIn, IsWrittenIn, box_of_place}
 use Rattle.fd_draw.specs.Demand.{is_reached}
 use Rattle.fd_draw.specs.Found.{IsFound}
 use Rattle.fd_draw.specs.Triangles.{triangle_at}
@@ -27,7 +27,7 @@ AreUnreached ts s p first last = (i : ℕ) (t : Triangle) → first ≤ i → i 
 -- of the place's pixels, the triangle is reached where it covers one of the box in which it was found
 pub record IsFoundOn (t : Triangle) (s : Pipeline) (p : Place) (f : Found) : Type 0 where
   pub found : IsFound t.corners f
-  pub inside : IsInside f.area p
+  pub inside : LiesIn f.area p
   pub reached : IsWrittenIn (is_reached t s) (covers t.corners) p f.area
 
 -- the planned triangles are in the order of their numbers, and of those from number first up to number rest no other is reached
@@ -45,5 +45,5 @@ IsPlan plan other s p = Unit {0}
 -- no triangle of an event before this one covers a pixel of the place
 abbrev pub MayBeginAt : Event → Place → ℕ → Type 0
 MayBeginAt (Draw draw) p first =
-    (first ≤ length (triangles_of draw)) × CoverNone (box_of p) (triangles_of draw) 0 first
+    (first ≤ length (triangles_of draw)) × CoverNone (box_of_place p) (triangles_of draw) 0 first
 MayBeginAt other p first = Unit {0}

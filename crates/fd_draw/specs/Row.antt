@@ -1,4 +1,4 @@
--- What becomes of neighbouring pixels of a row.
+-- Working. What becomes of neighbouring pixels of a row.
 use Rattle.std.specs.Prelude.{ℕ, List, map}
 use Rattle.std.specs.List.{enumerate_from}
 use Rattle.fd_blend.specs.declared.channel.Colour.{Colour}

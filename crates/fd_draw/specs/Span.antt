@@ -1,4 +1,4 @@
--- The columns of a row that a test holds of, where they are neighbours.
+-- Working. The columns of a row that a test holds of, where they are neighbours.
 use Rattle.std.specs.Prelude.{◌≡◌, ℕ, ◌<◌, ◌≤◌, Bool, false, ◌&&◌, nat_le, nat_lt, Option, Some, None, IfSome}
 
 -- whether a span has column x: it goes from its first column to before its second

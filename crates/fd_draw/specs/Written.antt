@@ -1,4 +1,4 @@
--- What becomes of a pixel where a clear or a triangle writes it.
+-- Working. What becomes of a pixel where a clear or a triangle writes it.
 use Rattle.std.specs.Prelude.{ℕ, List, [], ◌∷◌, if◌then◌else◌}
 use Rattle.fd_blend.specs.declared.channel.Colour.{Colour}
 use Rattle.fd_blend.specs.Blend.{blend}
@@ -20,8 +20,8 @@ abbrev pub colour_blended : Triangle → Interp → Pipeline → ℕ → ℕ →
 colour_blended t interp s x y before = blend s.blend s.factor (source_of t interp x y) before
 
 -- the pixel that it leaves there with the depth test off: the depth stays
-abbrev pub blended : Triangle → Interp → Pipeline → ℕ → ℕ → Pixel → Pixel
-blended t interp s x y before = (colour_blended t interp s x y before.0, before.1)
+abbrev pub pixel_blended : Triangle → Interp → Pipeline → ℕ → ℕ → Pixel → Pixel
+pixel_blended t interp s x y before = (colour_blended t interp s x y before.0, before.1)
 
 -- what is kept of a pixel by a triangle, which may fail the depth test there
 abbrev pub kept_by_triangle : Triangle → Pipeline → ℕ → ℕ → Pixel → List Pixel

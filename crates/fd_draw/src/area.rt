@@ -2,7 +2,7 @@ ghost use Rattle.std.specs.Prelude.{◌≡◌, ℕ, ◌+◌, ◌<◌, ◌≤◌,
 ghost use Rattle.fd_cover.specs.Bounds.{is_within};
 ghost use Rattle.fd_cover.specs.Covers.{covers};
 ghost use Rattle.fd_tile.specs.Place.{IsTilePlace};
-ghost use Rattle.fd_draw.specs.Area.{IsInside, IsOpen, IsPart, box_of, is_drawn_in};
+ghost use Rattle.fd_draw.specs.Area.{LiesIn, IsOpen, IsPartOfBox, box_of_place, is_drawn_in};
 
 use fd_cover::{Bounds, Raster, Rect, Tri};
 use fd_tile::Place;
@@ -20,7 +20,7 @@ fn nearest(bound: i32, low: u32, high: u32) -> u32
 /// The box of a tile's pixels.
 pub(crate) fn whole(place: Place) -> Bounds
     requires { IsTilePlace place }
-    ensures { result ≡ box_of place }
+    ensures { result ≡ box_of_place place }
 {
     Bounds {
         left: place.left,
@@ -33,7 +33,7 @@ pub(crate) fn whole(place: Place) -> Bounds
 /// The box of a tile's pixels that the scissor leaves.
 pub(crate) fn open_area(raster: &Raster, rect: &Rect, place: Place) -> Bounds
     requires { IsTilePlace place }
-    ensures inside { IsInside result place }
+    ensures inside { LiesIn result place }
     ensures left_open { IsOpen result raster.now rect.now place }
 {
     let whole = whole(place);
@@ -65,7 +65,7 @@ pub(crate) fn shared(a: Bounds, b: Bounds) -> Bounds
 /// The box in which a triangle is drawn wherever it covers a pixel, where `window` has the pixels that the scissor leaves. None
 /// where it is culled, or its own box misses them.
 pub(crate) fn drawn_area(triangle: &Tri, raster: &Raster, window: Bounds) -> Option<Bounds>
-    ensures part { IfSome result (λ area. IsPart area window) }
+    ensures part { IfSome result (λ area. IsPartOfBox area window) }
     ensures drawn { IfSome result (λ area. (x y : ℕ) → is_drawn_in window raster.now triangle.now x y ≡ (is_within area x y && covers triangle.now x y)) }
     ensures none { IfNone result ((x y : ℕ) → is_drawn_in window raster.now triangle.now x y ≡ false) }
 {

@@ -2,7 +2,7 @@ ghost use Rattle.std.specs.Prelude.{◌≡◌, ℕ, ◌+◌, ◌<◌, ◌≤◌,
 ghost use Rattle.fd_cover.specs.Bounds.{is_within};
 ghost use Rattle.fd_cover.specs.Covers.{covers};
 ghost use Rattle.fd_tile.specs.declared.place.TheConstants.{TILE_SIDE};
-ghost use Rattle.fd_draw.specs.Area.{IsPart, IsSmall, is_drawn_in};
+ghost use Rattle.fd_draw.specs.Area.{IsPartOfBox, IsSmall, is_drawn_in};
 ghost use Rattle.fd_draw.specs.Found.{IsFound, span_from};
 ghost use Rattle.fd_draw.specs.Span.{IsRowSpan};
 
@@ -105,7 +105,7 @@ impl Found {
 pub(crate) fn find(triangle: &Tri, raster: &Raster, window: Bounds) -> Option<Found>
     requires { IsSmall window }
     ensures found { IfSome result (λ found. IsFound triangle.now found) }
-    ensures part { IfSome result (λ found. IsPart found.area window) }
+    ensures part { IfSome result (λ found. IsPartOfBox found.area window) }
     ensures drawn { IfSome result (λ found. (x y : ℕ) → is_drawn_in window raster.now triangle.now x y ≡ (is_within found.area x y && covers triangle.now x y)) }
     ensures none { IfNone result ((x y : ℕ) → is_drawn_in window raster.now triangle.now x y ≡ false) }
 {

@@ -1,7 +1,7 @@
 //! Which pixels of a row pass the depth test, a bit for each: 32 are compared at once.
 ghost use Rattle.std.specs.Prelude.{◌≡◌, ℕ, ◌<◌, ◌≤◌, ◌^◌, length, slice_index};
 ghost use Rattle.fd_cover.specs.Depth.{holds_of, passes};
-ghost use Rattle.fd_draw.specs.Mask.{is_set};
+ghost use Rattle.fd_draw.specs.Mask.{has_bit};
 
 use crate::write::WIDEST;
 use fd_cover::{Depth, Func};
@@ -11,7 +11,7 @@ use std::simd::prelude::*;
 fn holds(func: Func, sources: u16x32, stored: u16x32) -> u64
     requires sources { length sources ≡ 32 }
     requires stored { length stored ≡ 32 }
-    ensures bits { (k : ℕ) → k < 32 → is_set result k ≡ holds_of func (slice_index sources k) (slice_index stored k) }
+    ensures bits { (k : ℕ) → k < 32 → has_bit result k ≡ holds_of func (slice_index sources k) (slice_index stored k) }
     ensures bound { result < 2 ^ 32 }
 {
     match func {
@@ -29,7 +29,7 @@ fn holds(func: Func, sources: u16x32, stored: u16x32) -> u64
 /// Bit k tells whether the pixel at place k of a row passes the depth test, by its source and its stored depth.
 pub(crate) fn test_row(depth: &Depth, sources: &[u16; WIDEST], stored: &[u16]) -> u64
     requires few { length stored.now ≤ 32 }
-    ensures bits { (k : ℕ) → k < length stored.now → is_set result k ≡ passes depth.now (slice_index sources.now k) (slice_index stored.now k) }
+    ensures bits { (k : ℕ) → k < length stored.now → has_bit result k ≡ passes depth.now (slice_index sources.now k) (slice_index stored.now k) }
     ensures bound { result < 2 ^ 32 }
 {
     if !depth.enable {
@@ -47,7 +47,7 @@ pub(crate) fn alike(passed: u64, count: usize) -> usize
     requires bound { passed < 2 ^ 32 }
     ensures least { 1 ≤ result }
     ensures most { result ≤ count }
-    ensures same { (k : ℕ) → k < result → is_set passed k ≡ is_set passed 0 }
+    ensures same { (k : ℕ) → k < result → has_bit passed k ≡ has_bit passed 0 }
 {
     if passed == 0 {
         return count;

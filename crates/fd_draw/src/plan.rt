@@ -1,10 +1,12 @@
-ghost use Rattle.std.specs.Prelude.{◌≡◌, ◌+◌, ◌*◌, ◌^◌, ◌<◌, ◌≤◌, min, ◌∷◌, ◌++◌, true, [], length, if◌then◌else◌};
+ghost use Rattle.std.specs.Prelude.{◌≡◌, ◌+◌, ◌*◌, ◌^◌, ◌<◌, ◌≤◌, min, ◌∷◌, ◌++◌, ◌⊎◌, IsTrue, true, [], length, if◌then◌else◌};
 ghost use Rattle.std.specs.List.{sum_by};
+ghost use Rattle.fd_cover.specs.Bounds.{is_empty};
 ghost use Rattle.fd_events.specs.Bounds.{CoverNone};
+ghost use Rattle.fd_events.specs.Culled.{AreCulled};
 ghost use Rattle.fd_events.specs.Draw.{triangles_of};
 ghost use Rattle.fd_tile.specs.Place.{IsTilePlace};
 ghost use Rattle.fd_tile.specs.declared.place.TheConstants.{TILE_SIDE};
-ghost use Rattle.fd_draw.specs.Area.{box_of};
+ghost use Rattle.fd_draw.specs.Area.{box_of_place};
 ghost use Rattle.fd_draw.specs.Demand.{pixels_in, spans_in, triangle_pixels, triangle_spans, event_pixels, event_spans};
 ghost use Rattle.fd_draw.specs.declared.plan.TheConstants.{MOST_PLANNED};
 ghost use Rattle.arrayvec.specs.ArrayVec.{array_vec_len};
@@ -15,7 +17,7 @@ use crate::found::{Found, find};
 use crate::near::{near_from, next_near};
 use crate::room::{Demand, NOTHING};
 use arrayvec::ArrayVec;
-use fd_cover::Bounds;
+use fd_cover::{Bounds, Raster};
 use fd_events::{Draw, Event, Pipeline};
 use fd_tile::Place;
 
@@ -91,11 +93,18 @@ impl Plan {
     }
 }
 
+/// Whether a draw writes nothing, as the scissor leaves no pixel or every triangle is culled.
+fn is_idle(draw: &Draw, raster: &Raster, window: Bounds) -> bool
+    ensures { IsTrue result → IsTrue (is_empty window) ⊎ AreCulled raster.now.cull raster.now.front_ccw (triangles_of draw.now) }
+{
+    window.is_empty() || draw.is_culled(raster)
+}
+
 /// The plan of a draw, of whose triangles none before this one covers a pixel of the place.
 fn plan_draw(draw: &Draw, state: &Pipeline, place: Place, first: u32) -> Plan
     requires placed { IsTilePlace place }
     requires within { first ≤ length (triangles_of draw.now) }
-    requires missed { CoverNone (box_of place) (triangles_of draw.now) 0 first }
+    requires missed { CoverNone (box_of_place place) (triangles_of draw.now) 0 first }
     ensures spans { result.demand.spans ≡ sum_by (triangle_spans state.now place) (triangles_of draw.now) }
     ensures pixels { result.demand.pixels ≡ sum_by (triangle_pixels state.now place) (triangles_of draw.now) }
     ensures planned { ArePlanned draw.now state.now place 0 result.planned.items result.rest }
@@ -103,7 +112,7 @@ fn plan_draw(draw: &Draw, state: &Pipeline, place: Place, first: u32) -> Plan
     let count = draw.triangles();
     let window = open_area(&state.raster, &state.scissor, place);
     let mut plan = Plan::without_triangles(NOTHING, count);
-    if window.is_empty() {
+    if is_idle(draw, &state.raster, window) {
         return plan;
     }
     let mut triangle = near_from(draw, first, window);

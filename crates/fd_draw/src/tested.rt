@@ -3,13 +3,13 @@ ghost use Rattle.std.specs.Prelude.{◌≡◌, ℕ, ◌+◌, ◌-◌, ◌<◌, �
 ghost use Rattle.fd_cover.specs.Covers.{covers};
 ghost use Rattle.fd_events.specs.Image.{depth_of as source_depth, is_drawn, pixel_after_triangle};
 ghost use Rattle.fd_tile.specs.Place.{HasRow};
-ghost use Rattle.fd_tile.specs.Tile.{IsTileImage, depth_of};
+ghost use Rattle.fd_tile.specs.Tile.{IsTileImage, depth_in};
 ghost use Rattle.fd_draw.specs.Demand.{is_reached, pixels_in};
 ghost use Rattle.fd_draw.specs.Written.{kept_by_triangle};
-ghost use Rattle.fd_draw.specs.Mask.{is_set};
+ghost use Rattle.fd_draw.specs.Mask.{has_bit};
 ghost use Rattle.fd_draw.specs.Plan.{IsFoundOn};
 ghost use Rattle.fd_draw.specs.Primitive.{IsBrushed, triangle_of};
-ghost use Rattle.fd_draw.specs.Writing.{HasRoom, StoresDepths, Writes, between, in_row};
+ghost use Rattle.fd_draw.specs.Writing.{HasRoom, StoresDepths, WritesRegion, columns_between, in_row};
 
 use crate::found::Found;
 use crate::lanes::{alike, test_row};
@@ -52,9 +52,9 @@ fn draw_run(
     requires to_right { x + length depths.now ≤ tile.old.place.left + tile.old.place.width }
     requires covered { (column : ℕ) → x ≤ column → column < x + length depths.now → covers primitive.now.corners column y ≡ true }
     requires depths { (column : ℕ) → x ≤ column → column < x + length depths.now → slice_index_or depths.now (column - x) 65535 ≡ source_depth (triangle_of primitive.now) column y }
-    requires drawn { (column : ℕ) → x ≤ column → column < x + length depths.now → is_drawn (triangle_of primitive.now) state.now column y (depth_of tile.old column y) ≡ true }
+    requires drawn { (column : ℕ) → x ≤ column → column < x + length depths.now → is_drawn (triangle_of primitive.now) state.now column y (depth_in tile.old column y) ≡ true }
     requires room { HasRoom 1 (length depths.now) undo.old }
-    ensures { Writes 1 (length depths.now) (in_row (between x (x + length depths.now)) y) (pixel_after_triangle (triangle_of primitive.now) primitive.now.interp state.now) (kept_by_triangle (triangle_of primitive.now) state.now) tile.old undo.old tile.new undo.new }
+    ensures { WritesRegion 1 (length depths.now) (in_row (columns_between x (x + length depths.now)) y) (pixel_after_triangle (triangle_of primitive.now) primitive.now.interp state.now) (kept_by_triangle (triangle_of primitive.now) state.now) tile.old undo.old tile.new undo.new }
 {
     write_span(primitive, state, x, x + depths.len() as u32, y, tile, undo);
     if state.depth.enable && state.depth.write {
@@ -82,9 +82,9 @@ fn draw_runs(
     requires bound { passed < 2 ^ 32 }
     requires covered { (column : ℕ) → x ≤ column → column < x + length depths.now → covers primitive.now.corners column y ≡ true }
     requires depths { (column : ℕ) → x ≤ column → column < x + length depths.now → slice_index_or depths.now (column - x) 65535 ≡ source_depth (triangle_of primitive.now) column y }
-    requires passed { (column : ℕ) → x ≤ column → column < x + length depths.now → is_set passed (column - x) ≡ is_drawn (triangle_of primitive.now) state.now column y (depth_of tile.old column y) }
+    requires passed { (column : ℕ) → x ≤ column → column < x + length depths.now → has_bit passed (column - x) ≡ is_drawn (triangle_of primitive.now) state.now column y (depth_in tile.old column y) }
     requires room { HasRoom (length depths.now) (length depths.now) undo.old }
-    ensures { Writes (length depths.now) (length depths.now) (in_row (between x (x + length depths.now)) y) (pixel_after_triangle (triangle_of primitive.now) primitive.now.interp state.now) (kept_by_triangle (triangle_of primitive.now) state.now) tile.old undo.old tile.new undo.new }
+    ensures { WritesRegion (length depths.now) (length depths.now) (in_row (columns_between x (x + length depths.now)) y) (pixel_after_triangle (triangle_of primitive.now) primitive.now.interp state.now) (kept_by_triangle (triangle_of primitive.now) state.now) tile.old undo.old tile.new undo.new }
 {
     let mut done = 0;
     while done < depths.len() {
@@ -116,7 +116,7 @@ fn draw_row(
     requires from_top { found.now.area.top ≤ y }
     requires to_bottom { y < found.now.area.bottom }
     requires room { HasRoom (pixels_in (in_row (is_reached (triangle_of primitive.now) state.now) y) tile.old.place) (pixels_in (in_row (is_reached (triangle_of primitive.now) state.now) y) tile.old.place) undo.old }
-    ensures { Writes (pixels_in (in_row (is_reached (triangle_of primitive.now) state.now) y) tile.old.place) (pixels_in (in_row (is_reached (triangle_of primitive.now) state.now) y) tile.old.place) (in_row (is_reached (triangle_of primitive.now) state.now) y)
+    ensures { WritesRegion (pixels_in (in_row (is_reached (triangle_of primitive.now) state.now) y) tile.old.place) (pixels_in (in_row (is_reached (triangle_of primitive.now) state.now) y) tile.old.place) (in_row (is_reached (triangle_of primitive.now) state.now) y)
         (pixel_after_triangle (triangle_of primitive.now) primitive.now.interp state.now) (kept_by_triangle (triangle_of primitive.now) state.now) tile.old undo.old tile.new undo.new }
 {
     let place = tile.place();
@@ -142,7 +142,7 @@ pub(crate) fn draw_tested(
     requires filled { IsTileImage tile.old }
     requires found { IsFoundOn (triangle_of primitive.now) state.now tile.old.place found.now }
     requires room { HasRoom (pixels_in (is_reached (triangle_of primitive.now) state.now) tile.old.place) (pixels_in (is_reached (triangle_of primitive.now) state.now) tile.old.place) undo.old }
-    ensures { Writes (pixels_in (is_reached (triangle_of primitive.now) state.now) tile.old.place) (pixels_in (is_reached (triangle_of primitive.now) state.now) tile.old.place) (is_reached (triangle_of primitive.now) state.now)
+    ensures { WritesRegion (pixels_in (is_reached (triangle_of primitive.now) state.now) tile.old.place) (pixels_in (is_reached (triangle_of primitive.now) state.now) tile.old.place) (is_reached (triangle_of primitive.now) state.now)
         (pixel_after_triangle (triangle_of primitive.now) primitive.now.interp state.now) (kept_by_triangle (triangle_of primitive.now) state.now) tile.old undo.old tile.new undo.new }
 {
     let depth_rows = DepthRows::of(&primitive.corners, &primitive.depths);

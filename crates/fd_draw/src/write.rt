@@ -4,9 +4,9 @@ ghost use Rattle.fd_events.specs.Draw.{triangles_of};
 ghost use Rattle.fd_events.specs.Image.{pixel_after, pixel_after_triangle, pixel_after_triangles, kept_by, kept_by_triangles};
 ghost use Rattle.fd_tile.specs.Place.{HasRow};
 ghost use Rattle.fd_tile.specs.Tile.{IsTileImage};
-ghost use Rattle.fd_draw.specs.Area.{IsInside, IsOpen};
+ghost use Rattle.fd_draw.specs.Area.{LiesIn, IsOpen};
 ghost use Rattle.fd_draw.specs.Demand.{is_reached, pixels_in, spans_in, triangle_pixels, triangle_spans, event_pixels, event_spans};
-ghost use Rattle.fd_draw.specs.Written.{colour_blended, blended, kept_by_triangle};
+ghost use Rattle.fd_draw.specs.Written.{colour_blended, pixel_blended, kept_by_triangle};
 ghost use Rattle.fd_cover.specs.Covers.{covers};
 ghost use Rattle.fd_snap.specs.Limits.{most_pixels};
 ghost use Rattle.fd_tile.specs.declared.place.TheConstants.{TILE_SIDE};
@@ -15,7 +15,7 @@ ghost use Rattle.fd_draw.specs.Paints.{Paints};
 ghost use Rattle.fd_draw.specs.Primitive.{IsBrushed, triangle_of};
 ghost use Rattle.fd_draw.specs.Plan.{ArePlanned, IsFoundOn, IsPlan};
 ghost use Rattle.fd_draw.specs.Triangles.{triangle_at};
-ghost use Rattle.fd_draw.specs.Writing.{HasRoom, Writes, between, in_row, keep_each};
+ghost use Rattle.fd_draw.specs.Writing.{HasRoom, WritesRegion, columns_between, in_row, keep_each};
 
 use crate::area::{open_area, whole};
 use crate::clear::{Clear, clear_rows};
@@ -95,7 +95,7 @@ pub(crate) fn write_span(
     requires to_right { right ≤ tile.old.place.left + tile.old.place.width }
     requires covered { (column : ℕ) → left ≤ column → column < right → covers primitive.now.corners column y ≡ true }
     requires room { HasRoom 1 (right - left) undo.old }
-    ensures { Writes 1 (right - left) (in_row (between left right) y) (blended (triangle_of primitive.now) primitive.now.interp state.now) keep_each tile.old undo.old tile.new undo.new }
+    ensures { WritesRegion 1 (right - left) (in_row (columns_between left right) y) (pixel_blended (triangle_of primitive.now) primitive.now.interp state.now) keep_each tile.old undo.old tile.new undo.new }
 {
     let place = tile.place();
     let start = (left - place.left) as usize;
@@ -125,8 +125,8 @@ fn write_row(
     requires from_top { found.now.area.top ≤ y }
     requires to_bottom { y < found.now.area.bottom }
     requires room { HasRoom (spans_in (in_row (is_reached (triangle_of primitive.now) state.now) y) tile.old.place) (pixels_in (in_row (is_reached (triangle_of primitive.now) state.now) y) tile.old.place) undo.old }
-    ensures { Writes (spans_in (in_row (is_reached (triangle_of primitive.now) state.now) y) tile.old.place) (pixels_in (in_row (is_reached (triangle_of primitive.now) state.now) y) tile.old.place) (in_row (is_reached (triangle_of primitive.now) state.now) y)
-        (blended (triangle_of primitive.now) primitive.now.interp state.now) keep_each tile.old undo.old tile.new undo.new }
+    ensures { WritesRegion (spans_in (in_row (is_reached (triangle_of primitive.now) state.now) y) tile.old.place) (pixels_in (in_row (is_reached (triangle_of primitive.now) state.now) y) tile.old.place) (in_row (is_reached (triangle_of primitive.now) state.now) y)
+        (pixel_blended (triangle_of primitive.now) primitive.now.interp state.now) keep_each tile.old undo.old tile.new undo.new }
 {
     let _place = tile.place();
     if let Some((left, right)) = found.span(&primitive.corners, y) {
@@ -146,8 +146,8 @@ fn write_rows(
     requires filled { IsTileImage tile.old }
     requires found { IsFoundOn (triangle_of primitive.now) state.now tile.old.place found.now }
     requires room { HasRoom (spans_in (is_reached (triangle_of primitive.now) state.now) tile.old.place) (pixels_in (is_reached (triangle_of primitive.now) state.now) tile.old.place) undo.old }
-    ensures { Writes (spans_in (is_reached (triangle_of primitive.now) state.now) tile.old.place) (pixels_in (is_reached (triangle_of primitive.now) state.now) tile.old.place) (is_reached (triangle_of primitive.now) state.now)
-        (blended (triangle_of primitive.now) primitive.now.interp state.now) keep_each tile.old undo.old tile.new undo.new }
+    ensures { WritesRegion (spans_in (is_reached (triangle_of primitive.now) state.now) tile.old.place) (pixels_in (is_reached (triangle_of primitive.now) state.now) tile.old.place) (is_reached (triangle_of primitive.now) state.now)
+        (pixel_blended (triangle_of primitive.now) primitive.now.interp state.now) keep_each tile.old undo.old tile.new undo.new }
 {
     for y in found.area.top..found.area.bottom {
         write_row(primitive, state, found, y, tile, undo);
@@ -166,7 +166,7 @@ fn draw_primitive(
     requires filled { IsTileImage tile.old }
     requires found { IsFoundOn (triangle_of primitive.now) state.now tile.old.place found.now }
     requires room { HasRoom (triangle_spans state.now tile.old.place (triangle_of primitive.now)) (triangle_pixels state.now tile.old.place (triangle_of primitive.now)) undo.old }
-    ensures { Writes (triangle_spans state.now tile.old.place (triangle_of primitive.now)) (triangle_pixels state.now tile.old.place (triangle_of primitive.now)) (is_reached (triangle_of primitive.now) state.now)
+    ensures { WritesRegion (triangle_spans state.now tile.old.place (triangle_of primitive.now)) (triangle_pixels state.now tile.old.place (triangle_of primitive.now)) (is_reached (triangle_of primitive.now) state.now)
         (pixel_after_triangle (triangle_of primitive.now) primitive.now.interp state.now) (kept_by_triangle (triangle_of primitive.now) state.now) tile.old undo.old tile.new undo.new }
 {
     if state.depth.enable {
@@ -189,7 +189,7 @@ fn draw_found(
     requires filled { IsTileImage tile.old }
     requires found { IsFoundOn (triangle_at draw.now triangle) state.now tile.old.place found.now }
     requires room { HasRoom (triangle_spans state.now tile.old.place (triangle_at draw.now triangle)) (triangle_pixels state.now tile.old.place (triangle_at draw.now triangle)) undo.old }
-    ensures { Writes (triangle_spans state.now tile.old.place (triangle_at draw.now triangle)) (triangle_pixels state.now tile.old.place (triangle_at draw.now triangle)) (is_reached (triangle_at draw.now triangle) state.now)
+    ensures { WritesRegion (triangle_spans state.now tile.old.place (triangle_at draw.now triangle)) (triangle_pixels state.now tile.old.place (triangle_at draw.now triangle)) (is_reached (triangle_at draw.now triangle) state.now)
         (pixel_after_triangle (triangle_at draw.now triangle) draw.now.interp state.now) (kept_by_triangle (triangle_at draw.now triangle) state.now) tile.old undo.old tile.new undo.new }
 {
     let colours = draw.colours(triangle);
@@ -215,10 +215,10 @@ fn draw_triangle(
 )
     requires triangle { triangle < length (triangles_of draw.now) }
     requires filled { IsTileImage tile.old }
-    requires inside { IsInside window tile.old.place }
+    requires inside { LiesIn window tile.old.place }
     requires left_open { IsOpen window state.now.raster state.now.scissor tile.old.place }
     requires room { HasRoom (triangle_spans state.now tile.old.place (triangle_at draw.now triangle)) (triangle_pixels state.now tile.old.place (triangle_at draw.now triangle)) undo.old }
-    ensures { Writes (triangle_spans state.now tile.old.place (triangle_at draw.now triangle)) (triangle_pixels state.now tile.old.place (triangle_at draw.now triangle)) (is_reached (triangle_at draw.now triangle) state.now)
+    ensures { WritesRegion (triangle_spans state.now tile.old.place (triangle_at draw.now triangle)) (triangle_pixels state.now tile.old.place (triangle_at draw.now triangle)) (is_reached (triangle_at draw.now triangle) state.now)
         (pixel_after_triangle (triangle_at draw.now triangle) draw.now.interp state.now) (kept_by_triangle (triangle_at draw.now triangle) state.now) tile.old undo.old tile.new undo.new }
 {
     let _place = tile.place();

@@ -6,11 +6,11 @@ use Rattle.std.proofs.lemmas.Bool.Decides.{nat_tests}
 use Rattle.fd_cover.specs.declared.bounds.Bounds.{Bounds}
 use Rattle.fd_cover.specs.declared.shading.Interp.{Interp}
 use Rattle.fd_cover.specs.declared.triangle.Tri.{Tri}
-use Rattle.fd_cover.specs.Bounds.{is_within, is_empty, HoldsCovered, HoldsBoth, bounds_of, joined}
+use Rattle.fd_cover.specs.Bounds.{is_within, is_empty, HoldsCovered, HoldsBoth, bounds_of, joined_box}
 use Rattle.fd_cover.proofs.BoundsLemmas.{missed_outside, bounds_of-holds}
 use Rattle.fd_events.specs.declared.pipeline.Pipeline.{Pipeline}
 use Rattle.fd_events.specs.Limits.{group_size}
-use Rattle.fd_events.specs.Bounds.{HoldsTriangles, HoldsGroup, IsRoundGroup, AreRoundGroups, IsTriangleBox, AreTriangleBoxes, between, joined_with, bounds_of_triangles, IsRound, CoverNone}
+use Rattle.fd_events.specs.Bounds.{HoldsTriangles, HoldsGroup, IsRoundGroup, AreRoundGroups, IsTriangleBox, AreTriangleBoxes, triangles_between, joined_with, bounds_of_triangles, IsRound, CoverNone}
 use Rattle.fd_events.specs.Draw.{Triangle}
 use Rattle.fd_events.specs.Image.{Pixel, is_drawn_by, is_drawn, pixel_after_triangles, kept_by_triangles}
 
@@ -51,14 +51,14 @@ HoldsTriangles-next ts k corners before own box next holds covered both =
     λ i t at. grown ts k i t corners before own box next holds covered both (rw add-one at at)
 
 joined_with-next : (ts : List Triangle) (k : ℕ) (corners : Tri) (box : Bounds) → option_map (λ (u : Triangle). u.corners) (slice_get ts k) ≡ Some corners
-    → joined_with box (take (suc k) ts) ≡ joined (joined_with box (take k ts)) (bounds_of corners)
+    → joined_with box (take (suc k) ts) ≡ joined_box (joined_with box (take k ts)) (bounds_of corners)
 joined_with-next [] k corners box next = cc
 joined_with-next (first ∷ ts) zero corners box next = let same : first.corners ≡ corners = cc in rw (← same) refl
-joined_with-next (first ∷ ts) (suc k) corners box next = joined_with-next ts k corners (joined box (bounds_of first.corners)) next
+joined_with-next (first ∷ ts) (suc k) corners box next = joined_with-next ts k corners (joined_box box (bounds_of first.corners)) next
 
 pub IsRound-next : (ts : List Triangle) (k : ℕ) (corners : Tri) (before own box : Bounds)
     → option_map (λ (u : Triangle). u.corners) (slice_get ts k) ≡ Some corners → IsRound before (take k ts)
-    → own ≡ bounds_of corners → HoldsCovered own corners → box ≡ joined before own → HoldsBoth box before own
+    → own ≡ bounds_of corners → HoldsCovered own corners → box ≡ joined_box before own → HoldsBoth box before own
     → IsRound box (take (k + 1) ts)
 IsRound-next ts k corners before own box next round is_own covered is_joined both = record {
   value =
@@ -84,9 +84,9 @@ slice_get-take (x ∷ xs) (suc n) (suc i) below = slice_get-take xs n i (omega a
 
 -- the box of the triangles from first on, joined with that of the next one
 pub IsRound-further : (ts : List Triangle) (first k : ℕ) (corners : Tri) (before own box : Bounds) → first ≤ k
-    → option_map (λ (u : Triangle). u.corners) (slice_get ts k) ≡ Some corners → IsRound before (between first k ts)
-    → own ≡ bounds_of corners → HoldsCovered own corners → box ≡ joined before own → HoldsBoth box before own
-    → IsRound box (between first (k + 1) ts)
+    → option_map (λ (u : Triangle). u.corners) (slice_get ts k) ≡ Some corners → IsRound before (triangles_between first k ts)
+    → own ≡ bounds_of corners → HoldsCovered own corners → box ≡ joined_box before own → HoldsBoth box before own
+    → IsRound box (triangles_between first (k + 1) ts)
 IsRound-further ts first k corners before own box from next round is_own covered is_joined both =
     let whole : first + (k - first) ≡ k = omega (arith, from) in
     let at : slice_get (drop first ts) (k - first) ≡ slice_get ts k = slice_get-drop ts first (k - first) ∙ ap (λ n. slice_get ts n) whole in
@@ -94,13 +94,13 @@ IsRound-further ts first k corners before own box from next round is_own covered
     rw (← more) (IsRound-next (drop first ts) (k - first) corners before own box (rw at next) round is_own covered is_joined both)
 
 -- the box round a group holds what its triangles cover
-pub HoldsGroup-between : (ts : List Triangle) (group first last : ℕ) (box : Bounds) → first ≡ group_size * group → last ≡ min (first + group_size) (length ts)
-    → HoldsTriangles box (between first last ts) → HoldsGroup box group ts
-HoldsGroup-between ts group first last box is_first is_last holds = λ i t low high at.
+pub HoldsGroup-triangles_between : (ts : List Triangle) (group first last : ℕ) (box : Bounds) → first ≡ group_size * group → last ≡ min (first + group_size) (length ts)
+    → HoldsTriangles box (triangles_between first last ts) → HoldsGroup box group ts
+HoldsGroup-triangles_between ts group first last box is_first is_last holds = λ i t low high at.
     let within : i < length ts = slice_get_within ts i t at in
     let whole : first + (i - first) ≡ i = omega (arith, is_first, low) in
     let below : i - first < last - first = omega (arith, is_first, is_last, low, high, within) in
-    let there : slice_get (between first last ts) (i - first) ≡ Some t =
+    let there : slice_get (triangles_between first last ts) (i - first) ≡ Some t =
     slice_get-take (drop first ts) (last - first) (i - first) below ∙ slice_get-drop ts first (i - first) ∙ ap (λ n. slice_get ts n) whole ∙ at in
     holds (i - first) t there
 
@@ -167,27 +167,27 @@ hull_holds : (a b : Bounds) (x y : ℕ) → (is_within a x y || is_within b x y)
     → is_within (record { left = min a.left b.left; top = min a.top b.top; right = max a.right b.right; bottom = max a.bottom b.bottom }) x y ≡ true
 hull_holds a b x y h = grind (arith, nat_tests)
 
-joined_by : (a b : Bounds) (x y : ℕ) (no_a no_b : Bool) → is_empty a ≡ no_a → is_empty b ≡ no_b → IsTrue (is_within a x y || is_within b x y) → IsTrue (is_within (joined a b) x y)
-unfolding joined
+joined_by : (a b : Bounds) (x y : ℕ) (no_a no_b : Bool) → is_empty a ≡ no_a → is_empty b ≡ no_b → IsTrue (is_within a x y || is_within b x y) → IsTrue (is_within (joined_box a b) x y)
+unfolding joined_box
 joined_by a b x y true no_b is_a is_b h = rw is_a (the_other (is_within a x y) (is_within b x y) h (empty_holds_none a x y is_a))
 joined_by a b x y false true is_a is_b h = rw (is_a, is_b) (the_first (is_within a x y) (is_within b x y) h (empty_holds_none b x y is_b))
 joined_by a b x y false false is_a is_b h = rw (is_a, is_b) (hull_holds a b x y h)
 
-joined-holds : (a b : Bounds) → HoldsBoth (joined a b) a b
-joined-holds a b x y h = joined_by a b x y (is_empty a) (is_empty b) refl refl h
+joined_box-holds : (a b : Bounds) → HoldsBoth (joined_box a b) a b
+joined_box-holds a b x y h = joined_by a b x y (is_empty a) (is_empty b) refl refl h
 
 joined_with-keeps : (ts : List Triangle) (box : Bounds) (x y : ℕ) → is_within box x y ≡ true → is_within (joined_with box ts) x y ≡ true
 joined_with-keeps [] box x y h = h
 joined_with-keeps (t ∷ ts) box x y h =
-    joined_with-keeps ts (joined box (bounds_of t.corners)) x y (joined-holds box (bounds_of t.corners) x y (either_left (is_within box x y) (is_within (bounds_of t.corners) x y) h))
+    joined_with-keeps ts (joined_box box (bounds_of t.corners)) x y (joined_box-holds box (bounds_of t.corners) x y (either_left (is_within box x y) (is_within (bounds_of t.corners) x y) h))
 
 joined_with-holds : (ts : List Triangle) (box : Bounds) → HoldsTriangles (joined_with box ts) ts
 joined_with-holds [] box i t at = cc
 joined_with-holds (first ∷ ts) box zero t at = λ x y covered.
     let same : first ≡ t = cc in
     let own : is_within (bounds_of first.corners) x y ≡ true = bounds_of-holds first.corners x y (rw same covered) in
-    joined_with-keeps ts (joined box (bounds_of first.corners)) x y (joined-holds box (bounds_of first.corners) x y (either_right (is_within box x y) (is_within (bounds_of first.corners) x y) own))
-joined_with-holds (first ∷ ts) box (suc i) t at = joined_with-holds ts (joined box (bounds_of first.corners)) i t at
+    joined_with-keeps ts (joined_box box (bounds_of first.corners)) x y (joined_box-holds box (bounds_of first.corners) x y (either_right (is_within box x y) (is_within (bounds_of first.corners) x y) own))
+joined_with-holds (first ∷ ts) box (suc i) t at = joined_with-holds ts (joined_box box (bounds_of first.corners)) i t at
 
 pub bounds_of_triangles-holds : (ts : List Triangle) → HoldsTriangles (bounds_of_triangles ts) ts
 bounds_of_triangles-holds ts = joined_with-holds ts (record { left = 0; top = 0; right = 0; bottom = 0 })

@@ -7,7 +7,7 @@ use Rattle.fd_cover.specs.declared.shading.Interp.{Interp}
 use Rattle.fd_events.specs.declared.draw.Vertex.{Vertex}
 use Rattle.fd_events.specs.Limits.{most_vertices}
 use Rattle.fd_events.specs.Indices.{has_too_many, are_in_range}
-use Rattle.fd_events.specs.Draw.{DrawList, made, listed_by, triangle_of, triangles_of_list}
+use Rattle.fd_events.specs.Draw.{DrawList, made, listed_by, triangle_of_vertices, triangles_of_list}
 
 pub length-triangles_of_list : (vs : List Vertex) → length (triangles_of_list vs) ≡ length vs / 3
 length-triangles_of_list [] = refl
@@ -17,7 +17,7 @@ length-triangles_of_list (a ∷ b ∷ c ∷ vs) = omega (arith, length-triangles
 
 -- the triangle of a number has the three corners from three times the number on
 pub slice_get-triangles_of_list : (vs : List Vertex) (i : ℕ) (a b c : Vertex) → slice_get vs (3 * i) ≡ Some a → slice_get vs (3 * i + 1) ≡ Some b → slice_get vs (3 * i + 2) ≡ Some c
-    → slice_get (triangles_of_list vs) i ≡ Some (triangle_of a b c)
+    → slice_get (triangles_of_list vs) i ≡ Some (triangle_of_vertices a b c)
 slice_get-triangles_of_list [] i a b c first second third = cc
 slice_get-triangles_of_list (p ∷ []) i a b c first second third = let lt = slice_get_within (p ∷ []) (3 * i + 2) c third in absurd (omega arith)
 slice_get-triangles_of_list (p ∷ q ∷ []) i a b c first second third = let lt = slice_get_within (p ∷ q ∷ []) (3 * i + 2) c third in absurd (omega arith)

@@ -1,5 +1,5 @@
 -- The index of a frame's events.
-use Rattle.std.proofs.Common.{◌≡◌, ℕ, suc, ◌+◌, ◌/◌, ◌<◌, ◌≤◌, Bool, true, false, cond, not, ◌&&◌, List, Option, Some, None, option_map, length, get_or, map, slice_get, refl, sym, ap, ◌∙◌, subst, arith}
+use Rattle.std.proofs.Common.{◌≡◌, ℕ, suc, ◌+◌, ◌/◌, Bool, true, false, cond, not, List, Option, Some, None, option_map, map, slice_get, refl, sym, ap, ◌∙◌, subst, arith}
 use Rattle.std.specs.Prelude.{IfSome, IsTrue}
 use Rattle.std.proofs.lemmas.Bool.Decides.{nat_tests}
 use Rattle.std.proofs.lemmas.Option.{slice_get-map}
@@ -9,8 +9,8 @@ use Rattle.fd_events.specs.declared.event.Event.{Event}
 use Rattle.fd_events.specs.declared.index.EventIndex.{EventIndex}
 use Rattle.fd_events.specs.declared.reach.Reach.{Reach}
 use Rattle.fd_events.specs.Reach.{reach_of, box_of, may_write, may_write_at, AreReaches}
-use Rattle.fd_events.specs.Table.{Table, is_set, event_at, active_event}
-use Rattle.fd_events.specs.Marks.{words_of, band_at, IsMarked, KeepMarks, MarkBands}
+use Rattle.fd_events.specs.Table.{Table, is_set, event_at}
+use Rattle.fd_events.specs.Marks.{words_of, KeepMarks, MarkBands}
 use Rattle.fd_events.specs.Index.{Marks, KeepsIndex, IsIndex, IsPassed}
 use Rattle.fd_events.specs.Far.{IsFar, AreFar}
 use Rattle.fd_events.proofs.Images.{at_number-next}

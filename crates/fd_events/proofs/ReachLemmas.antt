@@ -11,12 +11,12 @@ use Rattle.fd_events.specs.declared.event.Event.TheVariants.{Clear, DepthClear, 
 use Rattle.fd_events.specs.Bounds.{bounds_of_triangles}
 use Rattle.fd_events.specs.Draw.{triangles_of}
 use Rattle.fd_events.specs.declared.reach.Reach.{Reach}
-use Rattle.fd_events.specs.Reach.{clipped, reach_of, box_of, nowhere, may_write, AreReaches, AreWriters, HoldsWritten}
+use Rattle.fd_events.specs.Reach.{clipped_box, reach_of, box_of, nowhere, may_write, AreReaches, AreWriters, HoldsWritten}
 use Rattle.fd_events.specs.Table.{is_set}
 use Rattle.fd_events.proofs.BoundsLemmas.{bounds_of_triangles-holds, pixel_after_triangles-outside, kept_by_triangles-outside}
 
 -- a pixel of the target that the clipped box leaves out
-pub outside_clipped : (box : Bounds) (width height x y : ℕ) → x < width → y < height → is_within (clipped width height box) x y ≡ false → is_within box x y ≡ false
+pub outside_clipped : (box : Bounds) (width height x y : ℕ) → x < width → y < height → is_within (clipped_box width height box) x y ≡ false → is_within box x y ≡ false
 outside_clipped box width height x y column row outside = grind (arith, nat_tests)
 
 -- the box of the whole target leaves out none

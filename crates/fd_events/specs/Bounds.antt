@@ -1,7 +1,7 @@
--- The box round the triangles of a draw.
+-- Working. The box round the triangles of a draw.
 use Rattle.std.specs.Prelude.{◌≡◌, ℕ, ◌+◌, ◌-◌, ◌*◌, ◌<◌, ◌≤◌, ◌⊎◌, min, false, IsTrue, List, [], ◌∷◌, length, Some, slice_get, take, drop}
 use Rattle.fd_cover.specs.declared.bounds.Bounds.{Bounds}
-use Rattle.fd_cover.specs.Bounds.{is_within, HoldsCovered, bounds_of, joined}
+use Rattle.fd_cover.specs.Bounds.{is_within, HoldsCovered, bounds_of, joined_box}
 use Rattle.fd_cover.specs.Covers.{covers}
 use Rattle.fd_events.specs.Limits.{group_size}
 use Rattle.fd_events.specs.Draw.{Triangle}
@@ -11,8 +11,8 @@ abbrev pub HoldsTriangles : Bounds → List Triangle → Type 0
 HoldsTriangles box ts = (i : ℕ) (t : Triangle) → slice_get ts i ≡ Some t → HoldsCovered box t.corners
 
 -- the triangles from number first up to number last
-abbrev pub between : ℕ → ℕ → List Triangle → List Triangle
-between first last ts = take (last - first) (drop first ts)
+abbrev pub triangles_between : ℕ → ℕ → List Triangle → List Triangle
+triangles_between first last ts = take (last - first) (drop first ts)
 
 -- the box holds every pixel that a triangle of this group covers
 abbrev pub HoldsGroup : Bounds → ℕ → List Triangle → Type 0
@@ -21,7 +21,7 @@ HoldsGroup box group ts = (i : ℕ) (t : Triangle) → group_size * group ≤ i 
 -- a box, joined with those of triangles one after the other
 abbrev pub joined_with : Bounds → List Triangle → Bounds
 joined_with box [] = box
-joined_with box (t ∷ ts) = joined_with (joined box (bounds_of t.corners)) ts
+joined_with box (t ∷ ts) = joined_with (joined_box box (bounds_of t.corners)) ts
 
 -- the box round triangles
 abbrev pub bounds_of_triangles : List Triangle → Bounds
@@ -34,7 +34,7 @@ pub record IsRound (box : Bounds) (ts : List Triangle) : Type 0 where
 
 -- the triangles of a group
 abbrev pub group_of : ℕ → List Triangle → List Triangle
-group_of group ts = between (group_size * group) (min (group_size * group + group_size) (length ts)) ts
+group_of group ts = triangles_between (group_size * group) (min (group_size * group + group_size) (length ts)) ts
 
 -- the box is the one round a group of the triangles, and holds what they cover
 pub record IsRoundGroup (box : Bounds) (group : ℕ) (ts : List Triangle) : Type 0 where

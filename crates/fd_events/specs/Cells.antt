@@ -1,8 +1,9 @@
--- Square cells of a grid, each with a list of numbers of triangles.
+-- Working. Square cells of a grid, each with a list of numbers of triangles.
 use Rattle.std.specs.Prelude.{◌≡◌, ℕ, ◌+◌, ◌-◌, ◌*◌, ◌/◌, ◌^◌, ◌<◌, ◌≤◌, IsTrue, List, Some, slice_get}
 use Rattle.std.specs.List.{Contains}
 use Rattle.std.specs.List.Sorted.{IsNonDecreasing}
 use Rattle.fd_cover.specs.declared.bounds.Bounds.{Bounds}
+use Rattle.fd_cover.specs.declared.triangle.Tri.{Tri}
 use Rattle.fd_cover.specs.Bounds.{is_within}
 use Rattle.fd_cover.specs.Covers.{covers}
 use Rattle.fd_events.specs.Draw.{Triangle}
@@ -16,12 +17,12 @@ abbrev pub cell_over : Grid → ℕ → ℕ
 cell_over grid x = x / 2 ^ grid.shift
 
 -- the place of a cell among all, counted row by row
-abbrev pub place_of : Grid → ℕ → ℕ → ℕ
-place_of grid column row = (row - grid.area.top) * (grid.area.right - grid.area.left) + (column - grid.area.left)
+abbrev pub cell_place : Grid → ℕ → ℕ → ℕ
+cell_place grid column row = (row - grid.area.top) * (grid.area.right - grid.area.left) + (column - grid.area.left)
 
 -- the place of the cell in which a pixel lies
 abbrev pub cell_at : Grid → ℕ → ℕ → ℕ
-cell_at grid x y = place_of grid (cell_over grid x) (cell_over grid y)
+cell_at grid x y = cell_place grid (cell_over grid x) (cell_over grid y)
 
 -- the grid has a cell in which the pixel lies
 abbrev pub HasCell : Grid → ℕ → ℕ → Type 0
@@ -44,19 +45,17 @@ pub record IsPartUnder (grid : Grid) (part box : Bounds) : Type 0 where
   pub bottom : part.bottom ≤ grid.area.bottom
   pub under : (x y : ℕ) → IsTrue (is_within box x y) → HasCell grid x y → IsTrue (is_within part (cell_over grid x) (cell_over grid y))
 
--- the cells of a box's pixels list a number
-abbrev pub ListBox : Grid → List (List ℕ) → ℕ → Bounds → Type 0
-ListBox grid lists number box = (x y : ℕ) → IsTrue (is_within box x y) → HasCell grid x y → Contains (listed_at lists (cell_at grid x y)) number
+-- a triangle covers no pixel of a cell
+abbrev pub IsBeyond : Grid → Tri → ℕ → ℕ → Type 0
+IsBeyond grid t column row = (x y : ℕ) → cell_over grid x ≡ column → cell_over grid y ≡ row → IsTrue (covers t x y) → ⊥
 
--- so do those of each box
-abbrev pub ListBoxes : Grid → List (List ℕ) → List Bounds → Type 0
-ListBoxes grid lists boxes = (i : ℕ) (box : Bounds) → slice_get boxes i ≡ Some box → ListBox grid lists i box
+-- the cells of the pixels that a triangle covers list its number
+abbrev pub ListCovered : Grid → List (List ℕ) → ℕ → Tri → Type 0
+ListCovered grid lists number t = (x y : ℕ) → IsTrue (covers t x y) → HasCell grid x y → Contains (listed_at lists (cell_at grid x y)) number
 
--- the lists rise, and the cell of a pixel lists every box that holds it
-pub record AreCells (cells : Cells) (boxes : List Bounds) : Type 0 where
-  pub grid : IsGrid cells.grid
-  pub rise : (cell : ℕ) → IsNonDecreasing (listed_in cells.lists cell)
-  pub listed : (i : ℕ) (box : Bounds) (x y : ℕ) → slice_get boxes i ≡ Some box → IsTrue (is_within box x y) → HasCell cells.grid x y → Contains (listed_in cells.lists (cell_at cells.grid x y)) i
+-- so do those of each triangle
+abbrev pub ListAllCovered : Grid → List (List ℕ) → List Triangle → Type 0
+ListAllCovered grid lists ts = (i : ℕ) (t : Triangle) → slice_get ts i ≡ Some t → ListCovered grid lists i t.corners
 
 -- the lists rise, and the cell of a pixel lists every triangle that covers it
 pub record ListTriangles (cells : Cells) (ts : List Triangle) : Type 0 where

@@ -1,4 +1,4 @@
--- What a draw is: a triangle list (Direct3D 11.3 functional specification, input assembler).
+-- Promised. What a draw is: a triangle list (Direct3D 11.3 functional specification, input assembler).
 use Rattle.std.specs.Prelude.{ℕ, List, [], ◌∷◌, length, Option, Some, None, slice_get, Result, Ok, Err, nat_lt, if◌then◌else◌}
 use Rattle.std.specs.List.{filter_map}
 use Rattle.fd_blend.specs.declared.channel.Colour.{Colour}
@@ -33,8 +33,8 @@ pub record Triangle : Type 0 where
   pub colours : List Colour
   pub depths : List ℕ
 
-abbrev pub triangle_of : Vertex → Vertex → Vertex → Triangle
-triangle_of a b c = record {
+abbrev pub triangle_of_vertices : Vertex → Vertex → Vertex → Triangle
+triangle_of_vertices a b c = record {
   corners = record { a = snapped_point a.pos; b = snapped_point b.pos; c = snapped_point c.pos };
   colours = a.colour ∷ b.colour ∷ c.colour ∷ [];
   depths = a.z ∷ b.z ∷ c.z ∷ [];
@@ -45,7 +45,7 @@ abbrev pub triangles_of_list : List Vertex → List Triangle
 triangles_of_list [] = []
 triangles_of_list (a ∷ []) = []
 triangles_of_list (a ∷ b ∷ []) = []
-triangles_of_list (a ∷ b ∷ c ∷ vs) = triangle_of a b c ∷ triangles_of_list vs
+triangles_of_list (a ∷ b ∷ c ∷ vs) = triangle_of_vertices a b c ∷ triangles_of_list vs
 
 -- the vertices, or those that the indices name, in their order
 abbrev pub listed_by : List Vertex → Option (List ℕ) → List Vertex

@@ -1,4 +1,4 @@
--- What a marker's name is: a short text in UTF-8 without control characters.
+-- Promised. What a marker's name is: a short text in UTF-8 without control characters.
 use Rattle.std.specs.Prelude.{ℕ, List, length, Result, Ok, Err, Bool, nat_lt, ◌==◌, ◌||◌, if◌then◌else◌}
 use Rattle.std.specs.List.{list_any}
 use Rattle.fd_events.specs.Limits.{most_label_bytes}

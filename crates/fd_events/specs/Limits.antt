@@ -1,4 +1,4 @@
--- How much a frame has at most.
+-- Promised. How much a frame has at most.
 use Rattle.std.specs.Prelude.{ℕ}
 
 abbrev pub most_events : ℕ

@@ -1,4 +1,4 @@
--- Lists of numbers that grow.
+-- Working. Lists of numbers that grow.
 use Rattle.std.specs.Prelude.{◌≡◌, ℕ, ◌≤◌, List, [], length, map, slice_index_or, Vec}
 use Rattle.std.specs.List.{All, Contains}
 use Rattle.std.specs.List.Sorted.{IsNonDecreasing}

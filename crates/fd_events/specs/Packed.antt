@@ -1,4 +1,4 @@
--- Lists of numbers that lie one behind the other.
+-- Working. Lists of numbers that lie one behind the other.
 use Rattle.std.specs.Prelude.{ℕ, ◌+◌, ◌-◌, List, take, drop, slice_index_or}
 use Rattle.fd_events.specs.declared.packed.Packed.{Packed}
 

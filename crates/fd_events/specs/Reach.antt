@@ -1,4 +1,4 @@
--- The box of the pixels that an event can write.
+-- Working. The box of the pixels that an event can write.
 use Rattle.std.specs.Prelude.{◌≡◌, ℕ, ◌<◌, min, Bool, false, ◌&&◌, not, Option, option_map, List, [], length, map, slice_index_or}
 use Rattle.fd_cover.specs.declared.bounds.Bounds.{Bounds}
 use Rattle.fd_cover.specs.Bounds.{is_within, is_empty}
@@ -12,14 +12,14 @@ use Rattle.fd_events.specs.Image.{Pixel, pixel_after, kept_by}
 use Rattle.fd_events.specs.Table.{Table, is_set, event_at}
 
 -- the part of a box that lies on a target of this size
-abbrev pub clipped : ℕ → ℕ → Bounds → Bounds
-clipped width height box = record { left = min box.left width; top = min box.top height; right = min box.right width; bottom = min box.bottom height }
+abbrev pub clipped_box : ℕ → ℕ → Bounds → Bounds
+clipped_box width height box = record { left = min box.left width; top = min box.top height; right = min box.right width; bottom = min box.bottom height }
 
 -- a clear writes the whole target, a draw only what lies in the box round its triangles, and any other event nothing
 abbrev pub reach_of : ℕ → ℕ → Event → Bounds
 reach_of width height (Clear colour) = record { left = 0; top = 0; right = width; bottom = height }
 reach_of width height (DepthClear depth) = record { left = 0; top = 0; right = width; bottom = height }
-reach_of width height (Draw draw) = clipped width height (bounds_of_triangles (triangles_of draw))
+reach_of width height (Draw draw) = clipped_box width height (bounds_of_triangles (triangles_of draw))
 reach_of width height other = record { left = 0; top = 0; right = 0; bottom = 0 }
 
 -- outside the box the event leaves every pixel of a target of this size as it is, in any state, and keeps nothing of it

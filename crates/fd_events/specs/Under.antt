@@ -1,4 +1,4 @@
--- The cells that lie under a box.
+-- Working. The cells that lie under a box.
 use Rattle.std.specs.Prelude.{ℕ, ◌/◌, ◌^◌, IsTrue}
 use Rattle.fd_cover.specs.declared.bounds.Bounds.{Bounds}
 use Rattle.fd_cover.specs.Bounds.{is_within}

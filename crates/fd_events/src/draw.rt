@@ -4,7 +4,7 @@ use crate::finder::Finder;
 use crate::list::TriangleList;
 use crate::reach::meets;
 use fd_blend::Colour;
-use fd_cover::{Bounds, Interp, Tri};
+use fd_cover::{Bounds, Interp, Raster, Tri};
 use fd_snap::Pos;
 use std::alloc::{AllocError, Global};
 use std::marker::Model;
@@ -64,6 +64,7 @@ impl Model for Draw {
 
 impl Draw {
     ghost use Rattle.fd_events.specs.Bounds.{HoldsTriangles, IsTriangleBox, HoldsGroup, IsGroupBox, CoverNone, bounds_of_triangles};
+    ghost use Rattle.fd_events.specs.Culled.{AreCulled};
     ghost use Rattle.fd_events.specs.Limits.{group_size, most_triangles};
     ghost use Rattle.fd_events.specs.Draw.{made, triangles_of};
 
@@ -118,6 +119,16 @@ impl Draw {
         self.list.interp()
     }
 
+    /// Whether it is known that a raster state culls every triangle. Of up to three triangles it isn't kept, so `false` tells nothing.
+    pub fn is_culled(&self, raster: &Raster) -> bool
+        ensures { IsTrue result → AreCulled raster.now.cull raster.now.front_ccw (triangles_of self.now) }
+    {
+        match &self.finder {
+            Some(finder) => finder.culled.by(raster),
+            None => false,
+        }
+    }
+
     /// The box round the triangles, which holds every pixel that one of them covers.
     pub fn bounds(&self) -> Bounds
         ensures value { result ≡ bounds_of_triangles (triangles_of self.now) }
@@ -129,8 +140,8 @@ impl Draw {
         }
     }
 
-    /// The box round a group of triangles, those from number `GROUP_LEN` times `group` on; or the one round all, as long as no table
-    /// was started with the draw. Either holds every pixel that one of the group covers.
+    /// The box round a group of triangles, those from number `GROUP_LEN` times `group` on, or the one round all. Either holds every pixel
+    /// that one of the group covers.
     pub fn group_bounds(&self, group: u32) -> Bounds
         ensures value { IsGroupBox result group (triangles_of self.now) }
         ensures covered { HoldsGroup result group (triangles_of self.now) }

@@ -2,6 +2,7 @@ ghost use Rattle.std.specs.Prelude.{IfOk, IfSome};
 ghost use Rattle.fd_events.specs.Draw.{triangles_of};
 ghost use Rattle.fd_events.specs.Finder.{Finds};
 
+use crate::culled::Culled;
 use crate::grid::Cells;
 use crate::list::TriangleList;
 use fd_cover::Bounds;
@@ -17,11 +18,12 @@ const MOST_OF_A_VERTEX: usize = 3;
 #[derive(Debug, Drop)]
 pub(crate) struct Finder {
     pub(crate) bounds: Bounds,
+    pub(crate) culled: Culled,
     // the box of each group
     pub(crate) groups: Vec<Bounds>,
     // the box of each triangle, or nothing
     pub(crate) boxes: Vec<Bounds>,
-    // for many triangles that are small: those that meet each cell of a grid
+    // where the triangles reach few cells of a grid: those that may reach each
     pub(crate) cells: Option<Cells>,
 }
 
@@ -36,24 +38,26 @@ impl Finder {
         ensures { IfOk result (λ finder. IfSome finder (λ finder. Finds finder (triangles_of list.now))) }
     {
         let count = list.len();
-        let vertices = list.vertex_count();
         if count <= FEW_TRIANGLES {
             return Ok(None);
         }
         let bounds = list.all_bounds();
+        let culled = Culled::of(list);
         let groups = list.groups(alloc)?;
-        if count as usize / MOST_OF_A_VERTEX > vertices {
+        if count as usize / MOST_OF_A_VERTEX > list.vertex_count() {
             return Ok(Some(Finder {
                 bounds,
+                culled,
                 groups,
                 boxes: Vec::new(alloc),
                 cells: None,
             }));
         }
         let boxes = list.boxes(alloc)?;
-        let cells = Cells::on_target(bounds, width, height, &boxes, vertices, alloc)?;
+        let cells = Cells::on_target(bounds, width, height, list, &boxes, alloc)?;
         Ok(Some(Finder {
             bounds,
+            culled,
             groups,
             boxes,
             cells,

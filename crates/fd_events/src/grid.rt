@@ -2,17 +2,19 @@ ghost use Rattle.std.specs.Prelude.{◌≡◌, ℕ, ◌+◌, ◌-◌, ◌*◌, �
 ghost use Rattle.std.specs.List.{Contains};
 ghost use Rattle.std.specs.List.Sorted.{IsNonDecreasing};
 ghost use Rattle.fd_snap.specs.Limits.{most_pixels};
-ghost use Rattle.fd_cover.specs.Bounds.{is_within};
+ghost use Rattle.fd_cover.specs.Bounds.{is_within, HoldsCovered};
 ghost use Rattle.fd_events.specs.Limits.{most_triangles};
+ghost use Rattle.fd_events.specs.Bounds.{AreTriangleBoxes};
+ghost use Rattle.fd_events.specs.Draw.{triangles_of};
 ghost use Rattle.fd_events.specs.Numbers.{numbers_of, AreOrdered, Grow};
 ghost use Rattle.fd_events.specs.Packed.{listed_in};
 ghost use Rattle.fd_events.specs.Under.{AreUnder};
-ghost use Rattle.fd_events.specs.Cells.{cell_count, cell_at, place_of, IsGrid, IsPartUnder, HasCell, ListBox, ListBoxes, AreCells};
+ghost use Rattle.fd_events.specs.Cells.{cell_count, cell_at, cell_place, IsGrid, IsPartUnder, HasCell, IsBeyond, ListCovered, ListAllCovered, ListTriangles};
 
-use crate::draw::GROUP_LEN;
+use crate::list::TriangleList;
 use crate::numbers::{add_row, no_numbers};
 use crate::packed::Packed;
-use fd_cover::Bounds;
+use fd_cover::{Bounds, Rows, Tri};
 use std::alloc::{AllocError, Global};
 
 /// The side of the smallest cells is this power of two, and no tile is larger.
@@ -21,11 +23,20 @@ const LEAST_SHIFT: u32 = 5;
 /// The side of the largest cells is this power of two, and no target is larger.
 const GREATEST_SHIFT: u32 = 14;
 
+/// So many triangles at least are listed in cells.
+const FEWEST_LISTED: usize = 8;
+
 /// How many cells there are at most for each triangle of a draw, or for each vertex if these are fewer.
 const MOST_CELLS: usize = 12;
 
 /// How many numbers the cells list at most for each of them.
-const MOST_MEETINGS: usize = 8;
+const MOST_MEETINGS: usize = 24;
+
+/// Of a row of so few cells each is taken to be reached, since to find out costs more.
+const FEW_COLUMNS: u32 = 2;
+
+/// Of a row of more cells too, as they are looked at one by one.
+const MOST_COLUMNS: u32 = 64;
 
 /// Square cells that lie side by side, aligned to the target's corner.
 #[derive(Clone, Copy, Debug)]
@@ -36,7 +47,7 @@ pub(crate) struct Grid {
     area: Bounds,
 }
 
-/// The cells of a grid, each with the numbers of the triangles whose boxes meet it.
+/// The cells of a grid, each with the numbers of the triangles that may reach it.
 #[derive(Debug, Drop)]
 pub(crate) struct Cells {
     grid: Grid,
@@ -76,29 +87,23 @@ fn first_from(numbers: &[u32], number: u32, end: u32) -> u32
     }
 }
 
-/// The number of cells in a box of cells.
-fn count_in(area: Bounds) -> usize {
-    if area.is_empty() {
-        0
-    } else {
-        (area.bottom - area.top) as usize * (area.right - area.left) as usize
-    }
-}
-
 impl Grid {
-    /// The finest grid over a box that has more than one cell and not too many, of which the triangles' boxes meet not too many.
-    fn over(bounds: Bounds, boxes: &[Bounds], vertices: usize) -> Option<Grid>
-        requires { length boxes.now ≤ most_triangles }
+    /// The finest grid over a box that has more than one cell and not too many, of which the triangles reach not too many.
+    fn over(bounds: Bounds, list: &TriangleList, boxes: &[Bounds]) -> Option<Grid>
+        requires few { length boxes.now ≤ most_triangles }
+        requires all { length boxes.now ≡ length (triangles_of list.now) }
         ensures { IfSome result (λ grid. IsGrid grid) }
     {
-        let weight = boxes.len().min(vertices);
+        let weight = boxes.len().min(list.vertex_count());
         for shift in LEAST_SHIFT..GREATEST_SHIFT + 1 {
             let area = cells_under(bounds, shift);
             let grid = Grid { shift, area };
             if grid.len() <= 1 {
                 return None;
             }
-            if grid.len() <= MOST_CELLS * weight && grid.meetings(boxes) <= MOST_MEETINGS * weight {
+            if grid.len() <= MOST_CELLS * weight
+                && !grid.has_more_meetings(list, boxes, MOST_MEETINGS * weight)
+            {
                 return Some(grid);
             }
         }
@@ -120,7 +125,7 @@ impl Grid {
         requires right { column ≤ self.area.right }
         requires top { self.area.top ≤ row }
         requires bottom { row < self.area.bottom }
-        ensures { result ≡ place_of self column row }
+        ensures { result ≡ cell_place self column row }
     {
         (row - self.area.top) as usize * (self.area.right - self.area.left) as usize
             + (column - self.area.left) as usize
@@ -140,47 +145,120 @@ impl Grid {
         }
     }
 
-    /// How many cells the boxes meet, each cell counted for each box that meets it.
-    fn meetings(self, boxes: &[Bounds]) -> usize
+    /// The side of a cell, in pixels.
+    fn side(self) -> u32
         requires { IsGrid self }
+        ensures { result ≡ 2 ^ self.shift }
     {
-        let mut meetings: usize = 0;
-        for bounds in boxes {
-            meetings = meetings.saturating_add(count_in(self.part_under(*bounds)));
-        }
-        meetings
+        1 << self.shift
     }
 
-    /// Adds a number to the lists of the cells that a box meets.
-    fn add(self, bounds: Bounds, number: u32, lists: &mut Vec<Vec<u32>>) -> Result<(), AllocError>
+    /// Whether a cell lies beyond one edge of a triangle, whose rows stand at the cell's first one.
+    fn is_beyond(self, edges: &Rows, column: u32) -> bool
         requires grid { IsGrid self }
+        requires rows { edges.now.1 + 2 ^ self.shift ≤ most_pixels }
+        ensures { IsTrue result → (row : ℕ) → edges.now.1 ≡ row * 2 ^ self.shift → IsBeyond self edges.now.0 column row }
+    {
+        let side = self.side();
+        column < (1 << GREATEST_SHIFT) >> self.shift
+            && edges.misses(column * side, (column + 1) * side, side - 1)
+    }
+
+    /// The columns from one up to another of a part of the grid, of whose cells in this row a triangle may reach all. The others of the row it
+    /// doesn't reach.
+    fn reached(self, triangle: &Tri, part: Bounds, row: u32) -> (u32, u32)
+        requires grid { IsGrid self }
+        requires columns { part.left ≤ part.right }
+        ensures first { part.left ≤ result.0 }
+        ensures order { result.0 ≤ result.1 }
+        ensures last { result.1 ≤ part.right }
+        ensures before { (column : ℕ) → part.left ≤ column → column < result.0 → IsBeyond self triangle.now column row }
+        ensures after { (column : ℕ) → result.1 ≤ column → column < part.right → IsBeyond self triangle.now column row }
+    {
+        let columns = part.right - part.left;
+        if columns <= FEW_COLUMNS
+            || columns > MOST_COLUMNS
+            || row >= (1 << GREATEST_SHIFT) >> self.shift
+        {
+            return (part.left, part.right);
+        }
+        let edges = Rows::of(triangle, row * self.side());
+        let mut left = part.left;
+        while left < part.right && self.is_beyond(&edges, left) {
+            left += 1;
+        }
+        let mut right = part.right;
+        while left < right && self.is_beyond(&edges, right - 1) {
+            right -= 1;
+        }
+        (left, right)
+    }
+
+    /// Whether the triangles may reach more cells than these, each cell counted for each of them.
+    fn has_more_meetings(self, list: &TriangleList, boxes: &[Bounds], most: usize) -> bool
+        requires grid { IsGrid self }
+        requires few { length boxes.now ≤ most_triangles }
+        requires all { length boxes.now ≡ length (triangles_of list.now) }
+    {
+        let mut meetings: usize = 0;
+        for number in 0..boxes.len() {
+            let part = self.part_under(boxes[number]);
+            if part.is_empty() {
+                continue;
+            }
+            let triangle = list.tri(number as u32);
+            for row in part.top..part.bottom {
+                let (left, right) = self.reached(&triangle, part, row);
+                meetings = meetings.saturating_add((right - left) as usize);
+            }
+            if meetings > most {
+                return true;
+            }
+        }
+        false
+    }
+
+    /// Adds a triangle's number to the lists of the cells that it may reach. The box holds all that it covers.
+    fn add(
+        self,
+        triangle: &Tri,
+        bounds: Bounds,
+        number: u32,
+        lists: &mut Vec<Vec<u32>>,
+    ) -> Result<(), AllocError>
+        requires grid { IsGrid self }
+        requires covered { HoldsCovered bounds triangle.now }
         requires lists { vec_len lists.old ≡ cell_count self }
-        ensures { IfOk result (λ _. Grow number (numbers_of lists.old.items) (numbers_of lists.new.items) × ListBox self (numbers_of lists.new.items) number bounds) }
+        ensures { IfOk result (λ _. Grow number (numbers_of lists.old.items) (numbers_of lists.new.items) × ListCovered self (numbers_of lists.new.items) number triangle.now) }
     {
         let part = self.part_under(bounds);
         if part.is_empty() {
             return Ok(());
         }
         for row in part.top..part.bottom {
-            add_row(
-                lists,
-                self.place(part.left, row),
-                self.place(part.right, row),
-                number,
-            )?;
+            let (left, right) = self.reached(triangle, part, row);
+            add_row(lists, self.place(left, row), self.place(right, row), number)?;
         }
         Ok(())
     }
 
-    /// The lists of all cells: in each the numbers of the boxes that meet it.
-    fn lists(self, boxes: &[Bounds], alloc: Global) -> Result<Vec<Vec<u32>>, AllocError>
+    /// The lists of all cells: in each the numbers of the triangles that may reach it.
+    fn lists(
+        self,
+        list: &TriangleList,
+        boxes: &[Bounds],
+        alloc: Global,
+    ) -> Result<Vec<Vec<u32>>, AllocError>
         requires grid { IsGrid self }
         requires few { length boxes.now ≤ most_triangles }
-        ensures { IfOk result (λ lists. AreOrdered (length boxes.now) (numbers_of lists.items) × ListBoxes self (numbers_of lists.items) boxes.now) }
+        requires all { length boxes.now ≡ length (triangles_of list.now) }
+        requires boxes { AreTriangleBoxes boxes.now (triangles_of list.now) }
+        ensures { IfOk result (λ lists. AreOrdered (length boxes.now) (numbers_of lists.items) × ListAllCovered self (numbers_of lists.items) (triangles_of list.now)) }
     {
         let mut lists = no_numbers(self.len(), alloc)?;
         for number in 0..boxes.len() {
-            self.add(boxes[number], number as u32, &mut lists)?;
+            let triangle = list.tri(number as u32);
+            self.add(&triangle, boxes[number], number as u32, &mut lists)?;
         }
         Ok(lists)
     }
@@ -203,41 +281,45 @@ impl Grid {
 }
 
 impl Cells {
-    /// The cells of a grid over a box, with the numbers of the boxes that meet each. None where the boxes are few, or all in a cell,
-    /// or meet too many cells.
+    /// The cells of a grid over a box, with the numbers of the triangles that may reach each. None where they are few, or all in a cell,
+    /// or reach too many cells.
     fn over(
         bounds: Bounds,
+        list: &TriangleList,
         boxes: &[Bounds],
-        vertices: usize,
         alloc: Global,
     ) -> Result<Option<Cells>, AllocError>
-        requires { length boxes.now ≤ most_triangles }
-        ensures { IfOk result (λ cells. IfSome cells (λ cells. AreCells cells boxes.now)) }
+        requires few { length boxes.now ≤ most_triangles }
+        requires all { length boxes.now ≡ length (triangles_of list.now) }
+        requires boxes { AreTriangleBoxes boxes.now (triangles_of list.now) }
+        ensures { IfOk result (λ cells. IfSome cells (λ cells. ListTriangles cells (triangles_of list.now))) }
     {
-        if boxes.len() <= GROUP_LEN as usize {
+        if boxes.len() < FEWEST_LISTED {
             return Ok(None);
         }
-        let Some(grid) = Grid::over(bounds, boxes, vertices) else {
+        let Some(grid) = Grid::over(bounds, list, boxes) else {
             return Ok(None);
         };
-        let lists = grid.lists(boxes, alloc)?;
-        match Packed::of(&lists, grid.meetings(boxes), alloc)? {
+        let lists = grid.lists(list, boxes, alloc)?;
+        match Packed::of(&lists, alloc)? {
             Some(lists) => Ok(Some(Cells { grid, lists })),
             None => Ok(None),
         }
     }
 
-    /// Such cells over the part of a box that lies on a target of this size. How many they are at most depends on the number of vertices.
+    /// Such cells over the part of a box that lies on a target of this size.
     pub(crate) fn on_target(
         bounds: Bounds,
         width: u32,
         height: u32,
+        list: &TriangleList,
         boxes: &[Bounds],
-        vertices: usize,
         alloc: Global,
     ) -> Result<Option<Cells>, AllocError>
-        requires { length boxes.now ≤ most_triangles }
-        ensures { IfOk result (λ cells. IfSome cells (λ cells. AreCells cells boxes.now)) }
+        requires few { length boxes.now ≤ most_triangles }
+        requires all { length boxes.now ≡ length (triangles_of list.now) }
+        requires boxes { AreTriangleBoxes boxes.now (triangles_of list.now) }
+        ensures { IfOk result (λ cells. IfSome cells (λ cells. ListTriangles cells (triangles_of list.now))) }
     {
         let part = Bounds {
             left: bounds.left,
@@ -245,7 +327,7 @@ impl Cells {
             right: bounds.right.min(width),
             bottom: bounds.bottom.min(height),
         };
-        Cells::over(part, boxes, vertices, alloc)
+        Cells::over(part, list, boxes, alloc)
     }
 
     /// The numbers that the cell lists in which a window lies, where it lies in one.
@@ -259,7 +341,7 @@ impl Cells {
     }
 
     /// The first number from this one on that the cell lists in which a window lies, or else `end`; where it lies in no cell, this
-    /// number. No box that is passed over holds a pixel of the window.
+    /// number. No triangle that is passed over covers a pixel of the window.
     pub(crate) fn next(&self, number: u32, end: u32, window: Bounds) -> u32
         requires order { number ≤ end }
         requires grid { IsGrid self.now.grid }

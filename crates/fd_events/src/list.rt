@@ -4,7 +4,7 @@ ghost use Rattle.fd_events.specs.Indices.{has_too_many, are_in_range};
 
 use crate::draw::{DrawFault, GROUP_LEN, MAX_INDICES, MAX_VERTICES, Vertex};
 use fd_blend::Colour;
-use fd_cover::{Bounds, Interp, Tri};
+use fd_cover::{Bounds, Cull, Interp, Raster, Tri};
 use fd_snap::snap;
 use std::alloc::{AllocError, Global};
 use std::marker::Model;
@@ -56,8 +56,10 @@ impl Model for TriangleList {
 
 impl TriangleList {
     ghost use Rattle.std.specs.Prelude.{IfOk};
-    ghost use Rattle.fd_events.specs.Bounds.{IsRound, IsRoundGroup, AreRoundGroups, AreTriangleBoxes, between};
-    ghost use Rattle.fd_events.specs.Draw.{made, listed, triangle_of, triangles_of};
+    ghost use Rattle.std.specs.Prelude.{IsTrue};
+    ghost use Rattle.fd_events.specs.Culled.{AreCulled};
+    ghost use Rattle.fd_events.specs.Bounds.{IsRound, IsRoundGroup, AreRoundGroups, AreTriangleBoxes, triangles_between};
+    ghost use Rattle.fd_events.specs.Draw.{made, listed, triangle_of_vertices, triangles_of};
     ghost use Rattle.fd_events.specs.Limits.{group_size, most_triangles, most_vertices};
 
     /// The triangles of these vertices and indices, which are dropped on a refusal.
@@ -114,7 +116,7 @@ impl TriangleList {
     /// The vertices of a triangle.
     fn corners(&self, triangle: u32) -> (Vertex, Vertex, Vertex)
         requires { triangle < length (triangles_of self.now) }
-        ensures { slice_get (triangles_of self.now) triangle ≡ Some (triangle_of result.0 result.1 result.2) }
+        ensures { slice_get (triangles_of self.now) triangle ≡ Some (triangle_of_vertices result.0 result.1 result.2) }
     {
         let first = 3 * triangle as usize;
         (
@@ -145,6 +147,23 @@ impl TriangleList {
         }
     }
 
+    /// Whether every triangle is culled.
+    pub(crate) fn is_culled(&self, cull: Cull, front_ccw: bool) -> bool
+        ensures { IsTrue result → AreCulled cull front_ccw (triangles_of self.now) }
+    {
+        let raster = Raster {
+            cull,
+            front_ccw,
+            scissor: false,
+        };
+        for triangle in 0..self.len() {
+            if !raster.culls(&self.tri(triangle)) {
+                return false;
+            }
+        }
+        true
+    }
+
     /// The colours of a triangle's corners, in the order of `tri`.
     pub(crate) fn colours(&self, triangle: u32) -> [Colour; 3]
         requires { triangle < length (triangles_of self.now) }
@@ -173,7 +192,7 @@ impl TriangleList {
     pub(crate) fn bounds(&self, first: u32, last: u32) -> Bounds
         requires order { first ≤ last }
         requires last { last ≤ length (triangles_of self.now) }
-        ensures { IsRound result (between first last (triangles_of self.now)) }
+        ensures { IsRound result (triangles_between first last (triangles_of self.now)) }
     {
         let mut bounds = Bounds::empty();
         for triangle in first..last {

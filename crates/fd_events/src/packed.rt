@@ -13,14 +13,14 @@ pub(crate) struct Packed {
 }
 
 impl Packed {
-    /// The same lists, which have so many numbers together. None where these are more than a `u32` counts.
-    pub(crate) fn of(
-        lists: &[Vec<u32>],
-        count: usize,
-        alloc: Global,
-    ) -> Result<Option<Packed>, AllocError>
+    /// The same lists. None where they have more numbers together than a `u32` counts.
+    pub(crate) fn of(lists: &[Vec<u32>], alloc: Global) -> Result<Option<Packed>, AllocError>
         ensures { IfOk result (λ packed. IfSome packed (λ packed. (cell : ℕ) → listed_in packed cell ≡ listed_at (numbers_of lists.now) cell)) }
     {
+        let mut count: usize = 0;
+        for list in lists {
+            count = count.saturating_add(list.len());
+        }
         let mut numbers = Vec::with_capacity(alloc, count)?;
         let mut starts = Vec::with_capacity(alloc, lists.len() + 1)?;
         starts.push(0)?;

@@ -15,7 +15,7 @@ pub(crate) struct Reach {
 
 impl Reach {
     ghost use Rattle.fd_cover.specs.Bounds.{is_empty};
-    ghost use Rattle.fd_events.specs.Reach.{box_of, clipped};
+    ghost use Rattle.fd_events.specs.Reach.{box_of, clipped_box};
 
     /// No pixel.
     pub(crate) fn nowhere() -> Reach
@@ -47,7 +47,7 @@ impl Reach {
     pub(crate) fn clipped(bounds: Bounds, width: u32, height: u32) -> Reach
         requires width { width ≤ most_pixels }
         requires height { height ≤ most_pixels }
-        ensures { box_of result ≡ clipped width height bounds }
+        ensures { box_of result ≡ clipped_box width height bounds }
     {
         Reach {
             left: bounds.left.min(width) as u16,

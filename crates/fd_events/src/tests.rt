@@ -255,6 +255,58 @@ fn each_group_has_a_box_once_a_table_starts(rt: HostRuntime) -> Result<(), Fail>
     Ok(())
 }
 
+/// So many clockwise triangles, and one more with these corners.
+fn clockwise_and(alloc: Global, count: u32, corners: [(i32, i32); 3]) -> Result<Vec<Vertex>, Fail> {
+    let mut vertices = Vec::new(alloc);
+    for _ in 0..count {
+        push_triangle(&mut vertices, NEAR_CORNERS)?;
+    }
+    push_triangle(&mut vertices, corners)?;
+    Ok(vertices)
+}
+
+const EACH_CULLING: [(Cull, bool); 5] = [
+    (Cull::None, false),
+    (Cull::Front, false),
+    (Cull::Front, true),
+    (Cull::Back, false),
+    (Cull::Back, true),
+];
+
+/// Three triangles are few, and a fourth that is turned round is drawn where the others are culled.
+#[test]
+fn a_draw_is_culled_where_all_its_triangles_are(rt: HostRuntime) -> Result<(), Fail> {
+    let [a, b, c] = NEAR_CORNERS;
+    let none = [false, false, false, false, false];
+    for (vertices, culled) in [
+        (clockwise_and(rt.alloc(), 2, NEAR_CORNERS)?, none),
+        (
+            clockwise_and(rt.alloc(), 3, NEAR_CORNERS)?,
+            [false, true, false, false, true],
+        ),
+        (clockwise_and(rt.alloc(), 3, [a, c, b])?, none),
+        (
+            clockwise_and(rt.alloc(), 3, [a, a, b])?,
+            [false, false, false, false, true],
+        ),
+    ] {
+        let table = table_of(rt.alloc(), 64, vertices)?;
+        assert!(rt; table.len() == 1);
+        let Event::Draw(draw) = table.event(1) else {
+            return Err("a draw".into());
+        };
+        for ((cull, front_ccw), culled) in EACH_CULLING.into_iter().zip(culled) {
+            let raster = Raster {
+                cull,
+                front_ccw,
+                scissor: true,
+            };
+            assert_eq!(rt; draw.is_culled(&raster), culled, "{raster:?}");
+        }
+    }
+    Ok(())
+}
+
 /// A triangle in the cell of 32 pixels that is right of the first one and below it.
 const NEXT_CELL_CORNERS: [(i32, i32); 3] = [
     (2_621_440, 2_621_440),
@@ -341,14 +393,16 @@ fn with_large_ones(alloc: Global, small: u32, large: u32) -> Result<Vec<Vertex>,
 fn few_triangles_are_in_no_cells_and_large_ones_in_large_cells(
     rt: HostRuntime,
 ) -> Result<(), Fail> {
-    // 10 large ones meet 64 cells of 32 pixels each or 16 of 64, and 20 of them meet too many of these as well
+    // a large one reaches 36 of 64 cells of 32 pixels, those above a diagonal; 10 among 40 do so, 60 among 80 are too many, and cells of 64 are taken for them
     for (side, vertices, corner, next) in [
-        (64, in_two_cells(rt.alloc(), 32)?, 32, 0),
-        (64, in_two_cells(rt.alloc(), 33)?, 32, 1),
-        (256, with_large_ones(rt.alloc(), 30, 10)?, 32, 0),
-        (256, with_large_ones(rt.alloc(), 30, 10)?, 64, 1),
-        (256, with_large_ones(rt.alloc(), 20, 20)?, 64, 0),
-        (256, with_large_ones(rt.alloc(), 20, 20)?, 128, 1),
+        (64, in_two_cells(rt.alloc(), 7)?, 32, 0),
+        (64, in_two_cells(rt.alloc(), 8)?, 32, 1),
+        (256, with_large_ones(rt.alloc(), 30, 10)?, 32, 1),
+        (256, with_large_ones(rt.alloc(), 30, 10)?, 96, 1),
+        (256, with_large_ones(rt.alloc(), 30, 10)?, 128, 40),
+        (256, with_large_ones(rt.alloc(), 20, 60)?, 32, 0),
+        (256, with_large_ones(rt.alloc(), 20, 60)?, 64, 1),
+        (256, with_large_ones(rt.alloc(), 20, 60)?, 128, 80),
     ] {
         let table = table_of(rt.alloc(), side, vertices)?;
         assert!(rt; table.len() == 1);

@@ -12,12 +12,12 @@ use Rattle.fd_events.specs.declared.event.Event.{Event}
 use Rattle.fd_events.specs.declared.event.Event.TheVariants.{Clear, SetRaster, SetScissor, SetBlend, SetFactor, SetDepth, DepthClear, Draw, Marker}
 use Rattle.fd_events.specs.declared.pipeline.Pipeline.{Pipeline}
 use Rattle.fd_events.specs.Draw.{Triangle, triangles_of}
-use Rattle.fd_events.specs.Image.{Pixel, fresh_pixel, verdict_of, pixel_drawn, pixel_after_triangle, pixel_after_triangles, pixel_after_event, pixel_at, stored_at, source_of, depth_of, is_drawn, is_drawn_by, kept_at}
+use Rattle.fd_events.specs.Image.{Pixel, fresh_pixel, verdict_of, pixel_drawn, pixel_after_triangle, pixel_after_triangles, pixel_after_event, pixel_at, stored_at, source_of, depth_of, is_drawn, is_drawn_by, kept_after}
 use Rattle.fd_events.specs.Table.{Table, active_event, state_at, event_at, flag_at}
 use Rattle.fd_history.specs.declared.entry.Entry.{Entry}
 use Rattle.fd_history.specs.History.{entry_of, is_missed, entries_of_triangle, entries_of_triangles, entries_of_event, history_at}
 use Rattle.fd_history.specs.Gathered.{Gathering, gone_on, depth_after_triangle, depth_after_triangles, depth_after_event, gathered_of_triangle, gathered_of_triangles, gathered_of, gathered_of_event, past_number, EntersNothing}
-use Rattle.fd_history.specs.Settled.{gathered_at, overwritten, overwritten_past, drawn_count, first, behind, between, settled}
+use Rattle.fd_history.specs.Settled.{gathered_at, overwritten, overwritten_past, drawn_count, first, behind, entry_between, settled}
 use Rattle.fd_history.specs.Chain.{Leads, drawn_over}
 use Rattle.fd_history.proofs.Chains.{event_leads, history_leads}
 use Rattle.fd_history.proofs.Gathers.{gone_nowhere}
@@ -50,7 +50,7 @@ depth_event (Some (Marker label)) s x y before = refl
 
 -- ---- entries without their colours
 abbrev blank : Entry → Entry
-blank e = between e e.source e.source
+blank e = entry_between e e.source e.source
 
 blank_one : (v : Verdict) (event number : ℕ) (source before after : Pixel) (last : ℕ) → after.1 ≡ last
     → map blank (if is_missed v then [] else entry_of event (Some number) v source before after ∷ [])
@@ -105,7 +105,7 @@ keeps_depth number event s x y before none =
     let same : before ≡ pixel_after_event event s x y before = rw none at leads in
     sym (depth_event event s x y before) ∙ sym (ap (λ (p : Pixel). p.1) same)
 
-keeps_nothing : (t : Table) (k x y : ℕ) → entries_of_event (suc k) (active_event t (suc k)) (state_at t k) x y (pixel_at t k x y) ≡ [] → kept_at t k x y ≡ []
+keeps_nothing : (t : Table) (k x y : ℕ) → entries_of_event (suc k) (active_event t (suc k)) (state_at t k) x y (pixel_at t k x y) ≡ [] → kept_after t k x y ≡ []
 keeps_nothing t k x y none = kept_is_drawn_over t k x y ∙ ap drawn_over none
 
 -- ---- what a pixel went through
@@ -153,8 +153,8 @@ settles a last (e ∷ es) leads =
     ap (λ cs. behind (is_drawn_by e.verdict) (cs ++ last ∷ [])) (drawn_over-cons e es) ∙ behind_one (is_drawn_by e.verdict) (e.before, e.depth_before) (drawn_over es) last in
     let before : first pixels ≡ (e.before, e.depth_before) = leads_first a last (e ∷ es) leads ∙ sym leads.0 in
     let after : first (behind (is_drawn_by e.verdict) pixels) ≡ (e.after, e.depth_after) = ap first left ∙ leads_first (e.after, e.depth_after) last es leads.2 in
-    ap (λ (p : Pixel). between e p.0 (first (behind (is_drawn_by e.verdict) pixels)).0 ∷ settled (map blank es) (behind (is_drawn_by e.verdict) pixels)) before
-    ∙ ap (λ (p : Pixel). between e e.before p.0 ∷ settled (map blank es) (behind (is_drawn_by e.verdict) pixels)) after
+    ap (λ (p : Pixel). entry_between e p.0 (first (behind (is_drawn_by e.verdict) pixels)).0 ∷ settled (map blank es) (behind (is_drawn_by e.verdict) pixels)) before
+    ∙ ap (λ (p : Pixel). entry_between e e.before p.0 ∷ settled (map blank es) (behind (is_drawn_by e.verdict) pixels)) after
     ∙ ap (λ cs. e ∷ settled (map blank es) cs) left
     ∙ ap (λ fs. e ∷ fs) (settles (e.after, e.depth_after) last es leads.2)
 
@@ -219,7 +219,7 @@ given_back n old new pixels all is =
     ∙ ap (take n) (append-nil new) ∙ take_all n new (omega (arith, same, all)) ∙ is
 
 -- as many entries of an event were drawn as pixels are kept of it
-pub count_kept : (t : Table) (k x y : ℕ) → drawn_count (gathered_of_event (suc k) (active_event t (suc k)) (state_at t k) x y (stored_at t k x y)) ≡ length (kept_at t k x y)
+pub count_kept : (t : Table) (k x y : ℕ) → drawn_count (gathered_of_event (suc k) (active_event t (suc k)) (state_at t k) x y (stored_at t k x y)) ≡ length (kept_after t k x y)
 count_kept t k x y =
     let entries = entries_of_event (suc k) (active_event t (suc k)) (state_at t k) x y (pixel_at t k x y) in
     ap drawn_count (sym (blank_event (suc k) (active_event t (suc k)) (state_at t k) x y (pixel_at t k x y)))
@@ -227,7 +227,7 @@ count_kept t k x y =
     ∙ ap length (sym (kept_is_drawn_over t k x y))
 
 pub count_event : (t : Table) (number x y : ℕ) (event : Event) → 1 ≤ number → event_at t number ≡ Some event → flag_at t number ≡ Some true
-    → drawn_count (gathered_of number event (state_at t (number - 1)) x y (stored_at t (number - 1) x y)) ≡ length (kept_at t (number - 1) x y)
+    → drawn_count (gathered_of number event (state_at t (number - 1)) x y (stored_at t (number - 1) x y)) ≡ length (kept_after t (number - 1) x y)
 count_event t number x y event least found on =
     let again : suc (number - 1) ≡ number = omega (arith, least) in
     ap (λ e. drawn_count (gathered_of_event number e (state_at t (number - 1)) x y (stored_at t (number - 1) x y))) (sym (active_is t number event found on))

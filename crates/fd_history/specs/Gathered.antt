@@ -1,4 +1,4 @@
--- Entries whose colours before and after are not known yet: their sources stand for both. Their depths are known.
+-- Working. Entries whose colours before and after are not known yet: their sources stand for both. Their depths are known.
 use Rattle.std.specs.Prelude.{◌≡◌, ℕ, ◌+◌, List, [], ◌∷◌, ◌++◌, Option, Some, None, if◌then◌else◌}
 use Rattle.fd_blend.specs.Channel.{fresh}
 use Rattle.fd_cover.specs.declared.shading.Interp.{Interp}

@@ -1,7 +1,7 @@
--- The colours of gathered entries, from what the pixel went through.
+-- Working. The colours of gathered entries, from what the pixel went through.
 use Rattle.std.specs.Prelude.{ℕ, zero, suc, ◌+◌, Bool, List, [], ◌∷◌, ◌++◌, drop, slice_index_or, if◌then◌else◌}
 use Rattle.fd_blend.specs.declared.channel.Colour.{Colour}
-use Rattle.fd_events.specs.Image.{Pixel, fresh_pixel, stored_at, is_drawn_by, kept_at}
+use Rattle.fd_events.specs.Image.{Pixel, fresh_pixel, stored_at, is_drawn_by, kept_after}
 use Rattle.fd_events.specs.Table.{Table, active_event, state_at}
 use Rattle.fd_history.specs.declared.entry.Entry.{Entry}
 use Rattle.fd_history.specs.Gathered.{gathered_of_event}
@@ -13,7 +13,7 @@ gathered_at t (suc k) x y = gathered_at t k x y ++ gathered_of_event (suc k) (ac
 
 -- what of pixel (x, y) the event after position k overwrites, behind what was overwritten before
 abbrev pub overwritten_past : Table → ℕ → ℕ → ℕ → List Pixel → List Pixel
-overwritten_past t k x y pixels = pixels ++ kept_at t k x y
+overwritten_past t k x y pixels = pixels ++ kept_after t k x y
 
 -- all that was overwritten up to a position, in order
 abbrev pub overwritten : Table → ℕ → ℕ → ℕ → List Pixel
@@ -33,8 +33,8 @@ abbrev pub behind : Bool → List Pixel → List Pixel
 behind drawn pixels = if drawn then drop 1 pixels else pixels
 
 -- an entry between two colours
-abbrev pub between : Entry → Colour → Colour → Entry
-between e before after = record {
+abbrev pub entry_between : Entry → Colour → Colour → Entry
+entry_between e before after = record {
   event = e.event;
   triangle = e.triangle;
   verdict = e.verdict;
@@ -49,4 +49,4 @@ between e before after = record {
 -- The pixel has the first colour at first, and each entry that was drawn leads to the next one.
 abbrev pub settled : List Entry → List Pixel → List Entry
 settled [] pixels = []
-settled (e ∷ es) pixels = between e (first pixels).0 (first (behind (is_drawn_by e.verdict) pixels)).0 ∷ settled es (behind (is_drawn_by e.verdict) pixels)
+settled (e ∷ es) pixels = entry_between e (first pixels).0 (first (behind (is_drawn_by e.verdict) pixels)).0 ∷ settled es (behind (is_drawn_by e.verdict) pixels)

@@ -1,4 +1,4 @@
--- Whole numbers of a JSON text.
+-- Working. Whole numbers of a JSON text.
 use Rattle.std.specs.Prelude.{ℤ, ◌^◌, ◌&&◌, Bool, true, false, nat_lt, nat_le, if◌then◌else◌, Option, Some, None, option_and_then}
 use Rattle.fast_float.specs.Text.{Parts, digits_of, with_sign}
 use Rattle.serde_json.specs.Data.{Num, unsigned, negative, Data}

@@ -9,7 +9,7 @@ use Rattle.fd_tile.specs.Place.{Holds, over_place}
 use Rattle.fd_tile.specs.Tile.{Pixel, pixel_in}
 use Rattle.fd_tile.proofs.Pixels.{value_in-over_place, over_place_same}
 use Rattle.fd_events.specs.Table.{Table}
-use Rattle.fd_events.specs.Image.{fresh_pixel, pixel_at, kept_at}
+use Rattle.fd_events.specs.Image.{fresh_pixel, pixel_at, kept_after}
 use Rattle.fd_owner.specs.History.{Frame, History, position, last_image, records, pixels_kept, pixel_past, kept_past, frame_after, extend, fresh_history, drawn_history}
 use Rattle.fd_owner.proofs.Histories.{position_extend_to, extend_more, extend_none, last_extend}
 
@@ -78,13 +78,13 @@ module _ (place : Place) (x y : ℕ) (held : Holds place x y) where
       ∙ value_in-over_place place (λ a b. kept_past table (position h) a b (pixel_in place (last_image h) a b)) x y [] held
 
   -- what a table's event overwrites of the pixel
-  pub kept_drawn : (table : Table) (k i : ℕ) → i < k → pixels_kept place (drawn_history table place k) (i + 1) x y ≡ kept_at table i x y
+  pub kept_drawn : (table : Table) (k i : ℕ) → i < k → pixels_kept place (drawn_history table place k) (i + 1) x y ≡ kept_after table i x y
   kept_drawn table zero i below = absurd (omega arith)
   kept_drawn table (suc k) i below =
       ap (λ h. pixels_kept place h (i + 1) x y) (drawn_more table place k) ∙ by_age (cases_lt i k) (λ earlier. kept_drawn table k i earlier)
     where
-      by_age : (i < k) ⊎ (k ≤ i) → (i < k → pixels_kept place (drawn_history table place k) (i + 1) x y ≡ kept_at table i x y)
-          → pixels_kept place (extend table place (drawn_history table place k)) (i + 1) x y ≡ kept_at table i x y
+      by_age : (i < k) ⊎ (k ≤ i) → (i < k → pixels_kept place (drawn_history table place k) (i + 1) x y ≡ kept_after table i x y)
+          → pixels_kept place (extend table place (drawn_history table place k)) (i + 1) x y ≡ kept_after table i x y
       by_age (inl earlier) rest =
           kept_before table (drawn_history table place k) (i + 1) (omega arith) (omega (arith, position_drawn table place k)) ∙ rest earlier
       by_age (inr last) rest =
@@ -94,4 +94,4 @@ module _ (place : Place) (x y : ℕ) (held : Holds place x y) where
           ∙ kept_last table (drawn_history table place k)
           ∙ ap (λ n. kept_past table n x y (pixel_in place (last_image (drawn_history table place k)) x y)) (position_drawn table place k)
           ∙ ap (λ p. kept_past table k x y p) (pixel_drawn table place k x y held)
-          ∙ ap (λ n. kept_at table n x y) (sym now)
+          ∙ ap (λ n. kept_after table n x y) (sym now)

@@ -1,10 +1,7 @@
 -- An event whose reach misses a place writes nothing there.
-use Rattle.std.proofs.Common.{◌≡◌, ℕ, suc, ◌+◌, ◌<◌, ◌≤◌, Bool, true, false, cond, not, ◌&&◌, List, [], ◌++◌, Option, Some, None, option_map, slice_get, refl, sym, ap, ◌∙◌, subst, arith}
-use Rattle.std.proofs.lemmas.Bool.Decides.{nat_tests}
+use Rattle.std.proofs.Common.{◌≡◌, ℕ, suc, ◌+◌, ◌<◌, ◌≤◌, false, not, ◌&&◌, List, [], ◌++◌, Option, Some, None, refl, sym, ap, ◌∙◌, arith}
 use Rattle.std.proofs.lemmas.List.{append-nil}
 use Rattle.std.specs.Prelude.{IfSome}
-use Rattle.fd_cover.specs.declared.bounds.Bounds.{Bounds}
-use Rattle.fd_cover.specs.Bounds.{is_empty}
 use Rattle.fd_cover.specs.Verdict.{is_culled, holds}
 use Rattle.fd_cover.proofs.BoundsLemmas.{uncovered_outside}
 use Rattle.fd_tile.specs.declared.place.Place.{Place}
@@ -18,18 +15,17 @@ use Rattle.fd_events.specs.declared.pipeline.Pipeline.{Pipeline}
 use Rattle.fd_events.specs.Bounds.{bounds_of_triangles}
 use Rattle.fd_events.specs.Draw.{Triangle, triangles_of}
 use Rattle.fd_events.specs.Image.{pixel_after_event, kept_by_event}
-use Rattle.fd_events.specs.Reach.{clipped, reach_of, may_write, may_write_at}
-use Rattle.fd_events.specs.Table.{Table, is_set, event_at, active_event, state_at}
+use Rattle.fd_events.specs.Reach.{clipped_box, reach_of}
+use Rattle.fd_events.specs.Table.{Table, active_event, state_at}
 use Rattle.fd_events.proofs.BoundsLemmas.{bounds_of_triangles-holds}
 use Rattle.fd_events.proofs.ReachLemmas.{outside_clipped, in_whole, reach-holds}
-use Rattle.fd_events.proofs.Images.{at_number-next}
 use Rattle.fd_draw.specs.Demand.{event_spans, event_pixels}
 use Rattle.fd_draw.specs.Paints.{Paints}
 use Rattle.fd_draw.proofs.Triangles.{IsUndrawn, no_pixels, no_spans}
 use Rattle.fd_owner.specs.History.{pixel_past, kept_past}
 use Rattle.fd_owner.specs.Untouched.{Misses, IsUntouched}
 use Rattle.fd_owner.specs.Shown.{IsInside}
-use Rattle.fd_owner.specs.Step.{spans_of, pixels_of}
+use Rattle.fd_owner.specs.Step.{spans_of, pixels_written}
 
 -- on a target that a place lies in, in the place
 module _ (place : Place) (width height : ℕ) (placed : IsTilePlace place) (right : place.left + place.width ≤ width) (bottom : place.top + place.height ≤ height) where
@@ -45,7 +41,7 @@ module _ (place : Place) (width height : ℕ) (placed : IsTilePlace place) (righ
       let outside = misses place.left place.top held in
       cc (inside, outside)
 
-  undrawn : (ts : List Triangle) (s : Pipeline) → Misses (clipped width height (bounds_of_triangles ts)) place → IsUndrawn ts s place
+  undrawn : (ts : List Triangle) (s : Pipeline) → Misses (clipped_box width height (bounds_of_triangles ts)) place → IsUndrawn ts s place
   undrawn ts s misses i t at x y held =
       let on = in_target x y held in
       let outside = outside_clipped (bounds_of_triangles ts) width height x y on.0 on.1 (misses x y held) in
@@ -79,9 +75,9 @@ module _ (place : Place) (width height : ℕ) (placed : IsTilePlace place) (righ
   spans_of-none None s misses = refl
   spans_of-none (Some event) s misses = event_spans-none event s misses
 
-  pixels_of-none : (event : Option Event) (s : Pipeline) → IfSome event (λ event. Misses (reach_of width height event) place) → pixels_of event s place ≡ 0
-  pixels_of-none None s misses = refl
-  pixels_of-none (Some event) s misses = event_pixels-none event s misses
+  pixels_written-none : (event : Option Event) (s : Pipeline) → IfSome event (λ event. Misses (reach_of width height event) place) → pixels_written event s place ≡ 0
+  pixels_written-none None s misses = refl
+  pixels_written-none (Some event) s misses = event_pixels-none event s misses
 
   pixel_stays : (event : Option Event) (s : Pipeline) (x y : ℕ) (before : Pixel) → Holds place x y → IfSome event (λ event. Misses (reach_of width height event) place)
       → (pixel_after_event event s x y before ≡ before) × (kept_by_event event s x y before ≡ [])
@@ -95,7 +91,7 @@ pub untouched : (table : Table) (k : ℕ) (place : Place) → IsTilePlace place 
     → IsUntouched table k place
 untouched table k place placed inside misses = record {
   spans = spans_of-none place table.width table.height placed inside.right inside.bottom (active_event table (suc k)) (state_at table k) misses;
-  pixels = pixels_of-none place table.width table.height placed inside.right inside.bottom (active_event table (suc k)) (state_at table k) misses;
+  pixels = pixels_written-none place table.width table.height placed inside.right inside.bottom (active_event table (suc k)) (state_at table k) misses;
   stays = λ x y before held. (pixel_stays place table.width table.height placed inside.right inside.bottom (active_event table (suc k)) (state_at table k) x y before held misses).0;
   kept = λ x y before held. (pixel_stays place table.width table.height placed inside.right inside.bottom (active_event table (suc k)) (state_at table k) x y before held misses).1;
 }

@@ -14,12 +14,12 @@ use Rattle.fd_events.specs.Draw.{Triangle, triangles_of}
 use Rattle.fd_events.specs.Image.{pixel_after, kept_by, pixel_after_event, kept_by_event}
 use Rattle.fd_events.specs.Table.{Table, is_set, event_at, active_event, state_at}
 use Rattle.fd_events.proofs.Images.{at_number-next}
-use Rattle.fd_draw.specs.Demand.{is_reached, total, row_pixels, pixels_in, triangle_pixels, event_pixels, event_spans}
+use Rattle.fd_draw.specs.Demand.{is_reached, total, written_in_row, pixels_in, triangle_pixels, event_pixels, event_spans}
 use Rattle.fd_draw.specs.Paints.{Paints}
 use Rattle.fd_draw.proofs.Painting.{Paints-same, Paints-nothing}
 use Rattle.fd_draw.proofs.Triangles.{IsUndrawn, pixel_after_triangles-undrawn, kept_by_triangles-undrawn}
 use Rattle.fd_owner.specs.History.{pixel_past, kept_past}
-use Rattle.fd_owner.specs.Step.{spans_of, pixels_of, pixels_past}
+use Rattle.fd_owner.specs.Step.{spans_of, pixels_written, pixels_past}
 use Rattle.fd_owner.specs.Untouched.{IsUntouched}
 
 -- numbers that add up to nothing are each nothing
@@ -41,7 +41,7 @@ not_counted false n is none = refl
 -- where no pixel is counted none is written
 uncounted : (written : ℕ → ℕ → Bool) (p : Place) (x y : ℕ) → pixels_in written p ≡ 0 → Holds p x y → written x y ≡ false
 uncounted written p x y none held =
-    let row : row_pixels written p y ≡ 0 = each_nothing (row_pixels written p) p.top p.height y none held.from_top held.to_bottom in
+    let row : written_in_row written p y ≡ 0 = each_nothing (written_in_row written p) p.top p.height y none held.from_top held.to_bottom in
     not_counted (written x y) (cond (written x y) 1 0) refl (each_nothing (λ column. cond (written column y) 1 0) p.left p.width x row held.from_left held.to_right)
 
 -- triangles that demand no pixel are not drawn
@@ -75,7 +75,7 @@ module _ (s : Pipeline) (p : Place) (x y : ℕ) (before : Pixel) (held : Holds p
   by_event (SetDepth depth) none = (refl, refl)
   by_event (Marker label) none = (refl, refl)
 
-  by_any : (event : Option Event) → pixels_of event s p ≡ 0 → (pixel_after_event event s x y before ≡ before) × (kept_by_event event s x y before ≡ [])
+  by_any : (event : Option Event) → pixels_written event s p ≡ 0 → (pixel_after_event event s x y before ≡ before) × (kept_by_event event s x y before ≡ [])
   by_any None none = (refl, refl)
   by_any (Some event) none = by_event event none
 
@@ -90,10 +90,10 @@ Paints-undemanded table k t u filled begun none =
 
 -- the event is there, switched on or not
 demands_nothing : (on : Bool) (found : Option Event) (event : Event) (s : Pipeline) (p : Place) → found ≡ Some event → (event_spans event s p ≡ 0) × (event_pixels event s p ≡ 0)
-    → (spans_of (cond on found None) s p ≡ 0) × (pixels_of (cond on found None) s p ≡ 0)
+    → (spans_of (cond on found None) s p ≡ 0) × (pixels_written (cond on found None) s p ≡ 0)
 demands_nothing false found event s p is none = (refl, refl)
 demands_nothing true found event s p is none =
-    (ap (λ (e : Option Event). spans_of e s p) is ∙ none.0, ap (λ (e : Option Event). pixels_of e s p) is ∙ none.1)
+    (ap (λ (e : Option Event). spans_of e s p) is ∙ none.0, ap (λ (e : Option Event). pixels_written e s p) is ∙ none.1)
 
 -- an event that demands nothing in any state leaves the place as it is
 pub untouched_undemanded : (table : Table) (k : ℕ) (p : Place) (event : Event) → event_at table (k + 1) ≡ Some event

@@ -1,4 +1,4 @@
--- Histories of a place: an opening image, and for each event gone through the image after it and the pixels that it overwrote.
+-- Working. Histories of a place: an opening image, and for each event gone through the image after it and the pixels that it overwrote.
 -- An image is the rows of its pixels from the top, each from the left.
 use Rattle.std.specs.Prelude.{ℕ, zero, suc, ◌-◌, ◌&&◌, nat_le, List, [], ◌∷◌, ◌++◌, length, map, take, slice_index_or, if◌then◌else◌}
 use Rattle.std.specs.List.{sum_by}

@@ -1,4 +1,4 @@
--- How much the next event writes on a place, and what is known of its triangles.
+-- Working. How much the next event writes on a place, and what is known of its triangles.
 use Rattle.std.specs.Prelude.{ℕ, suc, ◌+◌, Option, Some, None, IfSome}
 use Rattle.fd_tile.specs.declared.place.Place.{Place}
 use Rattle.fd_events.specs.declared.event.Event.{Event}
@@ -14,16 +14,16 @@ spans_of None s place = 0
 spans_of (Some event) s place = event_spans event s place
 
 -- the pixels that it writes
-abbrev pub pixels_of : Option Event → Pipeline → Place → ℕ
-pixels_of None s place = 0
-pixels_of (Some event) s place = event_pixels event s place
+abbrev pub pixels_written : Option Event → Pipeline → Place → ℕ
+pixels_written None s place = 0
+pixels_written (Some event) s place = event_pixels event s place
 
 -- the spans and the pixels that the event after position k writes
 abbrev pub spans_past : Table → ℕ → Place → ℕ
 spans_past table k place = spans_of (active_event table (suc k)) (state_at table k) place
 
 abbrev pub pixels_past : Table → ℕ → Place → ℕ
-pixels_past table k place = pixels_of (active_event table (suc k)) (state_at table k) place
+pixels_past table k place = pixels_written (active_event table (suc k)) (state_at table k) place
 
 -- none of its triangles before this one covers a pixel of the place
 abbrev pub MayBeginPast : Table → ℕ → Place → ℕ → Type 0

@@ -1,4 +1,4 @@
-ghost use Rattle.std.specs.Prelude.{◌≡◌, ℕ, ◌+◌, ◌-◌, ◌<◌, ◌≤◌, ◌++◌, [], length, take, map, not, true, false, IsTrue, Some, None, slice_get, IfNone, IfSome, OnOk, OnErr};
+ghost use Rattle.std.specs.Prelude.{◌≡◌, ℕ, ◌+◌, ◌-◌, ◌<◌, ◌≤◌, ◌++◌, [], length, take, map, not, true, false, IsTrue, Some, None, slice_get, IfNone, IfSome, IsOk, OnOk, OnErr};
 ghost use Rattle.fd_tile.specs.Place.{Holds, HasRow, IsTilePlace};
 ghost use Rattle.fd_tile.specs.Tile.{FillsPlace, pixels_of, row_in, pixel_in};
 ghost use Rattle.fd_draw.specs.Paints.{Paints};
@@ -143,35 +143,23 @@ impl Owner {
         self.undo.add_kept(event as usize - 1, x, y, count, kept)
     }
 
-    /// Goes through the next event. A refusal changes nothing but what is told of refusals.
+    /// Goes through the next event. A refusal changes nothing but what is told of refusals. An event that writes nothing on the tile isn't refused.
     pub fn forward(&mut self, table: &EventTable) -> Result<(), Refused>
         requires below { position self.old.history < length table.now.events }
         requires inside { IsInside self.old.place table.now }
         ensures ok { OnOk result (self.new ≡ gone_forward table.now self.old) }
         ensures refused { OnErr result (self.new ≡ refused self.old) }
+        ensures free { spans_past table.now (position self.old.history) self.old.place ≡ 0
+            → pixels_past table.now (position self.old.history) self.old.place ≡ 0 → IsOk result }
     {
-        let position = self.position();
-        let place = self.place();
+        let (position, place, _len) = (self.position(), self.place(), table.len());
         match first_near(table, position, place) {
             Some(first) => self.draw_next(table, first),
-            None => self.pass_over_next(table),
+            None => {
+                self.pass_to(table, position + 1);
+                Ok(())
+            }
         }
-    }
-
-    /// Goes through the next event, which writes nothing on the tile.
-    fn pass_over_next(&mut self, table: &EventTable) -> Result<(), Refused>
-        requires below { position self.old.history < length table.now.events }
-        requires far { IsUntouched table.now (position self.old.history) self.old.place }
-        ensures ok { OnOk result (self.new ≡ gone_forward table.now self.old) }
-        ensures refused { OnErr result (self.new ≡ refused self.old) }
-    {
-        let _len = table.len();
-        let _place = self.tile.place();
-        if self.undo.reserve(0, 0).is_err() {
-            return Err(self.refuse());
-        }
-        self.undo.begin();
-        Ok(())
     }
 
     /// Goes through the next event, which is switched on, and draws it. Of its triangles none before this one covers a pixel of the tile.
@@ -182,6 +170,8 @@ impl Owner {
         requires first { MayBeginPast table.now (position self.old.history) self.old.place first }
         ensures ok { OnOk result (self.new ≡ gone_forward table.now self.old) }
         ensures refused { OnErr result (self.new ≡ refused self.old) }
+        ensures free { spans_past table.now (position self.old.history) self.old.place ≡ 0
+            → pixels_past table.now (position self.old.history) self.old.place ≡ 0 → IsOk result }
     {
         let position = self.undo.frames() as u32;
         let len = table.len();

@@ -1,4 +1,4 @@
--- A device over a reader or a writer.
+-- Working. A device over a reader or a writer.
 use Rattle.std.specs.Prelude.{◌≡◌, ◌<◌, ℕ, Result, Ok, Err, true, false}
 use Rattle.fd_pam.specs.declared.device.Device.{Device}
 

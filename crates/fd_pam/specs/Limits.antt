@@ -1,4 +1,4 @@
--- How long an image is at most.
+-- Working. How long an image is at most.
 use Rattle.std.specs.Prelude.{ℕ}
 
 -- its tuples in bytes: four for each of 16,384 by 16,384 pixels

@@ -1,4 +1,4 @@
--- The image file format PAM of Netpbm (P7), with four bytes a pixel.
+-- Promised. The image file format PAM of Netpbm (P7), with four bytes a pixel.
 use Rattle.std.specs.Prelude.{ℕ, ◌+◌, ◌*◌, List, [], ◌∷◌, ◌++◌, codes, decimal, length}
 use Rattle.std.specs.List.{flat_map}
 use Rattle.fd_blend.specs.declared.channel.Colour.{Colour}

@@ -1,4 +1,4 @@
--- What the owners of a picture show, and what drawing on leaves of them. What was there before is not known.
+-- Working. What the owners of a picture show, and what drawing on leaves of them. What was there before is not known.
 use Rattle.std.specs.Prelude.{◌≡◌, ℕ, ◌<◌, ◌≤◌, List, length, All, Result, Ok, Err}
 use Rattle.fd_tile.specs.Grid.{TargetSize, tile_count}
 use Rattle.fd_events.specs.Table.{Table, IsTable}

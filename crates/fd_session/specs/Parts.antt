@@ -1,4 +1,4 @@
--- A jump that is made in parts.
+-- Working. A jump that is made in parts.
 use Rattle.std.specs.Prelude.{◌≡◌, ℕ, ◌<◌, ◌≤◌, length, Option, Some, None}
 use Rattle.fd_session.specs.declared.answer.Answer.{Answer}
 use Rattle.fd_session.specs.Machine.{State, at_position, Jumps}

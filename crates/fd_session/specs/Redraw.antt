@@ -1,4 +1,4 @@
--- What a switch of an event that was gone through does to the owners.
+-- Working. What a switch of an event that was gone through does to the owners.
 use Rattle.std.specs.Prelude.{◌≡◌, ℕ, ◌-◌, ◌≤◌, List, All, Result, Ok, Err}
 use Rattle.fd_events.specs.Table.{Table}
 use Rattle.fd_owner.specs.History.{position, drawn_history}

@@ -1,4 +1,4 @@
--- That going back undoes a step, and switching back a switch.
+-- Working. That going back undoes a step, and switching back a switch.
 use Rattle.std.specs.Prelude.{◌≡◌, ℕ, Bool, not, Ok}
 use Rattle.fd_session.specs.declared.answer.Answer.TheVariants.{Moved}
 use Rattle.fd_session.specs.Machine.{State, Steps, GoesBack, Switches}

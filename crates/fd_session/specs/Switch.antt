@@ -1,4 +1,4 @@
--- What a switch of an event that was gone through changes.
+-- Working. What a switch of an event that was gone through changes.
 use Rattle.std.specs.Prelude.{◌≡◌, ℕ, ◌<◌, ◌≤◌, false}
 use Rattle.fd_cover.specs.declared.bounds.Bounds.{Bounds}
 use Rattle.fd_cover.specs.Bounds.{is_within}

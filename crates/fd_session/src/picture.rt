@@ -1,5 +1,5 @@
 //! The image of a frame, drawn forward alone.
-ghost use Rattle.std.specs.Prelude.{◌≡◌, ◌<◌, ◌≤◌, ◌+◌, length, map, All, IfOk, IfErr};
+ghost use Rattle.std.specs.Prelude.{◌≡◌, ℕ, ◌<◌, ◌≤◌, ◌+◌, length, map, All, IfOk, IfErr};
 ghost use Rattle.std.specs.List.{range_with_len};
 ghost use Rattle.fd_owner.specs.Shown.{forgotten};
 ghost use Rattle.fd_crew.specs.Lanes.{opening_position};
@@ -82,7 +82,24 @@ impl Picture {
         answer_to_jump(slice.end, run)
     }
 
-    /// Draws the next slice of the way to a position, and gives the answer to the jump there where it has ended; else there is more to go.
+    /// Draws a slice. Where memory runs out before its first event is drawn, the calling thread draws that one alone: each thread wants memory of its own,
+    /// and so does a tile that runs ahead.
+    fn draw_some<R: Threads + Sync>(&mut self, rt: &R, slice: &Slice) -> Answer
+        requires ahead { self.old.position < slice.now.end }
+        requires within { slice.now.end ≤ length self.old.table.events }
+        requires workers { (1 ≤ slice.now.workers) × (slice.now.workers ≤ 64) }
+        ensures { (end : ℕ) × (self.old.position < end) × (end ≤ slice.now.end) × Jumps self.old end result self.new }
+    {
+        let from = self.position();
+        let answer = self.draw(rt, slice);
+        if self.position() > from {
+            return answer;
+        }
+        self.draw(rt, &Slice::even(from + 1, 1))
+    }
+
+    /// Draws a part of the way to a position, and gives the answer to the jump there where it has ended; else there is more to go. It stops where an event
+    /// is refused memory that is drawn by the calling thread alone.
     pub fn go_part<R: Threads + Sync>(&mut self, rt: &R, to: u32) -> Option<Answer>
         requires { self.old.position ≤ to }
         ensures { JumpsPart self.old to result self.new }
@@ -96,11 +113,10 @@ impl Picture {
         }
         let area = Area::of(&self.owners, self.table.width());
         let slice = next_slice(&self.table, from, to, &area, self.workers, PICTURE_WORK);
-        let answer = self.draw(rt, &slice);
-        if let Answer::Moved { at } = answer {
-            if at != to {
-                return None;
-            }
+        let answer = self.draw_some(rt, &slice);
+        let at = self.position();
+        if from < at && at < to {
+            return None;
         }
         Some(answer)
     }

@@ -133,7 +133,7 @@ impl Session {
         next_slice(&self.table, from, to, &area, self.workers, MOVE_WORK).end
     }
 
-    /// Makes the next slice of a jump, and gives the answer to the jump where it has ended; else there is more to go.
+    /// Makes a part of a jump, and gives the answer to the jump where it has ended; else there is more to go, from nearer. A part is a slice by estimate.
     pub fn goto_part<R: Threads + Sync>(&mut self, rt: &R, to: u32) -> Option<Answer>
         ensures { JumpsPart self.old to result self.new }
     {

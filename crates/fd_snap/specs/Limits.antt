@@ -1,4 +1,4 @@
--- How far targets and positions reach.
+-- Promised. How far targets and positions reach.
 use Rattle.std.specs.Prelude.{ℕ, ◌^◌}
 
 -- the most pixels that a target has each way

@@ -1,4 +1,4 @@
--- Snapping of positions in 1/65536 pixel to the subpixel grid, whose unit is 1/256 pixel: to the nearest, ties to even.
+-- Promised. Snapping of positions in 1/65536 pixel to the subpixel grid, whose unit is 1/256 pixel: to the nearest, ties to even.
 -- Direct3D 11.3 functional specification, sections 3.2.4.1 and 15.2.
 use Rattle.std.specs.Prelude.{◌≡◌, ◌≢◌, ℕ, ◌≤◌, ℤ, pos, ◌+ℤ◌, ◌-ℤ◌, ◌*ℤ◌, unsigned_abs}
 use Rattle.std.specs.Int.{int_div_euclid, int_rem_euclid}

@@ -1,4 +1,4 @@
--- The tiles of a target: squares, cut at the right and bottom borders, numbered row by row.
+-- Working. The tiles of a target: squares, cut at the right and bottom borders, numbered row by row.
 use Rattle.std.specs.Prelude.{ℕ, ◌+◌, ◌-◌, ◌*◌, ◌/◌, ◌%◌, ◌≤◌, min}
 use Rattle.fd_tile.specs.declared.place.Place.{Place}
 use Rattle.fd_tile.specs.declared.place.TheConstants.{TILE_SIDE}
@@ -20,11 +20,11 @@ pub record IsTargetSize (s : TargetSize) : Type 0 where
 abbrev pub columns_of : TargetSize → ℕ
 columns_of s = (s.width + (TILE_SIDE - 1)) / TILE_SIDE
 
-abbrev pub rows_of : TargetSize → ℕ
-rows_of s = (s.height + (TILE_SIDE - 1)) / TILE_SIDE
+abbrev pub rows_of_tiles : TargetSize → ℕ
+rows_of_tiles s = (s.height + (TILE_SIDE - 1)) / TILE_SIDE
 
 abbrev pub tile_count : TargetSize → ℕ
-tile_count s = columns_of s * rows_of s
+tile_count s = columns_of s * rows_of_tiles s
 
 -- the place of the tile in this column and row of tiles
 abbrev pub place_in : TargetSize → ℕ → ℕ → Place

@@ -1,4 +1,4 @@
--- Some neighbouring items of a Vec, where a `&mut` to them is returned.
+-- Working. Some neighbouring items of a Vec, where a `&mut` to them is returned.
 use Rattle.std.specs.Prelude.{ℕ, List, ◌++◌, ◌-◌, take, drop}
 use Rattle.std.specs.List.{refill}
 use Rattle.std.specs.Vec.{with_items}

@@ -1,4 +1,4 @@
--- Where a tile lies on its target.
+-- Working. Where a tile lies on its target.
 use Rattle.std.specs.Prelude.{ℕ, ◌+◌, ◌<◌, ◌≤◌, List, map}
 use Rattle.std.specs.List.{range_with_len}
 use Rattle.fd_tile.specs.declared.place.Place.{Place}

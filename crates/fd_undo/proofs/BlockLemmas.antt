@@ -7,7 +7,7 @@ use Rattle.fd_undo.specs.declared.block.Mark.{Mark}
 use Rattle.fd_undo.specs.Span.{Span}
 use Rattle.fd_undo.specs.Frame.{KeptPixel}
 use Rattle.fd_undo.specs.Rows.{colour_count, depth_count, joined}
-use Rattle.fd_undo.specs.Block.{Frame, no_frame, newest, others, found, Rise, next, marked, IsMarked, no_mark, number_at, NumbersRise}
+use Rattle.fd_undo.specs.Block.{KeptFrame, no_frame, newest, others, found, Rise, next, marked, AreInOrder, no_mark, number_at, NumbersRise}
 use Rattle.fd_undo.proofs.FrameLemmas.{others-push, newest-push, others-newest}
 use Rattle.fd_undo.proofs.RowLemmas.{joined-push}
 
@@ -27,7 +27,7 @@ part-same first end most rows rows' ordered within same =
     ap joined (sym (drop-take first n rows) ∙ ap (λ l. drop first l) cut ∙ drop-take first n rows')
 
 -- the frame of a mark
-abbrev pub frame : Mark → ℕ → List (List KeptPixel) → Frame
+abbrev pub frame : Mark → ℕ → List (List KeptPixel) → KeptFrame
 frame m end rows = record { number = m.number; kept = part m.span end rows }
 
 -- what a mark says
@@ -47,25 +47,25 @@ marked-push (t ∷ marks) m rows end =
     ap (λ n. frame t n rows ∷ marked (marks ++ m ∷ []) rows end) (next-push marks m end)
     ∙ ap (λ l. frame t (next marks m.span) rows ∷ l) (marked-push marks m rows end)
 
-pub marks-push : (marks : List Mark) (m : Mark) (spans : List Span) (end : ℕ) → IsMarked marks spans m.span → IsMark m spans → m.span ≤ end
-    → IsMarked (marks ++ m ∷ []) spans end
+pub marks-push : (marks : List Mark) (m : Mark) (spans : List Span) (end : ℕ) → AreInOrder marks spans m.span → IsMark m spans → m.span ≤ end
+    → AreInOrder (marks ++ m ∷ []) spans end
 marks-push [] m spans end is says within = (says.number, within, says.colour, says.depth, tt)
 marks-push (t ∷ marks) m spans end is says within =
     (is.0, omega (arith, is.1, next-push marks m end), is.2, is.3, marks-push marks m spans end is.4 says within)
 
-next-within : (marks : List Mark) (spans : List Span) (end : ℕ) → IsMarked marks spans end → next marks end ≤ end
+next-within : (marks : List Mark) (spans : List Span) (end : ℕ) → AreInOrder marks spans end → next marks end ≤ end
 next-within [] spans end is = omega arith
 next-within (t ∷ marks) spans end is = omega (arith, is.1, next-within marks spans end is.4)
 
-marks-pop : (marks : List Mark) (m : Mark) (spans : List Span) (end : ℕ) → IsMarked (marks ++ m ∷ []) spans end
-    → IsMarked marks spans m.span × IsMark m spans × (m.span ≤ end)
+marks-pop : (marks : List Mark) (m : Mark) (spans : List Span) (end : ℕ) → AreInOrder (marks ++ m ∷ []) spans end
+    → AreInOrder marks spans m.span × IsMark m spans × (m.span ≤ end)
 marks-pop [] m spans end is = (tt, record { number = is.0; colour = is.2; depth = is.3 }, is.1)
 marks-pop (t ∷ marks) m spans end is =
-    let rest : IsMarked marks spans m.span × IsMark m spans × (m.span ≤ end) = marks-pop marks m spans end is.4 in
+    let rest : AreInOrder marks spans m.span × IsMark m spans × (m.span ≤ end) = marks-pop marks m spans end is.4 in
     ((is.0, omega (arith, is.1, next-push marks m end), is.2, is.3, rest.0), rest.1, rest.2)
 
 -- frames up to a row rest on the rows and the spans up to there
-marked-same : (marks : List Mark) (spans : List Span) (rows rows' : List (List KeptPixel)) (end most : ℕ) → IsMarked marks spans end → end ≤ most
+marked-same : (marks : List Mark) (spans : List Span) (rows rows' : List (List KeptPixel)) (end most : ℕ) → AreInOrder marks spans end → end ≤ most
     → take most rows ≡ take most rows' → marked marks rows end ≡ marked marks rows' end
 marked-same [] spans rows rows' end most is within same = refl
 marked-same (t ∷ marks) spans rows rows' end most is within same =
@@ -77,8 +77,8 @@ marked-same (t ∷ marks) spans rows rows' end most is within same =
     } ∷ marked marks rows end) (part-same t.span (next marks end) most rows rows' is.1 (omega (arith, low, within)) same)
     ∙ ap (λ l. frame t (next marks end) rows' ∷ l) (marked-same marks spans rows rows' end most is.4 within same)
 
-marks-same : (marks : List Mark) (spans spans' : List Span) (end most : ℕ) → IsMarked marks spans end → end ≤ most → take most spans ≡ take most spans'
-    → IsMarked marks spans' end
+marks-same : (marks : List Mark) (spans spans' : List Span) (end most : ℕ) → AreInOrder marks spans end → end ≤ most → take most spans ≡ take most spans'
+    → AreInOrder marks spans' end
 marks-same [] spans spans' end most is within same = tt
 marks-same (t ∷ marks) spans spans' end most is within same =
     let low : next marks end ≤ end = next-within marks spans end is.4 in
@@ -92,20 +92,20 @@ length-marked [] rows end = refl
 length-marked (t ∷ marks) rows end = ap (λ n. suc n) (length-marked marks rows end)
 
 -- ---- the newest frame and those before it, where the last mark was taken off
-pub record TopFrame (low : List Mark) (m : Mark) (spans : List Span) (rows : List (List KeptPixel)) (frames : List Frame) : Type 0 where
+pub record TopFrame (low : List Mark) (m : Mark) (spans : List Span) (rows : List (List KeptPixel)) (frames : List KeptFrame) : Type 0 where
   pub newest_is : newest frames ≡ record { number = m.number; kept = joined (drop m.span rows) }
   pub others_are : others frames ≡ marked low rows m.span
-  pub marks : IsMarked low spans m.span
+  pub marks : AreInOrder low spans m.span
   pub mark : IsMark m spans
   pub within : m.span ≤ length spans
 
-pub top_frame : (marks low : List Mark) (m : Mark) (spans : List Span) (rows : List (List KeptPixel)) (frames : List Frame) → marks ≡ low ++ m ∷ []
+pub top_frame : (marks low : List Mark) (m : Mark) (spans : List Span) (rows : List (List KeptPixel)) (frames : List KeptFrame) → marks ≡ low ++ m ∷ []
     → length rows ≡ length spans
-    → IsMarked marks spans (length spans) → marked marks rows (length spans) ≡ frames → TopFrame low m spans rows frames
+    → AreInOrder marks spans (length spans) → marked marks rows (length spans) ≡ frames → TopFrame low m spans rows frames
 top_frame marks low m spans rows frames split size is shown =
-    let f : Frame = record { number = m.number; kept = joined (drop m.span rows) } in
-    let popped : IsMarked low spans m.span × IsMark m spans × (m.span ≤ length spans) =
-    marks-pop low m spans (length spans) (subst (λ l. IsMarked l spans (length spans)) split is) in
+    let f : KeptFrame = record { number = m.number; kept = joined (drop m.span rows) } in
+    let popped : AreInOrder low spans m.span × IsMark m spans × (m.span ≤ length spans) =
+    marks-pop low m spans (length spans) (subst (λ l. AreInOrder l spans (length spans)) split is) in
     let all : frames ≡ marked low rows m.span ++ f ∷ [] =
     sym shown ∙ ap (λ l. marked l rows (length spans)) split ∙ marked-push low m rows (length spans)
     ∙ ap (λ l. marked low rows m.span ++ record {
@@ -122,7 +122,7 @@ top_frame marks low m spans rows frames split size is shown =
     }
 
 -- one more frame
-pub one_more : (marks : List Mark) (m : Mark) (spans : List Span) (rows : List (List KeptPixel)) (frames : List Frame) → m.span ≡ length spans
+pub one_more : (marks : List Mark) (m : Mark) (spans : List Span) (rows : List (List KeptPixel)) (frames : List KeptFrame) → m.span ≡ length spans
     → marked marks rows (length spans) ≡ frames
     → marked (marks ++ m ∷ []) rows (length spans) ≡ frames ++ record { number = m.number; kept = [] } ∷ []
 one_more marks m spans rows frames at shown =
@@ -133,12 +133,12 @@ one_more marks m spans rows frames at shown =
     ∙ ap (λ l. l ++ record { number = m.number; kept = [] } ∷ []) shown
 
 -- ---- more is kept in the newest frame
-module _ (low : List Mark) (m : Mark) (spans spans' : List Span) (rows rows' : List (List KeptPixel)) (frames : List Frame) (row : List KeptPixel)
+module _ (low : List Mark) (m : Mark) (spans spans' : List Span) (rows rows' : List (List KeptPixel)) (frames : List KeptFrame) (row : List KeptPixel)
     (t : TopFrame low m spans rows frames)
     (same : take m.span spans ≡ take m.span spans') (long : m.span ≤ length spans') (size : length rows' ≡ length spans')
     (rows_same : take m.span rows ≡ take m.span rows')
     (more : joined (drop m.span rows') ≡ joined (drop m.span rows) ++ row) where
-  pub more_marks : IsMarked (low ++ m ∷ []) spans' (length spans')
+  pub more_marks : AreInOrder (low ++ m ∷ []) spans' (length spans')
   more_marks =
       marks-push low m spans' (length spans') (marks-same low spans spans' m.span m.span t.marks (omega arith) same)
       (record { number = t.mark.number; colour = t.mark.colour ∙ ap colour_count same; depth = t.mark.depth ∙ ap depth_count same }) long
@@ -158,13 +158,13 @@ module _ (low : List Mark) (m : Mark) (spans spans' : List Span) (rows rows' : L
         kept = joined l;
       } ∷ []) (take_all (length spans' - m.span) (drop m.span rows') (omega (arith, length-drop m.span rows', size)))
       ∙ ap (λ k. others frames ++ record { number = m.number; kept = k } ∷ []) more
-      ∙ ap (λ (f : Frame). others frames ++ record { number = f.number; kept = f.kept ++ row } ∷ []) (sym t.newest_is)
+      ∙ ap (λ (f : KeptFrame). others frames ++ record { number = f.number; kept = f.kept ++ row } ∷ []) (sym t.newest_is)
 
 -- the frames before the newest one rest on the rows before its own
-pub fewer : (low : List Mark) (m : Mark) (spans left : List Span) (rows rows_left : List (List KeptPixel)) (frames : List Frame)
+pub fewer : (low : List Mark) (m : Mark) (spans left : List Span) (rows rows_left : List (List KeptPixel)) (frames : List KeptFrame)
     → TopFrame low m spans rows frames
     → left ≡ take m.span spans → rows_left ≡ take m.span rows
-    → length left ≡ m.span × (marked low rows_left (length left) ≡ others frames) × IsMarked low left (length left)
+    → length left ≡ m.span × (marked low rows_left (length left) ≡ others frames) × AreInOrder low left (length left)
 fewer low m spans left rows rows_left frames t is rows_are =
     let n : ℕ = m.span in
     let size : length left ≡ m.span = ap length is ∙ length-take m.span spans ∙ omega (arith, t.within) in
@@ -172,14 +172,14 @@ fewer low m spans left rows rows_left frames t is rows_are =
     let rows_same : take n rows ≡ take n rows_left = sym (take-take n n rows (omega arith)) ∙ ap (λ l. take n l) (sym rows_are) in (
       size,
       ap (λ k. marked low rows_left k) size ∙ sym (marked-same low spans rows rows_left n n t.marks (omega arith) rows_same) ∙ sym t.others_are,
-      subst (λ k. IsMarked low left k) (sym size) (marks-same low spans left n n t.marks (omega arith) same),
+      subst (λ k. AreInOrder low left k) (sym size) (marks-same low spans left n n t.marks (omega arith) same),
     )
 
 -- ---- a frame that is looked for by its number
-pub this_number : (f : Frame) (frames : List Frame) (n : ℕ) → f.number ≡ n → found n (f ∷ frames) ≡ f.kept
+pub this_number : (f : KeptFrame) (frames : List KeptFrame) (n : ℕ) → f.number ≡ n → found n (f ∷ frames) ≡ f.kept
 this_number f frames n same = ap (λ b. cond b f.kept (found n frames)) (eq-eqb f.number n same)
 
-pub other_number : (f : Frame) (frames : List Frame) (n : ℕ) → f.number ≢ n → found n (f ∷ frames) ≡ found n frames
+pub other_number : (f : KeptFrame) (frames : List KeptFrame) (n : ℕ) → f.number ≢ n → found n (f ∷ frames) ≡ found n frames
 other_number f frames n other = ap (λ b. cond b f.kept (found n frames)) (ne_eqb f.number n other)
 
 rise-at : (marks : List Mark) (rows : List (List KeptPixel)) (end i count a : ℕ) → Rise i (marked marks rows end) count → a < length marks
@@ -213,7 +213,7 @@ found-none (m ∷ marks) rows end n none =
     ∙ found-none marks rows end n (λ a within. none (suc a) (omega arith))
 
 -- what the mark at a place says
-pub mark-at : (marks : List Mark) (spans : List Span) (end a : ℕ) → IsMarked marks spans end → a < length marks
+pub mark-at : (marks : List Mark) (spans : List Span) (end a : ℕ) → AreInOrder marks spans end → a < length marks
     → IsMark (get_or marks a no_mark) spans × ((get_or marks a no_mark).span ≤ next (drop (suc a) marks) end) × (next (drop (suc a) marks) end ≤ end)
 mark-at [] spans end a is within = absurd (omega arith)
 mark-at (m ∷ marks) spans end zero is within = (record { number = is.0; colour = is.2; depth = is.3 }, is.1, next-within marks spans end is.4)

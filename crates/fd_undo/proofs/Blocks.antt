@@ -7,24 +7,24 @@ use Rattle.std.proofs.lemmas.List.{take-append-drop, drop_more, drop_all, get_or
 use Rattle.std.proofs.lemmas.List.Concat.{flat_map-append}
 use Rattle.std.proofs.lemmas.List.Elements.{All-drop}
 use Rattle.std.specs.List.Sorted.{IsNonDecreasingBy, IsPartitionPoint}
-use Rattle.fd_undo.specs.Block.{Frame, Filled, found, first_number, Rise}
+use Rattle.fd_undo.specs.Block.{KeptFrame, Filled, found, first_number, Rise}
 use Rattle.fd_undo.specs.Stack.{stored_in, HaveFrames}
 use Rattle.fd_undo.proofs.StackLemmas.{rise-front, rise-back, found-behind, found-middle, found-before}
 
 -- ---- the numbers of the blocks' oldest frames rise
-first-at : (i : ℕ) (full : List Filled) (last : List Frame) (count j : ℕ) (d : Filled) → HaveFrames full → Rise i (stored_in full ++ last) count
+first-at : (i : ℕ) (full : List Filled) (last : List KeptFrame) (count j : ℕ) (d : Filled) → HaveFrames full → Rise i (stored_in full ++ last) count
     → j < length full → i ≤ first_number (get_or full j d).frames
 first-at i [] last count j d have is within = absurd (omega arith)
 first-at i (b ∷ full) last count zero d have is within = here b.frames (have 0 d (omega arith)) is
   where
-    here : (frames : List Frame) → 0 < length frames → Rise i ((frames ++ stored_in full) ++ last) count → i ≤ first_number frames
+    here : (frames : List KeptFrame) → 0 < length frames → Rise i ((frames ++ stored_in full) ++ last) count → i ≤ first_number frames
     here [] some rise = absurd (omega arith)
     here (f ∷ frames) some rise = rise.0
 first-at i (b ∷ full) last count (suc j) d have is within =
     first-at i full last count j d (λ k e h. have (suc k) e (omega (arith, h)))
     (rise-back i b.frames (stored_in full ++ last) count (subst (λ l. Rise i l count) (append_assoc b.frames (stored_in full) last) is)) (omega arith)
 
-pub firsts-rise : (i : ℕ) (full : List Filled) (last : List Frame) (count : ℕ) → HaveFrames full → Rise i (stored_in full ++ last) count
+pub firsts-rise : (i : ℕ) (full : List Filled) (last : List KeptFrame) (count : ℕ) → HaveFrames full → Rise i (stored_in full ++ last) count
     → IsNonDecreasingBy (λ (b : Filled). first_number b.frames) full
 firsts-rise i [] last count have is a b d le within = absurd (omega arith)
 firsts-rise i (t ∷ full) last count have is zero zero d le within = omega arith
@@ -35,7 +35,7 @@ firsts-rise i (t ∷ full) last count have is (suc a) (suc b) d le within =
     (omega arith) (omega arith)
 firsts-rise i (t ∷ full) last count have is zero (suc b) d le within = later t.frames (have 0 d (omega arith)) is
   where
-    later : (frames : List Frame) → 0 < length frames → Rise i ((frames ++ stored_in full) ++ last) count
+    later : (frames : List KeptFrame) → 0 < length frames → Rise i ((frames ++ stored_in full) ++ last) count
         → first_number frames ≤ first_number (get_or full b d).frames
     later [] some rise = absurd (omega arith)
     later (f ∷ frames) some rise =
@@ -45,20 +45,20 @@ firsts-rise i (t ∷ full) last count have is zero (suc b) d le within = later t
         omega (arith, above)
 
 -- the oldest frame of some blocks and the last one
-first-of : (full : List Filled) (last : List Frame) (n : ℕ) (d : Filled) → HaveFrames full
+first-of : (full : List Filled) (last : List KeptFrame) (n : ℕ) (d : Filled) → HaveFrames full
     → (0 < length full → n < first_number (get_or full 0 d).frames) → (0 < length last → n < first_number last)
     → 0 < length (stored_in full ++ last) → n < first_number (stored_in full ++ last)
 first-of [] last n d have before after some = after some
 first-of (b ∷ full) last n d have before after some = here b.frames (have 0 d (omega arith)) (before (omega arith))
   where
-    here : (frames : List Frame) → 0 < length frames → n < first_number frames → n < first_number ((frames ++ stored_in full) ++ last)
+    here : (frames : List KeptFrame) → 0 < length frames → n < first_number frames → n < first_number ((frames ++ stored_in full) ++ last)
     here [] some below = absurd (omega arith)
     here (f ∷ frames) some below = below
 
 -- ---- the block at a place
-module _ (full : List Filled) (last : List Frame) (count : ℕ) (have : HaveFrames full) (is : Rise 0 (stored_in full ++ last) count) (p : ℕ) (d : Filled)
+module _ (full : List Filled) (last : List KeptFrame) (count : ℕ) (have : HaveFrames full) (is : Rise 0 (stored_in full ++ last) count) (p : ℕ) (d : Filled)
     (within : p < length full) where
-  abbrev behind : List Frame
+  abbrev behind : List KeptFrame
   behind = stored_in (drop (p + 1) full) ++ last
 
   three : stored_in full ++ last ≡ stored_in (take p full) ++ ((get_or full p d).frames ++ (stored_in (drop (p + 1) full) ++ last))
@@ -91,11 +91,11 @@ module _ (full : List Filled) (last : List Frame) (count : ℕ) (have : HaveFram
           (next (omega (arith, some, length-drop (p + 1) full)))
 
 -- ---- the last block, or none
-pub in_last : (full : List Filled) (last : List Frame) (count n : ℕ) → Rise 0 (stored_in full ++ last) count → 0 < length last → first_number last ≤ n
+pub in_last : (full : List Filled) (last : List KeptFrame) (count n : ℕ) → Rise 0 (stored_in full ++ last) count → 0 < length last → first_number last ≤ n
     → found n last ≡ found n (stored_in full ++ last)
 in_last full last count n is some from = sym (found-behind 0 (stored_in full) last count n is some from)
 
-pub in_none : (full : List Filled) (last : List Frame) (count n : ℕ) (d : Filled) → HaveFrames full → Rise 0 (stored_in full ++ last) count
+pub in_none : (full : List Filled) (last : List KeptFrame) (count n : ℕ) (d : Filled) → HaveFrames full → Rise 0 (stored_in full ++ last) count
     → (0 < length full → n < first_number (get_or full 0 d).frames)
     → (0 < length last → n < first_number last) → found n last ≡ found n (stored_in full ++ last)
 in_none full last count n d have is before after =

@@ -17,10 +17,10 @@ use Rattle.fd_tile.proofs.Pixels.{length-row_of, with_row_left_is, IsTileImage-w
 use Rattle.fd_undo.specs.Span.{Span}
 use Rattle.fd_undo.specs.Frame.{KeptPixel, kept_row, restored}
 use Rattle.fd_undo.specs.Run.{IsRow, AreRows, AreWholeRows, IsRun}
-use Rattle.fd_undo.specs.Rows.{listed_colours, listed_in, listed_depths, values_in, colours_in, depths_in, colour_count, depth_count, row_in, rows_in}
+use Rattle.fd_undo.specs.Rows.{listed_colours, depths_listed, listed_depths, values_in, colours_in, depths_in, colour_count, depth_count, row_of_span, rows_in}
 use Rattle.fd_undo.specs.Rows.{rows_of, joined, no_span, Held, IsHeld}
 use Rattle.fd_undo.proofs.Zips.{length-zip_equal}
-use Rattle.fd_undo.proofs.SpanLemmas.{length-row_in, row_first}
+use Rattle.fd_undo.proofs.SpanLemmas.{length-row_of_span, row_first}
 use Rattle.fd_undo.proofs.RowLemmas.{colours-cons, depths-cons, colours-take, depths-take, joined-cut, length-rows_in, rows_in-drop, rows_in-take, rows_in-more}
 use Rattle.fd_undo.proofs.Restored.{Inside, Inside-front, Inside-back, restored-append, kept_row-first, kept_row-within, put_back_row_alike}
 
@@ -29,11 +29,11 @@ row_colours : (w depth : ℕ) (s : Span) → IsRow w depth s → listed_colours 
 row_colours w depth s row = ap (λ t. if t then 1 else s.len) row.coloured ∙ row.wide
 
 row_depths : (w depth : ℕ) (s : Span) → IsRow w depth s → listed_depths s ≡ 0
-row_depths w depth s row = ap (λ (o : Option ℕ). listed_in o s.len) row.deep
+row_depths w depth s row = ap (λ (o : Option ℕ). depths_listed o s.len) row.deep
 
 -- its pixels, and those of the rows behind it
 row_is : (w depth : ℕ) (s : Span) (cs : List Colour) (ds : List ℕ) → IsRow w depth s → w ≤ length cs
-    → row_in s cs ds ≡ kept_row s.x s.y (zip (take w cs) (replicate (length (take w cs)) depth))
+    → row_of_span s cs ds ≡ kept_row s.x s.y (zip (take w cs) (replicate (length (take w cs)) depth))
 row_is w depth s cs ds row fits =
     ap (λ t. kept_row s.x s.y (zip (if t then replicate s.len (get_or cs 0 fresh) else take s.len cs) (depths_in s ds))) row.coloured
     ∙ ap (λ n. kept_row s.x s.y (zip (take n cs) (depths_in s ds))) row.wide
@@ -66,11 +66,11 @@ run_pixels w depth y [] cs ds rows size = sym (zero-mul w)
 run_pixels w depth y (s ∷ spans) cs ds (at, row, rows) size =
     let more : suc (length spans) * w ≡ length spans * w + w = suc-mul (length spans) w in
     let rest = run_pixels w depth (y + 1) spans (drop w cs) ds rows (omega (arith, length-drop w cs, size, more)) in
-    let own : length (row_in s cs ds) ≡ s.len =
-    length-row_in s cs ds (omega (arith, row_colours w depth s row, size, more)) (omega (arith, row_depths w depth s row)) in
+    let own : length (row_of_span s cs ds) ≡ s.len =
+    length-row_of_span s cs ds (omega (arith, row_colours w depth s row, size, more)) (omega (arith, row_depths w depth s row)) in
     omega (
       arith,
-      length-append (row_in s cs ds) (joined (rows_in spans (drop (listed_colours s) cs) (drop (listed_depths s) ds))),
+      length-append (row_of_span s cs ds) (joined (rows_in spans (drop (listed_colours s) cs) (drop (listed_depths s) ds))),
       own,
       row.wide,
       ap (λ l. length (joined l)) (rows_behind w depth s spans cs ds row),
@@ -161,9 +161,9 @@ run_held p depth y (s ∷ spans) cs ds some (at, row, rows) size inside any =
     let first : Holds p s.x s.y =
     row_first s cs ds (omega (arith, row_colours p.width depth s row, size, more)) (omega (arith, row_depths p.width depth s row)) p
     (omega (arith, row.wide, some))
-    (Inside-front p (row_in s cs ds) behind inside) in
+    (Inside-front p (row_of_span s cs ds) behind inside) in
     let rest : Inside p (joined (rows_in spans (drop p.width cs) ds)) =
-    subst (λ l. Inside p (joined l)) (rows_behind p.width depth s spans cs ds row) (Inside-back p (row_in s cs ds) behind inside) in (
+    subst (λ l. Inside p (joined l)) (rows_behind p.width depth s spans cs ds row) (Inside-back p (row_of_span s cs ds) behind inside) in (
       omega (arith, first.from_top, at),
       lower spans (omega (arith, first.to_bottom, at))
           (λ next. (run_held p depth (y + 1) spans (drop p.width cs) ds some rows (omega (arith, length-drop p.width cs, size, more)) rest next).1),

@@ -12,7 +12,7 @@ use Rattle.fd_tile.specs.Tile.{TileImage, IsTileImage, IsFlat, row_of, with_row_
 use borrow.Rule.Slice.PartMut.{put_mid}
 use Rattle.fd_undo.specs.Span.{Span}
 use Rattle.fd_undo.specs.Frame.{kept_row, restored}
-use Rattle.fd_undo.specs.Rows.{listed_colours, colours_in, listed_in, values_in, listed_depths, depths_in, row_in}
+use Rattle.fd_undo.specs.Rows.{listed_colours, colours_in, depths_listed, values_in, listed_depths, depths_in, row_of_span}
 use Rattle.fd_undo.proofs.Zips.{length-zip_equal}
 use Rattle.fd_undo.proofs.FrameLemmas.{length-kept_row}
 use Rattle.fd_undo.proofs.Restored.{Inside, kept_row-first, kept_row-within, put_back_row_alike}
@@ -26,7 +26,7 @@ colours_long false n cs fits = omega (arith, length-take n cs)
 pub length-colours_in : (s : Span) (cs : List Colour) → listed_colours s ≤ length cs → length (colours_in s cs) ≡ s.len
 length-colours_in s cs fits = colours_long s.one_colour s.len cs fits
 
-depths_long : (o : Option ℕ) (n : ℕ) (ds : List ℕ) → listed_in o n ≤ length ds → length (values_in o n ds) ≡ n
+depths_long : (o : Option ℕ) (n : ℕ) (ds : List ℕ) → depths_listed o n ≤ length ds → length (values_in o n ds) ≡ n
 depths_long (Some d) n ds fits = length-replicate n d
 depths_long None n ds fits = omega (arith, length-take n ds)
 
@@ -39,13 +39,13 @@ colours_more : (one : Bool) (n : ℕ) (cs new : List Colour) → (if one then 1 
 colours_more true n cs new fits = ap (λ c. replicate n c) (get_or_append_left cs new fresh 0 (omega arith))
 colours_more false n cs new fits = take-append-le n cs new fits
 
-depths_more : (o : Option ℕ) (n : ℕ) (ds new : List ℕ) → listed_in o n ≤ length ds → values_in o n (ds ++ new) ≡ values_in o n ds
+depths_more : (o : Option ℕ) (n : ℕ) (ds new : List ℕ) → depths_listed o n ≤ length ds → values_in o n (ds ++ new) ≡ values_in o n ds
 depths_more (Some d) n ds new fits = refl
 depths_more None n ds new fits = take-append-le n ds new fits
 
-pub row_in-more : (s : Span) (cs new : List Colour) (ds deep : List ℕ) → listed_colours s ≤ length cs → listed_depths s ≤ length ds
-    → row_in s (cs ++ new) (ds ++ deep) ≡ row_in s cs ds
-row_in-more s cs new ds deep fits deep_fits =
+pub row_of_span-more : (s : Span) (cs new : List Colour) (ds deep : List ℕ) → listed_colours s ≤ length cs → listed_depths s ≤ length ds
+    → row_of_span s (cs ++ new) (ds ++ deep) ≡ row_of_span s cs ds
+row_of_span-more s cs new ds deep fits deep_fits =
     ap (λ l. kept_row s.x s.y (zip l (depths_in s (ds ++ deep)))) (colours_more s.one_colour s.len cs new fits)
     ∙ ap (λ l. kept_row s.x s.y (zip (colours_in s cs) l)) (depths_more s.same_depth s.len ds deep deep_fits)
 
@@ -57,7 +57,7 @@ colours_few false n some = omega arith
 pub listed_colours_at_most : (s : Span) → (s.one_colour ≡ true → 0 < s.len) → listed_colours s ≤ s.len
 listed_colours_at_most s some = colours_few s.one_colour s.len some
 
-depths_few : (o : Option ℕ) (n : ℕ) → listed_in o n ≤ n
+depths_few : (o : Option ℕ) (n : ℕ) → depths_listed o n ≤ n
 depths_few (Some d) n = omega arith
 depths_few None n = omega arith
 
@@ -71,14 +71,14 @@ colours_all true n cs alike size =
     ap (λ c. replicate n c) (get_or-take 1 cs 0 fresh (omega arith)) ∙ ap (λ k. replicate k (get_or cs 0 fresh)) size ∙ sym (alike refl).1
 colours_all false n cs alike size = take-take n n cs (omega arith) ∙ take_all n cs (omega arith)
 
-depths_all : (o : Option ℕ) (n : ℕ) (ds : List ℕ) → IfSome o (λ d. ds ≡ replicate (length ds) d) → n ≡ length ds → values_in o n (take (listed_in o n) ds) ≡ ds
+depths_all : (o : Option ℕ) (n : ℕ) (ds : List ℕ) → IfSome o (λ d. ds ≡ replicate (length ds) d) → n ≡ length ds → values_in o n (take (depths_listed o n) ds) ≡ ds
 depths_all (Some d) n ds alike size = ap (λ k. replicate k d) size ∙ sym alike
 depths_all None n ds alike size = take-take n n ds (omega arith) ∙ take_all n ds (omega arith)
 
-pub row_in-listed : (s : Span) (cs : List Colour) (ds : List ℕ) → (s.one_colour ≡ true → (0 < length cs) × (cs ≡ replicate (length cs) (get_or cs 0 fresh)))
+pub row_of_span-listed : (s : Span) (cs : List Colour) (ds : List ℕ) → (s.one_colour ≡ true → (0 < length cs) × (cs ≡ replicate (length cs) (get_or cs 0 fresh)))
     → IfSome s.same_depth (λ d. ds ≡ replicate (length ds) d) → s.len ≡ length cs → length ds ≡ length cs
-    → row_in s (take (listed_colours s) cs) (take (listed_depths s) ds) ≡ kept_row s.x s.y (zip cs ds)
-row_in-listed s cs ds alike deep_alike size equal =
+    → row_of_span s (take (listed_colours s) cs) (take (listed_depths s) ds) ≡ kept_row s.x s.y (zip cs ds)
+row_of_span-listed s cs ds alike deep_alike size equal =
     ap (λ l. kept_row s.x s.y (zip l (depths_in s (take (listed_depths s) ds)))) (colours_all s.one_colour s.len cs alike size)
     ∙ ap (λ l. kept_row s.x s.y (zip cs l)) (depths_all s.same_depth s.len ds deep_alike (size ∙ sym equal))
 
@@ -90,10 +90,10 @@ module _ (s : Span) (colours : List Colour) (depths : List ℕ) (fits : listed_c
   pub zipped : length (zip (colours_in s colours) (depths_in s depths)) ≡ s.len
   zipped = length-zip_equal (colours_in s colours) (depths_in s depths) row_deep ∙ length-colours_in s colours fits
 
-  pub length-row_in : length (row_in s colours depths) ≡ s.len
-  length-row_in = length-kept_row s.x s.y (zip (colours_in s colours) (depths_in s depths)) ∙ zipped
+  pub length-row_of_span : length (row_of_span s colours depths) ≡ s.len
+  length-row_of_span = length-kept_row s.x s.y (zip (colours_in s colours) (depths_in s depths)) ∙ zipped
 
-  module _ (p : Place) (some : 0 < s.len) (inside : Inside p (row_in s colours depths)) where
+  module _ (p : Place) (some : 0 < s.len) (inside : Inside p (row_of_span s colours depths)) where
     pub row_first : Holds p s.x s.y
     row_first = kept_row-first p s.x s.y (zip (colours_in s colours) (depths_in s depths)) inside (omega (arith, zipped, some))
 
@@ -103,12 +103,12 @@ module _ (s : Span) (colours : List Colour) (depths : List ℕ) (fits : listed_c
 -- ---- a span that is as deep as all pixels of the tile: its colours alone are written
 pub put_back_flat : (t : TileImage) (s : Span) (colours : List Colour) (depths : List ℕ) → length colours ≡ listed_colours s
     → length depths ≡ listed_depths s → 0 < s.len
-    → IsSomeAnd s.same_depth (λ depth. IsFlat t.place t.depths depth) → IsTileImage t → Inside t.place (row_in s colours depths)
-    → with_row_left t s.y (put_mid (s.x - t.place.left) s.len (row_of t s.y) (colours_in s colours)) ≡ restored (row_in s colours depths) t
+    → IsSomeAnd s.same_depth (λ depth. IsFlat t.place t.depths depth) → IsTileImage t → Inside t.place (row_of_span s colours depths)
+    → with_row_left t s.y (put_mid (s.x - t.place.left) s.len (row_of t s.y) (colours_in s colours)) ≡ restored (row_of_span s colours depths) t
 put_back_flat t s colours depths counted deep_counted some deep filled inside = by_depth s.same_depth refl deep
   where
     by_depth : (o : Option ℕ) → s.same_depth ≡ o → IsSomeAnd o (λ depth. IsFlat t.place t.depths depth)
-        → with_row_left t s.y (put_mid (s.x - t.place.left) s.len (row_of t s.y) (colours_in s colours)) ≡ restored (row_in s colours depths) t
+        → with_row_left t s.y (put_mid (s.x - t.place.left) s.len (row_of t s.y) (colours_in s colours)) ≡ restored (row_of_span s colours depths) t
     by_depth None e none = absurd none
     by_depth (Some depth) e flat =
         let old : List Colour = colours_in s colours in

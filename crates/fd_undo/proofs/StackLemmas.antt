@@ -7,41 +7,41 @@ use Rattle.std.proofs.lemmas.List.{length-replicate, get_or-replicate, replicate
 use Rattle.std.proofs.lemmas.Grind.{replicate_next}
 use Rattle.fd_undo.specs.Frame.{KeptPixel, top, older}
 use Rattle.fd_undo.specs.Undo.{recorded_in}
-use Rattle.fd_undo.specs.Block.{Frame, Filled, no_frame, newest, others, found, first_number, Rise}
+use Rattle.fd_undo.specs.Block.{KeptFrame, Filled, no_frame, newest, others, found, first_number, Rise}
 use Rattle.fd_undo.specs.Stack.{frames_from, all_stored, HaveFrames, IsUndoStack}
 use Rattle.fd_undo.proofs.FrameLemmas.{others-newest, newest-push, older-push, top-push, older-top, recorded_in-push, recorded_in-cons}
 use Rattle.fd_undo.proofs.BlockLemmas.{this_number, other_number}
 
 -- ---- the numbers
-pub rise-push : (i : ℕ) (stored : List Frame) (f : Frame) (count : ℕ) → Rise i stored f.number → f.number + 1 ≤ count → Rise i (stored ++ f ∷ []) count
+pub rise-push : (i : ℕ) (stored : List KeptFrame) (f : KeptFrame) (count : ℕ) → Rise i stored f.number → f.number + 1 ≤ count → Rise i (stored ++ f ∷ []) count
 rise-push i [] f count is within = (is, within)
 rise-push i (t ∷ stored) f count is within = (is.0, rise-push (t.number + 1) stored f count is.1 within)
 
-pub rise-pop : (i : ℕ) (stored : List Frame) (f : Frame) (count : ℕ) → Rise i (stored ++ f ∷ []) count → Rise i stored f.number × (f.number + 1 ≤ count)
+pub rise-pop : (i : ℕ) (stored : List KeptFrame) (f : KeptFrame) (count : ℕ) → Rise i (stored ++ f ∷ []) count → Rise i stored f.number × (f.number + 1 ≤ count)
 rise-pop i [] f count is = (is.0, is.1)
 rise-pop i (t ∷ stored) f count is =
     let rest : Rise (t.number + 1) stored f.number × (f.number + 1 ≤ count) = rise-pop (t.number + 1) stored f count is.1 in
     ((is.0, rest.0), rest.1)
 
-pub rise-grow : (i : ℕ) (stored : List Frame) (count more : ℕ) → Rise i stored count → count ≤ more → Rise i stored more
+pub rise-grow : (i : ℕ) (stored : List KeptFrame) (count more : ℕ) → Rise i stored count → count ≤ more → Rise i stored more
 rise-grow i [] count more is fits = omega arith
 rise-grow i (t ∷ stored) count more is fits = (is.0, rise-grow (t.number + 1) stored count more is.1 fits)
 
-rise-within : (i : ℕ) (stored : List Frame) (count : ℕ) → Rise i stored count → i ≤ count
+rise-within : (i : ℕ) (stored : List KeptFrame) (count : ℕ) → Rise i stored count → i ≤ count
 rise-within i [] count is = is
 rise-within i (t ∷ stored) count is = omega (arith, is.0, rise-within (t.number + 1) stored count is.1)
 
-rise-lower : (i k : ℕ) (stored : List Frame) (count : ℕ) → Rise k stored count → i ≤ k → Rise i stored count
+rise-lower : (i k : ℕ) (stored : List KeptFrame) (count : ℕ) → Rise k stored count → i ≤ k → Rise i stored count
 rise-lower i k [] count is low = omega arith
 rise-lower i k (t ∷ stored) count is low = (omega (arith, is.0), is.1)
 
 -- the numbers of a part rise
-pub rise-back : (i : ℕ) (low stored : List Frame) (count : ℕ) → Rise i (low ++ stored) count → Rise i stored count
+pub rise-back : (i : ℕ) (low stored : List KeptFrame) (count : ℕ) → Rise i (low ++ stored) count → Rise i stored count
 rise-back i [] stored count is = is
 rise-back i (t ∷ low) stored count is =
     rise-lower i (t.number + 1) stored count (rise-back (t.number + 1) low stored count is.1) (omega (arith, is.0))
 
-pub rise-front : (i : ℕ) (low stored : List Frame) (count : ℕ) → Rise i (low ++ stored) count → Rise i low count
+pub rise-front : (i : ℕ) (low stored : List KeptFrame) (count : ℕ) → Rise i (low ++ stored) count → Rise i low count
 rise-front i [] stored count is = rise-within i stored count is
 rise-front i (t ∷ low) stored count is = (is.0, rise-front (t.number + 1) low stored count is.1)
 
@@ -49,7 +49,7 @@ rise-front i (t ∷ low) stored count is = (is.0, rise-front (t.number + 1) low 
 length-none : (n : ℕ) → let none : List (List KeptPixel) = replicate n [] in length none ≡ n
 length-none n = length-replicate n []
 
-pub length-frames : (i : ℕ) (stored : List Frame) (count : ℕ) → Rise i stored count → i + length (frames_from i stored count) ≡ count
+pub length-frames : (i : ℕ) (stored : List KeptFrame) (count : ℕ) → Rise i stored count → i + length (frames_from i stored count) ≡ count
 length-frames i [] count is = omega (arith, is, length-none (count - i))
 length-frames i (t ∷ stored) count is =
     omega (
@@ -61,7 +61,7 @@ length-frames i (t ∷ stored) count is =
     )
 
 -- more frames that are not stored
-pub frames-grow : (i : ℕ) (stored : List Frame) (count more : ℕ) → Rise i stored count → count ≤ more
+pub frames-grow : (i : ℕ) (stored : List KeptFrame) (count more : ℕ) → Rise i stored count → count ≤ more
     → frames_from i stored more ≡ frames_from i stored count ++ replicate (more - count) []
 frames-grow i [] count more is fits =
     ap (λ n. replicate n []) {x = more - i} {y = count - i + (more - count)} (omega (arith, is, fits))
@@ -70,19 +70,19 @@ frames-grow i (t ∷ stored) count more is fits =
     ap (λ l. replicate (t.number - i) [] ++ t.kept ∷ l) (frames-grow (t.number + 1) stored count more is.1 fits)
     ∙ sym (append_assoc (replicate (t.number - i) []) (t.kept ∷ frames_from (t.number + 1) stored count) (replicate (more - count) []))
 
-pub frames-next : (stored : List Frame) (count : ℕ) → Rise 0 stored count → frames_from 0 stored (count + 1) ≡ frames_from 0 stored count ++ [] ∷ []
+pub frames-next : (stored : List KeptFrame) (count : ℕ) → Rise 0 stored count → frames_from 0 stored (count + 1) ≡ frames_from 0 stored count ++ [] ∷ []
 frames-next stored count is =
     frames-grow 0 stored count (count + 1) is (omega arith)
     ∙ ap (λ n. frames_from 0 stored count ++ replicate n []) {x = count + 1 - count} {y = 1} (omega arith)
 
-frames-push : (i : ℕ) (stored : List Frame) (f : Frame) (count : ℕ)
+frames-push : (i : ℕ) (stored : List KeptFrame) (f : KeptFrame) (count : ℕ)
     → frames_from i (stored ++ f ∷ []) count ≡ frames_from i stored f.number ++ f.kept ∷ replicate (count - (f.number + 1)) []
 frames-push i [] f count = refl
 frames-push i (t ∷ stored) f count =
     ap (λ l. replicate (t.number - i) [] ++ t.kept ∷ l) (frames-push (t.number + 1) stored f count)
     ∙ sym (append_assoc (replicate (t.number - i) []) (t.kept ∷ frames_from (t.number + 1) stored f.number) (f.kept ∷ replicate (count - (f.number + 1)) []))
 
-exact : (stored : List Frame) (f : Frame) (count : ℕ) → f.number + 1 ≡ count
+exact : (stored : List KeptFrame) (f : KeptFrame) (count : ℕ) → f.number + 1 ≡ count
     → frames_from 0 (stored ++ f ∷ []) count ≡ frames_from 0 stored f.number ++ f.kept ∷ []
 exact stored f count at =
     frames-push 0 stored f count ∙ ap (λ n. frames_from 0 stored f.number ++ f.kept ∷ replicate n []) {x = count - (f.number + 1)} {y = 0} (omega (arith, at))
@@ -102,30 +102,30 @@ recorded-emptied count = emptied (count - 0)
     emptied (suc n) = omega (arith, recorded_in-cons [] (replicate n []), emptied n)
 
 -- ---- one more frame that is stored
-pub frame_stored : (low frames : List Frame) (f : Frame) → frames_from 0 (low ++ (frames ++ f ∷ [])) (f.number + 1)
+pub frame_stored : (low frames : List KeptFrame) (f : KeptFrame) → frames_from 0 (low ++ (frames ++ f ∷ [])) (f.number + 1)
     ≡ frames_from 0 (low ++ frames) f.number ++ f.kept ∷ []
 frame_stored low frames f =
     ap (λ l. frames_from 0 l (f.number + 1)) (sym (append_assoc low frames (f ∷ []))) ∙ exact (low ++ frames) f (f.number + 1) refl
 
-pub frame_rises : (low frames : List Frame) (f : Frame) → Rise 0 (low ++ frames) f.number → Rise 0 (low ++ (frames ++ f ∷ [])) (f.number + 1)
+pub frame_rises : (low frames : List KeptFrame) (f : KeptFrame) → Rise 0 (low ++ frames) f.number → Rise 0 (low ++ (frames ++ f ∷ [])) (f.number + 1)
 frame_rises low frames f is =
     subst (λ l. Rise 0 l (f.number + 1)) (append_assoc low frames (f ∷ [])) (rise-push 0 (low ++ frames) f (f.number + 1) is (omega arith))
 
 -- ---- the youngest frame is stored
-split_all : (low frames : List Frame) → 0 < length frames → low ++ frames ≡ (low ++ others frames) ++ newest frames ∷ []
+split_all : (low frames : List KeptFrame) → 0 < length frames → low ++ frames ≡ (low ++ others frames) ++ newest frames ∷ []
 split_all low frames some =
     ap (λ l. low ++ l) (others-newest frames no_frame some) ∙ sym (append_assoc low (others frames) (newest frames ∷ []))
 
-pub record TopStored (low frames : List Frame) (count : ℕ) : Type 0 where
+pub record TopStored (low frames : List KeptFrame) (count : ℕ) : Type 0 where
   pub rise_low : Rise 0 (low ++ others frames) (newest frames).number
   pub top_is : top (frames_from 0 (low ++ frames) count) ≡ (newest frames).kept
   pub older_are : older (frames_from 0 (low ++ frames) count) ≡ frames_from 0 (low ++ others frames) (newest frames).number
 
-pub top_stored : (low frames : List Frame) (count : ℕ) → 0 < length frames → (newest frames).number + 1 ≡ count → Rise 0 (low ++ frames) count
+pub top_stored : (low frames : List KeptFrame) (count : ℕ) → 0 < length frames → (newest frames).number + 1 ≡ count → Rise 0 (low ++ frames) count
     → TopStored low frames count
 top_stored low frames count some at is =
-    let f : Frame = newest frames in
-    let stored : List Frame = low ++ others frames in
+    let f : KeptFrame = newest frames in
+    let stored : List KeptFrame = low ++ others frames in
     let split : low ++ frames ≡ stored ++ f ∷ [] = split_all low frames some in
     let all : frames_from 0 (low ++ frames) count ≡ frames_from 0 stored f.number ++ f.kept ∷ [] =
     ap (λ l. frames_from 0 l count) split ∙ exact stored f count at in
@@ -136,8 +136,8 @@ top_stored low frames count some at is =
     }
 
 -- it keeps more
-module _ (low frames : List Frame) (count : ℕ) (row : List KeptPixel) (at : (newest frames).number + 1 ≡ count) (t : TopStored low frames count) where
-  abbrev pub more : Frame
+module _ (low frames : List KeptFrame) (count : ℕ) (row : List KeptPixel) (at : (newest frames).number + 1 ≡ count) (t : TopStored low frames count) where
+  abbrev pub more : KeptFrame
   more = record { number = (newest frames).number; kept = (newest frames).kept ++ row }
 
   pub more_stored : frames_from 0 (low ++ (others frames ++ more ∷ [])) count
@@ -166,25 +166,25 @@ module _ (low frames : List Frame) (count : ℕ) (row : List KeptPixel) (at : (n
       )
 
 -- ---- the youngest frame is not stored
-pub missed : (low frames : List Frame) (number : ℕ) → (0 < length frames → (newest frames).number ≢ number) → (length frames ≡ 0 → low ++ frames ≡ [])
+pub missed : (low frames : List KeptFrame) (number : ℕ) → (0 < length frames → (newest frames).number ≢ number) → (length frames ≡ 0 → low ++ frames ≡ [])
     → Rise 0 (low ++ frames) (number + 1) → Rise 0 (low ++ frames) number
 missed low [] number other none is = subst (λ l. Rise 0 l number) (sym (none refl)) (omega arith)
 missed low (t ∷ frames) number other none is =
-    let all : List Frame = t ∷ frames in
+    let all : List KeptFrame = t ∷ frames in
     let some : 0 < length all = omega arith in
-    let f : Frame = newest all in
+    let f : KeptFrame = newest all in
     let split : low ++ all ≡ (low ++ others all) ++ f ∷ [] = split_all low all some in
     let popped : Rise 0 (low ++ others all) f.number × (f.number + 1 ≤ number + 1) =
     rise-pop 0 (low ++ others all) f (number + 1) (subst (λ l. Rise 0 l (number + 1)) split is) in
     subst (λ l. Rise 0 l number) (sym split) (rise-push 0 (low ++ others all) f number popped.0 (omega (arith, popped.1, other some)))
 
 -- ---- a frame that is looked for by its number
-found-low : (i : ℕ) (stored : List Frame) (count n : ℕ) → Rise i stored count → n < i → found n stored ≡ []
+found-low : (i : ℕ) (stored : List KeptFrame) (count n : ℕ) → Rise i stored count → n < i → found n stored ≡ []
 found-low i [] count n is low = refl
 found-low i (t ∷ stored) count n is low =
     other_number t stored n (λ e. absurd (omega (arith, e, is.0))) ∙ found-low (t.number + 1) stored count n is.1 (omega (arith, is.0))
 
-pub found-frames : (i : ℕ) (stored : List Frame) (count k : ℕ) → Rise i stored count → get_or (frames_from i stored count) k [] ≡ found (i + k) stored
+pub found-frames : (i : ℕ) (stored : List KeptFrame) (count k : ℕ) → Rise i stored count → get_or (frames_from i stored count) k [] ≡ found (i + k) stored
 found-frames i [] count k is = nothing (cases_lt k (count - i))
   where
     nothing : (k < count - i) ⊎ (count - i ≤ k) → get_or {A = List KeptPixel} (replicate (count - i) []) k [] ≡ []
@@ -193,7 +193,7 @@ found-frames i [] count k is = nothing (cases_lt k (count - i))
 found-frames i (t ∷ stored) count k is =
     by_place i t stored count k is (λ n. found-frames (t.number + 1) stored count n is.1) (cases_lt k (t.number - i)) (cases_lt (t.number - i) k)
   where
-    by_place : (i : ℕ) (t : Frame) (stored : List Frame) (count k : ℕ) → Rise i (t ∷ stored) count
+    by_place : (i : ℕ) (t : KeptFrame) (stored : List KeptFrame) (count k : ℕ) → Rise i (t ∷ stored) count
         → ((n : ℕ) → get_or (frames_from (t.number + 1) stored count) n [] ≡ found (t.number + 1 + n) stored)
         → (k < t.number - i) ⊎ (t.number - i ≤ k) → (t.number - i < k) ⊎ (k ≤ t.number - i)
         → get_or (replicate (t.number - i) [] ++ t.kept ∷ frames_from (t.number + 1) stored count) k [] ≡ found (i + k) (t ∷ stored)
@@ -221,7 +221,7 @@ found-frames i (t ∷ stored) count k is =
         ∙ sym (other_number t stored (i + k) (λ e. absurd (omega (arith, e, after, is.0))))
 
 -- frames behind those with the number, or before them
-pub found-front : (i : ℕ) (low high : List Frame) (count n : ℕ) → Rise i (low ++ high) count → (0 < length high → n < first_number high)
+pub found-front : (i : ℕ) (low high : List KeptFrame) (count n : ℕ) → Rise i (low ++ high) count → (0 < length high → n < first_number high)
     → found n (low ++ high) ≡ found n low
 found-front i [] [] count n is before = refl
 found-front i [] (f ∷ high) count n is before = found-low f.number (f ∷ high) count n (omega arith, is.1) (before (omega arith))
@@ -231,12 +231,12 @@ found-front i (t ∷ low) high count n is before = by_number (found-front (t.num
     by_number rest (inl same) = this_number t (low ++ high) n same ∙ sym (this_number t low n same)
     by_number rest (inr other) = other_number t (low ++ high) n other ∙ rest ∙ sym (other_number t low n other)
 
-first-later : (i : ℕ) (low high : List Frame) (count : ℕ) → Rise i (low ++ high) count → 0 < length high → i ≤ first_number high
+first-later : (i : ℕ) (low high : List KeptFrame) (count : ℕ) → Rise i (low ++ high) count → 0 < length high → i ≤ first_number high
 first-later i [] [] count is some = absurd (omega arith)
 first-later i [] (f ∷ high) count is some = is.0
 first-later i (t ∷ low) high count is some = omega (arith, is.0, first-later (t.number + 1) low high count is.1 some)
 
-pub found-behind : (i : ℕ) (low high : List Frame) (count n : ℕ) → Rise i (low ++ high) count → 0 < length high → first_number high ≤ n
+pub found-behind : (i : ℕ) (low high : List KeptFrame) (count n : ℕ) → Rise i (low ++ high) count → 0 < length high → first_number high ≤ n
     → found n (low ++ high) ≡ found n high
 found-behind i [] high count n is some from = refl
 found-behind i (t ∷ low) high count n is some from =
@@ -244,14 +244,14 @@ found-behind i (t ∷ low) high count n is some from =
     other_number t (low ++ high) n (λ e. absurd (omega (arith, e, later, from))) ∙ found-behind (t.number + 1) low high count n is.1 some from
 
 -- the block in the middle has it
-pub found-middle : (a b c : List Frame) (count n : ℕ) → Rise 0 (a ++ (b ++ c)) count → 0 < length b → first_number b ≤ n → (0 < length c → n < first_number c)
+pub found-middle : (a b c : List KeptFrame) (count n : ℕ) → Rise 0 (a ++ (b ++ c)) count → 0 < length b → first_number b ≤ n → (0 < length c → n < first_number c)
     → found n (a ++ (b ++ c)) ≡ found n b
 found-middle a [] c count n is some from before = absurd (omega arith)
 found-middle a (f ∷ b) c count n is some from before =
     found-behind 0 a ((f ∷ b) ++ c) count n is (omega arith) from
     ∙ found-front 0 (f ∷ b) c count n (rise-back 0 a ((f ∷ b) ++ c) count is) before
 
-pub found-before : (frames : List Frame) (count n : ℕ) → Rise 0 frames count → (0 < length frames → n < first_number frames) → found n frames ≡ []
+pub found-before : (frames : List KeptFrame) (count n : ℕ) → Rise 0 frames count → (0 < length frames → n < first_number frames) → found n frames ≡ []
 found-before frames count n is before = found-front 0 [] frames count n is before
 
 -- frames that keep nothing add nothing
@@ -282,13 +282,13 @@ closed full last count recorded have rise counted countable = record {
 }
 
 -- what is known where a frame goes
-pub record IsTop (stored : List Frame) (count recorded : ℕ) (frames : List (List KeptPixel)) : Type 0 where
+pub record IsTop (stored : List KeptFrame) (count recorded : ℕ) (frames : List (List KeptPixel)) : Type 0 where
   pub some : 0 < count
   pub rise : Rise 0 stored (count - 1 + 1)
   pub shown : frames_from 0 stored (count - 1 + 1) ≡ frames
   pub recorded_is : recorded ≡ recorded_in (older frames) + length (top frames)
 
-pub is_top : (stored : List Frame) (count recorded : ℕ) (frames : List (List KeptPixel)) → Rise 0 stored count
+pub is_top : (stored : List KeptFrame) (count recorded : ℕ) (frames : List (List KeptPixel)) → Rise 0 stored count
     → recorded ≡ recorded_in (frames_from 0 stored count)
     → frames_from 0 stored count ≡ frames → 0 < length frames → IsTop stored count recorded frames
 is_top stored count recorded frames is counted shown some =
@@ -302,13 +302,13 @@ is_top stored count recorded frames is counted shown some =
     }
 
 -- what is left where frames that keep nothing are dropped
-pub dropped : (low frames : List Frame) (count to after left : ℕ) → Rise 0 (low ++ frames) count → to ≤ count
+pub dropped : (low frames : List KeptFrame) (count to after left : ℕ) → Rise 0 (low ++ frames) count → to ≤ count
     → (0 < length frames → after ≡ (newest frames).number + 1)
     → (length frames ≡ 0 → after ≡ 0) → (length frames ≡ 0 → low ++ frames ≡ []) → left ≡ max to after → Rise 0 (low ++ frames) left × (left ≤ count)
 dropped low [] count to after left is fits some none empty most =
     (subst (λ l. Rise 0 l left) (sym (empty refl)) (omega arith), omega (arith, fits, none refl, most))
 dropped low (t ∷ frames) count to after left is fits some none empty most =
-    let all : List Frame = t ∷ frames in
+    let all : List KeptFrame = t ∷ frames in
     let there : 0 < length all = omega arith in
     let split : low ++ all ≡ (low ++ others all) ++ newest all ∷ [] = split_all low all there in
     let popped : Rise 0 (low ++ others all) (newest all).number × ((newest all).number + 1 ≤ count) =

@@ -1,4 +1,4 @@
--- Frames of rows, and the marks that say where each begins.
+-- Working. Frames of rows, and the marks that say where each begins.
 use Rattle.std.specs.Prelude.{◌≡◌, ℕ, ◌+◌, ◌-◌, ◌^◌, ◌<◌, ◌≤◌, ◌==◌, ◌&&◌, nat_lt, if◌then◌else◌, List, [], ◌∷◌, ◌++◌, length, take, drop, slice_index_or}
 use Rattle.fd_undo.specs.declared.block.Mark.{Mark}
 use Rattle.fd_undo.specs.Span.{Span}
@@ -6,44 +6,44 @@ use Rattle.fd_undo.specs.Frame.{KeptPixel}
 use Rattle.fd_undo.specs.Rows.{Held, colour_count, depth_count, joined}
 
 -- what the event of this number overwrote
-pub record Frame : Type 0 where
+pub record KeptFrame : Type 0 where
   pub number : ℕ
   pub kept : List KeptPixel
 
 -- the frames of a block, oldest first, and how many more frames, spans, colours and depths have room
 pub record Filled : Type 0 where
-  pub frames : List Frame
+  pub frames : List KeptFrame
   pub frames_left : ℕ
   pub spans_left : ℕ
   pub colours_left : ℕ
   pub depths_left : ℕ
 
-abbrev pub no_frame : Frame
+abbrev pub no_frame : KeptFrame
 no_frame = record { number = 0; kept = [] }
 
 -- the newest frame, and the ones before it
-abbrev pub newest : List Frame → Frame
+abbrev pub newest : List KeptFrame → KeptFrame
 newest frames = slice_index_or frames (length frames - 1) no_frame
 
 abbrev pub others : {X : Type 0} → List X → List X
 others frames = take (length frames - 1) frames
 
 -- the newest frame keeps more
-abbrev pub with_row : List Frame → List KeptPixel → List Frame
-with_row frames row = others frames ++ record { number = (newest frames).number; kept = (newest frames).kept ++ row } ∷ []
+abbrev pub keeping_row : List KeptFrame → List KeptPixel → List KeptFrame
+keeping_row frames row = others frames ++ record { number = (newest frames).number; kept = (newest frames).kept ++ row } ∷ []
 
 -- the number of the oldest frame, or 0
-abbrev pub first_number : List Frame → ℕ
+abbrev pub first_number : List KeptFrame → ℕ
 first_number [] = 0
 first_number (f ∷ frames) = f.number
 
 -- what the frame of this number keeps, or nothing
-abbrev pub found : ℕ → List Frame → List KeptPixel
+abbrev pub found : ℕ → List KeptFrame → List KeptPixel
 found n [] = []
 found n (f ∷ frames) = if f.number == n then f.kept else found n frames
 
 -- the numbers rise from i on, below `count`
-abbrev pub Rise : ℕ → List Frame → ℕ → Type 0
+abbrev pub Rise : ℕ → List KeptFrame → ℕ → Type 0
 Rise i [] count = i ≤ count
 Rise i (f ∷ frames) count = (i ≤ f.number) × Rise (f.number + 1) frames count
 
@@ -54,7 +54,7 @@ next [] end = end
 next (m ∷ marks) end = m.span
 
 -- the frames of some marks, up to row `end`
-abbrev pub marked : List Mark → List (List KeptPixel) → ℕ → List Frame
+abbrev pub marked : List Mark → List (List KeptPixel) → ℕ → List KeptFrame
 marked [] rows end = []
 marked (m ∷ marks) rows end = record { number = m.number; kept = joined (take (next marks end - m.span) (drop m.span rows)) } ∷ marked marks rows end
 
@@ -63,11 +63,11 @@ abbrev pub marks_left : Held → ℕ → ℕ
 marks_left h left = if nat_lt (length h.spans) (2 ^ 32) && (nat_lt (length h.colours) (2 ^ 32) && nat_lt (length h.depths) (2 ^ 32)) then left else 0
 
 -- each frame begins where the one before it ends or later, up to the end of the spans, and its values where those of the spans before it end
-abbrev pub IsMarked : List Mark → List Span → ℕ → Type 0
-IsMarked [] spans end = Unit {0}
-IsMarked (m ∷ marks) spans end =
+abbrev pub AreInOrder : List Mark → List Span → ℕ → Type 0
+AreInOrder [] spans end = Unit {0}
+AreInOrder (m ∷ marks) spans end =
     (m.number < 2 ^ 32) × (m.span ≤ next marks end) × (m.colour ≡ colour_count (take m.span spans)) × (m.depth ≡ depth_count (take m.span spans))
-    × IsMarked marks spans end
+    × AreInOrder marks spans end
 
 -- a mark that nothing rests on
 abbrev pub no_mark : Mark

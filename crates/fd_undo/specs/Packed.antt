@@ -1,4 +1,4 @@
--- How a span is packed: its row has 32768 on top where each pixel has a colour in the stack's list, and its length where each has a depth there.
+-- Working. How a span is packed: its row has 32768 on top where each pixel has a colour in the stack's list, and its length where each has a depth there.
 use Rattle.std.specs.Prelude.{◌≡◌, ℕ, ◌+◌, ◌-◌, ◌≤◌, nat_lt, Bool, true, false, Option, Some, None, if◌then◌else◌, refl}
 use Rattle.std.proofs.Common.{sym, ◌∙◌, ap, arith}
 use Rattle.std.proofs.lemmas.Bool.Decides.{nat_tests}
@@ -25,8 +25,8 @@ unpacked a = record {
 abbrev pub IsPacked : Inside → Type 0
 IsPacked a = is_plain a.marked_len ≡ false → a.depth ≡ 0
 
-abbrev pub marked : Bool → ℕ → ℕ
-marked plain n = if plain then n else n + 32768
+abbrev pub with_mark : Bool → ℕ → ℕ
+with_mark plain n = if plain then n else n + 32768
 
 abbrev pub is_some : Option ℕ → Bool
 is_some (Some depth) = true
@@ -37,16 +37,16 @@ packed_depth (Some depth) = depth
 packed_depth None = 0
 
 abbrev pub packed : Span → Inside
-packed s = record { x = s.x; marked_y = marked s.one_colour s.y; marked_len = marked (is_some s.same_depth) s.len; depth = packed_depth s.same_depth }
+packed s = record { x = s.x; marked_y = with_mark s.one_colour s.y; marked_len = with_mark (is_some s.same_depth) s.len; depth = packed_depth s.same_depth }
 
 -- what is packed gives the fields back
-number_is : (n : ℕ) (t : Bool) → is_plain n ≡ t → marked t (if t then n else n - 32768) ≡ n
+number_is : (n : ℕ) (t : Bool) → is_plain n ≡ t → with_mark t (if t then n else n - 32768) ≡ n
 number_is n true is = refl
 number_is n false is =
     let long : 32768 ≤ n = grind (arith, nat_tests, is) in
     omega (arith, long)
 
-number_again : (n : ℕ) → marked (is_plain n) (unmarked n) ≡ n
+number_again : (n : ℕ) → with_mark (is_plain n) (unmarked n) ≡ n
 number_again n = number_is n (is_plain n) refl
 
 kind_is : (t : Bool) (depth : ℕ) → is_some (if t then Some depth else None) ≡ t
@@ -62,8 +62,8 @@ packed_again a none =
     let n : ℕ = a.marked_len in
     let plain : Bool = is_plain n in
     let depth : ℕ = packed_depth (if plain then Some a.depth else None) in
-    let len : ℕ = marked (is_some (if plain then Some a.depth else None)) (unmarked n) in
+    let len : ℕ = with_mark (is_some (if plain then Some a.depth else None)) (unmarked n) in
     ap (λ y. record { x = a.x; marked_y = y; marked_len = len; depth = depth }) (number_again a.marked_y)
     ∙ ap (λ l. record { x = a.x; marked_y = a.marked_y; marked_len = l; depth = depth })
-    (ap (λ t. marked t (unmarked n)) (kind_is plain a.depth) ∙ number_again n)
+    (ap (λ t. with_mark t (unmarked n)) (kind_is plain a.depth) ∙ number_again n)
     ∙ ap (λ d. record { x = a.x; marked_y = a.marked_y; marked_len = n; depth = d }) (depth_is plain a.depth none)

@@ -1,4 +1,4 @@
--- How much a block has room for.
+-- Working. How much a block has room for.
 use Rattle.std.specs.Prelude.{ℕ, ◌+◌, ◌≤◌}
 use Rattle.fd_undo.specs.declared.room.Room.{Room}
 

@@ -1,4 +1,4 @@
--- Spans, and the lists in which the values of their pixels stand.
+-- Working. Spans, and the lists in which the values of their pixels stand.
 use Rattle.std.specs.Prelude.{◌≡◌, ℕ, ◌-◌, ◌==◌, ◌&&◌, nat_le, nat_lt, Bool, false, List, [], ◌∷◌, ◌++◌, length, take, drop}
 use Rattle.std.specs.Prelude.{slice_index_or, if◌then◌else◌, replicate, Option, Some, None}
 use Rattle.std.specs.List.{sum_by, zip}
@@ -32,16 +32,16 @@ abbrev pub colours_in : Span → List Colour → List Colour
 colours_in s colours = if s.one_colour then replicate s.len (slice_index_or colours 0 fresh) else take s.len colours
 
 -- how many depths in the list are those of so many pixels, and their depths: all the same, or the next ones in the list
-abbrev pub listed_in : Option ℕ → ℕ → ℕ
-listed_in (Some depth) len = 0
-listed_in None len = len
+abbrev pub depths_listed : Option ℕ → ℕ → ℕ
+depths_listed (Some depth) len = 0
+depths_listed None len = len
 
 abbrev pub values_in : Option ℕ → ℕ → List ℕ → List ℕ
 values_in (Some depth) len depths = replicate len depth
 values_in None len depths = take len depths
 
 abbrev pub listed_depths : Span → ℕ
-listed_depths s = listed_in s.same_depth s.len
+listed_depths s = depths_listed s.same_depth s.len
 
 abbrev pub depths_in : Span → List ℕ → List ℕ
 depths_in s depths = values_in s.same_depth s.len depths
@@ -54,13 +54,13 @@ abbrev pub depth_count : List Span → ℕ
 depth_count spans = sum_by (λ s. listed_depths s) spans
 
 -- what a span keeps, whose values stand first in the lists
-abbrev pub row_in : Span → List Colour → List ℕ → List KeptPixel
-row_in s colours depths = kept_row s.x s.y (zip (colours_in s colours) (depths_in s depths))
+abbrev pub row_of_span : Span → List Colour → List ℕ → List KeptPixel
+row_of_span s colours depths = kept_row s.x s.y (zip (colours_in s colours) (depths_in s depths))
 
 -- what some spans keep, which take their values in turn
 abbrev pub rows_in : List Span → List Colour → List ℕ → List (List KeptPixel)
 rows_in [] colours depths = []
-rows_in (s ∷ spans) colours depths = row_in s colours depths ∷ rows_in spans (drop (listed_colours s) colours) (drop (listed_depths s) depths)
+rows_in (s ∷ spans) colours depths = row_of_span s colours depths ∷ rows_in spans (drop (listed_colours s) colours) (drop (listed_depths s) depths)
 
 abbrev pub rows_of : Held → List (List KeptPixel)
 rows_of h = rows_in h.spans h.colours h.depths

@@ -1,4 +1,4 @@
--- Spans that are whole rows of a tile.
+-- Working. Spans that are whole rows of a tile.
 use Rattle.std.specs.Prelude.{◌≡◌, ℕ, ◌+◌, ◌-◌, List, [], ◌∷◌, length, drop, Some, false}
 use Rattle.fd_tile.specs.Tile.{TileImage, IsFlat}
 use Rattle.fd_undo.specs.Span.{Span}

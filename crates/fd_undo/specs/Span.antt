@@ -1,4 +1,4 @@
--- What a contract sees of a span.
+-- Working. What a contract sees of a span.
 use Rattle.std.specs.Prelude.{ℕ, Bool, Option, refl}
 use Rattle.std.specs.Coded.{Coded, code_by, coded×, coded_ℕ, coded_bool, coded_option}
 

@@ -1,20 +1,20 @@
--- How an undo stack stores its frames: those that keep something in blocks, and of the others only how many there are.
+-- Working. How an undo stack stores its frames: those that keep something in blocks, and of the others only how many there are.
 use Rattle.std.specs.Prelude.{◌≡◌, ℕ, ◌+◌, ◌-◌, ◌^◌, ◌<◌, ◌≤◌, Bool, true, false, All, List, [], ◌∷◌, ◌++◌, length, replicate}
 use Rattle.std.specs.List.{flat_map}
 use Rattle.fd_undo.specs.Frame.{KeptPixel}
-use Rattle.fd_undo.specs.Block.{Frame, Filled, newest, Rise}
+use Rattle.fd_undo.specs.Block.{KeptFrame, Filled, newest, Rise}
 use Rattle.fd_undo.specs.Undo.{recorded_in}
 
 -- the frames from number i up to `count`, of which some are stored
-abbrev pub frames_from : ℕ → List Frame → ℕ → List (List KeptPixel)
+abbrev pub frames_from : ℕ → List KeptFrame → ℕ → List (List KeptPixel)
 frames_from i [] count = replicate (count - i) []
 frames_from i (f ∷ stored) count = replicate (f.number - i) [] ++ f.kept ∷ frames_from (f.number + 1) stored count
 
 -- the frames of some blocks
-abbrev pub stored_in : List Filled → List Frame
+abbrev pub stored_in : List Filled → List KeptFrame
 stored_in blocks = flat_map (λ b. b.frames) blocks
 
-abbrev pub all_stored : List Filled → Filled → List Frame
+abbrev pub all_stored : List Filled → Filled → List KeptFrame
 all_stored full last = stored_in full ++ last.frames
 
 -- each of these blocks has a frame

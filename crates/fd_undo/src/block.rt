@@ -5,7 +5,7 @@ ghost use Rattle.fd_snap.specs.Limits.{most_pixels};
 ghost use Rattle.fd_tile.specs.Place.{Holds};
 ghost use Rattle.fd_undo.specs.Frame.{kept_row, restored};
 ghost use Rattle.fd_undo.specs.Rows.{colour_count, depth_count, rows_in, joined};
-ghost use Rattle.fd_undo.specs.Block.{Frame, Filled, newest, others, with_row, found, first_number, Rise, NumbersRise, no_mark, next};
+ghost use Rattle.fd_undo.specs.Block.{KeptFrame, Filled, newest, others, keeping_row, found, first_number, Rise, NumbersRise, no_mark, next};
 
 use crate::room::Room;
 use crate::rows::Rows;
@@ -38,7 +38,7 @@ pub(crate) struct Block {
 impl Model for Block {
     ghost use Rattle.std.specs.Prelude.{◌-◌, length};
     ghost use Rattle.fd_undo.specs.Rows.{rows_of};
-    ghost use Rattle.fd_undo.specs.Block.{Filled, marked, marks_left, IsMarked};
+    ghost use Rattle.fd_undo.specs.Block.{Filled, marked, marks_left, AreInOrder};
 
     ghost Value = { Filled };
 
@@ -50,7 +50,7 @@ impl Model for Block {
       depths_left = b.rows.depths_left;
     } };
 
-    ghost invariant = { λ b. IsMarked b.marks.items b.rows.spans (length b.rows.spans) };
+    ghost invariant = { λ b. AreInOrder b.marks.items b.rows.spans (length b.rows.spans) };
 }
 
 impl Block {
@@ -167,7 +167,7 @@ impl Block {
         requires right { x + length old.now ≤ most_pixels }
         requires bottom { y ≤ most_pixels }
         requires known { IfSome known (λ depth. depths.now ≡ replicate (length depths.now) depth) }
-        ensures frames { self.new.frames ≡ with_row self.old.frames (kept_row x y (zip old.now depths.now)) }
+        ensures frames { self.new.frames ≡ keeping_row self.old.frames (kept_row x y (zip old.now depths.now)) }
         ensures spans_left { self.new.spans_left + 1 ≡ self.old.spans_left }
         ensures colours_left { self.old.colours_left ≤ self.new.colours_left + length old.now }
         ensures depths_left { self.old.depths_left ≤ self.new.depths_left + length depths.now }

@@ -3,7 +3,7 @@ ghost use borrow.Rule.Slice.PartMut.{put_mid};
 ghost use Rattle.fd_tile.specs.Place.{Holds};
 ghost use Rattle.fd_tile.specs.Tile.{row_of, with_row_left, IsFlat, IsTileImage};
 ghost use Rattle.fd_undo.specs.Frame.{restored};
-ghost use Rattle.fd_undo.specs.Rows.{listed_colours, colours_in, listed_depths, depths_in, row_in};
+ghost use Rattle.fd_undo.specs.Rows.{listed_colours, colours_in, listed_depths, depths_in, row_of_span};
 
 use crate::span::Span;
 use fd_blend::Colour;
@@ -13,8 +13,8 @@ use fd_tile::Tile;
 pub(crate) fn put_back(tile: &mut Tile, span: &Span, colours: &[Colour], depths: &[u16])
     requires counted { length colours.now ≡ listed_colours span.now }
     requires depths_counted { length depths.now ≡ listed_depths span.now }
-    requires inside { All (λ k. Holds tile.old.place k.x k.y) (row_in span.now colours.now depths.now) }
-    ensures { tile.new ≡ restored (row_in span.now colours.now depths.now) tile.old }
+    requires inside { All (λ k. Holds tile.old.place k.x k.y) (row_of_span span.now colours.now depths.now) }
+    ensures { tile.new ≡ restored (row_of_span span.now colours.now depths.now) tile.old }
 {
     if span.len() == 0 {
         return;
@@ -55,8 +55,8 @@ fn put_both(tile: &mut Tile, span: &Span, colours: &[Colour], depths: &[u16])
     requires counted { length colours.now ≡ listed_colours span.now }
     requires depths_counted { length depths.now ≡ listed_depths span.now }
     requires some { 0 < span.now.len }
-    requires inside { All (λ k. Holds tile.old.place k.x k.y) (row_in span.now colours.now depths.now) }
-    ensures { tile.new ≡ restored (row_in span.now colours.now depths.now) tile.old }
+    requires inside { All (λ k. Holds tile.old.place k.x k.y) (row_of_span span.now colours.now depths.now) }
+    ensures { tile.new ≡ restored (row_of_span span.now colours.now depths.now) tile.old }
 {
     let len = span.len();
     let start = (span.x() - tile.place().left) as usize;

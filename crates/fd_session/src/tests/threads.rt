@@ -12,7 +12,7 @@ use std::{fs, thread};
 const LOOKS: u32 = 10_000_000;
 
 /// How often a move is made at most, until as many threads were counted as are wanted.
-const TRIES: u32 = 20;
+const TRIES: u32 = 2_000;
 
 #[derive(Clone, Copy, Debug)]
 enum Move {

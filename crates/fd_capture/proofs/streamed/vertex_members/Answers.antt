@@ -3,7 +3,7 @@ use Rattle.json.specs.Json.{read_key}
 use Rattle.serde_json.specs.Data.{no_members, put}
 use Rattle.fd_json.proofs.Within.{object-begins, object-member, object-ends, object-no_key, object-refused}
 use Rattle.fd_json.proofs.Found.{same_name, field-after}
-use Rattle.fd_capture.specs.Field.{number_between, signed_32, colour_of}
+use Rattle.fd_capture.specs.Field.{number_between, signed_32, colour_of_data}
 use Rattle.fd_capture.proofs.streamed.vertex_members.Goals as goal
 
 pub members-init : goal.members-init
@@ -34,7 +34,7 @@ members-preserved-then-eq c =
       object-member c.args.depth c.args.reader.now l.reader c.next_key.new.self c.coordinate.new.reader found k read.0 l.invariant.1 key read.1 c.in_ok-x.ensures.shorter,
       read.2 ∙ field-after signed_32 (codes "x") k read.0 found true is,
       l.invariant.3 ∙ field-after signed_32 (codes "y") k read.0 found false (ap (λ n. bytes_eq n (codes "y")) name),
-      l.invariant.4 ∙ field-after colour_of (codes "color") k read.0 found false (ap (λ n. bytes_eq n (codes "color")) name),
+      l.invariant.4 ∙ field-after colour_of_data (codes "color") k read.0 found false (ap (λ n. bytes_eq n (codes "color")) name),
       l.invariant.5 ∙ field-after (number_between 0 65535) (codes "z") k read.0 found false (ap (λ n. bytes_eq n (codes "z")) name),
     )
 
@@ -58,7 +58,7 @@ members-preserved-then-eq-2 c =
       object-member c.args.depth c.args.reader.now l.reader c.next_key.new.self c.coordinate-then-eq-2.new.reader found k read.0 l.invariant.1 key read.1 c.in_ok-y.ensures.shorter,
       l.invariant.2 ∙ field-after signed_32 (codes "x") k read.0 found false (ap (λ n. bytes_eq n (codes "x")) name),
       read.2 ∙ field-after signed_32 (codes "y") k read.0 found true is,
-      l.invariant.4 ∙ field-after colour_of (codes "color") k read.0 found false (ap (λ n. bytes_eq n (codes "color")) name),
+      l.invariant.4 ∙ field-after colour_of_data (codes "color") k read.0 found false (ap (λ n. bytes_eq n (codes "color")) name),
       l.invariant.5 ∙ field-after (number_between 0 65535) (codes "z") k read.0 found false (ap (λ n. bytes_eq n (codes "z")) name),
     )
 
@@ -82,7 +82,7 @@ members-preserved-then-eq-3 c =
       object-member c.args.depth c.args.reader.now l.reader c.next_key.new.self c.colour.new.reader found k read.0 l.invariant.1 key read.1 c.in_ok-color.ensures.shorter,
       l.invariant.2 ∙ field-after signed_32 (codes "x") k read.0 found false (ap (λ n. bytes_eq n (codes "x")) name),
       l.invariant.3 ∙ field-after signed_32 (codes "y") k read.0 found false (ap (λ n. bytes_eq n (codes "y")) name),
-      read.2 ∙ field-after colour_of (codes "color") k read.0 found true is,
+      read.2 ∙ field-after colour_of_data (codes "color") k read.0 found true is,
       l.invariant.5 ∙ field-after (number_between 0 65535) (codes "z") k read.0 found false (ap (λ n. bytes_eq n (codes "z")) name),
     )
 
@@ -106,7 +106,7 @@ members-preserved-then-eq-4 c =
       object-member c.args.depth c.args.reader.now l.reader c.next_key.new.self c.vertex_depth.new.reader found k read.0 l.invariant.1 key read.1 c.in_ok-z.ensures.shorter,
       l.invariant.2 ∙ field-after signed_32 (codes "x") k read.0 found false (ap (λ n. bytes_eq n (codes "x")) name),
       l.invariant.3 ∙ field-after signed_32 (codes "y") k read.0 found false (ap (λ n. bytes_eq n (codes "y")) name),
-      l.invariant.4 ∙ field-after colour_of (codes "color") k read.0 found false (ap (λ n. bytes_eq n (codes "color")) name),
+      l.invariant.4 ∙ field-after colour_of_data (codes "color") k read.0 found false (ap (λ n. bytes_eq n (codes "color")) name),
       read.2 ∙ field-after (number_between 0 65535) (codes "z") k read.0 found true is,
     )
 
@@ -125,7 +125,7 @@ members-preserved c =
       object-member c.args.depth c.args.reader.now l.reader c.next_key.new.self c.pass.new.reader found k read.0 l.invariant.1 key read.1 c.in_ok-pass.ensures.shorter,
       l.invariant.2 ∙ field-after signed_32 (codes "x") k read.0 found false no_x,
       l.invariant.3 ∙ field-after signed_32 (codes "y") k read.0 found false no_y,
-      l.invariant.4 ∙ field-after colour_of (codes "color") k read.0 found false no_color,
+      l.invariant.4 ∙ field-after colour_of_data (codes "color") k read.0 found false no_color,
       l.invariant.5 ∙ field-after (number_between 0 65535) (codes "z") k read.0 found false no_z,
     )
 

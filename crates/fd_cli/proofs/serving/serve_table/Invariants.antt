@@ -1,7 +1,7 @@
 use Rattle.std.proofs.Common.{◌≡◌, ◌-◌, ℕ, List}
 use Rattle.std.specs.Io.KnownBytes.{Consumes, Appends}
 use Rattle.fd_cli.specs.Counting.{StaysFlushed}
-use Rattle.fd_cli.specs.Progress.{HasRoom, IsServing}
+use Rattle.fd_cli.specs.Progress.{CanCount, IsServing}
 use Rattle.fd_cli.proofs.serving.serve_table.Given as goal
 
 abbrev pub invariant-loop-count : goal.invariant-loop-count
@@ -12,7 +12,7 @@ invariant-loop-count g l =
       consumed : Consumes (g.R.Source.remaining l.fn.source) (g.R.Source.remaining l.source) input;
       appended : Appends (g.W.Sink.contents l.fn.sink) (g.W.Sink.contents l.sink) text;
       serving : IsServing l.fn.table input text l.progress;
-      room : HasRoom l.progress;
+      room : CanCount l.progress;
       read : g.R.Source.failure_count l.source ≡ g.R.Source.failure_count l.fn.source;
       write : g.W.Sink.failure_count l.sink ≡ g.W.Sink.failure_count l.fn.sink;
       flushed : StaysFlushed (g.W.Sink.is_flushed l.fn.sink) (g.W.Sink.is_flushed l.sink);

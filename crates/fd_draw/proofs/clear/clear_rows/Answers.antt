@@ -1,7 +1,7 @@
 use Rattle.std.proofs.Common.{ℕ, Bool, true, ap, subst, sym, arith}
 use Rattle.fd_tile.specs.declared.place.Place.{Place}
 use Rattle.fd_tile.specs.Place.{HasRow}
-use Rattle.fd_draw.specs.Demand.{row_pixels, row_spans, pixels_in, spans_in}
+use Rattle.fd_draw.specs.Demand.{written_in_row, row_spans, pixels_in, spans_in}
 use Rattle.fd_draw.specs.Writing.{HasRoom, in_row, keep_each}
 use Rattle.fd_draw.proofs.Counts.{total_more, total_none, pixels_in-rows, spans_in-rows, pixels_in-row, spans_in-row}
 use Rattle.fd_draw.proofs.Painting.{Paints-first, Paints-row, Paints-last}
@@ -36,7 +36,7 @@ clear_row-requires-clause-room c =
     let p = c.args.tile.now.place in
     let crossed : HasRow p c.loop-y.y = record { from_top = omega (arith, c.requires.inside.from_top, c.loop-y.auto.y); to_bottom = omega (arith, c.requires.inside.to_bottom, c.loop-y-test.true) } in
     let spans = total_more (row_spans written p) c.loop-y.y c.args.area.bottom c.loop-y-test.true in
-    let pixels = total_more (row_pixels written p) c.loop-y.y c.args.area.bottom c.loop-y-test.true in
+    let pixels = total_more (written_in_row written p) c.loop-y.y c.args.area.bottom c.loop-y-test.true in
     subst (λ (q : Place). HasRoom (spans_in (in_row written c.loop-y.y) q) (pixels_in (in_row written c.loop-y.y) q) c.loop-y.undo) (sym c.loop-y.invariant.painted.placed) (record {
       begun = c.loop-y.invariant.painted.begun;
       spans = omega (arith, spans, spans_in-row written p c.loop-y.y crossed, c.loop-y.invariant.spans, c.requires.room.spans);
@@ -49,7 +49,7 @@ loop-y-preserved c =
     let p = c.args.tile.now.place in
     let crossed : HasRow p c.loop-y.y = record { from_top = omega (arith, c.requires.inside.from_top, c.loop-y.auto.y); to_bottom = omega (arith, c.requires.inside.to_bottom, c.loop-y-test.true) } in
     let spans = total_more (row_spans written p) c.loop-y.y c.args.area.bottom c.loop-y-test.true in
-    let pixels = total_more (row_pixels written p) c.loop-y.y c.args.area.bottom c.loop-y-test.true in
+    let pixels = total_more (written_in_row written p) c.loop-y.y c.args.area.bottom c.loop-y-test.true in
     let same_spans = ap (λ (q : Place). spans_in (in_row written c.loop-y.y) q) c.loop-y.invariant.painted.placed in
     let same_pixels = ap (λ (q : Place). pixels_in (in_row written c.loop-y.y) q) c.loop-y.invariant.painted.placed in
     record {
@@ -65,5 +65,5 @@ returns c =
     record {
       painted = Paints-last written _ keep_each ((λ _ _. true)) c.args.tile.now c.args.area c.requires.whole c.loop-y.y _ _ _ c.loop-y-test.false c.loop-y.invariant.painted;
       spans = omega (arith, total_none (row_spans written p) c.loop-y.y c.args.area.bottom c.loop-y-test.false, c.loop-y.invariant.spans);
-      pixels = omega (arith, total_none (row_pixels written p) c.loop-y.y c.args.area.bottom c.loop-y-test.false, c.loop-y.invariant.pixels);
+      pixels = omega (arith, total_none (written_in_row written p) c.loop-y.y c.args.area.bottom c.loop-y-test.false, c.loop-y.invariant.pixels);
     }

@@ -1,4 +1,5 @@
 use Rattle.std.proofs.Common.{◌≡◌, ◌∙◌, ◌+◌, ◌<◌, inl, inr, length, min, sym, ap, arith}
+use Rattle.std.specs.Bool.{IsTrue}
 use Rattle.std.proofs.lemmas.Bool.{cases_lt}
 use Rattle.std.proofs.lemmas.List.{length_push}
 use Rattle.arrayvec.specs.ArrayVec.{array_vec_len}
@@ -8,28 +9,27 @@ use Rattle.fd_draw.specs.declared.room.Demand.{Demand}
 use Rattle.fd_draw.specs.Demand.{triangle_pixels, triangle_spans}
 use Rattle.fd_draw.specs.Plan.{ArePlanned, AreUnreached}
 use Rattle.fd_draw.specs.Triangles.{triangle_at}
-use Rattle.fd_draw.proofs.Triangles.{found_here, no_pixels, no_spans, none_pixels, none_spans, pixels-passed, pixels_found, planned_full, planned_kept, planned_past, spans-passed, spans_few, spans_found, sum_more, undrawn_closed, unreached_both, unreached_here, unreached_missed, unreached_uncovered}
+use Rattle.fd_draw.proofs.Triangles.{found_here, IsUndrawn, no_pixels, no_spans, none_pixels, none_spans, pixels-passed, pixels_found, planned_full, planned_kept, planned_past, spans-passed, spans_few, spans_found, sum_more, undrawn_closed, undrawn_culled, unreached_both, unreached_here, unreached_missed, unreached_uncovered}
 use Rattle.fd_draw.proofs.plan.plan_draw.Goals as goal
 use Rattle.fd_draw.proofs.plan.plan_draw.Goals.{in-Some, in_default}
 
-pub returns-then-is_empty-clause-spans : goal.returns-then-is_empty-clause-spans
-returns-then-is_empty-clause-spans c =
-    ap (λ (d : Demand). d.spans) c.without_triangles-plan.ensures.demand
-    ∙ sym (no_spans (triangles_of c.args.draw.now) c.args.state.now c.args.place
-    (undrawn_closed (triangles_of c.args.draw.now) c.args.state.now c.args.place c.open_area-window.result c.open_area-window.ensures.left_open (sym c.is_empty.ensures ∙ c.if-is_empty.true)))
+-- the scissor leaves nothing, or every triangle is culled
+idle : (c : goal.Then-is_idle) → IsUndrawn (triangles_of c.args.draw.now) c.args.state.now c.args.place
+idle c = elim (c.is_idle.ensures c.if-is_idle.true) [
+  | inl empty ↦ undrawn_closed (triangles_of c.args.draw.now) c.args.state.now c.args.place c.open_area-window.result c.open_area-window.ensures.left_open empty
+  | inr culled ↦ undrawn_culled (triangles_of c.args.draw.now) c.args.state.now c.args.place culled
+]
 
-pub returns-then-is_empty-clause-pixels : goal.returns-then-is_empty-clause-pixels
-returns-then-is_empty-clause-pixels c =
-    ap (λ (d : Demand). d.pixels) c.without_triangles-plan.ensures.demand
-    ∙ sym (no_pixels (triangles_of c.args.draw.now) c.args.state.now c.args.place
-    (undrawn_closed (triangles_of c.args.draw.now) c.args.state.now c.args.place c.open_area-window.result c.open_area-window.ensures.left_open (sym c.is_empty.ensures ∙ c.if-is_empty.true)))
+pub returns-then-is_idle-clause-spans : goal.returns-then-is_idle-clause-spans
+returns-then-is_idle-clause-spans c = ap (λ (d : Demand). d.spans) c.without_triangles-plan.ensures.demand ∙ sym (no_spans (triangles_of c.args.draw.now) c.args.state.now c.args.place (idle c))
 
-pub returns-then-is_empty-clause-planned : goal.returns-then-is_empty-clause-planned
-returns-then-is_empty-clause-planned c =
-    let ts = triangles_of c.args.draw.now in
-    let none = undrawn_closed ts c.args.state.now c.args.place c.open_area-window.result c.open_area-window.ensures.left_open (sym c.is_empty.ensures ∙ c.if-is_empty.true) in
+pub returns-then-is_idle-clause-pixels : goal.returns-then-is_idle-clause-pixels
+returns-then-is_idle-clause-pixels c = ap (λ (d : Demand). d.pixels) c.without_triangles-plan.ensures.demand ∙ sym (no_pixels (triangles_of c.args.draw.now) c.args.state.now c.args.place (idle c))
+
+pub returns-then-is_idle-clause-planned : goal.returns-then-is_idle-clause-planned
+returns-then-is_idle-clause-planned c =
     rw c.without_triangles-plan.ensures.planned
-    (omega arith, omega (arith, c.without_triangles-plan.ensures.rest, c.triangles-count.ensures.value), λ i t from to at. none i t at)
+    (omega arith, omega (arith, c.without_triangles-plan.ensures.rest, c.triangles-count.ensures.value), λ i t from to at. idle c i t at)
 
 pub loop-triangle-init : goal.loop-triangle-init
 loop-triangle-init c =

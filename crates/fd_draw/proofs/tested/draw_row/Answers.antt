@@ -1,7 +1,7 @@
 use Rattle.std.proofs.Common.{sym, drop, true, ◌++◌, List, take, map, ◌≡◌, ℕ, ◌+◌, ◌-◌, ◌<◌, ◌≤◌, ◌∙◌, ap, subst, refl, arith, length, get_or, Some}
 use Rattle.fd_cover.specs.Depth.{depth_at, passes}
 use Rattle.fd_draw.proofs.Rows.{take_front}
-use Rattle.fd_tile.specs.Tile.{depth_of, depth_row_of}
+use Rattle.fd_tile.specs.Tile.{depth_in, depth_row_of}
 use Rattle.std.specs.List.{range_with_len}
 use Rattle.std.proofs.lemmas.List.{get_or_default, length-take, get_or_append_left}
 use borrow.Rule.Slice.PartMut.{post_of}
@@ -16,10 +16,10 @@ use Rattle.fd_draw.specs.Demand.{is_reached}
 use Rattle.fd_draw.specs.Written.{kept_by_triangle}
 use Rattle.fd_draw.specs.Paints.{Paints}
 use Rattle.fd_draw.specs.Primitive.{triangle_of}
-use Rattle.fd_draw.specs.Mask.{is_set}
-use Rattle.fd_draw.specs.Writing.{after_where, kept_where, between, in_row}
+use Rattle.fd_draw.specs.Mask.{has_bit}
+use Rattle.fd_draw.specs.Writing.{after_where, kept_where, columns_between, in_row}
 use Rattle.fd_draw.proofs.Counts.{in_span-inside}
-use Rattle.fd_draw.proofs.Painting.{span_written, part_at, part_len, Writes-no_span}
+use Rattle.fd_draw.proofs.Painting.{span_written, part_at, part_len, WritesRegion-no_span}
 use Rattle.fd_draw.proofs.PixelTests.{depths_at, drawn_as_tested, row_count, Paints-row_done}
 use Rattle.fd_draw.proofs.tested.draw_row.Goals as goal
 
@@ -75,7 +75,7 @@ draw_runs-requires-clause-passed c = λ column low high.
     let stored = part_len (λ _ _ k. k) c.args.y c.in-Some.left c.in-Some.right c.args.tile.now c.args.undo.now c.place-place.result c.place-place.ensures.value c.requires.filled crossed span.bounds.0 span.bounds.1 span.bounds.2
     c.depth_row.result.now (ap length c.depth_row.ensures ∙ length-depth_row_of c.args.tile.now c.args.y c.requires.filled crossed) in
     let column_in : column - c.args.tile.now.place.left < length (depth_row_of c.args.tile.now c.args.y) = omega (arith, length-depth_row_of c.args.tile.now c.args.y c.requires.filled crossed, span.bounds.0, span.bounds.2) in
-    drawn_as_tested (triangle_of c.args.primitive.now) c.args.state.now column c.args.y (get_or c.row.new.out (column - c.in-Some.left) 0) (depth_of c.args.tile.now column c.args.y) (is_set c.test_row-passed.result (column - c.in-Some.left))
+    drawn_as_tested (triangle_of c.args.primitive.now) c.args.state.now column c.args.y (get_or c.row.new.out (column - c.in-Some.left) 0) (depth_in c.args.tile.now column c.args.y) (has_bit c.test_row-passed.result (column - c.in-Some.left))
     (c.test_row-passed.ensures.bits (column - c.in-Some.left) (omega (arith, stored, low, before))
     ∙ ap (λ d. passes c.args.state.now.depth d (get_or (take (c.in-Some.right - c.place-place.result.left - (c.in-Some.left - c.place-place.result.left)) (drop (c.in-Some.left - c.place-place.result.left) c.depth_row.result.now)) (column - c.in-Some.left) 0)) (get_or_append_left c.row.new.out (post_of 0 (c.in-Some.right - c.place-place.result.left - (c.in-Some.left - c.place-place.result.left)) c.args.buffer.now) 0 (column - c.in-Some.left) inside)
     ∙ ap (λ d. passes c.args.state.now.depth (get_or c.row.new.out (column - c.in-Some.left) 0) d)
@@ -121,13 +121,13 @@ returns-in-Some c =
     let counted = row_count written p c.args.y c.in-Some.left c.in-Some.right crossed span in
     record {
       painted = Paints-row_done written p c.args.y c.in-Some.left c.in-Some.right crossed span _ _ c.args.tile.now _ c.args.undo.now _ refl
-          (subst (λ n. Paints (after_where (in_row (between c.in-Some.left n) c.args.y) (pixel_after_triangle (triangle_of c.args.primitive.now) c.args.primitive.now.interp c.args.state.now))
-          (kept_where (in_row (between c.in-Some.left n) c.args.y) (kept_by_triangle (triangle_of c.args.primitive.now) c.args.state.now)) c.args.tile.now c.args.undo.now c.draw_runs.new.tile c.draw_runs.new.undo) last c.draw_runs.ensures.painted);
+          (subst (λ n. Paints (after_where (in_row (columns_between c.in-Some.left n) c.args.y) (pixel_after_triangle (triangle_of c.args.primitive.now) c.args.primitive.now.interp c.args.state.now))
+          (kept_where (in_row (columns_between c.in-Some.left n) c.args.y) (kept_by_triangle (triangle_of c.args.primitive.now) c.args.state.now)) c.args.tile.now c.args.undo.now c.draw_runs.new.tile c.draw_runs.new.undo) last c.draw_runs.ensures.painted);
       spans = omega (arith, counted, ap length front, size, wide, c.draw_runs.ensures.spans);
       pixels = omega (arith, counted, ap length front, size, wide, c.draw_runs.ensures.pixels);
     }
 
 pub returns-in_default : goal.returns-in_default
 returns-in_default c =
-    Writes-no_span (is_reached (triangle_of c.args.primitive.now) c.args.state.now) (covers c.args.primitive.now.corners) c.args.y c.args.tile.now c.args.found.now.area c.requires.found.inside c.requires.found.reached c.requires.from_top c.requires.to_bottom
+    WritesRegion-no_span (is_reached (triangle_of c.args.primitive.now) c.args.state.now) (covers c.args.primitive.now.corners) c.args.y c.args.tile.now c.args.found.now.area c.requires.found.inside c.requires.found.reached c.requires.from_top c.requires.to_bottom
     (rw c.in_default.is at c.span.ensures) _ _ _ _ c.args.undo.now c.place-place.ensures.filled c.requires.room.begun

@@ -6,7 +6,7 @@ use Rattle.fd_undo.specs.Undo.{Undo}
 use Rattle.fd_draw.specs.Written.{kept_by_triangle}
 use Rattle.fd_draw.specs.Paints.{Paints}
 use Rattle.fd_draw.specs.Primitive.{triangle_of}
-use Rattle.fd_draw.specs.Writing.{after_where, kept_where, between, in_row}
+use Rattle.fd_draw.specs.Writing.{after_where, kept_where, columns_between, in_row}
 use Rattle.std.proofs.lemmas.Bool.{eq-eqb, ne_eqb}
 use Rattle.fd_draw.proofs.Masks.{lowest_set}
 use Rattle.fd_draw.proofs.PixelTests.{drawn_alike, Paints-failed, Paints-next}
@@ -30,18 +30,18 @@ loop-done-preserved c =
     elim c.if-left-eq1.branch [
       | then-left-eq1 w ↦ record {
         painted =
-            subst (λ (v : TileImage). Paints (after_where (in_row (between c.args.x (c.args.x + (c.loop-done.done + c.alike-count.result))) c.args.y) (pixel_after_triangle (triangle_of c.args.primitive.now) c.args.primitive.now.interp c.args.state.now)) (kept_where (in_row (between c.args.x (c.args.x + (c.loop-done.done + c.alike-count.result))) c.args.y) (kept_by_triangle (triangle_of c.args.primitive.now) c.args.state.now)) c.args.tile.now c.args.undo.now v c.if-left-eq1.undo) (sym w.tile-is)
-            (subst (λ (v : Undo). Paints (after_where (in_row (between c.args.x (c.args.x + (c.loop-done.done + c.alike-count.result))) c.args.y) (pixel_after_triangle (triangle_of c.args.primitive.now) c.args.primitive.now.interp c.args.state.now)) (kept_where (in_row (between c.args.x (c.args.x + (c.loop-done.done + c.alike-count.result))) c.args.y) (kept_by_triangle (triangle_of c.args.primitive.now) c.args.state.now)) c.args.tile.now c.args.undo.now w.draw_run.new.tile v) (sym w.undo-is)
+            subst (λ (v : TileImage). Paints (after_where (in_row (columns_between c.args.x (c.args.x + (c.loop-done.done + c.alike-count.result))) c.args.y) (pixel_after_triangle (triangle_of c.args.primitive.now) c.args.primitive.now.interp c.args.state.now)) (kept_where (in_row (columns_between c.args.x (c.args.x + (c.loop-done.done + c.alike-count.result))) c.args.y) (kept_by_triangle (triangle_of c.args.primitive.now) c.args.state.now)) c.args.tile.now c.args.undo.now v c.if-left-eq1.undo) (sym w.tile-is)
+            (subst (λ (v : Undo). Paints (after_where (in_row (columns_between c.args.x (c.args.x + (c.loop-done.done + c.alike-count.result))) c.args.y) (pixel_after_triangle (triangle_of c.args.primitive.now) c.args.primitive.now.interp c.args.state.now)) (kept_where (in_row (columns_between c.args.x (c.args.x + (c.loop-done.done + c.alike-count.result))) c.args.y) (kept_by_triangle (triangle_of c.args.primitive.now) c.args.state.now)) c.args.tile.now c.args.undo.now w.draw_run.new.tile v) (sym w.undo-is)
             (Paints-next _ _ c.args.x (c.args.x + c.loop-done.done) (c.args.x + (c.loop-done.done + c.alike-count.result)) c.args.y (omega arith) (omega arith) _ _ _ _ _ _ c.loop-done.invariant.painted
-            (subst (λ n. Paints (after_where (in_row (between (c.args.x + c.loop-done.done) n) c.args.y) (pixel_after_triangle (triangle_of c.args.primitive.now) c.args.primitive.now.interp c.args.state.now)) (kept_where (in_row (between (c.args.x + c.loop-done.done) n) c.args.y) (kept_by_triangle (triangle_of c.args.primitive.now) c.args.state.now)) c.loop-done.tile c.loop-done.undo w.draw_run.new.tile w.draw_run.new.undo) last w.draw_run.ensures.painted)));
+            (subst (λ n. Paints (after_where (in_row (columns_between (c.args.x + c.loop-done.done) n) c.args.y) (pixel_after_triangle (triangle_of c.args.primitive.now) c.args.primitive.now.interp c.args.state.now)) (kept_where (in_row (columns_between (c.args.x + c.loop-done.done) n) c.args.y) (kept_by_triangle (triangle_of c.args.primitive.now) c.args.state.now)) c.loop-done.tile c.loop-done.undo w.draw_run.new.tile w.draw_run.new.undo) last w.draw_run.ensures.painted)));
         within = most;
         spans = omega (arith, ap (λ (v : Undo). v.spans_left) w.undo-is, w.draw_run.ensures.spans, inv.spans, c.alike-count.ensures.least);
         pixels = omega (arith, ap (λ (v : Undo). v.pixels_left) w.undo-is, w.draw_run.ensures.pixels, inv.pixels, size);
       }
       | else-left-eq1 w ↦ record {
         painted =
-            subst (λ (v : TileImage). Paints (after_where (in_row (between c.args.x (c.args.x + (c.loop-done.done + c.alike-count.result))) c.args.y) (pixel_after_triangle (triangle_of c.args.primitive.now) c.args.primitive.now.interp c.args.state.now)) (kept_where (in_row (between c.args.x (c.args.x + (c.loop-done.done + c.alike-count.result))) c.args.y) (kept_by_triangle (triangle_of c.args.primitive.now) c.args.state.now)) c.args.tile.now c.args.undo.now v c.if-left-eq1.undo) (sym w.tile-is)
-            (subst (λ (v : Undo). Paints (after_where (in_row (between c.args.x (c.args.x + (c.loop-done.done + c.alike-count.result))) c.args.y) (pixel_after_triangle (triangle_of c.args.primitive.now) c.args.primitive.now.interp c.args.state.now)) (kept_where (in_row (between c.args.x (c.args.x + (c.loop-done.done + c.alike-count.result))) c.args.y) (kept_by_triangle (triangle_of c.args.primitive.now) c.args.state.now)) c.args.tile.now c.args.undo.now c.loop-done.tile v) (sym w.undo-is)
+            subst (λ (v : TileImage). Paints (after_where (in_row (columns_between c.args.x (c.args.x + (c.loop-done.done + c.alike-count.result))) c.args.y) (pixel_after_triangle (triangle_of c.args.primitive.now) c.args.primitive.now.interp c.args.state.now)) (kept_where (in_row (columns_between c.args.x (c.args.x + (c.loop-done.done + c.alike-count.result))) c.args.y) (kept_by_triangle (triangle_of c.args.primitive.now) c.args.state.now)) c.args.tile.now c.args.undo.now v c.if-left-eq1.undo) (sym w.tile-is)
+            (subst (λ (v : Undo). Paints (after_where (in_row (columns_between c.args.x (c.args.x + (c.loop-done.done + c.alike-count.result))) c.args.y) (pixel_after_triangle (triangle_of c.args.primitive.now) c.args.primitive.now.interp c.args.state.now)) (kept_where (in_row (columns_between c.args.x (c.args.x + (c.loop-done.done + c.alike-count.result))) c.args.y) (kept_by_triangle (triangle_of c.args.primitive.now) c.args.state.now)) c.args.tile.now c.args.undo.now c.loop-done.tile v) (sym w.undo-is)
             (Paints-next _ _ c.args.x (c.args.x + c.loop-done.done) (c.args.x + (c.loop-done.done + c.alike-count.result)) c.args.y (omega arith) (omega arith) _ _ _ _ _ _ c.loop-done.invariant.painted
             (Paints-failed (triangle_of c.args.primitive.now) c.args.primitive.now.interp c.args.state.now (c.args.x + c.loop-done.done) (c.args.x + (c.loop-done.done + c.alike-count.result)) c.args.y c.loop-done.tile c.loop-done.undo c.loop-done.invariant.painted.filled c.loop-done.invariant.painted.begun
             (λ column low high. drawn_alike (triangle_of c.args.primitive.now) c.args.primitive.now.interp c.args.state.now c.args.x c.args.y c.loop-done.done c.alike-count.result c.args.passed c.args.tile.now c.loop-done.tile c.args.undo.now c.loop-done.undo

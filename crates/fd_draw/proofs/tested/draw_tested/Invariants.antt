@@ -1,6 +1,6 @@
 use Rattle.std.proofs.Common.{◌≤◌, ◌+◌, ◌-◌}
 use Rattle.fd_events.specs.Image.{pixel_after_triangle}
-use Rattle.fd_draw.specs.Demand.{total, row_pixels, is_reached, pixels_in}
+use Rattle.fd_draw.specs.Demand.{total, written_in_row, is_reached, pixels_in}
 use Rattle.fd_draw.specs.Written.{kept_by_triangle}
 use Rattle.fd_draw.specs.Primitive.{triangle_of}
 use Rattle.fd_draw.specs.Writing.{after_where, kept_where}
@@ -13,6 +13,6 @@ abbrev pub invariant-loop-y : goal.invariant-loop-y
 invariant-loop-y l = record {
   painted : Paints (after_where (above (is_reached (triangle_of l.primitive) l.state) l.y) (pixel_after_triangle (triangle_of l.primitive) l.primitive.interp l.state))
       (kept_where (above (is_reached (triangle_of l.primitive) l.state) l.y) (kept_by_triangle (triangle_of l.primitive) l.state)) l.initial.tile l.initial.undo l.tile l.undo;
-  spans : l.initial.undo.spans_left + total (row_pixels (is_reached (triangle_of l.primitive) l.state) l.initial.tile.place) l.y (l.found.area.bottom - l.y) ≤ l.undo.spans_left + pixels_in (is_reached (triangle_of l.primitive) l.state) l.initial.tile.place;
-  pixels : l.initial.undo.pixels_left + total (row_pixels (is_reached (triangle_of l.primitive) l.state) l.initial.tile.place) l.y (l.found.area.bottom - l.y) ≤ l.undo.pixels_left + pixels_in (is_reached (triangle_of l.primitive) l.state) l.initial.tile.place;
+  spans : l.initial.undo.spans_left + total (written_in_row (is_reached (triangle_of l.primitive) l.state) l.initial.tile.place) l.y (l.found.area.bottom - l.y) ≤ l.undo.spans_left + pixels_in (is_reached (triangle_of l.primitive) l.state) l.initial.tile.place;
+  pixels : l.initial.undo.pixels_left + total (written_in_row (is_reached (triangle_of l.primitive) l.state) l.initial.tile.place) l.y (l.found.area.bottom - l.y) ≤ l.undo.pixels_left + pixels_in (is_reached (triangle_of l.primitive) l.state) l.initial.tile.place;
 }

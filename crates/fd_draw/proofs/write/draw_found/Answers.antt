@@ -5,7 +5,7 @@ use Rattle.fd_events.specs.Image.{pixel_after_triangle}
 use Rattle.fd_draw.specs.Demand.{is_reached, triangle_pixels, triangle_spans}
 use Rattle.fd_draw.specs.Written.{kept_by_triangle}
 use Rattle.fd_draw.specs.Plan.{IsFoundOn}
-use Rattle.fd_draw.specs.Writing.{HasRoom, Writes}
+use Rattle.fd_draw.specs.Writing.{HasRoom, WritesRegion}
 use Rattle.fd_draw.proofs.Triangles.{triangle_found}
 use Rattle.fd_draw.proofs.write.draw_found.Goals as goal
 
@@ -22,9 +22,9 @@ draw_primitive-requires-clause-room c =
 pub returns : goal.returns
 returns c =
     let same = triangle_found c.args.draw.now c.args.triangle c.tri.result c.colours-colours.result c.depths.result c.tri.ensures c.colours-colours.ensures c.depths.ensures in
-    subst (λ (t : Triangle). Writes (triangle_spans c.args.state.now c.args.tile.now.place t) (triangle_pixels c.args.state.now c.args.tile.now.place t) (is_reached t c.args.state.now) (pixel_after_triangle t c.args.draw.now.interp c.args.state.now)
+    subst (λ (t : Triangle). WritesRegion (triangle_spans c.args.state.now c.args.tile.now.place t) (triangle_pixels c.args.state.now c.args.tile.now.place t) (is_reached t c.args.state.now) (pixel_after_triangle t c.args.draw.now.interp c.args.state.now)
     (kept_by_triangle t c.args.state.now) c.args.tile.now c.args.undo.now c.draw_primitive.new.tile c.draw_primitive.new.undo) (sym same)
-    (subst (λ (interp : Interp). Writes (triangle_spans c.args.state.now c.args.tile.now.place (record { corners = c.tri.result; colours = c.colours-colours.result; depths = c.depths.result }))
+    (subst (λ (interp : Interp). WritesRegion (triangle_spans c.args.state.now c.args.tile.now.place (record { corners = c.tri.result; colours = c.colours-colours.result; depths = c.depths.result }))
     (triangle_pixels c.args.state.now c.args.tile.now.place (record { corners = c.tri.result; colours = c.colours-colours.result; depths = c.depths.result }))
     (is_reached (record { corners = c.tri.result; colours = c.colours-colours.result; depths = c.depths.result }) c.args.state.now)
     (pixel_after_triangle (record { corners = c.tri.result; colours = c.colours-colours.result; depths = c.depths.result }) interp c.args.state.now)

@@ -1,6 +1,6 @@
 use Rattle.std.proofs.Common.{◌≡◌, ◌<◌, ◌+◌, ◌++◌, ◌∷◌, [], ◌∙◌, true, false, sym, subst, refl, List, ℕ, length, ap, arith}
 use Rattle.fd_undo.specs.Frame.{KeptPixel, restored, top, older}
-use Rattle.fd_undo.specs.Block.{Frame, newest, others, Rise}
+use Rattle.fd_undo.specs.Block.{KeptFrame, newest, others, Rise}
 use Rattle.fd_undo.specs.Stack.{frames_from, stored_in, all_stored}
 use Rattle.fd_undo.proofs.Restored.{Inside}
 use Rattle.fd_undo.proofs.FrameLemmas.{older-push, top-push}
@@ -8,7 +8,7 @@ use Rattle.fd_undo.proofs.StackLemmas.{TopStored, top_stored, missed, frames-nex
 use Rattle.fd_undo.proofs.stack.take_back.Goals as goal
 use Rattle.fd_undo.proofs.stack.take_back.Goals.{After-is_newest}
 
-abbrev low : (c : After-is_newest) → List Frame
+abbrev low : (c : After-is_newest) → List KeptFrame
 low c = stored_in c.refill.new.full.items
 
 rise : (c : After-is_newest) → Rise 0 (low c ++ c.refill.new.last.frames) (c.args.number + 1)

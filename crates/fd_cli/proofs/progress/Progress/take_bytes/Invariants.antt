@@ -1,13 +1,13 @@
 use Rattle.std.proofs.Common.{◌≡◌, take, Ok}
 use Rattle.fd_cli.specs.Counting.{StaysFlushed}
-use Rattle.fd_cli.specs.Progress.{HasRoom, Advances}
+use Rattle.fd_cli.specs.Progress.{CanCount, Advances}
 use Rattle.fd_cli.proofs.progress.Progress.take_bytes.Given as goal
 
 abbrev pub invariant-loop-byte : goal.invariant-loop-byte
 invariant-loop-byte g l =
     record {
       advances : Advances l.fn.self l.self (g.W.Sink.contents l.fn.sink) (g.W.Sink.contents l.sink) (take l.byte-index l.bytes) (Ok tt);
-      room : HasRoom l.self;
+      room : CanCount l.self;
       failures : g.W.Sink.failure_count l.sink ≡ g.W.Sink.failure_count l.fn.sink;
       flushed : StaysFlushed (g.W.Sink.is_flushed l.fn.sink) (g.W.Sink.is_flushed l.sink);
     }

@@ -1,4 +1,4 @@
-use Rattle.std.proofs.Common.{◌+◌, ◌<◌, ◌≤◌, arith}
+use Rattle.std.proofs.Common.{arith}
 use Rattle.fd_events.specs.Draw.{triangles_of}
 use Rattle.fd_events.proofs.BoundsLemmas.{CoverNone-then}
 use Rattle.fd_events.proofs.draw.Draw.next_grouped.Goals as goal

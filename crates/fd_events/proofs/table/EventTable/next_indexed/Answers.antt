@@ -1,6 +1,5 @@
-use Rattle.std.proofs.Common.{◌≡◌, ◌≤◌, length, ap, sym, subst, arith}
-use Rattle.fd_events.specs.Table.{Table, table_of}
-use Rattle.fd_events.specs.Far.{AreFar}
+use Rattle.std.proofs.Common.{arith}
+use Rattle.fd_events.specs.Table.{table_of}
 use Rattle.fd_events.proofs.IndexLemmas.{far_from}
 use Rattle.fd_events.proofs.table.EventTable.next_indexed.Goals as goal
 

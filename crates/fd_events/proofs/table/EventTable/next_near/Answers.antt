@@ -1,4 +1,4 @@
-use Rattle.std.proofs.Common.{◌≡◌, ℕ, Bool, not, inl, inr, sym, ap, subst, arith}
+use Rattle.std.proofs.Common.{ℕ, Bool, not, inl, inr, sym, ap, subst, arith}
 use Rattle.std.proofs.lemmas.Bool.{cases_eq, cases_lt}
 use Rattle.fd_events.specs.Far.{IsFar}
 use Rattle.fd_events.proofs.table.EventTable.next_near.Goals as goal

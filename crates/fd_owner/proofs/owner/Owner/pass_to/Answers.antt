@@ -1,4 +1,4 @@
-use Rattle.std.proofs.Common.{◌≡◌, ◌+◌, ◌-◌, ◌^◌, ◌<◌, ◌≤◌, ◌∙◌, ℕ, length, sym, ap, subst, arith}
+use Rattle.std.proofs.Common.{◌≡◌, ◌+◌, ◌-◌, ◌^◌, ◌<◌, ◌∙◌, ℕ, length, sym, ap, subst, arith}
 use Rattle.fd_undo.specs.Undo.{Undo, without_room}
 use Rattle.fd_owner.specs.History.{History, position, extend_by, extend_to}
 use Rattle.fd_owner.specs.Owner.{history_of, IsOwner}

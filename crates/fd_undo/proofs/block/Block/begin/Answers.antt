@@ -3,7 +3,7 @@ use Rattle.std.proofs.lemmas.List.{take_all}
 use Rattle.fd_undo.specs.declared.block.Mark.{Mark}
 use Rattle.fd_undo.specs.Span.{Span}
 use Rattle.fd_undo.specs.Rows.{rows_of, colour_count, depth_count}
-use Rattle.fd_undo.specs.Block.{Filled, marked, IsMarked}
+use Rattle.fd_undo.specs.Block.{Filled, marked, AreInOrder}
 use Rattle.fd_undo.proofs.BlockLemmas.{IsMark, one_more, marks-push}
 use Rattle.fd_undo.proofs.block.Block.begin.Goals as goal
 
@@ -18,8 +18,8 @@ invariant_of-self c =
       colour = c.colours.ensures.counted ∙ ap colour_count (sym all);
       depth = c.depths.ensures.counted ∙ ap depth_count (sym all);
     } in
-    subst (λ l. IsMarked l spans (length spans)) (sym c.push_reserved.ensures.items)
-    (marks-push marks m spans (length spans) (subst (λ n. IsMarked marks spans n) (sym c.len.ensures) c.self.invariant) says (omega (arith, c.len.ensures)))
+    subst (λ l. AreInOrder l spans (length spans)) (sym c.push_reserved.ensures.items)
+    (marks-push marks m spans (length spans) (subst (λ n. AreInOrder marks spans n) (sym c.len.ensures) c.self.invariant) says (omega (arith, c.len.ensures)))
 
 pub returns-clause-frames : goal.returns-clause-frames
 returns-clause-frames c =

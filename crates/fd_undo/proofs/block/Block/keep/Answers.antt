@@ -4,7 +4,7 @@ use Rattle.std.proofs.lemmas.List.{take-take, take-append-le, drop-append-le}
 use Rattle.fd_undo.specs.declared.block.Mark.{Mark}
 use Rattle.fd_undo.specs.Frame.{KeptPixel, kept_row}
 use Rattle.fd_undo.specs.Rows.{Held, rows_of, joined}
-use Rattle.fd_undo.specs.Block.{Filled, marked, IsMarked, no_mark, others}
+use Rattle.fd_undo.specs.Block.{Filled, marked, AreInOrder, no_mark, others}
 use Rattle.fd_undo.proofs.FrameLemmas.{others-newest}
 use Rattle.fd_undo.proofs.RowLemmas.{length-rows_in, joined-push}
 use Rattle.fd_undo.proofs.BlockLemmas.{TopFrame, top_frame, length-marked, more_marks, more_frames}
@@ -67,7 +67,7 @@ invariant_of-self c =
     let d = (goal.at-invariant_of-self c).After-keep in
     let h : Held = c.self.inside.rows in
     let n : Held = c.keep.new.self in
-    subst (λ l. IsMarked l n.spans (length n.spans)) (sym (split d))
+    subst (λ l. AreInOrder l n.spans (length n.spans)) (sym (split d))
     (more_marks (low d) (last d) h.spans n.spans (rows_of h) (rows_of n) c.args.self.now.frames (row d) (top d) (same d) (long d)
     (length-rows_in n.spans n.colours n.depths) (rows_same d) (more d))
 

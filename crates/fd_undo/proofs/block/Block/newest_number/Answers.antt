@@ -1,7 +1,7 @@
 use Rattle.std.proofs.Common.{◌≡◌, ◌<◌, ◌-◌, ◌++◌, ◌∷◌, [], ◌∙◌, sym, List, length, get_or, ap, arith}
 use Rattle.fd_undo.specs.declared.block.Mark.{Mark}
 use Rattle.fd_undo.specs.Rows.{rows_of}
-use Rattle.fd_undo.specs.Block.{Frame, Filled, no_mark, others}
+use Rattle.fd_undo.specs.Block.{KeptFrame, Filled, no_mark, others}
 use Rattle.fd_undo.proofs.FrameLemmas.{others-newest}
 use Rattle.fd_undo.proofs.RowLemmas.{length-rows_in}
 use Rattle.fd_undo.proofs.BlockLemmas.{TopFrame, top_frame, length-marked}
@@ -38,7 +38,7 @@ number_is c d = ap (λ (m : Mark). m.number) c.mark_at.ensures ∙ ap (λ l. (ge
 pub returns-clause-value : goal.returns-clause-value
 returns-clause-value c =
     let at = goal.at-returns-clause-value c in
-    number_is at.After-mark_at at.After-as_slice-marks ∙ sym (ap (λ (f : Frame). f.number) (top at.After-as_slice-marks).newest_is)
+    number_is at.After-mark_at at.After-as_slice-marks ∙ sym (ap (λ (f : KeptFrame). f.number) (top at.After-as_slice-marks).newest_is)
 
 pub returns-clause-small : goal.returns-clause-small
 returns-clause-small c =

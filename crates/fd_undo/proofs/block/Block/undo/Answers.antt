@@ -1,7 +1,7 @@
 use Rattle.std.proofs.Common.{◌∙◌, sym, subst, List, length, drop, ap, arith}
 use Rattle.fd_undo.specs.Frame.{KeptPixel, restored}
 use Rattle.fd_undo.specs.Rows.{Held, rows_of, joined}
-use Rattle.fd_undo.specs.Block.{Frame, Filled, marked, IsMarked}
+use Rattle.fd_undo.specs.Block.{KeptFrame, Filled, marked, AreInOrder}
 use Rattle.fd_undo.proofs.Restored.{Inside}
 use Rattle.fd_undo.proofs.RowLemmas.{length-rows_in}
 use Rattle.fd_undo.proofs.BlockLemmas.{TopFrame, top_frame, fewer}
@@ -22,11 +22,11 @@ undo_to-requires-clause-some c = (top (goal.at-undo_to-requires-clause-some c).A
 pub undo_to-requires-clause-inside : goal.undo_to-requires-clause-inside
 undo_to-requires-clause-inside c =
     subst (λ l. Inside c.args.tile.now.place l)
-    (ap (λ (f : Frame). f.kept) (top (goal.at-undo_to-requires-clause-inside c).After-take_last-mark).newest_is) c.requires.inside
+    (ap (λ (f : KeptFrame). f.kept) (top (goal.at-undo_to-requires-clause-inside c).After-take_last-mark).newest_is) c.requires.inside
 
 pub undo_to-requires-clause-countable : goal.undo_to-requires-clause-countable
 undo_to-requires-clause-countable c =
-    omega (arith, c.requires.countable, ap (λ (f : Frame). length f.kept) (top (goal.at-undo_to-requires-clause-countable c).After-take_last-mark).newest_is)
+    omega (arith, c.requires.countable, ap (λ (f : KeptFrame). length f.kept) (top (goal.at-undo_to-requires-clause-countable c).After-take_last-mark).newest_is)
 
 pub invariant_of-self : goal.invariant_of-self
 invariant_of-self c =
@@ -36,11 +36,11 @@ invariant_of-self c =
 
 pub returns-clause-tile : goal.returns-clause-tile
 returns-clause-tile c =
-    c.undo_to.ensures.tile ∙ ap (λ (f : Frame). restored f.kept c.args.tile.now) (sym (top (goal.at-returns-clause-tile c).After-take_last-mark).newest_is)
+    c.undo_to.ensures.tile ∙ ap (λ (f : KeptFrame). restored f.kept c.args.tile.now) (sym (top (goal.at-returns-clause-tile c).After-take_last-mark).newest_is)
 
 pub returns-clause-pixels : goal.returns-clause-pixels
 returns-clause-pixels c =
-    c.undo_to.ensures.pixels ∙ ap (λ (f : Frame). length f.kept) (sym (top (goal.at-returns-clause-pixels c).After-take_last-mark).newest_is)
+    c.undo_to.ensures.pixels ∙ ap (λ (f : KeptFrame). length f.kept) (sym (top (goal.at-returns-clause-pixels c).After-take_last-mark).newest_is)
 
 pub returns-clause-frames : goal.returns-clause-frames
 returns-clause-frames c =

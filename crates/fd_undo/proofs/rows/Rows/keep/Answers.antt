@@ -5,7 +5,7 @@ use Rattle.std.specs.List.{zip}
 use Rattle.fd_undo.specs.Span.{Span}
 use Rattle.fd_undo.specs.Frame.{kept_row}
 use Rattle.fd_undo.specs.Rows.{Held, listed_colours, listed_depths, rows_in, rows_of}
-use Rattle.fd_undo.proofs.SpanLemmas.{row_in-listed}
+use Rattle.fd_undo.proofs.SpanLemmas.{row_of_span-listed}
 use Rattle.fd_undo.proofs.RowLemmas.{rows_in-push}
 use Rattle.fd_undo.proofs.rows.Rows.keep.Goals as goal
 
@@ -29,5 +29,5 @@ returns-clause-rows c =
     ∙ ap (λ l. rows_in (spans ++ s ∷ []) (cs ++ take (listed_colours s) old) l) deepened
     ∙ rows_in-push spans cs (take (listed_colours s) old) ds (take (listed_depths s) deep) s c.self.invariant.colours_counted c.self.invariant.depths_counted
     ∙ ap (λ row. rows_in spans cs ds ++ row ∷ [])
-    (row_in-listed s old deep c.is_one_colour.ensures.alike c.known_depth.ensures.alike refl c.requires.equal)
+    (row_of_span-listed s old deep c.is_one_colour.ensures.alike c.known_depth.ensures.alike refl c.requires.equal)
     ∙ ap (λ (h : Held). rows_of h ++ kept_row c.args.x c.args.y (zip old deep) ∷ []) c.self.view_is

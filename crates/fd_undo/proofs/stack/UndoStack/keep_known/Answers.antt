@@ -1,7 +1,7 @@
 use Rattle.std.proofs.Common.{◌≡◌, ◌<◌, ◌+◌, ◌-◌, ◌++◌, ◌∷◌, [], ◌∙◌, sym, subst, false, List, ℕ, length, ap, arith, length-append}
 use Rattle.std.specs.List.{zip}
 use Rattle.fd_undo.specs.Frame.{KeptPixel, kept_row}
-use Rattle.fd_undo.specs.Block.{Frame, no_frame, newest, others, Rise}
+use Rattle.fd_undo.specs.Block.{KeptFrame, no_frame, newest, others, Rise}
 use Rattle.fd_undo.specs.Undo.{Undo, recorded_in, with_kept}
 use Rattle.fd_undo.specs.Stack.{frames_from, stored_in}
 use Rattle.fd_undo.proofs.Zips.{length-zip_equal}
@@ -10,7 +10,7 @@ use Rattle.fd_undo.proofs.StackLemmas.{TopStored, top_stored, more, more_stored,
 use Rattle.fd_undo.proofs.stack.UndoStack.keep_known.Goals as goal
 use Rattle.fd_undo.proofs.stack.UndoStack.keep_known.Goals.{After-keep}
 
-abbrev low : (c : After-keep) → List Frame
+abbrev low : (c : After-keep) → List KeptFrame
 low c = stored_in c.self.inside.full.items
 
 abbrev row : (c : After-keep) → List KeptPixel
@@ -31,10 +31,10 @@ stored c = top_stored (low c) c.self.inside.last.frames c.self.inside.count (the
 pub invariant_of-self : goal.invariant_of-self
 invariant_of-self c =
     let d = (goal.at-invariant_of-self c).After-keep in
-    let frames : List Frame = c.self.inside.last.frames in
+    let frames : List KeptFrame = c.self.inside.last.frames in
     let count : ℕ = c.self.inside.count in
     let yes : (0 < length c.self.inside.last.frames) × ((newest c.self.inside.last.frames).number + 1 ≡ c.self.inside.count) = there d in
-    let f : Frame = more (low d) frames count (row d) yes.1 (stored d) in
+    let f : KeptFrame = more (low d) frames count (row d) yes.1 (stored d) in
     let pixels = ap (λ (u : Undo). u.pixels_left) c.self.view_is in
     let spans = ap (λ (u : Undo). u.spans_left) c.self.view_is in
     let some : 0 < length (frames_from 0 (low d ++ c.self.inside.last.frames) c.self.inside.count) =
@@ -54,7 +54,7 @@ invariant_of-self c =
       stored_room = λ left. grind (arith, left, ap (λ (u : Undo). u.frame_left) c.self.view_is ∙ c.requires.begun);
       begun = λ _ _. (
         omega (arith, ap length c.keep.ensures.frames, length-append (others frames) (f ∷ [])),
-        ap (λ (g : Frame). g.number + 1) (ap newest c.keep.ensures.frames ∙ newest-push (others frames) f no_frame) ∙ yes.1,
+        ap (λ (g : KeptFrame). g.number + 1) (ap newest c.keep.ensures.frames ∙ newest-push (others frames) f no_frame) ∙ yes.1,
       );
       span_room = omega (arith, c.self.invariant.span_room, c.keep.ensures.spans_left, c.requires.span, spans);
       colour_room = omega (arith, c.self.invariant.colour_room, c.keep.ensures.colours_left, c.requires.pixels, pixels);
@@ -64,7 +64,7 @@ invariant_of-self c =
 pub returns : goal.returns
 returns c =
     let d = (goal.at-returns c).After-keep in
-    let frames : List Frame = c.self.inside.last.frames in
+    let frames : List KeptFrame = c.self.inside.last.frames in
     let count : ℕ = c.self.inside.count in
     let yes : (0 < length c.self.inside.last.frames) × ((newest c.self.inside.last.frames).number + 1 ≡ c.self.inside.count) = there d in
     ap (λ l. record {
