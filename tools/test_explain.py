@@ -150,6 +150,15 @@ class Explained(unittest.TestCase):
         line = twice[:twice.index('"mask": 16')].count("\n") + 1
         self.assertTrue(explained(twice.encode())[2].startswith(f"line {line}, column 12: event 4 (blend), mask: a whole number from 0 to 15 is wanted, not 16"))
 
+    def test_it_names_the_call(self):
+        told = lambda event, source: explained(json.dumps({**FRAME, "events": [{**event, "source": source}]}).encode())[2].partition(": ")[2]
+        draw, misspelt = {"kind": "clear", "color": [1, 2, 3]}, {"kind": "rastre"}
+        self.assertTrue(told(draw, {"event": 363, "name": "glClear()"}).startswith("event 1 (clear) of call 363 glClear(), color: "), told(draw, {"event": 363, "name": "glClear()"}))
+        self.assertTrue(told(misspelt, {"event": 7}).startswith("event 1 of call 7, kind: "))
+        self.assertTrue(told(misspelt, {"name": "x" * 1000}).startswith(f"event 1 of call {'x' * 60}, kind: "))
+        for nothing in (None, [], 363, "glClear()", {}, {"event": "363", "name": 9}, {"event": True, "name": ""}, {"event": 1 << 64}, {"event": -1}, {"event": 1.5}):
+            self.assertTrue(told(misspelt, nothing).startswith("event 1, kind: "), nothing)
+
     def test_the_status(self):
         with tempfile.TemporaryDirectory() as folder:
             file = pathlib.Path(folder) / "frame.json"

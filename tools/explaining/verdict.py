@@ -1,6 +1,8 @@
 """Whether framedbg accepts a capture, and why not, in words."""
 from . import json_text, rules
 
+MOST_NUMBER, MOST_NAME = 1 << 64, 60        # of a call that is shown: its number is below, its name has so many characters
+
 
 def explained(data):
     """Whether a capture of these bytes is accepted, framedbg's own word for it, and the explanation."""
@@ -24,14 +26,23 @@ def place(text, at):
     return "line {}, column {}".format(*json_text.line_and_column(text, at))
 
 
+def call(event):
+    """The call that an event comes from, where it says one: , of call 363 glDrawElements()"""
+    source = event.get("source") if isinstance(event, dict) else None
+    number, name = (source.get(word) for word in ("event", "name")) if isinstance(source, dict) else (None, None)
+    words = [str(number)] if type(number) is int and 0 <= number < MOST_NUMBER else []
+    words += [name[:MOST_NAME]] if isinstance(name, str) and name else []
+    return f" of call {' '.join(words)}" if words else ""
+
+
 def named(capture, fault):
-    """The way to the member in words: event 5 (draw), vertex 3, color 0"""
+    """The way to the member in words: event 5 (draw) of call 363 glDrawElements(), vertex 3, color 0"""
     words = []
     path = list(fault.path)
     if path[:1] == ["events"] and len(path) > 1:
         event = capture["events"][path[1]]
         kind = event.get("kind") if isinstance(event, dict) else None
-        words.append(f"event {path[1] + 1}" + (f" ({kind})" if isinstance(kind, str) and fault.fault == 8 else ""))
+        words.append(f"event {path[1] + 1}" + (f" ({kind})" if isinstance(kind, str) and fault.fault == 8 else "") + call(event))
         path = path[2:]
     while path:
         name = path.pop(0)

@@ -1,0 +1,124 @@
+"""What the tests of blame stand on: small frames that are worked out by hand, and their pictures by tools/reference.py."""
+import contextlib
+import functools
+import io
+import json
+import os
+import pathlib
+import subprocess
+import sys
+import tempfile
+import types
+import unittest
+
+TOOLS = pathlib.Path(__file__).resolve().parent
+ROOT = TOOLS.parent
+EXAMPLES = ROOT / "examples"
+HUNTS = EXAMPLES / "hunts"
+PROGRAM = os.path.abspath(os.environ.get("FRAMEDBG", ROOT / "crates/framedbg/out/framedbg"))
+FOLDER = pathlib.Path(os.environ.get("BLAME", TOOLS))       # of a wrong version, where one is tried
+SECONDS = 40.0 if "BLAME" in os.environ else 600.0       # for a search: a wrong version may have to go on to the end
+NAMES = ("lantern", "balloons", "island", "fish", "planet", "lighthouse", "vase", "doughnut", "chain")
+
+sys.path.insert(0, str(FOLDER))
+import reference                                            # noqa: E402
+from blaming import command_line, report, running, telling_json   # noqa: E402
+
+
+def vertex(x, y, color, z=0):
+    return {"x": int(x * 65536), "y": int(y * 65536), "z": z, "color": list(color)}
+
+
+def draw(*corners, interp="flat", indices=None):
+    """A draw of (x, y, colour) or (x, y, colour, z)."""
+    made = {"kind": "draw", "interp": interp, "vertices": [vertex(*corner) for corner in corners]}
+    return made if indices is None else made | {"indices": list(indices)}
+
+
+def box(left, top, right, bottom, color, z=0, interp="flat"):
+    """A rectangle of two triangles that run clockwise."""
+    corners = [(left, top, color, z), (right, top, color, z), (right, bottom, color, z), (left, bottom, color, z)]
+    return draw(*corners, interp=interp, indices=[0, 1, 2, 0, 2, 3])
+
+
+def clear(*color):
+    return {"kind": "clear", "color": list(color)}
+
+
+def blend(enable=True, rgb="SRC_ALPHA INV_SRC_ALPHA ADD", alpha="ONE INV_SRC_ALPHA ADD", mask=15):
+    return {"kind": "blend", "enable": enable, "rgb": rgb.split(), "alpha": alpha.split(), "mask": mask}
+
+
+def raster(cull="back", front_ccw=False, scissor=False):
+    return {"kind": "raster", "cull": cull, "front_ccw": front_ccw, "scissor": scissor}
+
+
+def depth(func="LESS", enable=True, write=True):
+    return {"kind": "depth", "enable": enable, "write": write, "func": func}
+
+
+def capture(events, width=24, height=18, version=2):
+    return {"format": "framedbg", "version": version, "width": width, "height": height, "events": events}
+
+
+@functools.lru_cache(maxsize=None)
+def pam_of(text):
+    frame = reference.Frame(json.loads(text))
+    frame.position = len(frame.events)
+    return frame.pam()
+
+
+def pam(made):
+    """The picture of a capture by the reference."""
+    return pam_of(json.dumps(made))
+
+
+def hunt_picture(name):
+    """The picture of a mended hunt, as tools/make_hunts.py wrote it by the reference."""
+    return b"P7" + (HUNTS / f"{name}_mended_show.expected").read_bytes().partition(b"P7")[2].removesuffix(b"bye\n")
+
+
+class Folder(unittest.TestCase):
+    """Tests that want files."""
+
+    def setUp(self):
+        temporary = tempfile.TemporaryDirectory()
+        self.addCleanup(temporary.cleanup)
+        self.folder = pathlib.Path(temporary.name)
+
+    def written(self, name, what):
+        path = self.folder / name
+        path.write_bytes(what) if isinstance(what, bytes) else path.write_text(what if isinstance(what, str) else json.dumps(what))
+        return str(path)
+
+    def found(self, wrong, right, **how):
+        """The Outcome over a wrong frame, and a right one or a picture."""
+        picture = self.written("wanted.pam", right if isinstance(right, bytes) else pam(right))
+        given = types.SimpleNamespace(**{"program": PROGRAM, "tolerance": (0, 0, 0, 0), "processes": 2, "seconds": SECONDS} | how)
+        self.frame, outcome = running.found(self.written("wrong.json", wrong), picture, given, is_quiet=True)
+        return outcome
+
+    def report(self, outcome, **how):
+        return list(report.lines(self.frame, outcome, **how))
+
+
+def told(*words):
+    """What framedbg-blame told in this process: (status, lines, standard error)."""
+    out, errors = io.TextIOWrapper(io.BytesIO(), "utf-8"), io.StringIO()
+    with contextlib.redirect_stdout(out), contextlib.redirect_stderr(errors):
+        try:
+            status = running.run(command_line.words([*map(str, words), "--program", PROGRAM, "--processes", "2", "--seconds", str(SECONDS)]))
+        except SystemExit as ended:
+            status = ended.code
+    out.flush()
+    return status, out.buffer.getvalue().decode().split("\n")[:-1], errors.getvalue()
+
+
+def launched(*words, **how):
+    """What framedbg-blame did as a program of its own: (status, standard output, standard error)."""
+    ran = subprocess.run([sys.executable, FOLDER / "framedbg-blame", *map(str, words)], capture_output=True, timeout=120, check=False, **how)
+    return ran.returncode, ran.stdout.decode(), ran.stderr.decode()
+
+
+def value_of(outcome):
+    return telling_json.value_of(outcome)

@@ -1,0 +1,102 @@
+"""What the histories of wrong pixels say of events: who drew them last, who drew over what is wanted, and by which state."""
+import collections
+from dataclasses import dataclass, field
+
+from .frame import PIXEL, STATES
+
+BY_VERDICT = {"scissored": ("raster", "scissor"), "culled": ("raster",), "depthfailed": ("depth", "depth_clear")}
+WEIGHTS = {"hidden": 3, "hider": 4, "over": 3, "last": 1, "blend": 3, "state": 0.9, "touched": 0.2, "reaches": 0.3}
+
+REACHES = "has vertices round the pixel, and doesn't cover it"
+REACH = 2                # pixels round a draw's vertices
+
+
+@dataclass
+class Sample:
+    """A wrong pixel: what is wanted of it, what it is, and the entries of its history."""
+    pixel: int
+    x: int
+    y: int
+    wanted: tuple
+    entries: list
+    cluster: int
+
+    @property
+    def drawn(self):
+        return [entry for entry in self.entries if entry.is_drawn]
+
+
+@dataclass
+class Suspect:
+    event: int
+    weight: float = 0
+    reasons: collections.Counter = field(default_factory=collections.Counter)
+    triangles: collections.Counter = field(default_factory=collections.Counter)
+    clusters: collections.Counter = field(default_factory=collections.Counter)
+
+
+def facts(frame, sample, is_near):
+    """(event, triangle, what the pixel says of it, weight) of one pixel."""
+    wanted, drawn = sample.wanted, sample.drawn
+    for entry in sample.entries:
+        if not entry.is_drawn:
+            yield from hidden(frame, entry, is_near(entry.source, wanted))
+    right = [k for k, entry in enumerate(drawn) if is_near(entry.after, wanted)]
+    if right and right[-1] + 1 < len(drawn):
+        later = drawn[right[-1] + 1]
+        yield later.event, later.triangle, f"is drawn over the colour that is wanted, which event {drawn[right[-1]].event} had left", WEIGHTS["over"]
+    if drawn:
+        yield from last(frame, drawn[-1], wanted, is_near)
+    for entry in drawn[:-1]:
+        yield entry.event, entry.triangle, "drew the pixel before", WEIGHTS["touched"]
+        for kind in STATES if frame.kind(entry.event) == "draw" else ():
+            by = frame.setter(entry.event, kind)
+            if by:
+                yield by, None, f"sets the {kind} state with which event {entry.event} drew the pixel before", WEIGHTS["touched"]
+
+
+def hidden(frame, entry, is_wanted):
+    if is_wanted:
+        yield entry.event, entry.triangle, f"is {entry.verdict} where its colour is the one that is wanted", WEIGHTS["hidden"]
+    else:
+        yield entry.event, entry.triangle, f"is {entry.verdict} there", WEIGHTS["touched"]
+    for kind in BY_VERDICT[entry.verdict]:
+        by = frame.setter(entry.event, kind)
+        if by:
+            yield by, None, f"sets the {kind} state by which event {entry.event} is {entry.verdict}", WEIGHTS["hider"] if is_wanted else WEIGHTS["touched"]
+
+
+def last(frame, entry, wanted, is_near):
+    yield entry.event, entry.triangle, "drew the pixel last", WEIGHTS["last"]
+    if frame.kind(entry.event) != "draw":
+        return
+    for kind in STATES:
+        by = frame.setter(entry.event, kind)
+        if by:
+            is_blended = kind == "blend" and is_near(entry.source, wanted) and not is_near(entry.after, wanted)
+            yield by, None, f"sets the {kind} state with which event {entry.event} drew the pixel", WEIGHTS["blend" if is_blended else "state"]
+
+
+def reaching(frame, samples):
+    """What can't be in a history: draws whose vertices lie round a pixel, which none of their triangles covers."""
+    for number, event in enumerate(frame.events, 1):
+        if event["kind"] != "draw" or not event["vertices"]:
+            continue
+        x, y = ([vertex[name] / PIXEL for vertex in event["vertices"]] for name in "xy")
+        box = min(x) - REACH, min(y) - REACH, max(x) + REACH, max(y) + REACH
+        for sample in samples:
+            if box[0] <= sample.x <= box[2] and box[1] <= sample.y <= box[3] and all(entry.event != number for entry in sample.entries):
+                yield sample, (number, None, REACHES, WEIGHTS["reaches"])
+
+
+def suspects_of(frame, samples, is_near):
+    """The suspects by the evidence of some pixels, the strongest first."""
+    found = {}
+    for sample, (event, triangle, reason, weight) in [*((sample, fact) for sample in samples for fact in facts(frame, sample, is_near)), *reaching(frame, samples)]:
+        suspect = found.setdefault(event, Suspect(event))
+        suspect.weight += weight
+        suspect.reasons[reason] += 1
+        suspect.clusters[sample.cluster] += 1
+        if triangle is not None:
+            suspect.triangles[triangle] += 1
+    return sorted(found.values(), key=lambda suspect: (-suspect.weight, suspect.event))

@@ -1,0 +1,125 @@
+"""A capture as blame changes it: its events, the state before each, and the text of any list of events, of the whole target or of a window of it.
+
+A list of events is never changed: a change makes another list, in which the events that stay are the same objects.
+"""
+import json
+import pathlib
+
+from explaining.rules import MOST_BYTES, MOST_POSITION
+
+from .faults import READING, Fault
+
+PIXEL = 65536            # captures give positions in 1/65536 pixel
+STATES = ("raster", "scissor", "blend", "factor", "depth")
+NOTHING = {"kind": "draw", "interp": "flat", "vertices": []}
+AT_START = {
+    "raster": {"kind": "raster", "cull": "back", "front_ccw": False, "scissor": False},
+    "scissor": {"kind": "scissor", "rect": [0, 0, 0, 0]},
+    "blend": {"kind": "blend", "enable": False, "rgb": ["ONE", "ZERO", "ADD"], "alpha": ["ONE", "ZERO", "ADD"], "mask": 15},
+    "factor": {"kind": "factor", "color": [255, 255, 255, 255]},
+    "depth": {"kind": "depth", "enable": False, "write": True, "func": "LESS"},
+}
+
+
+def read_capture(path):
+    """The capture in a file that framedbg accepts; the events without what framedbg passes over."""
+    try:
+        data = pathlib.Path(path).read_bytes()
+    except OSError as fault:
+        raise Fault(f"{path}: {fault.strerror}", READING) from None
+    if len(data) > MOST_BYTES:
+        raise Fault(f"{path}: a capture has at most {MOST_BYTES} bytes")
+    try:
+        return json.loads(data)
+    except (ValueError, RecursionError):
+        raise Fault(f"{path}: no JSON") from None
+
+
+def text_of(event):
+    return json.dumps(event, separators=(",", ":"), ensure_ascii=False)
+
+
+def order_of(draw):
+    """The vertices' numbers that a draw takes, three a triangle."""
+    return draw["indices"] if "indices" in draw else list(range(len(draw["vertices"])))
+
+
+class Frame:
+    def __init__(self, capture):
+        self.capture, self.events = capture, capture["events"]
+        self.version, self.width, self.height = capture["version"], capture["width"], capture["height"]
+        self.states = [kind for kind in STATES if kind != "depth" or self.version == 2]
+        self._setters = {}
+        self._texts = {}                 # by an event's identity and a window; the event is kept with it, so that its identity stays its own
+
+    def with_events(self, events):
+        made = Frame(self.capture | {"events": events})
+        made._texts = self._texts
+        return made
+
+    def kind(self, number):
+        return self.events[number - 1]["kind"]
+
+    def setter(self, number, kind):
+        """The event that set a part of the state with which an event is drawn, or None: it is as at the start."""
+        key = number, kind
+        if key not in self._setters:
+            self._setters[key] = next((i for i in range(number - 1, 0, -1) if self.events[i - 1]["kind"] == kind), None)
+        return self._setters[key]
+
+    def state(self, number, kind):
+        """That part of the state, as the event that sets it."""
+        by = self.setter(number, kind)
+        return self.events[by - 1] if by else AT_START[kind]
+
+    def draws(self):
+        return [i for i, event in enumerate(self.events, 1) if event["kind"] in ("draw", "clear", "depth_clear")]
+
+    def can_have(self, window):
+        """Whether no vertex comes to stand farther away than a capture may say."""
+        least = [window[0] * PIXEL - MOST_POSITION, window[1] * PIXEL - MOST_POSITION]
+        return all(corner["x"] >= least[0] and corner["y"] >= least[1] for event in self.events if event["kind"] == "draw" for corner in event["vertices"])
+
+    def text(self, events, window=None):
+        """A capture with these events; of a window alone where one is given, as a target of its own."""
+        head = {"format": "framedbg", "version": self.version, "width": self.width, "height": self.height}
+        if window:
+            head |= {"width": window[2] - window[0], "height": window[3] - window[1]}
+        return json.dumps(head)[:-1] + ',"events":[' + ",\n".join(self._text(event, window) for event in events) + "]}"
+
+    def _text(self, event, window):
+        key = id(event), window
+        if key not in self._texts:
+            shown = {name: what for name, what in event.items() if name != "source"} if "source" in event else event
+            self._texts[key] = event, text_of(moved(shown, window) if window else shown)
+        return self._texts[key][1]
+
+    def forget(self, events):
+        """Lets go of the texts of events that are in no list any more."""
+        kept = {id(event) for event in events}
+        self._texts = {key: value for key, value in self._texts.items() if key[0] in kept}
+
+
+def moved(event, window):
+    """An event as it is drawn on a window: what can't reach it is left out."""
+    left, top, right, bottom = window
+    if event["kind"] == "scissor":
+        low, high = -(1 << 31), (1 << 31) - 1
+        by = (left, top, left, top)
+        return event | {"rect": [min(max(edge - offset, low), high) for edge, offset in zip(event["rect"], by)]}
+    if event["kind"] != "draw":
+        return event
+    box = [left * PIXEL, top * PIXEL, right * PIXEL, bottom * PIXEL]
+    vertices, order = event["vertices"], order_of(event)
+    named = [order[k:k + 3] for k in range(0, len(order) - 2, 3) if meets([vertices[i] for i in order[k:k + 3]], box)]
+    if not named:
+        return NOTHING
+    numbers = {number: at for at, number in enumerate(dict.fromkeys(i for triangle in named for i in triangle))}
+    shifted = [vertices[i] | {"x": vertices[i]["x"] - box[0], "y": vertices[i]["y"] - box[1]} for i in numbers]
+    return {"kind": "draw", "interp": event["interp"], "vertices": shifted, "indices": [numbers[i] for triangle in named for i in triangle]}
+
+
+def meets(corners, box):
+    """Whether a triangle's box meets a box."""
+    x, y = [corner["x"] for corner in corners], [corner["y"] for corner in corners]
+    return max(x) >= box[0] and min(x) <= box[2] and max(y) >= box[1] and min(y) <= box[3]

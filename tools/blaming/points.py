@@ -1,0 +1,197 @@
+"""What comes out at some pixels after a change, worked out here without a run of framedbg. It says which of many changes are worth a picture, and proves
+nothing: what is told of a change in the end was drawn by framedbg."""
+import operator
+
+from .blending import blended
+from .frame import AT_START, PIXEL, order_of
+from .fragments import Triangle, centre, snapped
+
+PASSES = {"NEVER": lambda source, stored: False, "LESS": operator.lt, "EQUAL": operator.eq, "LESS_EQUAL": operator.le, "GREATER": operator.gt,
+          "NOT_EQUAL": operator.ne, "GREATER_EQUAL": operator.ge, "ALWAYS": lambda source, stored: True}
+FRESH = (0, 0, 0, 0), 65535      # a pixel's colour and depth before the first event
+FEW = 16                 # points that are looked at first
+MOST_KEPT = 100_000      # triangles whose fragments are kept
+
+
+class Points:
+    """Some pixels of a frame, each with what is wanted there: those that are wrong come first, and others that are right behind them."""
+
+    def __init__(self, frame, wrong, right, comparison):
+        """`wrong` and `right` are lists of (x, y, wanted)."""
+        self.frame, self.comparison, self.is_near, self.wrong = frame, comparison, comparison.is_near, len(wrong)
+        self.places = [(x, y) for x, y, _ in [*wrong, *right]]
+        self.wanted = [wanted for _, _, wanted in [*wrong, *right]]
+        self.centres = [centre(x, y) for x, y in self.places]
+        self.triangles, self.covered, self.corners, self.paths = {}, {}, {}, {}
+        self.steps = self._steps()
+
+    def __len__(self):
+        return len(self.places)
+
+    def few(self):
+        """The first of the wrong ones, as points of their own."""
+        some = list(zip(*zip(*self.places[:self.wrong][:FEW]), self.wanted))
+        return Points(self.frame, some, [], self.comparison)
+
+    def more(self, some):
+        """These and more: (x, y, wanted)."""
+        there = [(*place, wanted) for place, wanted in zip(self.places, self.wanted)]
+        return Points(self.frame, there[:self.wrong], there[self.wrong:] + some, self.comparison)
+
+    # ---- What covers them
+    def corner(self, vertex):
+        """A vertex as it is drawn. Those of a draw are asked for again and again."""
+        known = self.corners.get(id(vertex))
+        if known is None:
+            known = vertex, (snapped(vertex), tuple(vertex["color"]), vertex.get("z", 0))
+            self.corners[id(vertex)] = known
+        return known[1]
+
+    def covering(self, event):
+        """[(point, its fragments)] of a draw; that of the frame's own draws is kept."""
+        return self.covered[id(event)] if id(event) in self.covered else self._covering(event)
+
+    def _covering(self, event):
+        order, vertices, is_flat = order_of(event), event["vertices"], event["interp"] == "flat"
+        if not self._meets(vertices):
+            return []
+        corners, found = [self.corner(vertex) for vertex in vertices], {}
+        for at in range(0, len(order) - 2, 3):
+            for point, fragment in self.of_triangle(corners[order[at]], corners[order[at + 1]], corners[order[at + 2]], is_flat):
+                found.setdefault(point, []).append(fragment)
+        return list(found.items())
+
+    def _meets(self, vertices):
+        if not vertices:
+            return False
+        x, y = [vertex["x"] for vertex in vertices], [vertex["y"] for vertex in vertices]
+        left, top, right, bottom = min(x) // PIXEL - 1, min(y) // PIXEL - 1, max(x) // PIXEL + 1, max(y) // PIXEL + 1
+        return any(left <= a <= right and top <= b <= bottom for a, b in self.places)
+
+    def of_triangle(self, a, b, c, is_flat):
+        """[(point, fragment)] of a triangle of three corners, as `corner` gives them."""
+        key = id(a), id(b), id(c), is_flat
+        if key not in self.triangles:
+            triangle = Triangle((a, b, c), is_flat)
+            left, top, right, bottom = triangle.box
+            near = [at for at, (x, y) in enumerate(self.centres) if left <= x <= right and top <= y <= bottom]
+            weighed = [(at, triangle.weights(self.centres[at])) for at in near]
+            if len(self.triangles) >= MOST_KEPT:
+                self.triangles.clear()
+            self.triangles[key] = [(at, triangle.fragment(weights)) for at, weights in weighed if weights]
+        return self.triangles[key]
+
+    # ---- What comes out
+    def _steps(self):
+        """Before each event of the frame the state, and the colours and depths of all points; those that stay the same are shared."""
+        state, colours, depths, made = AT_START, [FRESH[0]] * len(self), [FRESH[1]] * len(self), []
+        for event in self.frame.events:
+            made.append((state, colours, depths))
+            if event["kind"] == "draw":
+                self.covered[id(event)] = self._covering(event)
+            if event["kind"] in AT_START:
+                state = state | {event["kind"]: event}
+            elif event["kind"] in ("clear", "depth_clear") or event["kind"] == "draw" and self.covering(event):
+                colours, depths = list(colours), list(depths)
+                self._run(event, state, colours, depths)
+        return made + [(state, colours, depths)]
+
+    def after(self, events):
+        """The colours of all points after some events."""
+        base = self.frame.events
+        start = next((at for at, (a, b) in enumerate(zip(base, events)) if a is not b), min(len(base), len(events)))
+        if len(base) == len(events) and start < len(base) and base[start]["kind"] == events[start]["kind"] == "draw" and all(map(operator.is_, base[start + 1:], events[start + 1:])):
+            return self._after_draw(start, dict(self.covering(events[start])))
+        state, colours, depths = self.steps[start]
+        state, colours, depths = dict(state), list(colours), list(depths)
+        for event in events[start:]:
+            if event["kind"] in state:
+                state[event["kind"]] = event
+            else:
+                self._run(event, state, colours, depths)
+        return colours
+
+    def _after_draw(self, at, covering):
+        """The same where one draw covers them otherwise: those alone that it covers otherwise are drawn anew."""
+        was, colours = dict(self.covering(self.frame.events[at])), list(self.steps[-1][1])
+        for point in was.keys() | covering.keys():
+            fragments = covering.get(point, [])
+            if fragments != was.get(point, []):
+                colours[point] = self.final(point, at, fragments)
+        return colours
+
+    def path(self, at):
+        """What is drawn behind an event: (event, state, the fragments of each point)."""
+        if at not in self.paths:
+            self.paths[at] = [(event, self.steps[k][0], dict(self.covering(event)) if event["kind"] == "draw" else ())
+                              for k, event in enumerate(self.frame.events[at + 1:], at + 1) if event["kind"] in ("draw", "clear", "depth_clear")]
+        return self.paths[at]
+
+    def final(self, point, at, fragments):
+        """A point's colour in the end, where the draw that stands at a place of the list has some fragments there."""
+        state, colours, depths = self.steps[at]
+        colour, depth = self._drawn(point, fragments, state, colours[point], depths[point])
+        for event, state, covering in self.path(at):
+            if event["kind"] == "clear":
+                colour = tuple(event["color"])
+            elif event["kind"] == "depth_clear":
+                depth = event["depth"]
+            elif point in covering:
+                colour, depth = self._drawn(point, covering[point], state, colour, depth)
+        return colour
+
+    def _run(self, event, state, colours, depths):
+        kind = event["kind"]
+        if kind == "draw":
+            self._draw(self.covering(event), state, colours, depths)
+        elif kind == "clear":
+            colours[:] = [tuple(event["color"])] * len(colours)
+        elif kind == "depth_clear":
+            depths[:] = [event["depth"]] * len(depths)
+
+    def _draw(self, covering, state, colours, depths):
+        for point, fragments in covering:
+            colours[point], depths[point] = self._drawn(point, fragments, state, colours[point], depths[point])
+
+    def _drawn(self, point, fragments, state, colour, depth):
+        return drawn(fragments, state, colour, depth) if self.is_inside(point, state) else (colour, depth)
+
+    def is_inside(self, point, state):
+        """Whether the scissor leaves a point."""
+        if not state["raster"]["scissor"]:
+            return True
+        (x, y), (left, top, right, bottom) = self.places[point], state["scissor"]["rect"]
+        return left <= x < right and top <= y < bottom
+
+    def left(self, events):
+        """How many of the wrong ones are wrong after some events, and how many of the right ones."""
+        return self._counted(self.after(events))
+
+    def _counted(self, colours):
+        bad = [not self.is_near(colour, wanted) for colour, wanted in zip(colours, self.wanted)]
+        wrong = sum(bad[:self.wrong])
+        return wrong, sum(bad) - wrong
+
+    def still(self, events):
+        """The places of those that are wrong after some events."""
+        return [place for place, colour, wanted in zip(self.places, self.after(events), self.wanted) if not self.is_near(colour, wanted)]
+
+    def worth(self, events):
+        """How far all of them are from what is wanted, in colours, and how many differ: less is better."""
+        other = [(colour, wanted) for colour, wanted in zip(self.after(events), self.wanted) if not self.is_near(colour, wanted)]
+        return sum(abs(a - b) for colour, wanted in other for a, b in zip(colour, wanted)), len(other)
+
+
+def drawn(fragments, state, colour, depth):
+    """A pixel's colour and depth after a draw's fragments there."""
+    raster, blend, test = state["raster"], state["blend"], state["depth"]
+    is_plain, passes = not blend["enable"] and blend["mask"] == 15, PASSES[test["func"]]
+    for is_clockwise, source, own in fragments:
+        if raster["cull"] == ("front" if is_clockwise != raster["front_ccw"] else "back"):
+            continue
+        if test["enable"]:
+            if not passes(own, depth):
+                continue
+            depth = own if test["write"] else depth
+        colour = source if is_plain else blended(blend, state["factor"]["color"], source, colour)
+    return colour, depth

@@ -1,0 +1,327 @@
+"""The search: from the pixels that differ to suspects, and from those to changes, the likeliest first, as long as the time allows."""
+import collections
+import itertools
+import pathlib
+from dataclasses import dataclass, field
+
+from framedbg_client import Client, Ended, History
+
+from . import states, orders, slips, corners     # noqa: F401  each puts kinds into the table, which are tried in this order
+from .clusters import clusters_of, outside, spread
+from .evidence import REACHES, Sample, suspects_of
+from .faults import MEMORY, Fault
+from .frame import STATES
+from .kinds import KINDS, Case, changes_of, searching, simple
+from .orders import WITHOUT
+from .points import Points
+from .trying import Change, View
+from .windows import comparison_on, cut, window_of
+
+NAMED_CLUSTERS = 8       # the largest: each has its own verdict
+AT_FIRST, AT_ALL = (3, 8), 24      # suspects whose changes are tried, as long as nothing mends all
+SEARCHED, LATER = 5, 16  # suspects for which a search is worth its time; others, for which it is where none of these mends all
+PAIRED, FOLLOWED = 10, 3  # best changes that are tried in pairs; that are taken to look for a second one
+MOST_BLIND = 40          # simple changes of an event that are tried with those of another, where none is better alone
+CHECKED = 12             # best changes of a window that are drawn whole
+PARTIAL, OF_EVENT = 12, 2      # changes after which some points are right that are drawn, where none mends all; of one event
+TOLD_EVERY = 64          # changes, after so many of which it is told how far the search has come
+MOST_PERFECT = 32        # changes of a step after which all points are right that are drawn
+TOLD_ALONE = 3           # suspects of which it is told what differs without them
+
+
+@dataclass
+class Outcome:
+    """What a search has found; `tried` are changes over the whole target, the best first."""
+    width: int
+    height: int
+    events: list
+    mask: bytes
+    drawn: bytes             # samples of what is drawn, and of what is wanted
+    wanted: bytes
+    clusters: list = field(default_factory=list)
+    samples: list = field(default_factory=list)
+    suspects: list = field(default_factory=list)
+    tried: list = field(default_factory=list)
+    alone: dict = field(default_factory=dict)      # by event: what differs without it
+    count: int = 0
+    is_over: bool = False
+
+    @property
+    def wrong(self):
+        return self.mask.count(1)
+
+    @property
+    def changes(self):
+        return [one for one in self.tried if one.left < self.wrong]
+
+    @property
+    def is_mended(self):
+        return bool(self.tried) and self.tried[0].left == 0
+
+
+def asked(path, program):
+    """The image at the end of a capture, its events as framedbg tells them, and a call that gives the histories of some pixels there."""
+    client = Client(path, program)
+    try:
+        events = client.events()
+        if events and client.goto(len(events)) != len(events):
+            raise Fault("framedbg finds no memory for this frame", MEMORY)
+        return client, client.image(), events
+    except BaseException:
+        client.connection.end(at_once=True)
+        raise
+
+
+class Search:
+    """Over one frame; a second one stands on a frame that is changed already."""
+
+    def __init__(self, frame, comparison, trials, path):
+        self.frame, self.trials = frame, trials
+        client, self.image, self.told = asked(path, trials.program)
+        with client:
+            self.mask = comparison.differing(self.image.samples)
+            self.clusters = clusters_of(self.mask, frame.width)
+            self.samples = self._samples(client, comparison)
+        self.is_near = comparison.is_near
+        self.suspects = suspects_of(frame, self.samples, comparison.is_near)
+        self.case = Case(frame, self.samples, self.clusters, {one.event: one for one in self.suspects}, comparison.is_near, comparison.looked_at, trials)
+        self.whole = self._view(comparison, None)
+        window = window_of(frame, self.clusters) if self.clusters else None
+        self.case.view = self.view = self._view(comparison, window) if window else self.whole
+        self.case.points = self.points = self._points(comparison)
+        self.few = self.points.few()
+        self.tried, self.checked, self.breadths, self.hints = [], {}, {}, []
+
+    def _view(self, comparison, window):
+        named = [cluster.mask(len(self.mask)) for cluster in self.clusters[:NAMED_CLUSTERS]] + [self.mask]
+        masks = tuple(cut(mask, self.frame.width, window, 1) for mask in named) if window else tuple(named)
+        return View(self.frame, comparison_on(comparison, self.frame.width, window), window, masks)
+
+    def _samples(self, client, comparison):
+        """Wrong pixels from all over the largest clusters, with their histories."""
+        width, most = self.frame.width, 96
+        named = self.clusters[:NAMED_CLUSTERS]
+        places = [(number, pixel) for number, cluster in enumerate(named) for pixel in spread(cluster.pixels, width, max(12, most * len(cluster) // self.mask.count(1)))]
+        others = [pixel for cluster in self.clusters[NAMED_CLUSTERS:] for pixel in cluster.pixels]
+        places += [(len(named), pixel) for pixel in spread(others, width, 24)]
+        made = []
+        for number, pixel in places:
+            y, x = divmod(pixel, width)
+            entries = client.value(f"history {x} {y}", History).entries
+            made.append(Sample(pixel, x, y, tuple(comparison.wanted[4 * pixel:4 * pixel + 4]), entries, number))
+        return made
+
+    def _points(self, comparison):
+        """The pixels that were asked, by turns of one cluster and the other, and some that are right."""
+        turns = collections.Counter()
+        wrong = []
+        for sample in self.samples:
+            wrong.append((turns[sample.cluster], sample.cluster, (sample.x, sample.y, sample.wanted)))
+            turns[sample.cluster] += 1
+        right = outside(self.mask, self.clusters, self.frame.width) if self.clusters else []
+        places = [(pixel % self.frame.width, pixel // self.frame.width, tuple(comparison.wanted[4 * pixel:4 * pixel + 4])) for pixel in right]
+        return Points(self.frame, [point for _, _, point in sorted(wrong)], places, comparison)
+
+    # ---- The steps, each of which ends the search where no pixel differs any more
+    def run(self, deep=True):
+        ranked = [suspect.event for suspect in self.suspects]
+        few, more = AT_FIRST
+        simple_ = [lambda some=some: self.attempt(self._simple(some)) for some in (ranked[:few], ranked[few:more], ranked[more:AT_ALL])]
+        first, later = (lambda some=some: self.attempt(self._searched(*some), stops=True) for some in ((0, SEARCHED), (SEARCHED, LATER)))
+        for step in [*simple_, first, lambda: self.attempt(self._pairs()), later] if deep else [*simple_[:2], first]:
+            if self.is_mended or self.trials.is_over():
+                break
+            step()
+        return self
+
+    def _simple(self, events):
+        return itertools.chain.from_iterable(changes_of(self.case, event, simple()) for event in events)
+
+    def _searched(self, start, end):
+        helped = {}
+        for left, _, change in self.hints:
+            helped[change.event] = min(left, helped.get(change.event, left))
+        events = [one.event for one in self.suspects if self.frame.kind(one.event) in ("draw", "blend")]
+        ranked = sorted(events, key=lambda event: (helped.get(event, len(self.points)), *self.specific(event)))
+        for one, event in itertools.product(searching(), ranked[start:end]):
+            yield from changes_of(self.case, event, [one])
+
+    def _pairs(self):
+        for one, other in itertools.combinations(best_of_each(self.hints, PAIRED, 1), 2):
+            events = joined(self.frame.events, one.events, other.events)
+            if events:
+                yield together(one, other.event, other.says, events)
+
+    @property
+    def is_mended(self):
+        return any(one.left == 0 for one in self.checked.values())
+
+    def attempt(self, changes, stops=False):
+        """Tries changes: those after which all points are right are drawn, and the others that help are kept as hints."""
+        perfect = []
+        for change in changes:
+            if self.trials.is_over():
+                break
+            left = self.weighed(change)
+            if left and left[0] == 0 and stops:
+                self.draw([change])
+            elif left and (left[0] == 0 or sum(left) < self.points.wrong):
+                (self.hints if left[0] else perfect).append((sum(left), len(perfect) + len(self.hints), change))
+            if stops and self.is_mended:
+                break
+        self.draw([change for _, _, change in sorted(perfect, key=by_rank)[:MOST_PERFECT]])
+
+    def weighed(self, change):
+        """What is left of the points after a change; None where none of a few is right."""
+        self.trials.count += 1
+        if self.trials.count % TOLD_EVERY == 0:
+            self.trials.tell()
+        return self.points.left(change.events) if self.few.left(change.events)[0] < self.few.wrong else None
+
+    def draw(self, changes):
+        """Draws the pictures after changes; what mends the window is drawn whole at once."""
+        found = self.trials.all_of(changes, self.view, is_late=True)
+        self.tried += [one for one in found if one.left < self.mask.count(1)]
+        self.check([one for one in found if one.left == 0])
+
+    def look_alone(self, events):
+        """What differs without each of some events, on the whole target."""
+        changes = [change for event in events for change in changes_of(self.case, event, [kind for kind in KINDS if kind.name == WITHOUT])]
+        self.case.alone = {one.change.event: one for one in self.trials.all_of(changes, self.whole, is_late=True)}
+
+    def check(self, some):
+        """Draws the whole target after changes of a window."""
+        todo = [one.change for one in some if id(one.change) not in self.checked]
+        if self.view is self.whole:
+            self.checked.update((id(one.change), one) for one in some)
+        else:
+            self.checked.update((id(one.change), one) for one in self.trials.all_of(todo, self.whole, is_late=True))
+
+    # ---- The order of what was found
+    def weight(self, event):
+        suspect = self.case.suspects.get(event)
+        return suspect.weight if suspect else 0
+
+    def order(self, one):
+        """Of changes after which as many pixels differ the kind that stands first in the table, the event that has to do with the fewest draws, and the one
+        with the most evidence."""
+        names, event = [kind.name for kind in KINDS], one.change.event
+        return one.left, names.index(one.change.kind) if one.change.kind in names else len(names), self.breadth(event), -self.weight(event)
+
+    def breadth(self, event):
+        """How many draws have the state that an event sets; a draw has to do with itself."""
+        if event not in self.breadths:
+            kind, events = self.frame.kind(event), self.frame.events[event:]
+            ends = next((at for at, other in enumerate(events) if other["kind"] == kind), len(events)) if kind in STATES else 0
+            self.breadths[event] = sum(other["kind"] == "draw" for other in events[:ends])
+        return self.breadths[event]
+
+    def ranked(self):
+        """All suspects: those of the best changes, each with the events that it has to do with, and then the others by evidence."""
+        by_change = {}
+        for change in [*(one.change for one in sorted(self.tried, key=self.order)), *(change for _, _, change in sorted(self.hints, key=by_rank))]:
+            by_change |= dict.fromkeys((change.event, *change.also))
+        return [self.case.suspects[event] for event in dict.fromkeys([*by_change, *(suspect.event for suspect in self.suspects)]) if event in self.case.suspects]
+
+    def specific(self, event):
+        """Draws that all wrong pixels have to do with before others, and of those the smallest first: a bug in one draw shows nowhere else."""
+        count = len({sample.pixel for sample in self.samples for entry in sample.entries if entry.event == event}) + self.case.suspects[event].reasons[REACHES]
+        corners_ = self.frame.events[event - 1].get("vertices") or [{"x": 0, "y": 0}]
+        wide, high = (max(corner[name] for corner in corners_) - min(corner[name] for corner in corners_) for name in "xy")
+        return -count, wide * high, event
+
+    def best(self):
+        """Changes over the whole target, the best first."""
+        self.check(sorted(self.tried, key=self.order)[:CHECKED])
+        return sorted(self.checked.values(), key=self.order)
+
+
+def by_rank(weighed):
+    """The order of (what is left, turn, change)."""
+    return weighed[:2]
+
+
+def best_of_each(weighed, most, of_event):
+    """The best changes of (what is left, turn, change), no more than a few of one event."""
+    counted, found = collections.Counter(), []
+    for _, _, change in sorted(weighed, key=by_rank):
+        counted[change.event] += 1
+        if counted[change.event] <= of_event:
+            found.append(change)
+    return found[:most]
+
+
+def together(first, event, says, events):
+    return Change(first.event, "two at once", f"{first.says}; and event {event}, {says}", events, (event,))
+
+
+def differing_part(events, changed):
+    """Where two lists of events differ: from where, and how many behind it are the same."""
+    start = next((i for i, (a, b) in enumerate(zip(events, changed)) if a is not b), min(len(events), len(changed)))
+    most = min(len(events), len(changed)) - start
+    end = next((i for i in range(most) if events[-1 - i] is not changed[-1 - i]), most)
+    return start, end
+
+
+def joined(events, one, other):
+    """The events after two changes that touch different parts of the list; None where they touch the same."""
+    (first, behind_first), (second, behind_second) = differing_part(events, one), differing_part(events, other)
+    if second < first:
+        return joined(events, other, one)
+    if second < len(events) - behind_first or second == first:
+        return None
+    return one[:len(one) - behind_first] + events[len(events) - behind_first:second] + other[second:]
+
+
+def blind_pairs(search):
+    """Two simple changes of the first suspects, for where neither alone is any better."""
+    simple_ = [list(itertools.islice(changes_of(search.case, suspect.event, simple()), MOST_BLIND)) for suspect in search.suspects[:FOLLOWED + 1]]
+    for some, others in itertools.combinations(simple_, 2):
+        for one, other in itertools.product(some, others):
+            events = joined(search.frame.events, one.events, other.events)
+            if events:
+                yield together(one, other.event, other.says, events)
+
+
+def followed(search, comparison):
+    """A second change after each of the best first ones: the frame is changed, and searched anew."""
+    trials = search.trials
+    if not search.hints:
+        search.attempt(blind_pairs(search), stops=True)
+    for first in best_of_each(search.hints, FOLLOWED, 1):
+        if trials.is_over() or search.is_mended:
+            return
+        frame = search.frame.with_events(first.events)
+        path = pathlib.Path(trials.room.name) / "second.json"
+        path.write_text(frame.text(frame.events), encoding="utf-8")
+        try:
+            second = Search(frame, comparison, trials, str(path)).run(deep=False)
+        except Ended:
+            continue
+        for found in second.best()[:CHECKED]:
+            event = number_before(search.frame, first, second.frame.events[found.change.event - 1])
+            change = together(first, event, found.change.says, found.change.events)
+            search.tried.append(type(found)(change, found.left, (), True))
+            search.checked[id(change)] = search.tried[-1]
+
+
+def number_before(frame, change, event):
+    """The number in the first frame of an event of a changed one; of one that the change made or put there, the change's own."""
+    return next((i for i, other in enumerate(frame.events, 1) if other is event), change.event)
+
+
+def searched(frame, comparison, trials, path):
+    """The Outcome over a frame whose capture is in a file."""
+    search = Search(frame, comparison, trials, path)
+    outcome = Outcome(frame.width, frame.height, search.told, search.mask, search.image.samples, comparison.wanted, search.clusters, search.samples)
+    if outcome.wrong:
+        search.run()
+        if not search.is_mended:
+            followed(search, comparison)
+        if not search.is_mended:
+            search.draw(best_of_each(search.hints, PARTIAL, OF_EVENT))
+        outcome.tried = search.best()
+        outcome.suspects = search.ranked()
+        search.look_alone([suspect.event for suspect in outcome.suspects[:TOLD_ALONE]])
+        outcome.alone, outcome.count, outcome.is_over = search.case.alone, trials.count, trials.is_over()
+    return outcome

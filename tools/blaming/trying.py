@@ -1,0 +1,138 @@
+"""Changed captures, drawn by framedbg in several processes at once, and what then differs."""
+import concurrent.futures
+import hashlib
+import os
+import pathlib
+import subprocess
+import tempfile
+import time
+from dataclasses import dataclass
+
+from framedbg_client import Fault as NoImage
+from framedbg_client import read_pam
+
+from .comparing import both, pixels_of
+
+CHUNK = 4                # changes a process that are given out at once
+LONGEST = 120            # seconds that framedbg may take for one picture
+
+
+@dataclass(frozen=True)
+class Change:
+    """One change of a frame: of which event, of which kind, what it says, and the events after it. `also` are further events that it touches."""
+    event: int
+    kind: str
+    says: str
+    events: list
+    also: tuple = ()
+
+
+@dataclass(frozen=True)
+class Tried:
+    """A change, how many pixels differ after it, and how many of each cluster; on the window alone where `is_whole` is false."""
+    change: Change
+    left: int
+    of_clusters: tuple
+    is_whole: bool
+
+
+class Trials:
+    """Draws lists of events over a frame's window, or over the whole target, and counts what differs."""
+
+    def __init__(self, program, processes, deadline, progress, most=None):
+        """`most` bounds the number of changes, where the time mustn't: a measurement on a busy machine. `count` is of those that were looked at in
+        whatever way; few of them are drawn."""
+        self.program, self.deadline, self.progress, self.most = program, deadline, progress, most
+        self.pool = concurrent.futures.ThreadPoolExecutor(processes)
+        self.chunk = CHUNK * processes
+        self.room = tempfile.TemporaryDirectory(prefix="framedbg-blame-")
+        self.count, self.best, self.known, self.runs = 0, None, {}, set()
+
+    def __enter__(self):
+        return self
+
+    def __exit__(self, fault, *_):
+        """Where it was broken off the pictures that are drawn still are too, as a program may be silent for long."""
+        for run in list(self.runs) if fault else ():
+            run.kill()
+        self.pool.shutdown(wait=True, cancel_futures=True)
+        self.room.cleanup()
+
+    def is_over(self):
+        return time.monotonic() > self.deadline or self.most is not None and self.count >= self.most
+
+    def drawn(self, text, words=()):
+        """The samples of a capture's picture, or None where framedbg gives none."""
+        handle, name = tempfile.mkstemp(dir=self.room.name, suffix=".json")
+        try:
+            with os.fdopen(handle, "w", encoding="utf-8") as file:
+                file.write(text)
+            return self.answer([self.program, "image", "--workers", "1", *words, name])
+        finally:
+            pathlib.Path(name).unlink()
+
+    def answer(self, words):
+        with subprocess.Popen(words, stdin=subprocess.DEVNULL, stdout=subprocess.PIPE, stderr=subprocess.DEVNULL) as run:
+            self.runs.add(run)
+            try:
+                out, _ = run.communicate(timeout=LONGEST)
+                return read_pam(out).samples if run.returncode == 0 else None
+            except (NoImage, subprocess.TimeoutExpired):
+                return None
+            finally:
+                run.kill()
+                self.runs.discard(run)
+
+    def mask_of(self, events, view):
+        """Which pixels of a view differ after some events, as numbers of the whole target's; none where they can't be drawn."""
+        samples = self.drawn(view.frame.text(events, view.window))
+        left, top, right, _ = view.window or (0, 0, view.frame.width, 0)
+        found = pixels_of(view.comparison.differing(samples)) if samples else []
+        return [(left + at % (right - left), top + at // (right - left)) for at in found]
+
+    def all_of(self, changes, view, is_late=False):
+        """Tries changes, several at once, up to the end of the time, or also when it is over; gives Tried."""
+        changes, done = iter(changes), []
+        while is_late or not self.is_over():
+            some = [change for _, change in zip(range(self.chunk), changes)]
+            if not some:
+                break
+            found = [tried for tried in self.pool.map(lambda change: self.one(change, view), some) if tried]
+            done += found
+            for tried in found:
+                self.best = tried.left if self.best is None else min(self.best, tried.left)
+            self.tell()
+        return done
+
+    def tell(self):
+        if self.best is not None:
+            self.progress.say(f"{self.count} changes tried, after the best of them {self.best} pixels differ")
+
+    def one(self, change, view):
+        """A change tried on a view; None where it can't be drawn."""
+        text = view.frame.text(change.events, view.window)
+        known = self.known.setdefault(id(view), (view, {}))[1]
+        key = hashlib.blake2b(text.encode(), digest_size=16).digest()
+        if key not in known:
+            samples = self.drawn(text)
+            known[key] = samples and view.measured(samples)
+        measured = known[key]
+        return measured and Tried(change, *measured)
+
+
+@dataclass(frozen=True)
+class View:
+    """What of the target is looked at: a window of it with what is wanted there, and the clusters as masks of it. Without a window it is the whole."""
+    frame: object
+    comparison: object
+    window: tuple = None
+    masks: tuple = ()        # of the largest clusters, and of all that differs last
+
+    @property
+    def wrong(self):
+        return self.masks[-1].count(1)
+
+    def measured(self, samples):
+        mask = self.comparison.differing(samples)
+        left = mask.count(1)
+        return left, tuple(both(mask, cluster) if left else 0 for cluster in self.masks), self.window is None
