@@ -1,0 +1,72 @@
+"""The captures of a folder, each with its picture of the same name, and what is kept of each."""
+import hashlib
+import json
+import os
+import pathlib
+import tempfile
+from dataclasses import dataclass
+
+PICTURES = (".png", ".pam", ".ppm")
+RESULTS = "night"        # the folder of results, in that of the captures
+
+
+@dataclass(frozen=True)
+class Case:
+    """A capture by its name in the folder, without its ending; `picture` is None where there is none."""
+    name: str
+    capture: pathlib.Path
+    picture: object
+
+
+def cases_of(folder, results):
+    """All captures below a folder but those among the results, by name."""
+    found = []
+    for path in sorted(folder.rglob("*.json")):
+        if path.is_file() and not path.resolve().is_relative_to(results.resolve()):
+            picture = next((path.with_suffix(end) for end in PICTURES if path.with_suffix(end).is_file()), None)
+            found.append(Case(path.relative_to(folder).with_suffix("").as_posix(), path, picture))
+    return found
+
+
+class Results:
+    """What is known of each case: a file of JSON for each, with a key of what it is a result of."""
+
+    def __init__(self, folder):
+        self.folder = folder
+
+    def path(self, name, end=".json"):
+        return self.folder / f"{name}{end}"
+
+    def read(self, case, how):
+        """The result of a case, where it is of these very files and of the same words; else None."""
+        try:
+            kept = json.loads(self.path(case.name).read_text(encoding="utf-8"))
+        except (OSError, ValueError):
+            return None
+        return kept if isinstance(kept, dict) and kept.get("key") == key_of(case, how) else None
+
+    def write(self, case, how, result):
+        self.keep(case.name, ".json", json.dumps(result | {"name": case.name, "key": key_of(case, how)}, indent=1).encode())
+
+    def keep(self, name, end, data):
+        """Writes a file whole, or leaves what was there: two jobs at once, or one that is killed, leave no half of one."""
+        path = self.path(name, end)
+        path.parent.mkdir(parents=True, exist_ok=True)
+        handle, made = tempfile.mkstemp(dir=path.parent, prefix=".night-")
+        try:
+            with os.fdopen(handle, "wb") as file:
+                file.write(data)
+            os.chmod(made, 0o644)
+            os.replace(made, path)
+        except BaseException:
+            os.unlink(made)
+            raise
+
+
+def key_of(case, how):
+    """What a result is a result of: the bytes of the capture and of the picture, and the words of the run that matter."""
+    made = hashlib.sha256(json.dumps(how).encode())
+    for path in (case.capture, case.picture):
+        if path:
+            made.update(hashlib.sha256(path.read_bytes()).digest())
+    return made.hexdigest()

@@ -1,0 +1,25 @@
+"""The report of a night as JUnit XML: a test case for each capture."""
+import re
+from xml.sax.saxutils import escape, quoteattr
+
+UNSEEN = re.compile("[^\t\n\r\x20-\ud7ff\ue000-\ufffd\U00010000-\U0010ffff]")
+
+
+def clean(text):
+    """Without the characters that XML doesn't have."""
+    return UNSEEN.sub("?", text)
+
+
+def text_of(night):
+    count = {word: sum(one.verdict == word for one in night) for word in ("differs", "failed", "no picture")}
+    head = f'<testsuite name="framedbg-night" tests="{len(night)}" failures="{count["differs"]}" errors="{count["failed"]}" skipped="{count["no picture"]}" time="{sum(one.seconds for one in night):.2f}">'
+    return '<?xml version="1.0" encoding="UTF-8"?>\n' + "\n".join([head, *map(case_of, night), "</testsuite>"]) + "\n"
+
+
+def case_of(one):
+    head = f'<testcase classname="framedbg-night" name={quoteattr(clean(one.name))} time="{one.seconds:.2f}"'
+    if one.verdict == "alike":
+        return head + "/>"
+    kind = {"differs": "failure", "failed": "error", "no picture": "skipped"}[one.verdict]
+    body = escape(clean("\n".join(one.lines)))
+    return f"{head}><{kind} message={quoteattr(clean(one.headline))}>{body}</{kind}></testcase>"

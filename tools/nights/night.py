@@ -1,0 +1,166 @@
+"""A night, from its words to its status: which captures are to do, their jobs, and the reports."""
+import os
+import pathlib
+import sys
+from dataclasses import dataclass
+
+from blaming.faults import INTERRUPTED, MEMORY, READING, WORDS, Fault
+from explaining.printable import printable
+from framedbg_client import Ended, Garbled, Refusal, find_program
+
+from . import job, junit, local, page, slurm
+from .folder import RESULTS, Results, cases_of
+
+TOOL = pathlib.Path(__file__).resolve().parent.parent / "framedbg-night"
+ALIKE, DIFFERS, FAILED = 0, 1, 4
+WIDE = 30                # of the bar
+
+
+@dataclass(frozen=True)
+class Told:
+    """What the reports say of one capture."""
+    number: int
+    name: str
+    verdict: str             # alike, differs, failed, no picture
+    headline: str
+    lines: tuple
+    seconds: float
+
+
+def run(given):
+    try:
+        return night(given) if given.job is None and given.task is None else one_job(given)
+    except KeyboardInterrupt:
+        return told("interrupted: the same command goes on from here", INTERRUPTED)
+    except Fault as fault:
+        return told(fault, fault.status)
+    except Ended as ended:
+        return told(ended.said or ended, READING)
+    except (Garbled, Refusal) as fault:
+        return told(fault, READING)
+    except BrokenPipeError:
+        raise
+    except OSError as fault:
+        return told(f"{fault.filename}: {fault.strerror}" if fault.filename else fault, READING)
+    except MemoryError:
+        return told("memory", MEMORY)
+
+
+def told(why, status):
+    print(f"framedbg-night: {printable(str(why))}", file=sys.stderr)
+    return status
+
+
+def places(given):
+    if not given.folder.is_dir():
+        raise Fault(f"{given.folder}: no such folder", WORDS)
+    results = given.results or given.folder / RESULTS
+    return results, Results(results), cases_of(given.folder, results)
+
+
+def one_job(given):
+    """What a job does: the case of a name, or of the line of a task."""
+    _, results, cases = places(given)
+    name = given.job if given.task is None else given.names.read_text(encoding="utf-8").splitlines()[given.task]
+    case = next((case for case in cases if case.name == name and case.picture), None)
+    if case is None:
+        raise Fault(f"{name}: no capture with a picture")
+    if given.again or results.read(case, job.how_of(given)) is None:
+        job.do(case, results, given)
+    return 0
+
+
+def night(given):
+    folder, results, cases = places(given)
+    given.program = given.program or find_program()
+    if not given.program:
+        raise Fault("framedbg isn't built or installed here", READING)
+    folder.mkdir(parents=True, exist_ok=True)
+    how = job.how_of(given)
+    with_picture = [case for case in cases if case.picture]
+    todo = [case for case in with_picture if given.again or results.read(case, how) is None]
+    if given.again:
+        for case in todo:
+            results.path(case.name).unlink(missing_ok=True)
+    bar = Bar(len(with_picture), len(with_picture) - len(todo))
+    failed = done_by_slurm(todo, folder, results, given, bar) if given.slurm else local.run_all(todo, lambda case: [*words_of(given), "--job", case.name], given, bar.tell)
+    bar.end()
+    report = [of_case(number, case, results.read(case, how) if case.picture else None, failed) for number, case in enumerate(cases)]
+    results.keep("night", ".xml", junit.text_of(report).encode())
+    results.keep("night", ".html", page.text_of(report, results).encode())
+    return summed(report, len(todo), folder)
+
+
+def words_of(given):
+    """The command line of a job, but for which it is."""
+    made = [sys.executable, str(TOOL), str(given.folder.resolve()), "--tolerance", ",".join(map(str, given.tolerance)), "--seconds", f"{given.seconds:g}",
+            "--program", os.path.abspath(given.program)]
+    return made + (["--results", str(given.results.resolve())] if given.results else []) + (["--again"] if given.again else [])
+
+
+def done_by_slurm(todo, folder, results, given, bar):
+    """Why each case has no result that has none after the arrays."""
+    how, tasks = job.how_of(given), (folder / "tasks").resolve()
+    if todo:
+        slurm.run_all(todo, words_of(given), tasks, given.sbatch, lambda: bar.set(sum(results.path(case.name).exists() for case in todo)))
+    said = slurm.said(todo, tasks)
+    return {case.name: said[case.name] or "the job left no result: it was killed or lost" for case in todo if results.read(case, how) is None}
+
+
+def of_case(number, case, result, failed):
+    if case.picture is None:
+        return Told(number, case.name, "no picture", "no picture of this name", (), 0.0)
+    if result is None:
+        why = failed.get(case.name, "the job left no result: it was killed or lost")
+        return Told(number, case.name, "failed", printable(why), (printable(why), "the same command does it once more"), 0.0)
+    lines = tuple(result["report"])
+    return Told(number, case.name, "differs" if result["differ"] else "alike", headline(result), lines, result["seconds"])
+
+
+def headline(result):
+    if not result["differ"]:
+        return "no pixel differs"
+    best = result["changes"][:1]
+    named = f"event {result['suspects'][0]['event']}" if result["suspects"] else "nobody is named"
+    mended = f"; mended by event {best[0]['event']}, {best[0]['change']}" if result["mended"] else ""
+    return f"{result['differ']:,} of {result['pixels']:,} pixels differ: {named}{mended}"
+
+
+def summed(report, done, folder):
+    """Tells what came of the night, and gives its status."""
+    count = {word: sum(one.verdict == word for one in report) for word in ("alike", "differs", "failed", "no picture")}
+    print(f"{len(report)} captures: {count['alike']} alike, {count['differs']} differ, {count['failed']} failed, {count['no picture']} without a picture; {done} done now")
+    for one in report:
+        if one.verdict in ("differs", "failed"):
+            print(printable(f"{one.name}: {one.headline}"))
+    print(f"{folder / 'night.xml'} and {folder / 'night.html'} tell more")
+    return FAILED if count["failed"] else DIFFERS if count["differs"] else ALIKE
+
+
+class Bar:
+    """How far the night has come, on a terminal."""
+
+    def __init__(self, total, before):
+        self.total, self.before, self.done, self.failed = total, before, 0, 0
+        self.is_shown = sys.stderr.isatty()
+        self.show()
+
+    def tell(self, _, why):
+        self.done, self.failed = self.done + 1, self.failed + bool(why)
+        self.show()
+
+    def set(self, done):
+        self.done = done
+        self.show()
+
+    def show(self):
+        if self.is_shown and self.total:
+            done = self.before + self.done
+            full = WIDE * done // self.total
+            sys.stderr.write(f"\r\x1b[K[{'#' * full}{'.' * (WIDE - full)}] {done} of {self.total}{f', {self.failed} failed' if self.failed else ''}")
+            sys.stderr.flush()
+
+    def end(self):
+        if self.is_shown:
+            sys.stderr.write("\r\x1b[K")
+            sys.stderr.flush()

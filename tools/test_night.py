@@ -1,0 +1,249 @@
+#!/usr/bin/env python3
+"""test_night: tries framedbg-night on this machine, and on a Slurm that it starts: what differs, what fails, what is killed, and what goes on.
+
+    tools/test_night.py [TEST ..]
+
+FRAMEDBG names another program, BLAME another folder that framedbg-night is taken from.
+"""
+import base64
+import html
+import json
+import os
+import pathlib
+import pty
+import re
+import signal
+import subprocess
+import sys
+import tempfile
+import time
+import unittest
+import xml.etree.ElementTree
+
+import passed_over
+import slurm_testing
+from blame_testing import FOLDER, PROGRAM, blend, box, capture, clear, pam
+
+from framedbg_client import read_pam
+
+SKY, RED, GLASS = (10, 20, 30, 255), (200, 40, 30, 255), (220, 210, 90, 120)
+RIGHT = [clear(*SKY), box(2, 2, 14, 12, RED), blend(), box(6, 5, 20, 16, GLASS)]
+WRONG = [*RIGHT[:2], blend(mask=6), RIGHT[3]]
+DIFFER = 14 * 11         # the pixels of the glass
+# runs the real program, and notes what it is asked; the job of a capture with a marker `deadly` is killed, as long as a file isn't there
+DEADLY = """#!/bin/sh
+for last; do :; done
+echo "$last" >> ROOM/asked
+if [ ! -e ROOM/cured ] && grep -q deadly "$last"; then kill -9 $PPID; sleep 5; fi
+exec REAL "$@"
+"""
+
+
+class Night(unittest.TestCase):
+    environment = os.environ
+
+    def setUp(self):
+        temporary = tempfile.TemporaryDirectory()
+        self.addCleanup(temporary.cleanup)
+        self.room = pathlib.Path(temporary.name)
+        self.folder = self.room / "captures"
+        (self.folder / "of the town").mkdir(parents=True)
+        self.program = self.room / "framedbg"
+        self.program.write_text(DEADLY.replace("ROOM", str(self.room)).replace("REAL", PROGRAM))
+        self.program.chmod(0o755)
+        self.put("fine", RIGHT)
+        self.put("glass", WRONG)
+        self.put("of the town/glass & <more>", WRONG)
+
+    def put(self, name, events, right=RIGHT, picture=".pam"):
+        (self.folder / f"{name}.json").write_text(json.dumps(capture(events)))
+        data = pam(capture(right))
+        if picture:
+            (self.folder / f"{name}{picture}").write_bytes(data if picture == ".pam" else read_pam(data).png())
+
+    def night(self, *words, **how):
+        ran = subprocess.run([sys.executable, FOLDER / "framedbg-night", self.folder, "--program", self.program, *map(str, words)], capture_output=True, text=True,
+                             env=self.environment, timeout=300, check=False, **how)
+        return ran.returncode, ran.stdout.splitlines(), ran.stderr
+
+    def asked(self):
+        """The captures that framedbg was asked for itself, without those that blame makes."""
+        path = self.room / "asked"
+        lines = path.read_text().splitlines() if path.exists() else []
+        path.unlink(missing_ok=True)
+        return {pathlib.Path(line).stem for line in lines if line.startswith(str(self.folder))}
+
+    def suite(self):
+        return xml.etree.ElementTree.parse(self.folder / "night/night.xml").getroot()
+
+    def verdicts(self):
+        return {case.get("name"): [child.tag for child in case] for case in self.suite()}
+
+
+class Reports:
+    """What holds here and on a cluster alike."""
+    words = ()
+
+    def test_what_differs(self):
+        self.put("alone", RIGHT, picture=None)
+        self.put("small", WRONG, picture=".png")
+        status, lines, errors = self.night(*self.words)
+        self.assertEqual((status, errors), (1, ""), lines)
+        self.assertEqual(lines[0], "5 captures: 1 alike, 3 differ, 0 failed, 1 without a picture; 4 done now")
+        self.assertEqual(lines[1:4], [f"{name}: {DIFFER} of 432 pixels differ: event 3; mended by event 3, mask 15 in place of 6" for name in ("glass", "of the town/glass & <more>", "small")])
+        self.assertEqual(self.verdicts(), {"alone": ["skipped"], "fine": [], "glass": ["failure"], "of the town/glass & <more>": ["failure"], "small": ["failure"]})
+        suite = self.suite()
+        self.assertEqual([suite.get(name) for name in ("tests", "failures", "errors", "skipped")], ["5", "3", "0", "1"])
+        self.assertIn("who     event 3", suite.find("testcase[@name='glass']/failure").text)
+
+    def test_what_is_killed(self):
+        """It is told, the others are done, and the same command does it again, and no other."""
+        self.put("mortal", [{"kind": "marker", "name": "deadly"}, *WRONG])
+        status, lines, _ = self.night(*self.words)
+        self.assertEqual(status, 4, lines)
+        self.assertEqual(lines[0], "4 captures: 1 alike, 2 differ, 1 failed, 0 without a picture; 4 done now")
+        self.assertTrue(any(line.startswith("mortal: ") and "kill" in line.lower() for line in lines), lines)
+        self.assertEqual(self.verdicts()["mortal"], ["error"])
+        self.asked()
+        (self.room / "cured").touch()
+        status, lines, _ = self.night(*self.words)
+        self.assertEqual((status, lines[0]), (1, "4 captures: 1 alike, 3 differ, 0 failed, 0 without a picture; 1 done now"))
+        self.assertEqual(self.asked(), {"mortal"})
+        self.assertEqual(self.verdicts()["mortal"], ["failure"])
+
+
+class Here(Reports, Night):
+    def test_what_is_done(self):
+        self.night()
+        self.assertEqual(self.asked(), {"fine", "glass", "glass & <more>"})
+        self.assertEqual(self.night()[1][0], "3 captures: 1 alike, 2 differ, 0 failed, 0 without a picture; 0 done now")
+        self.assertEqual(self.asked(), set())
+        self.put("glass", RIGHT)
+        self.assertEqual(self.night()[1][0], "3 captures: 2 alike, 1 differ, 0 failed, 0 without a picture; 1 done now")
+        self.assertEqual(self.asked(), {"glass"})
+        self.put("fine", RIGHT, WRONG)
+        self.assertEqual(self.night()[1][0], "3 captures: 1 alike, 2 differ, 0 failed, 0 without a picture; 1 done now")
+        self.asked()
+        self.assertEqual(self.night("--tolerance", "255")[0:2][1][0], "3 captures: 3 alike, 0 differ, 0 failed, 0 without a picture; 3 done now")
+        self.asked()
+        self.assertEqual(self.night("--tolerance", "255", "--again")[0], 0)
+        self.assertEqual(self.asked(), {"fine", "glass", "glass & <more>"})
+
+    def test_half_a_result(self):
+        self.night()
+        self.asked()
+        kept = self.folder / "night/glass.json"
+        kept.write_text(kept.read_text()[:40])
+        self.assertEqual(self.night()[0], 1)
+        self.assertEqual(self.asked(), {"glass"})
+
+    def test_captures_that_are_refused(self):
+        self.put("bad", [{"kind": "clear"}])
+        status, lines, _ = self.night()
+        self.assertEqual(status, 4)
+        self.assertIn(f"bad: {self.folder / 'bad.json'}: capture refused 8 bad field 1", lines)
+
+    def test_the_page(self):
+        self.night()
+        text = (self.folder / "night/night.html").read_text()
+        self.assertIn("3 captures, 1 alike, 2 differ, 0 failed", text)
+        self.assertIn("glass &amp; &lt;more&gt;", text)
+        self.assertNotIn("<more>", text)
+        pictures = [base64.b64decode(data) for data in re.findall(r'src="data:image/png;base64,([^"]+)"', text)]
+        drawn, wanted = (read_pam(pam(capture(events))).png() for events in (WRONG, RIGHT))
+        self.assertEqual(pictures[:2], [drawn, wanted])
+        self.assertEqual(len(pictures), 6)
+        self.assertEqual(self.white(pictures[2]), DIFFER)
+        self.assertIn("mends   event 3, mask 15 in place of 6", html.unescape(text))
+        self.assertNotRegex(text, r'(src|href)="(?!data:|#)')
+
+    def white(self, png):
+        from blaming import pictures
+        read = pictures.picture_of(png)
+        return sum(read.pixel(i)[:3] == (255, 255, 255) for i in range(24 * 18))
+
+    def test_elsewhere(self):
+        status, lines, _ = self.night("--results", self.room / "elsewhere")
+        self.assertEqual(status, 1)
+        self.assertTrue((self.room / "elsewhere/night.xml").exists() and not (self.folder / "night").exists())
+
+    def test_words(self):
+        for words in (("--processes", "0"), ("--tolerance", "x"), ("--seconds", "-1")):
+            self.assertEqual(self.night(*words)[0], 2)
+        ran = subprocess.run([sys.executable, FOLDER / "framedbg-night", self.room / "nowhere"], capture_output=True, text=True, check=False)
+        self.assertEqual((ran.returncode, ran.stdout, ran.stderr.count("\n")), (2, "", 1))
+
+    def test_interrupted(self):
+        """What was done until then is kept, and the same command goes on."""
+        for number in range(6):
+            self.put(f"n{number}", WRONG)
+        words = [sys.executable, FOLDER / "framedbg-night", self.folder, "--program", self.program, "--processes", "1"]
+        with subprocess.Popen(words, stdout=subprocess.PIPE, stderr=subprocess.PIPE, start_new_session=True) as run:
+            while not (self.folder / "night/glass.json").exists() and run.poll() is None:
+                time.sleep(0.01)
+            os.killpg(run.pid, signal.SIGINT)
+            out, errors = run.communicate(timeout=60)
+        self.assertEqual((run.returncode, out), (130, b""), errors)
+        self.assertNotIn(b"Traceback", errors)
+        done = len(list((self.folder / "night").glob("*.json")))
+        self.assertGreater(9, done)
+        self.assertIn(f"{9 - done - len(list((self.folder / 'night').glob('of*/*.json')))} done now", self.night()[1][0])
+
+    def test_the_bar(self):
+        ours, theirs = pty.openpty()
+        words = [sys.executable, FOLDER / "framedbg-night", self.folder, "--program", self.program]
+        with subprocess.Popen(words, stdout=subprocess.PIPE, stderr=theirs) as run:
+            os.close(theirs)
+            out = run.communicate(timeout=60)[0]
+        shown = os.read(ours, 65536).decode()
+        os.close(ours)
+        self.assertIn(f"[{'.' * 30}] 0 of 3", shown)
+        self.assertIn(f"[{'#' * 20}{'.' * 10}] 2 of 3", shown)
+        self.assertIn(f"[{'#' * 30}] 3 of 3", shown)
+        self.assertTrue(shown.endswith("\r\x1b[K"))
+        self.assertNotIn(b"\x1b", out)
+
+    def test_without_slurm(self):
+        self.environment = {**os.environ, "PATH": str(self.room)}
+        status, lines, errors = self.night("--slurm")
+        self.assertEqual((status, lines, errors.count("\n")), (3, [], 1))
+        self.assertIn("sbatch", errors)
+
+
+@unittest.skipIf(slurm_testing.missing(), slurm_testing.missing())
+class OnSlurm(Reports, Night):
+    words = ("--slurm",)
+
+    @classmethod
+    def setUpClass(cls):
+        room = cls.enterClassContext(tempfile.TemporaryDirectory(prefix="slurm-"))
+        cls.environment = cls.enterClassContext(slurm_testing.Slurm(room)).environment
+
+    def test_a_job_that_is_lost(self):
+        """Slurm takes a task away before it has begun: it is told, and done the next time."""
+        self.put("held", WRONG)
+        (self.room / "bin").mkdir()
+        cancelling = self.room / "bin/sbatch"
+        cancelling.write_text('#!/bin/sh\nPATH=${PATH#*:}\njob=$(sbatch --hold "$@") || exit\nscancel "${job}_2"\nscontrol release "$job"\necho "$job"\n')
+        cancelling.chmod(0o755)
+        usual = self.environment
+        self.environment = {**usual, "PATH": f"{self.room / 'bin'}:{os.environ['PATH']}"}
+        status, lines, _ = self.night("--slurm")
+        self.assertEqual(status, 4, lines)
+        self.assertIn("held: the job left no result: it was killed or lost", lines)
+        self.environment = usual
+        self.asked()
+        status, lines, _ = self.night("--slurm")
+        self.assertEqual((status, lines[0]), (1, "4 captures: 1 alike, 3 differ, 0 failed, 0 without a picture; 1 done now"))
+        self.assertEqual(self.asked(), {"held"})
+
+    def test_several_arrays(self):
+        """More captures than an array may have tasks: here it may have two."""
+        words = [sys.executable, "-c", "import sys; sys.path.insert(0, sys.argv.pop(1)); from nights import command_line, night, slurm; slurm.MOST_TASKS = 2; sys.exit(night.run(command_line.words()))",
+                 FOLDER, self.folder, "--slurm", "--program", self.program]
+        ran = subprocess.run(words, capture_output=True, text=True, env=self.environment, timeout=300, check=False)
+        self.assertEqual((ran.returncode, ran.stderr, ran.stdout.splitlines()[0]), (1, "", "3 captures: 1 alike, 2 differ, 0 failed, 0 without a picture; 3 done now"))
+
+
+if __name__ == "__main__":
+    passed_over.run_tests("test_night")
