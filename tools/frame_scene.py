@@ -2,8 +2,8 @@
 """frame_scene.py [SECONDS]: draws one and the same frame over and over in a window of its own, by OpenGL ES 3, for tools/check_frames.
 
 In it is what other programs seldom have together: strips with restarts, fans, instances, both windings with each cull mode, a viewport smaller than the
-target, scissors, clears of a rectangle and of some channels, each comparison of depths, depth bias, blending, lines, points, and
-triangles that reach behind the eye. Only libX11, libEGL and libGLESv2 are called.
+target, scissors, clears of a rectangle and of some channels, each comparison of depths, depth bias, blending, a shader that
+discards, lines, points, and triangles that reach behind the eye. Only libX11, libEGL and libGLESv2 are called.
 """
 import ctypes
 import struct
@@ -27,6 +27,7 @@ precision highp float;
 in vec4 shade;
 out vec4 seen;
 void main() { seen = shade; }"""
+HOLED = PIXEL.replace(b"seen = shade;", b"if (mod(floor(gl_FragCoord.x / 9.0) + floor(gl_FragCoord.y / 7.0), 2.0) < 0.5) discard; seen = shade;")
 # OpenGL's and EGL's numbers
 COLOR_BIT, DEPTH_BIT, FLOAT, UNSIGNED_SHORT, ARRAY, ELEMENTS, STATIC = 0x4000, 0x100, 0x1406, 0x1403, 0x8892, 0x8893, 0x88E4
 POINTS, LINES, LINE_LOOP, TRIANGLES, STRIP, FAN = 0, 1, 2, 4, 5, 6
@@ -34,6 +35,10 @@ BLEND, CULL_FACE, DEPTH_TEST, SCISSOR_TEST, OFFSET_FILL, RESTART = 0xBE2, 0xB44,
 FRONT, BACK, CW, CCW, NEVER = 0x404, 0x405, 0x900, 0x901, 0x200
 ONE, SRC_ALPHA, INV_SRC_ALPHA, FUNC_ADD, MAX = 1, 0x302, 0x303, 0x8006, 0x8008
 CONFIG = [0x3040, 0x40, 0x3033, 4, 0x3024, 8, 0x3023, 8, 0x3022, 8, 0x3021, 8, 0x3025, 24, 0x3038]     # ES 3, a window, 8 bits a channel, depth of 24
+
+
+GLASS = (.6, .3, .2, .5)
+GLASSES = ((SRC_ALPHA, INV_SRC_ALPHA, FUNC_ADD), (ONE, ONE, FUNC_ADD), (ONE, ONE, MAX))
 
 
 def library(name, **results):
@@ -71,15 +76,19 @@ class Pen:
 
     def __init__(self):
         self.gl = library("libGLESv2.so.2", glCreateShader=c_uint, glCreateProgram=c_uint)
+        self.whole, self.holed = self.program(PIXEL), self.program(HOLED)
+        self.gl.glUseProgram(self.whole)
+        self.buffers = {}
+
+    def program(self, pixel):
         program = self.gl.glCreateProgram()
-        for kind, text in ((0x8B31, VERTEX), (0x8B30, PIXEL)):
+        for kind, text in ((0x8B31, VERTEX), (0x8B30, pixel)):
             shader = self.gl.glCreateShader(kind)
             self.gl.glShaderSource(shader, 1, byref(c_char_p(text)), None)
             self.gl.glCompileShader(shader)
             self.gl.glAttachShader(program, shader)
         self.gl.glLinkProgram(program)
-        self.gl.glUseProgram(program)
-        self.buffers = {}
+        return program
 
     def buffer(self, kind, content):
         """A buffer of these bytes, bound; the same for the same bytes."""
@@ -172,15 +181,25 @@ def deep(pen):
     pen.turn(False, DEPTH_TEST)
 
 
+def holed(pen):
+    """Squares that a shader discards, and what lies deeper, seen through them."""
+    pen.turn(True, DEPTH_TEST)
+    pen.gl.glUseProgram(pen.holed)
+    pen.draw(STRIP, corners((.53, -.95), (.97, -.93), (.51, -.55), (.95, -.51), z=-.95), (.9, .9, .3, 1))
+    pen.gl.glUseProgram(pen.whole)
+    pen.draw(STRIP, corners((.55, -.9), (.99, -.97), (.57, -.6), (.93, -.4), z=-.9), (.2, .1, .5, 1))
+    pen.turn(False, DEPTH_TEST)
+
+
 def blended(pen):
     """Glass over it, something added, the brighter of two; lines and points."""
     gl = pen.gl
     pen.turn(True, BLEND)
-    for number, (source, destination, operation) in enumerate(((SRC_ALPHA, INV_SRC_ALPHA, FUNC_ADD), (ONE, ONE, FUNC_ADD), (ONE, ONE, MAX))):
+    for number, (source, destination, operation) in enumerate(GLASSES):
         gl.glBlendFunc(source, destination)
         gl.glBlendEquation(operation)
         left = -.8 + .5 * number
-        pen.draw(STRIP, corners((left, -.6), (left + .4, -.63), (left + .03, .7), (left + .45, .61)), (.6, .3, .2, .5))
+        pen.draw(STRIP, corners((left, -.6), (left + .4, -.63), (left + .03, .7), (left + .45, .61)), GLASS)
     pen.turn(False, BLEND)
     pen.draw(LINES, corners((-.93, -.97), (.87, -.31), (.71, -.93), (.83, .77), (-.61, .13), (-.11, .13)), (1, 1, 1, 1))
     pen.draw(LINE_LOOP, corners((-.71, .41), (-.23, .93), (.11, .37)), (1, .9, .2, 1))
@@ -197,6 +216,7 @@ def main():
         pen.clear((.15, .17, .25, 1), .98)
         opaque(pen)
         deep(pen)
+        holed(pen)
         blended(pen)
         show()
 

@@ -10,7 +10,11 @@ sys.path.insert(0, os.environ.get("FRAMES", str(TOOLS)))        # a wrong versio
 
 import reference   # noqa: E402
 from real_frames import sources, states   # noqa: E402
+from real_frames.gather import Gatherer, Wanted   # noqa: E402
+from real_frames.losses import Losses   # noqa: E402
+from real_frames.painter import Detail   # noqa: E402
 from real_frames.viewport import Viewport   # noqa: E402
+from real_frames.writer import Writer   # noqa: E402
 
 TARGET, OTHER = 7, 8
 WIDTH, HEIGHT = 24, 16
@@ -47,7 +51,7 @@ class Action:
     targets: tuple = (TARGET,)
     state: object = None
     triangles: list = field(default_factory=list)
-    clear: tuple = ()           # colour or None, depth (0 to 1) or None, rectangle or None, mask
+    clear: tuple = ()           # colour or None, depth (0 to 1) or None, rectangles or None for all, mask
     trouble: str = ""
     until: object = None
 
@@ -66,12 +70,18 @@ def draw(event, triangles, own=None, name="draw()", **more):
     return Action(event, "draw", name, truth, state=own, triangles=placed, **more)
 
 
-def clear(event, colour=None, depth=None, box=None, mask=15):
+def quad(left, top, right, bottom, z, colour):
+    a, b, c, d = ((x, y, z, colour) for x, y in ((left, top), (right, top), (right, bottom), (left, bottom)))
+    return [(a, b, c), (a, c, d)]
+
+
+def clear(event, colour=None, depth=None, box=None, mask=15, more=()):
+    """Of the whole target, or of a rectangle and more of them."""
     own = state(depth=(depth is not None, True, "ALWAYS"), mask=mask if colour else 0)
-    left, top, right, bottom = box or (0, 0, WIDTH, HEIGHT)
-    corners = [(left, top), (right, top), (left, bottom), (right, top), (right, bottom), (left, bottom)]
+    corners = [corner for left, top, right, bottom in (box or (0, 0, WIDTH, HEIGHT), *more)
+               for corner in ((left, top), (right, top), (left, bottom), (right, top), (right, bottom), (left, bottom))]
     vertices = [{"x": x << 16, "y": y << 16, "z": round((depth or 0) * 65535), "color": list(colour or (0, 0, 0, 0))} for x, y in corners]
-    return Action(event, "clear", "clear()", [own.raster, own.blend, own.depth, {"kind": "draw", "interp": "flat", "vertices": vertices}], clear=(colour, depth, box, mask))
+    return Action(event, "clear", "clear()", [own.raster, own.blend, own.depth, {"kind": "draw", "interp": "flat", "vertices": vertices}], clear=(colour, depth, [box, *more], mask))
 
 
 class StandIn:
@@ -106,8 +116,8 @@ class StandIn:
     def action(self):
         return next(action for action in self.actions if action.eventId == self.here)
 
-    def state(self, width, height, losses):
-        return self.action().state
+    def state(self, action, width, height, losses):
+        return action.state
 
     def primitives(self, action):
         return action.triangles, action.trouble
@@ -115,12 +125,12 @@ class StandIn:
     def until(self, action):
         return action.until
 
-    def reads_textures(self):
+    def reads_textures(self, action):
         return False
 
     def clears(self, action, width, height):
-        colour, depth, box, mask = action.clear
-        return colour is not None, depth is not None, box, mask
+        colour, depth, boxes, mask = action.clear
+        return colour is not None, depth is not None, boxes, mask
 
     def depth_value(self, action, x, y):
         return action.clear[1]
@@ -138,3 +148,52 @@ class StandIn:
         """The draw at hand on zeros, as often as RenderDoc draws it."""
         action = self.action()
         return image(action.truth * sources.times_drawn(action.state.depth))
+
+    def can_ask(self):
+        return False
+
+
+class Unblended(StandIn):
+    """As a frame of a trace: nothing is drawn alone nor asked, but the draw at hand can be had without its blending."""
+
+    def can_draw_alone(self):
+        return False
+
+    def unblended(self, target):
+        own = self.action()
+        plain = [states.plain(event["mask"]) if event["kind"] == "blend" else event for event in own.truth]
+        return image(self.before + [event for action in self.actions if action.eventId < self.here for event in action.truth] + plain)
+
+
+class Asked(StandIn):
+    """As a frame of Vulkan: nothing is drawn alone, but what a draw gave at a pixel can be asked. Each question is kept."""
+
+    def __init__(self, *actions, before=()):
+        super().__init__(*actions, before=before)
+        self.questions = []
+
+    def can_draw_alone(self):
+        return False
+
+    def can_ask(self):
+        return True
+
+    def given_at(self, target, x, y):
+        """Each triangle of the draw at hand, opaque on zeros, where it covers the pixel."""
+        self.questions.append((self.here, x, y))
+        *_, own = self.action().truth
+        found, at = {}, 4 * (y * WIDTH + x)
+        for number in range(len(own["vertices"]) // 3):
+            one = dict(own, vertices=own["vertices"][3 * number:3 * number + 3])
+            white = dict(one, vertices=[dict(vertex, color=[255] * 4) for vertex in one["vertices"]])
+            plain = [states.raster("none", False, False), states.depth(False, False, "LESS"), states.plain()]
+            if image(plain + [white])[at + 3]:
+                found[number] = tuple(image(plain + [one])[at:at + 4])
+        return found
+
+
+def converted(frame, losses=None, wanted=Wanted(), detail=Detail(), colours="measured"):
+    losses = losses or Losses()
+    gatherer = Gatherer(frame, TARGET, losses, wanted)
+    records = gatherer.gather()
+    return Writer(gatherer.size, records, losses, detail, colours).capture()

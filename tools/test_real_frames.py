@@ -8,42 +8,33 @@ import os
 import pathlib
 import random
 import stat
+import struct
 import subprocess
 import sys
 import tempfile
 import unittest
 from unittest import mock
 
-from frames_testing import ADDED, HEIGHT, OTHER, OVER, TOOLS, WIDTH, Action, StandIn, clear, clip_space, draw, image, image_of, state, TARGET
+from frames_testing import ADDED, Asked, HEIGHT, OTHER, OVER, TOOLS, Unblended, WIDTH, Action, StandIn, clear, clip_space, converted, draw, image, image_of, quad, state, TARGET
 
 import reference
-from real_frames import clipping, coverage, grid, module, planes, sources, states, topology
+from real_frames import clipping, coverage, grid, module, planes, shaders, sources, states, topology, unblended
+from real_frames.asked import pixels_to_ask
 from real_frames.display import Display
 from real_frames.fault import Fault
-from real_frames.gather import Gatherer, Wanted
+from real_frames.gather import Wanted
 from real_frames.losses import Losses
 from real_frames.names import printable
-from real_frames.painter import Detail
+from real_frames.painter import STRAYS, Detail
 from real_frames.pieces import Piece, is_shared_out
 from real_frames.placing import PIXEL, Bias, placed
+from real_frames.reel import GRAIN, Reel, changed
 from real_frames.raster import DepthTarget, Triangle, snap
 from real_frames.viewport import Viewport
-from real_frames.writer import Writer
 
 RED, GREEN, BLUE, GREY = (255, 0, 0, 255), (0, 255, 0, 255), (0, 0, 255, 255), (90, 100, 110, 255)
 TESTED = (True, True, "LESS")
-
-
-def quad(left, top, right, bottom, z, colour):
-    a, b, c, d = ((x, y, z, colour) for x, y in ((left, top), (right, top), (right, bottom), (left, bottom)))
-    return [(a, b, c), (a, c, d)]
-
-
-def converted(frame, losses=None, wanted=Wanted(), detail=Detail(), colours="measured"):
-    losses = losses or Losses()
-    gatherer = Gatherer(frame, TARGET, losses, wanted)
-    records = gatherer.gather()
-    return Writer(gatherer.size, records, losses, detail, colours).capture()
+BRIGHTER = ("One", "One", "Maximum"), ("One", "One", "Maximum")
 
 
 class Topologies(unittest.TestCase):
@@ -126,6 +117,47 @@ class Placing(unittest.TestCase):
                 self.assertEqual((set(drawn), len(drawn)), (wanted, len(wanted)))
             self.assertEqual(losses.counts["lines and points"], 3)
 
+    def covered(self, shapes):
+        target = DepthTarget(WIDTH, HEIGHT)
+        pieces = [Piece(number, [(x, y, 5) for x, y, _ in corners]) for number, corners in shapes]
+        return sorted((x, y) for piece in pieces for y, x0, x1 in target.draw(piece.shape, [5] * 3, state().depth) for x in range(x0, x1))
+
+    def test_rows_whose_middles_lie_on_an_edge_of_gl(self):
+        """With y up what lies over the edge has the row; with y down, what lies below. Neighbours leave no gap, and no pixel is drawn twice."""
+        for y_up, wanted in ((True, range(3, 8)), (False, range(2, 7))):
+            own = state()
+            own.viewport = Viewport(0, 0, WIDTH, HEIGHT, y_up=y_up, rows_from_below=y_up)
+            turn = (lambda y: HEIGHT - y) if y_up else (lambda y: y)
+            for boxes in (((3, 2.5, 9, 7.5),), ((3, 2.5, 9, 5.5), (3, 5.5, 9, 7.5)), ((3, 2.5, 6, 7.5), (6, 2.5, 9, 7.5))):
+                corners = [clip_space(x, turn(y), .5) for box in boxes for t in quad(*box, .5, RED) for x, y, _, _ in t]
+                shapes = placed([((0, at), tuple(corners[3 * at:3 * at + 3])) for at in range(len(corners) // 3)], own, Losses())
+                self.assertEqual(self.covered(shapes), sorted((x, y) for x in range(3, 9) for y in wanted))
+            corners = [clip_space(x, turn(y), .5) for t in quad(9, 2, 2.5, 8.5, .5, RED) for x, y, _, _ in t]       # whose triangles meet along middles of pixels
+            shapes = placed([((0, at), tuple(corners[3 * at:3 * at + 3])) for at in range(2)], own, Losses())
+            self.assertEqual(self.covered(shapes), sorted((x, y) for x in range(2, 9) for y in range(2, 9 if y_up else 8)))
+
+    def test_only_edges_along_a_row_are_moved(self):
+        own = state()
+        own.viewport = Viewport(0, 0, WIDTH, HEIGHT, y_up=True, rows_from_below=True)
+        corners = [clip_space(x, HEIGHT - y, .5) for x, y in ((2, 2.5), (9, 3.5), (4, 9.5))]
+        (_, placed_corners), = placed([((0, 0), tuple(corners))], own, Losses())
+        self.assertEqual([y for _, y, _ in placed_corners], [round(y * PIXEL) for y in (2.5, 3.5, 9.5)])
+
+    def test_corners_that_are_no_numbers(self):
+        losses = Losses()
+        corners = [tuple(clip_space(x, y, .5) for x, y in ((1, 1), (9, 1), (1, 9)))] * 3
+        corners[0] = (*corners[0][:2], (math.nan, 0, 0, 1))
+        corners[2] = (*corners[2][:2], (0, 0, math.inf, 1))
+        self.assertEqual([number for number, _ in placed([((0, at), three) for at, three in enumerate(corners)], state(), losses)], [(0, 1)])
+        self.assertEqual(losses.counts["triangles, lines and points with a corner that is no number"], 2)
+
+    def test_wide_lines_and_points(self):
+        for width, corners, wanted in ((3, [(7.3, 5.6)], {(x, y) for x in (6, 7, 8) for y in (4, 5, 6)}), (2, [(7.3, 5.6)], {(x, y) for x in (6, 7) for y in (5, 6)}),
+                                       (1, [(7 - 1e-6, 5.6)], {(7, 5)}), (2.4, [(2.5, 6), (5.5, 6)], {(x, y) for x in (2, 3, 4) for y in (5, 6)}), (0, [(7.3, 5.6)], {(7, 5)})):
+            own = state()
+            own.width = width
+            self.assertEqual(set(self.covered(placed([((0, 0), tuple(clip_space(x, y, .5) for x, y in corners))], own, Losses()))), wanted)
+
     def test_the_upper_left_corner_of_gl(self):
         self.assertEqual(self.view.place((-1, 1, -1, 1)), (0, 0, 0))
         self.assertEqual(self.view.place((2, -2, 2, 2)), (640, 480, 1))
@@ -145,6 +177,21 @@ class Placing(unittest.TestCase):
         for corner, wanted in zip(shape, ((0, 0, .6), (8 * PIXEL, 0, .6), (0, 8 * PIXEL, .6))):
             for value, want in zip(corner, wanted):
                 self.assertAlmostEqual(value, want)
+
+
+class Shaders(unittest.TestCase):
+    def test_text(self):
+        for text, wanted in ((b"void main() { if (a < .5) discard; }", True), (b"// discard\nvoid main() {}", False), (b"/* one\n discard; */ float discarded;", False), (b"", False)):
+            self.assertEqual(shaders.may_discard("GLSL", text), wanted)
+
+    def test_words(self):
+        head = (0x07230203, 0x10500, 0, 27, 0)
+        for body, wanted in (((2 << 16 | 17, 252), False), ((2 << 16 | 17, 1, 1 << 16 | 252), True), ((1 << 16 | 4416,), True), ((1 << 16 | 5380,), True), ((1 << 16 | 253,), False),
+                             ((0, 1 << 16 | 252), False), ((), False), ((9 << 16 | 17,), False)):
+            words = head + body
+            self.assertEqual(shaders.may_discard("SPIRV", struct.pack(f"<{len(words)}I", *words)), wanted, body)
+        self.assertFalse(shaders.may_discard("SPIRV", b"\1\2"))
+        self.assertFalse(shaders.may_discard("DXBC", b"discard"))
 
 
 class Rasterising(unittest.TestCase):
@@ -269,6 +316,22 @@ class Colours(unittest.TestCase):
 
 
 class States(unittest.TestCase):
+    def test_alpha_from_a_draw_s_own_colours(self):
+        """By the equation: own * alpha + was * (1 - alpha) and its like, for one layer and for two equal ones."""
+        over, multiplied, lit = (states.blend((*words, "Add"), ("One", "Zero", "Add"), 15, Losses()) for words in (("SrcAlpha", "InvSrcAlpha"), ("One", "InvSrcAlpha"), ("SrcAlpha", "One")))
+        own, was = (200, 40, 100), (20, 140, 60)
+        for blend, layers, now in ((over, 1, [round(.25 * a + .75 * b) for a, b in zip(own, was)]), (over, 2, [round(.4375 * a + .5625 * b) for a, b in zip(own, was)]),
+                                   (multiplied, 1, [min(round(a + .75 * b), 255) for a, b in zip(own, was)]), (lit, 1, [round(b + .25 * a) for a, b in zip(own, was)]),
+                                   (lit, 2, [round(b + .5 * a) for a, b in zip(own, was)])):
+            how, colour = unblended.source_at(blend, layers, own, was, now)
+            self.assertEqual((how, colour[:3]), ("told", own), (blend, layers))
+            self.assertAlmostEqual(colour[3] / 255, .25, delta=.01)
+        self.assertEqual(unblended.source_at(over, 1, own, own, own), ("open", (*own, 255)))
+        self.assertEqual(unblended.source_at(over, 1, own, was, (20, 40, 200)), ("apart", None))
+        self.assertEqual(unblended.source_at(multiplied, 2, own, was, own), ("apart", None))
+        self.assertEqual(unblended.source_at(lit, 1, (200, 200, 200), (250, 250, 100), (255, 255, 200))[1][3], 127.5)
+        self.assertEqual([unblended.tells(blend) for blend in (over, multiplied, lit, states.blend(*BRIGHTER, 15, Losses()))], [True, True, True, False])
+
     def test_alpha_takes_no_colour_factor(self):
         event = states.blend(("DstCol", "Zero", "Add"), ("SrcCol", "InvDstCol", "Add"), 15, Losses())
         self.assertEqual((event["rgb"], event["alpha"]), (["DEST_COLOR", "ZERO", "ADD"], ["SRC_ALPHA", "INV_DEST_ALPHA", "ADD"]))
@@ -342,6 +405,79 @@ class Frames(unittest.TestCase):
         converted(frame, made_up, Wanted(with_alone=False))
         self.assertEqual(made_up.counts["blended draws whose alpha is made up"], 2)
 
+    def test_blended_draws_that_can_only_be_asked_about(self):
+        """Their colours are those that the shader gave, alpha too, though the picture tells but what was blended; some channels are cut off at 255, and some of it
+        shows nowhere."""
+        lit = [(200, 100, 40, 128), (180, 120, 60, 100), (150, 90, 20, 140), (210, 80, 70, 120)]
+        glass = [tuple((x, y, z, own) for (x, y, z, _), own in zip(corners, some)) for corners, some in zip(quad(2, 2, 18, 13, .5, RED), (lit[:3], (lit[0], lit[2], lit[3])))]
+        for blend, under in ((OVER, GREY), (ADDED, GREY), (ADDED, (200, 10, 10, 255)), (BRIGHTER, (170, 20, 30, 60)), ((("One", "Zero", "Add"),) * 2, GREY), ((("One", "InvSrcAlpha", "Add"),) * 2, GREY)):
+            frame, losses = Asked(clear(1, under), draw(2, glass, state(blend=blend))), Losses()
+            made = converted(frame, losses, Wanted(histories=100))
+            for vertex in made["events"][-1]["vertices"]:
+                wanted = next(colour for corners in glass for x, y, _, colour in corners if (x * PIXEL, y * PIXEL) == (vertex["x"], vertex["y"]))
+                self.assertLessEqual(max(abs(a - b) for a, b in zip(vertex["color"], wanted)), 4, (blend, under, vertex, wanted))
+            self.assertEqual(losses.counts["blended draws whose alpha is known at some pixels"], 1)
+            self.assertNotIn("blended draws whose alpha is made up", losses.counts)
+            self.same(frame, made, 3)
+
+    def test_blended_draws_that_can_be_had_unblended(self):
+        """Over a step of colours, so that alpha shows; where a draw lies over its own colour, any alpha gives the picture."""
+        glass = [(2, 2, .5, (200, 100, 40, 60)), (20, 3, .5, (180, 120, 60, 120)), (4, 14, .5, (150, 90, 20, 90))]
+        for words in (OVER, (("One", "InvSrcAlpha", "Add"),) * 2, (("SrcAlpha", "One", "Add"),) * 2):
+            frame, losses = Unblended(clear(1, (30, 40, 50, 255)), draw(2, quad(0, 0, 9, 16, .5, (90, 20, 70, 255))), draw(3, [tuple(glass)], state(blend=words))), Losses()
+            made = converted(frame, losses)
+            for vertex, (*_, wanted) in zip(made["events"][-1]["vertices"], glass):
+                self.assertLessEqual(max(abs(a - b) for a, b in zip(vertex["color"], wanted)), 4, (words, vertex, wanted))
+            self.assertFalse([what for what in losses.counts if "made up" in what or "explain" in what])
+            self.same(frame, made, 3)
+        white = (240, 240, 240, 128)
+        frame = Unblended(clear(1, (240, 240, 240, 255)), draw(2, quad(2, 2, 16, 12, .5, white), state(blend=OVER)))
+        self.same(frame, converted(frame), 1)
+
+    def test_a_draw_s_own_colours_that_don_t_explain_the_picture(self):
+        frame, losses = Unblended(clear(1, GREY), draw(2, quad(2, 2, 16, 12, .5, (200, 20, 40, 128)), state(blend=OVER))), Losses()
+        frame.unblended = lambda target: bytes((10, 240, 30, 255)) * (WIDTH * HEIGHT)
+        self.same(frame, converted(frame, losses), 1)
+        self.assertEqual(losses.counts["pixels of blended draws that the draws' own colours don't explain"], 140)
+
+    def test_where_a_blended_texture_is_empty(self):
+        """Its alpha is 0 there; of a draw that may discard, that part is left out."""
+        white = (255, 255, 255, 200)
+        for discards, left in ((False, None), (True, 70)):
+            own = state(blend=OVER, discards=discards)
+            half = draw(2, quad(2, 2, 9, 12, .5, white) + (quad(9, 2, 16, 12, .5, (*white[:3], 0)) if not discards else []), own)
+            half.triangles = draw(2, quad(2, 2, 16, 12, .5, white)).triangles
+            made = converted(Unblended(clear(1, GREY), half), detail=Detail(2, 1))
+            self.assertEqual({image_of(made)[4 * (y * WIDTH + x)] for y in range(2, 12) for x in range(9, 16)}, {GREY[0]})
+            self.assertEqual(made["events"][-1]["source"].get("left_out"), left)
+
+    def test_no_more_is_asked_than_may_be(self):
+        def frame():
+            return Asked(clear(1, GREY), *(draw(event, quad(2, 2, 20, 14, .5, (event, 100, 40, 128)), state(blend=OVER)) for event in (2, 3, 4)), draw(5, quad(1, 1, 5, 5, .5, RED)))
+        for histories, of_a_draw in ((1000, 12), (24, 6), (0, 1)):
+            asked = frame()
+            converted(asked, wanted=Wanted(histories=histories))
+            self.assertEqual({event: [here for here, _, _ in asked.questions].count(event) for event in (2, 3, 4, 5)}, {2: of_a_draw, 3: of_a_draw, 4: of_a_draw, 5: 0})
+        asked = frame()
+        converted(asked, wanted=Wanted(with_alone=False))
+        self.assertEqual(asked.questions, [])
+
+    def test_pixels_are_asked_of_each_triangle_where_it_shows(self):
+        before, after = bytes(WIDTH * HEIGHT * 4), bytearray(WIDTH * HEIGHT * 4)
+        for x, y in ((3, 2), (5, 3), (4, 9), (2, 11), (3, 12)):
+            after[4 * (y * WIDTH + x)] = 9
+        shapes = [((0, number), [(x << 16, y << 16, .5) for x, y, _, _ in corners]) for number, corners in enumerate(quad(1, 1, 12, 14, .5, RED))]
+        self.assertEqual(pixels_to_ask(shapes, (WIDTH, HEIGHT), (before, bytes(after)), 4), [(3, 2), (5, 3), (4, 9), (3, 12)])
+        self.assertEqual(pixels_to_ask(shapes, (WIDTH, HEIGHT), (before, before), 4), [])
+        self.assertEqual(len(pixels_to_ask(shapes, (WIDTH, HEIGHT), (before, bytes(after)), 1)), 1)
+
+    def test_a_texture_s_empty_part_stays_empty_where_draws_are_asked_about(self):
+        white = (255, 255, 255, 200)
+        half = draw(2, quad(2, 2, 9, 12, .5, white), state(blend=OVER))
+        half.triangles = draw(2, quad(2, 2, 16, 12, .5, white)).triangles
+        made = image_of(converted(Asked(clear(1, GREY), half), detail=Detail(2, 1)))
+        self.assertEqual({made[4 * (y * WIDTH + x)] for y in range(2, 12) for x in range(9, 16)}, {GREY[0]})
+
     def test_added_so_brightly_that_twice_is_cut_off(self):
         frame = StandIn(clear(1, (20, 30, 40, 255)), draw(2, quad(2, 2, 16, 12, .5, (200, 150, 215, 9)), state(blend=ADDED)))
         self.same(frame, converted(frame), 1)
@@ -398,8 +534,51 @@ class Frames(unittest.TestCase):
         self.assertEqual(len(capture["events"][-1]["indices"]), 6)
         self.assertEqual(losses.counts["triangles not cut for detail"], 2)
 
+    def test_pixels_beyond_the_triangles_are_counted(self):
+        wide = draw(2, quad(2, 2, 16, 12, .5, RED))
+        wide.triangles = draw(2, quad(2, 2, 14, 12, .5, RED)).triangles
+        losses, right = Losses(), Losses()
+        converted(StandIn(clear(1, GREY), wide), losses)
+        self.assertEqual(losses.counts[STRAYS], 2 * 10)
+        converted(StandIn(clear(1, GREY), draw(2, quad(2, 2, 16, 12, .5, RED))), right)
+        self.assertNotIn(STRAYS, right.counts)
+
+    def holed(self, own, hole=(6, 4, 14, 10)):
+        """A draw that discards what lies in a hole, and one over all of it that lies deeper."""
+        left, top, right, bottom = hole
+        parts = quad(0, 0, left, 16, .4, RED) + quad(right, 0, 24, 16, .4, RED) + quad(left, 0, right, top, .4, RED) + quad(left, bottom, right, 16, .4, RED)
+        holed = Action(2, "draw", "holed()", draw(2, parts, own).truth, state=own, triangles=draw(2, quad(0, 0, 24, 16, .4, RED)).triangles)
+        return StandIn(clear(1, GREY, 1.0), holed, draw(3, quad(-2, -2, 26, 18, .6, BLUE), state(depth=TESTED)))
+
+    def test_what_a_draw_discards_is_left_out_and_leaves_no_depth(self):
+        frame, losses = self.holed(state(depth=TESTED, discards=True)), Losses()
+        fine = converted(frame, losses, detail=Detail(2, 1))
+        frame.go(3)
+        self.assertEqual(image_of(fine), frame.picture(TARGET))
+        self.assertEqual(losses.counts["pixels left out of draws that may discard"], 8 * 6)
+        draws = [event for event in fine["events"] if event["kind"] == "draw"]
+        self.assertEqual([coverage.without_parts(fine, places) for _, places in sorted(coverage.places_of(fine).items())], [8 * 6, 0])
+        self.assertEqual(draws[-1]["source"]["primitives"], [[0, 0], [0, 1]])
+        self.assertEqual({tuple(vertex["color"]) for vertex in draws[-1]["vertices"]}, {BLUE})
+
+    def test_what_may_not_be_discarded_stays(self):
+        for own, detail in ((state(depth=TESTED), Detail(2, 1)), (state(depth=TESTED, discards=True), Detail())):
+            losses = Losses()
+            whole = converted(self.holed(own), losses, detail=detail)
+            self.assertNotIn("pixels left out of draws that may discard", losses.counts)
+            self.assertEqual(len(next(event for event in whole["events"] if event["kind"] == "draw")["indices"]) >= 6, True)
+
+    def test_a_triangle_of_which_nothing_is_seen_is_left_out_without_detail(self):
+        gone = Action(2, "draw", "holed()", draw(2, quad(0, 0, 24, 16, .4, RED)[:1]).truth, state=state(depth=TESTED, discards=True), triangles=draw(2, quad(0, 0, 24, 16, .4, RED)).triangles)
+        capture = converted(StandIn(clear(1, GREY, 1.0), gone))
+        self.assertEqual(capture["events"][-1]["source"]["primitives"], [[0, 0]])
+
     def test_clears_of_a_rectangle_and_of_some_channels(self):
         frame = StandIn(clear(1, GREY), clear(2, RED, None, [3, 4, 20, 9]), clear(3, BLUE, .5, None, 4), draw(5, quad(1, 1, 9, 9, .4, GREEN), state(depth=TESTED)))
+        self.same(frame, converted(frame))
+
+    def test_a_clear_of_several_rectangles(self):
+        frame = StandIn(clear(1, GREY, 1.0), clear(2, RED, .2, [3, 4, 9, 9], more=[[12, 2, 20, 6], [15, 9, 15, 12]]), draw(5, quad(1, 1, 22, 14, .4, GREEN), state(depth=TESTED)))
         self.same(frame, converted(frame))
 
     def test_what_was_there_before_the_first_clear(self):
@@ -474,6 +653,38 @@ class Frames(unittest.TestCase):
         depths = [event["vertices"][0]["z"] for event in capture["events"] if event["kind"] == "draw"]
         self.assertGreater(depths[1] - depths[0], 60000)
         self.assertLess(depths[1], 65535)
+
+
+class Reels(unittest.TestCase):
+    def test_each_picture_comes_back_in_any_order(self):
+        chance, reel = random.Random(5), Reel()
+        pictures = [bytes(chance.randrange(256) for _ in range(64)) for _ in range(5)]
+        pictures[3] = pictures[2]
+        pictures.append(bytes(64))
+        kept = [reel.put(picture) for picture in pictures]
+        for number in (0, 1, 2, 3, 4, 5, 4, 0, 5, 2, 3, 3, 1):
+            self.assertEqual(kept[number].picture(), pictures[number], number)
+
+    def test_a_picture_like_the_one_before_takes_little(self):
+        reel, picture = Reel(), random.Random(6).randbytes(40_000)
+        for turn in range(10):
+            reel.put(bytes([turn]) + picture[1:])
+        self.assertLess(sum(len(step) for _, step in reel.steps), 42_000)
+
+    def test_only_what_changes_is_kept(self):
+        chance = random.Random(7)
+        picture, reel = bytearray(chance.randbytes(100_000)), Reel()
+        pictures = [bytes(picture)]
+        for first, last in ((0, 1), (99_999, 100_000), (4095, 4097), (4096, 4097), (30_000, 52_000), (0, 100_000), (8191, 8192)):
+            picture[first:last] = chance.randbytes(last - first)
+            pictures.append(bytes(picture))
+        kept = [reel.put(one) for one in pictures]
+        self.assertEqual([one.picture() for one in kept], pictures)
+        self.assertEqual([one.picture() for one in reversed(kept)], pictures[::-1])
+        for first, other in zip(pictures, pictures[1:]):
+            start, end = changed(first, other)
+            wanted = [at for at in range(len(other)) if first[at] != other[at]]
+            self.assertTrue(start <= wanted[0] and wanted[-1] < end and end - start < wanted[-1] - wanted[0] + 3 * GRAIN, (start, end))
 
 
 class Grids(unittest.TestCase):

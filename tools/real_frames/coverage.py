@@ -13,6 +13,11 @@ def places_of(capture):
     return found
 
 
+def without_parts(capture, places):
+    """How many pixels of a draw were left out as discarded: RenderDoc's overlays have them."""
+    return max(capture["events"][at]["source"].get("left_out", 0) for at in places)
+
+
 def white(draw):
     return dict(draw, interp="flat", vertices=[dict(vertex, color=WHITE) for vertex in draw["vertices"]])
 

@@ -2,10 +2,13 @@
 import zlib
 from dataclasses import dataclass
 
+from . import unblended
+from .asked import MOST_OF_A_DRAW, pixels_to_ask
 from .fault import Fault
 from .losses import Losses
 from .placing import placed
 from .records import ClearRecord, DrawRecord, MarkerRecord, PictureRecord
+from .reel import Reel
 
 MULTISAMPLED, IN_SRGB = "samples of each pixel beyond the first", "target in sRGB"
 
@@ -16,7 +19,8 @@ class Wanted:
     first: int = 0
     last: int = 1 << 62
     with_colours: bool = True
-    with_alone: bool = True     # blended draws are drawn alone too, to have their alpha
+    with_alone: bool = True     # blended draws are drawn alone or unblended too, or asked about, to have their alpha
+    histories: int = 400        # pixels that may be asked about in all, or one for each draw
 
 
 class Gatherer:
@@ -25,7 +29,7 @@ class Gatherer:
     def __init__(self, frame, target, losses, wanted=Wanted(), say=lambda text: None):
         self.frame, self.target, self.losses, self.wanted, self.say = frame, target, losses, wanted, say
         self.size = self.width, self.height = frame.size(target)
-        self.records = []
+        self.records, self.reel, self.own_reel = [], Reel(), Reel()
         self.before = 0             # the event before the one at hand
         self.touched = False        # something has been laid on the target
         self.carried = False        # a draw or a clear is there for its own sake
@@ -99,9 +103,10 @@ class Gatherer:
                 self.losses.add("clears of other targets")
             return
         self.frame.go(action.eventId)
-        record = self.cleared(action)
-        if record is None:
-            return
+        for record in self.cleared(action):
+            self.keep_clear(action, record)
+
+    def keep_clear(self, action, record):
         is_whole = record.rectangle is None and record.mask == 15
         if self.is_early(action):
             record.colour = None
@@ -119,10 +124,14 @@ class Gatherer:
         self.records.append(record)
 
     def cleared(self, action):
-        """What a clear does, or None where its rectangle holds no pixel."""
-        colour, depth, box, mask = self.frame.clears(action, self.width, self.height)
-        if box and (box[0] >= box[2] or box[1] >= box[3]):
-            return None
+        """What a clear does, for each rectangle that holds a pixel."""
+        colour, depth, boxes, mask = self.frame.clears(action, self.width, self.height)
+        some = [box for box in boxes if not box or (box[0] < box[2] and box[1] < box[3])]
+        records = [self.cleared_in(action, box, (colour, depth, mask)) for box in some]
+        return [record for record in records if record.colour is not None or record.depth is not None]
+
+    def cleared_in(self, action, box, what):
+        colour, depth, mask = what
         x, y = box[:2] if box else (0, 0)
         record = ClearRecord(action.eventId, self.frame.name(action), rectangle=box, mask=mask)
         if colour and mask:
@@ -130,7 +139,7 @@ class Gatherer:
             record.colour = tuple(self.frame.picture(self.target)[at:at + 4])
         if depth:
             record.depth = self.frame.depth_value(action, x, y)
-        return record if record.colour is not None or record.depth is not None else None
+        return record
 
     # Draws.
 
@@ -147,7 +156,7 @@ class Gatherer:
         name = self.frame.name(action)
         self.say(f"draw {self.done} of {self.all}: {action.eventId} {name}")
         losses = Losses() if early else self.losses
-        state = self.frame.state(self.width, self.height, losses)
+        state = self.frame.state(action, self.width, self.height, losses)
         if early and not (state.depth["enable"] and state.depth["write"]):
             return
         primitives, trouble = self.frame.primitives(action)
@@ -163,12 +172,32 @@ class Gatherer:
     def count(self, action):
         if len(self.frame.targets(action)) > 1:
             self.losses.add("further colour targets of draws", count=len(self.frame.targets(action)) - 1)
-        if self.frame.reads_textures():
+        if self.frame.reads_textures(action):
             self.losses.add("draws that read textures", "colours are fitted to what RenderDoc drew")
 
     def take_pictures(self, record):
         blend = record.state.blend
         if self.wanted.with_colours and blend["mask"]:
-            record.after = zlib.compress(self.frame.picture(self.target), 1)
-            if blend["enable"] and self.wanted.with_alone and self.frame.can_draw_alone():
-                record.alone = zlib.compress(self.frame.alone(self.target), 1)
+            record.after = self.reel.put(self.frame.picture(self.target))
+            if blend["enable"] and self.wanted.with_alone:
+                self.take_source(record)
+
+    def take_source(self, record):
+        """What tells of a blended draw's own colours and alpha: the draw alone, its histories, or the draw unblended."""
+        if self.frame.can_draw_alone():
+            record.alone = zlib.compress(self.frame.alone(self.target), 1)
+        elif self.frame.can_ask():
+            record.known = self.asked(record)
+        elif unblended.tells(record.state.blend):
+            own = self.frame.unblended(self.target)
+            record.own = self.own_reel.put(own) if own else None
+
+    def asked(self, record):
+        """What the draw's shader gave at some pixels."""
+        after = self.frame.picture(self.target)
+        self.frame.go(self.before)
+        before = self.frame.picture(self.target)
+        self.frame.go(record.event)
+        most = max(min(self.wanted.histories // max(self.all, 1), MOST_OF_A_DRAW), 1)
+        known = {pixel: self.frame.given_at(self.target, *pixel) for pixel in pixels_to_ask(record.shapes, self.size, (before, after), most)}
+        return {pixel: given for pixel, given in known.items() if given}

@@ -2,11 +2,13 @@
 import zlib
 from dataclasses import dataclass
 
+from .discards import Unseen, parts
 from .pixels import DrawPixels
 from .planes import Table, fit, mean
-from .sources import times_drawn
+from .raster import pixels
 
 GREY = (128, 128, 128, 255)
+STRAYS = "pixels that change where no triangle of the draw passes"
 
 
 @dataclass(frozen=True)
@@ -24,27 +26,49 @@ class Painter:
 
     def paint(self, record, pieces, before):
         """The pieces with their colours, cut into smaller ones where detail asks for it."""
-        blend = record.state.blend
-        pictures = (before, zlib.decompress(record.after), zlib.decompress(record.alone) if record.alone else b"")
-        pixels = DrawPixels(self.width, blend, pieces, pictures, times_drawn(record.state.depth))
+        pictures = (before, record.after.picture(), zlib.decompress(record.alone) if record.alone else b"", record.own.picture() if record.own else b"")
+        own = DrawPixels(self.width, record, pieces, pictures)
         fitted = []
         for number, piece in enumerate(pieces):
-            table = Table(pixels.samples(number, piece))
-            fitted += self.fitted(piece, piece.shape.spans(self.width, self.height), table, record.state.depth["enable"])
+            samples, unchanged = own.samples(number, piece)
+            table = Table(samples)
+            for part, cover in self.seen(record, piece, unchanged):
+                fitted += self.fitted(part, cover, table, record.state.depth["enable"])
         self.colour_hidden(fitted)
-        self.count(record, pixels)
+        self.count(record, own)
         known = [(fault, count) for _, fault, count in fitted if count]
         total = sum(count for _, count in known)
         self.faults.append((record.event, record.name, total, sum(fault * count for fault, count in known) / total if total else 0.0))
         return [piece for piece, _, _ in fitted]
 
-    def count(self, record, pixels):
-        if pixels.total:
-            self.losses.add("pixels of draws", "their colours are planes over triangles", pixels.total)
-        if pixels.unchanged:
-            self.losses.add("pixels of draws that RenderDoc leaves as they were", "discarded, hidden by finer depths, or of the same colour", pixels.unchanged)
-        if record.state.blend["enable"] and not record.alone:
-            self.losses.add("blended draws whose alpha is made up", "with --fast, and with Vulkan")
+    def seen(self, record, piece, unchanged):
+        """A piece and its spans; of a draw that may discard fragments, what is left where the picture shows none."""
+        cover = list(piece.shape.spans(self.width, self.height))
+        if not (record.state.discards and unchanged):
+            return [(piece, cover)]
+        is_cut = self.detail.most is not None and not (record.state.depth["enable"] and self.passes[piece.root] > 1)
+        left = parts(piece, cover, Unseen(piece.passed, unchanged), (self.width, self.height), self.detail.smallest if is_cut else None)
+        gone = pixels(cover) - sum(pixels(spans) for _, spans in left)
+        if gone:
+            record.left_out += gone
+            self.losses.add("pixels left out of draws that may discard", "where the picture is as it was before", gone)
+        return left
+
+    def count(self, record, own):
+        if own.total:
+            self.losses.add("pixels of draws", "their colours are planes over triangles", own.total)
+        strays = own.strays()
+        if strays:
+            self.losses.add(STRAYS, "seen in the picture; the triangles as they were worked out don't reach there", strays)
+        if own.unchanged:
+            self.losses.add("pixels of draws that stay as they were", "discarded, hidden by finer depths, or of the same colour", own.unchanged)
+        if own.unexplained:
+            self.losses.add("pixels of blended draws that the draws' own colours don't explain", "their alpha is made up", own.unexplained)
+        if record.state.blend["enable"] and not (record.alone or record.own):
+            if record.known:
+                self.losses.add("blended draws whose alpha is known at some pixels", "asked of their histories; between them it is a plane")
+            else:
+                self.losses.add("blended draws whose alpha is made up", "where they can't be drawn alone, nor asked about")
 
     def fitted(self, piece, cover, table, is_deep):
         """[(piece, how far off, samples)]: the piece with its colours, or what it was cut into."""

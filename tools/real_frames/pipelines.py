@@ -1,12 +1,12 @@
-"""The pipeline state at an event, of OpenGL and of Vulkan, in framedbg's words; and what a clear does."""
-import re
+"""The pipeline state at an event, of OpenGL, Vulkan and Direct3D, in framedbg's words. That of Direct3D is read by RenderDoc's documented types: no frame of it was at hand."""
 from dataclasses import dataclass
 
 import renderdoc as rd
 
 from . import states
-from .losses import Losses
+from .discards import LEFT_OUT
 from .placing import Bias
+from .shaders import may_discard
 from .viewport import Viewport, meet, rectangle
 
 
@@ -29,7 +29,7 @@ def of_gl(controller, pipe, height):
     view, cut = pipe.GetViewport(0), pipe.GetScissor(0)
     lower = own.vertexProcessing.clipOriginLowerLeft
     viewport = Viewport(view.x, height - view.y - view.height, view.width, view.height, view.minDepth, view.maxDepth,
-                        y_up=lower, half_depth=not own.vertexProcessing.clipNegativeOneToOne)
+                        y_up=lower, half_depth=not own.vertexProcessing.clipNegativeOneToOne, rows_from_below=lower)
     raster, depth = own.rasterizer.state, own.depthState
     return Read(viewport, rectangle(cut.x, height - cut.y - cut.height, cut.width, cut.height), raster, raster.frontCCW == lower,
                 own.framebuffer.blendState.blendFactor, (depth.depthEnable, depth.depthWrites, depth.depthFunction),
@@ -47,7 +47,20 @@ def of_vulkan(controller, pipe, _):
                 (depth.depthTestEnable, depth.depthWriteEnable, depth.depthFunction), raster.depthClipEnable, depth.stencilTestEnable, bias)
 
 
-READERS = {rd.GraphicsAPI.OpenGL: of_gl, rd.GraphicsAPI.Vulkan: of_vulkan}
+def of_direct3d(own, pipe):
+    """Of Direct3D 11 and 12, whose states have the same members."""
+    view, cut = pipe.GetViewport(0), pipe.GetScissor(0)
+    raster, output = own.rasterizer.state, own.outputMerger
+    depth = output.depthStencilState
+    viewport = Viewport(view.x, view.y, view.width, view.height, view.minDepth, view.maxDepth, y_up=True, half_depth=True, rows_from_below=False)
+    return Read(viewport, rectangle(cut.x, cut.y, cut.width, cut.height), raster, raster.frontCCW, output.blendState.blendFactor,
+                (depth.depthEnable, depth.depthWrites, depth.depthFunction), raster.depthClip, depth.stencilEnable,
+                (raster.depthBias, raster.slopeScaledDepthBias, raster.depthBiasClamp))
+
+
+READERS = {rd.GraphicsAPI.OpenGL: of_gl, rd.GraphicsAPI.Vulkan: of_vulkan,
+           rd.GraphicsAPI.D3D11: lambda controller, pipe, _: of_direct3d(controller.GetD3D11PipelineState(), pipe),
+           rd.GraphicsAPI.D3D12: lambda controller, pipe, _: of_direct3d(controller.GetD3D12PipelineState(), pipe)}
 
 
 def read(controller, textures, size, losses):
@@ -57,7 +70,7 @@ def read(controller, textures, size, losses):
     target = textures.get(int(pipe.GetDepthTarget().resourceId))
     enable, write, function = own.depth
     if own.stencil:
-        losses.add("draws with the stencil test")
+        losses.add("draws with the stencil test", LEFT_OUT)
     if any(own.bias[:2]):
         losses.add("draws with depth bias", "added to the depths, and rounded with them")
     if own.raster.fillMode != rd.FillMode.Solid:
@@ -68,8 +81,25 @@ def read(controller, textures, size, losses):
     if cull == "FrontAndBack":
         box = [0, 0, 0, 0]
     blend, factor = blending(pipe, own.blend_factor, losses)
+    discards = discards_of(pipe)
+    if discards:
+        losses.add("draws whose shader may discard", LEFT_OUT)
     return states.State(own.viewport, box, states.raster(states.CULLS.get(cull, "none"), own.front_ccw, box != whole), blend, factor,
-                        states.depth(enable and target, write, states.COMPARES[function.name]), own.clip_depth, Bias(*own.bias, step=depth_step(target)))
+                        states.depth(enable and target, write, states.COMPARES[function.name]), own.clip_depth, Bias(*own.bias, step=depth_step(target)),
+                        width_of(pipe, own.raster), discards or bool(own.stencil))
+
+
+def discards_of(pipe):
+    """Whether the pixel shader may discard fragments."""
+    own = pipe.GetShaderReflection(rd.ShaderStage.Pixel)
+    return bool(own) and may_discard(own.encoding.name, own.rawBytes)
+
+
+def width_of(pipe, raster):
+    """Of lines, or of points where the state has it; a shader's own sizes of points aren't told."""
+    if pipe.GetPrimitiveTopology() == rd.Topology.PointList:
+        return getattr(raster, "pointSize", 0.0) or 1.0
+    return getattr(raster, "lineWidth", 1.0)
 
 
 def blending(pipe, constant, losses):
@@ -92,27 +122,3 @@ def depth_step(target):
     if kind.type in (rd.ResourceFormatType.D16S8, ) or (kind.type == rd.ResourceFormatType.Regular and kind.compByteWidth == 2):
         return 1 / 0xffff
     return 0.0
-
-
-def pass_clears(action, name):
-    """(colour, depth) of what the beginning of a Vulkan pass clears."""
-    if not action.flags & rd.ActionFlags.BeginPass:
-        return False, False
-    return "C=Clear" in name, bool(re.search(r"\bDS?=Clear", name))
-
-
-def clears(frame, action, width, height):
-    """(whether it clears colour, whether depth, the rectangle or None for all, the mask) of the clear that was gone to."""
-    flags, name = action.flags, frame.name(action)
-    if not flags & rd.ActionFlags.Clear:
-        return *pass_clears(action, name), None, 15
-    colour = bool(flags & rd.ActionFlags.ClearColor)
-    depth = bool(flags & rd.ActionFlags.ClearDepthStencil) and ("Depth" in name or "glClear" not in name)
-    depth = depth and int(action.depthOut) in frame.textures
-    if not frame.is_gl():
-        return colour, depth, None, 15
-    state = frame.state(width, height, Losses())
-    cut = frame.controller.GetPipelineState().GetScissor(0)
-    whole = [0, 0, width, height]
-    box = meet(rectangle(cut.x, height - cut.y - cut.height, cut.width, cut.height), whole) if cut.enabled else whole
-    return colour, depth and state.depth["write"], None if box == whole else box, state.blend["mask"]

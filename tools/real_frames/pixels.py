@@ -1,6 +1,7 @@
 """What the pixels of a draw tell of its triangles' colours."""
-from . import sources
-from .sources import Pixel, source_of
+from . import sources, unblended
+from .asked import Model
+from .sources import Pixel, source_of, times_drawn
 
 NOTHING = (0, 0, 0, 0)
 
@@ -8,40 +9,60 @@ NOTHING = (0, 0, 0, 0)
 class DrawPixels:
     """The pictures of a draw, and which of its pieces pass where."""
 
-    def __init__(self, width, blend, pieces, pictures, times):
-        self.width, self.blend, self.times = width, blend, times
-        self.before, self.after, self.alone = pictures
+    def __init__(self, width, record, pieces, pictures):
+        self.width, self.blend, self.times = width, record.state.blend, times_drawn(record.state.depth)
+        self.before, self.after, self.alone, self.own = pictures
+        self.model = Model(record.known) if record.known else None
+        self.discards = record.state.discards
         self.layers, self.owner = {}, {}
         for number, piece in enumerate(pieces):
             for y, x0, x1 in piece.passed:
                 for at in range(y * width + x0, y * width + x1):
                     self.layers[at] = self.layers.get(at, 0) + 1
                     self.owner[at] = number
-        self.total = self.unchanged = 0
+        self.total = self.unchanged = self.unexplained = 0
         self.known = {}
 
+    def strays(self):
+        """How many pixels change where none of its pieces passes: none, where what is known of a draw is right."""
+        before, after = (memoryview(picture).cast("I") for picture in (self.before, self.after))
+        found, row = 0, 4 * self.width
+        for left in range(0, len(self.before), row):
+            if self.before[left:left + row] != self.after[left:left + row]:
+                found += sum(before[at] != after[at] and at not in self.layers for at in range(left // 4, left // 4 + self.width))
+        return found
+
     def samples(self, number, piece):
-        """The samples {y: [(x, colour)]} that tell most of a piece: where it alone shows, else where others of the draw do, else where nothing changed."""
-        single, shared, same = {}, {}, {}
-        kinds = {"single": single, "shared": shared, "same": same}
+        """The samples {y: [(x, colour)]} that tell most of a piece: where it alone shows, else where others of the draw do, else where nothing changed;
+        and {y: [x]} where nothing changed."""
+        single, shared, same, any_alpha = {}, {}, {}, {}
+        kinds = {"single": single, "shared": shared, "same": same, "open": any_alpha}
         for y, x0, x1 in piece.passed:
             for x in range(x0, x1):
-                kind, colour = self.sample(number, y * self.width + x)
+                kind, colour = self.sample(number, piece.number[1], y * self.width + x)
                 if kind:
                     kinds[kind].setdefault(y, []).append((x, colour))
+        unchanged = {y: [x for x, _ in some] for y, some in same.items()}
         if self.blend["enable"] and same and (single or shared):
             for y, some in same.items():
                 single[y] = sorted(single.get(y, []) + some)
-        return single or shared or same
+        return single or shared or same or any_alpha, unchanged
 
-    def sample(self, number, at):
+    def sample(self, number, primitive, at):
         """(kind, source colour) of a pixel for a piece; None for a kind that tells nothing."""
         was, now = self.before[4 * at:4 * at + 4], self.after[4 * at:4 * at + 4]
         if not self.blend["enable"]:
             if self.owner[at] != number:
                 return None, None
             return self.counted("same" if was == now else "single", self.masked(now))
+        if self.own:
+            found = self.by_its_own(at, was, now)
+            if found:
+                return self.counted(*found)
         if not self.alone:
+            given = self.model and sources.with_alpha(self.blend, self.layers[at], self.model.at(primitive, at % self.width, at // self.width), was, now)
+            if given:
+                return self.counted("single" if self.layers[at] == 1 else "shared", self.masked(given))
             if was == now:
                 return self.counted("same", self.unseen(now))
             return self.counted("single" if self.owner[at] == number else None, sources.plainest(self.blend, was, now))
@@ -52,6 +73,16 @@ class DrawPixels:
         if colour is None:
             return self.counted(None, None)
         return self.counted("single" if self.layers[at] == 1 else "shared", colour)
+
+    def by_its_own(self, at, was, now):
+        """(kind, source colour) of a pixel, where the colour that the draw gave there is known and its alpha isn't; None where no alpha explains the pixel."""
+        how, colour = unblended.source_at(self.blend, self.layers[at], self.own[4 * at:4 * at + 3], was[:3], now)
+        if how == unblended.APART:
+            self.unexplained += 1
+            return None
+        if was == now and (self.discards or how == unblended.TOLD):
+            return "same", self.masked((*colour[:3], 0))
+        return "open" if how == unblended.OPEN else "single" if self.layers[at] == 1 else "shared", self.masked(colour)
 
     def unseen(self, now):
         """A source that leaves a pixel as it is: with no alpha, and not darker than what it lies beside, where colours are multiplied by alpha."""

@@ -3,8 +3,11 @@ import math
 from dataclasses import dataclass
 
 from .clipping import clip, clip_line, planes
+from .raster import CENTRE, snap
 
 PIXEL = 65536
+WHOLE = 256                     # a pixel after snapping
+STEP = PIXEL // WHOLE
 
 
 @dataclass(frozen=True)
@@ -41,31 +44,50 @@ def placed(primitives, state, losses):
     """Gives ((instance, primitive), three corners (x, y, depth)) of each triangle that is left after clipping."""
     shapes, kept = [], planes(state.viewport, state.clip_depth)
     for number, corners in primitives:
+        if not all(math.isfinite(value) for corner in corners for value in corner):
+            losses.add("triangles, lines and points with a corner that is no number", "left out")
+            continue
         for places in triangles(corners, state, kept, losses):
             bias = state.bias.of(places)
             shapes.append((number, [(round(x * PIXEL), round(y * PIXEL), z + bias) for x, y, z in places]))
-    return shapes
+    return lowered(shapes) if state.viewport.rows_from_below else shapes
+
+
+def lowered(shapes):
+    """OpenGL counts rows from below: where an edge runs along the middles of a row, that row belongs to what lies over the edge, and in framedbg to what lies
+    below it. The ends of such edges are moved down by the least step, in each triangle that has them."""
+    ends = set()
+    for _, corners in shapes:
+        for (ax, ay, _), (bx, by, _) in zip(corners, corners[1:] + corners[:1]):
+            if snap(ay) == snap(by) and snap(ay) % WHOLE == CENTRE:
+                ends |= {(ax, ay), (bx, by)}
+    if not ends:
+        return shapes
+    return [(number, [(x, y + STEP * ((x, y) in ends), z) for x, y, z in corners]) for number, corners in shapes]
 
 
 def triangles(corners, state, kept, losses):
     """A primitive on the target, as triangles of three places (x, y, depth) in pixels."""
     if len(corners) < 3:
-        losses.add("lines and points", "drawn as quads one pixel wide")
+        losses.add("lines and points", "drawn as quads of their width")
         ends = clip_line(corners, kept)
-        return [turned(half, state.raster) for half in quad([state.viewport.place(end) for end in ends])] if ends else []
+        return [turned(half, state.raster) for half in quad([state.viewport.place(end) for end in ends], max(round(state.width), 1))] if ends else []
     pieces, was_cut = clip(corners, kept)
     if was_cut and pieces:
         losses.add("triangles cut at the near plane or far outside", "carried over in pieces")
     return [[state.viewport.place(corner) for corner in piece] for piece in pieces]
 
 
-def quad(ends):
-    """Two triangles along a line, one pixel wide across its longer way; round a point, a square of one pixel."""
+def quad(ends, width=1):
+    """Two triangles along a line, so many pixels wide across its longer way; round a point, a square of so many."""
+    half = width / 2
     if len(ends) == 1:
         (x, y, z), = ends
-        ends = (x - 0.5, y, z), (x + 0.5, y, z)
+        x, y = (snap(round(place * PIXEL)) / WHOLE for place in (x, y))
+        x, y = (math.floor(place) + 0.5 if width % 2 else math.floor(place + 0.5) for place in (x, y))
+        ends = (x - half, y, z), (x + half, y, z)
     (ax, ay, az), (bx, by, bz) = ends
-    dx, dy = (0, 0.5) if abs(bx - ax) >= abs(by - ay) else (0.5, 0)
+    dx, dy = (0, half) if abs(bx - ax) >= abs(by - ay) else (half, 0)
     a, b, c, d = (ax - dx, ay - dy, az), (bx - dx, by - dy, bz), (bx + dx, by + dy, bz), (ax + dx, ay + dy, az)
     return [a, b, c], [a, c, d]
 

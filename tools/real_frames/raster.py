@@ -72,11 +72,24 @@ class DepthTarget:
     def __init__(self, width, height):
         self.width, self.height = width, height
         self.rows = [[FARTHEST] * width for _ in range(height)]
+        self.own = set()                    # the rows that were copied since depths were kept
+
+    def kept(self):
+        """The depths as they are now, to go back to."""
+        self.own = set()
+        return list(self.rows)
+
+    def writable(self, y):
+        """A row to write to: a copy, where it may be one of those that are kept."""
+        if y not in self.own:
+            self.own.add(y)
+            self.rows[y] = self.rows[y][:]
+        return self.rows[y]
 
     def fill(self, depth, box=None):
         left, top, right, bottom = box or (0, 0, self.width, self.height)
         for y in range(top, bottom):
-            self.rows[y][left:right] = [depth] * (right - left)
+            self.writable(y)[left:right] = [depth] * (right - left)
 
     def draw(self, shape, depths, state, rectangle=None):
         """Draws one triangle, and gives the spans (y, x0, x1) that passed."""
@@ -94,7 +107,7 @@ class DepthTarget:
 
     def test(self, y, left, sources, compare, write):
         """Tests a row of depths, and gives the spans that passed."""
-        row, passed, start = self.rows[y], [], None
+        row, passed, start = self.writable(y) if write else self.rows[y], [], None
         for x, depth in enumerate(sources, left):
             if compare(depth, row[x]):
                 if write:

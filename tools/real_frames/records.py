@@ -8,10 +8,12 @@ class DrawRecord:
     name: str
     state: object
     shapes: list = field(default_factory=list)      # ((instance, primitive), three (x, y, depth 0 to 1) with x, y in 1/65536 pixel)
-    before: bytes = b""                             # pictures, packed by zlib; none where colours aren't wanted
-    after: bytes = b""
-    alone: bytes = b""
+    after: object = None                            # a picture that a reel keeps; none where colours aren't wanted
+    alone: bytes = b""                              # a picture, packed by zlib
+    own: object = None                              # a picture with the draw's own colours in the place of blended ones, that a reel keeps
+    known: dict = field(default_factory=dict)       # {(x, y): {primitive: (r, g, b, a)}} that the shader gave, where that was asked
     depth_alone: bool = False                       # it is there for its depths
+    left_out: int = 0                               # pixels that were taken for discarded
 
 
 @dataclass

@@ -1,13 +1,14 @@
-"""A captured frame, replayed by RenderDoc's own module. This module and the three that it uses (pipelines, vertices, pictures) need RenderDoc."""
+"""A captured frame, replayed by RenderDoc's own module. This module and the four that it uses (clears, pipelines, vertices, pictures) need RenderDoc."""
 import os
 
 import renderdoc as rd
 
-from . import pipelines, vertices
+from . import clears, pipelines, vertices
 from .fault import Fault
 from .gather import IN_SRGB, MULTISAMPLED
 from .names import printable
-from .pictures import Pictures
+from .pictures import WHOLE, Pictures
+from .states import byte
 
 KINDS = [   # the first that an action's flags have
     ("marker", rd.ActionFlags.PushMarker | rd.ActionFlags.SetMarker), ("draw", rd.ActionFlags.Drawcall),
@@ -30,6 +31,7 @@ class Frame:
     def __init__(self, path):
         self.path = str(path)
         self.file = self.controller = self.pictures = None
+        self.here = 0
 
     def __enter__(self):
         try:
@@ -51,14 +53,15 @@ class Frame:
         if result != rd.ResultCode.Succeeded:
             raise Fault(f"{self.path}: no frame of RenderDoc's: {in_a_line(result)}")
         if self.file.LocalReplaySupport() != rd.ReplaySupport.Supported:
-            raise Fault(f"{self.path}: a frame of {self.file.DriverName()} can't be replayed on this machine")
+            where = " (frames of Direct3D replay on Windows alone)" if self.file.DriverName().startswith("D3D") else ""
+            raise Fault(f"{self.path}: a frame of {self.file.DriverName()} can't be replayed on this machine{where}")
         result, controller = self.file.OpenCapture(rd.ReplayOptions(), None)
         if result != rd.ResultCode.Succeeded:
             hint = "" if os.environ.get("DISPLAY") else "; OpenGL wants a screen, and DISPLAY names none"
             raise Fault(f"{self.path}: it can't be replayed here: {in_a_line(result)}{hint}")
         self.controller = controller
         if controller.GetAPIProperties().pipelineType not in pipelines.READERS:
-            raise Fault(f"{self.path}: a frame of {self.file.DriverName()}: only OpenGL, OpenGL ES and Vulkan are read")
+            raise Fault(f"{self.path}: a frame of {self.file.DriverName()}: only OpenGL, OpenGL ES, Vulkan and Direct3D 11 and 12 are read")
         self.names = controller.GetStructuredFile()
         self.actions = list(flattened(controller.GetRootActions()))
         self.textures = {int(texture.resourceId): texture for texture in controller.GetTextures()}
@@ -82,7 +85,7 @@ class Frame:
         for kind, flags in KINDS:
             if action.flags & flags:
                 return kind
-        return "clear" if any(pipelines.pass_clears(action, self.name(action))) else ""
+        return "clear" if any(clears.pass_clears(action, self.name(action))) else ""
 
     @staticmethod
     def until(action):
@@ -133,18 +136,19 @@ class Frame:
     # What is at an event.
 
     def go(self, event):
+        self.here = event
         self.controller.SetFrameEvent(event, True)
 
-    def state(self, width, height, losses):
+    def state(self, _, width, height, losses):
         return pipelines.read(self.controller, self.textures, (width, height), losses)
 
     def clears(self, action, width, height):
-        return pipelines.clears(self, action, width, height)
+        return clears.of(self, action, width, height)
 
     def primitives(self, action):
         return vertices.primitives(self.controller, action)
 
-    def reads_textures(self):
+    def reads_textures(self, _):
         return len(self.controller.GetPipelineState().GetReadOnlyResources(rd.ShaderStage.Pixel, False)) > 0
 
     def picture(self, target):
@@ -153,6 +157,15 @@ class Frame:
     def can_draw_alone(self):
         """RenderDoc 1.24 ends the process where an overlay is read on lavapipe."""
         return self.is_gl()
+
+    def can_ask(self):
+        """Of OpenGL ES RenderDoc's histories differ from call to call; and OpenGL's draws can be drawn alone."""
+        return not self.is_gl()
+
+    def given_at(self, target, x, y):
+        """{primitive: (r, g, b, a)}: what the draw that was gone to gave at a pixel, before blending."""
+        entries = self.controller.PixelHistory(self.textures[target].resourceId, x, y, WHOLE, rd.CompType.Typeless)
+        return {entry.primitiveID: tuple(byte(v) for v in entry.shaderOut.col.floatValue) for entry in entries if entry.eventId == self.here and entry.Passed()}
 
     def alone(self, target):
         return self.pictures.alone(target)

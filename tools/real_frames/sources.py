@@ -7,6 +7,8 @@ draw itself, so twice, unless the depth test stops the second.
 from dataclasses import dataclass
 
 ONE_ON_ZEROS = {"ONE", "INV_DEST_COLOR", "INV_DEST_ALPHA"}
+LEAST_SHARE = 0.05              # of the source in what is seen, from which it can be worked out
+NEAR = 2                        # bytes
 STRICT = {"LESS", "GREATER", "NOT_EQUAL", "NEVER"}
 
 
@@ -74,6 +76,31 @@ def plainest(blend, before, after):
         twice = 2 if source == "DEST_COLOR" and destination == "SRC_COLOR" else 1
         return tuple(min(255 * after[i] / before[i] / twice, 255) if before[i] >= 8 else 255 for i in range(3)) + (255,)
     return tuple(after[:3]) + (255,)
+
+
+def parts_of(blend, layers, alpha):
+    """(how much of the source is in what is seen, how much of what was there), where both are known; else None."""
+    source, destination, operation = blend["rgb"]
+    if operation != "ADD" or source not in ("SRC_ALPHA", "ONE"):
+        return None
+    own = alpha if source == "SRC_ALPHA" else 1.0
+    if is_composite(blend):
+        return own * shown(alpha, layers), (1 - alpha) ** layers
+    return {"ONE": (own * layers, 1.0), "ZERO": (own, 0.0)}.get(destination)
+
+
+def with_alpha(blend, layers, given, before, after):
+    """The source from what is known of it, above all its alpha, and from the pixel before and after: so many equal layers of it were blended.
+    None where it was none: the pixel is as before, and what is known would have changed it."""
+    both = parts_of(blend, layers, given[3] / 255)
+    if both is None:
+        return tuple(given)
+    share, left = both
+    if before == after:
+        return tuple(given) if all(abs(own * share + was * left - now) <= NEAR for own, was, now in zip(given, before[:3], after)) else None
+    if share < LEAST_SHARE:
+        return tuple(given)
+    return tuple(own if now == 255 and left == 1 else min(max((now - was * left) / share, 0), 255) for own, was, now in zip(given, before[:3], after)) + (given[3],)
 
 
 @dataclass(frozen=True)

@@ -30,6 +30,8 @@ class State:
     depth: dict
     clip_depth: bool = True
     bias: Bias = Bias()
+    width: float = 1.0          # of lines and points, in pixels
+    discards: bool = False      # a shader may discard fragments, or the alpha or the stencil test
 
     def rectangle(self):
         return self.scissor if self.raster["scissor"] else None

@@ -13,6 +13,7 @@ class Viewport:
     farthest: float = 1.0
     y_up: bool = False          # clip space has y up
     half_depth: bool = True     # clip space has 0 <= z <= w, else -w <= z <= w
+    rows_from_below: bool = False       # an edge along the middles of a row gives it to what lies over the edge
 
     def place(self, vertex):
         """Gives (x, y, depth) of a vertex in clip space: pixels, and a depth of 0 to 1."""

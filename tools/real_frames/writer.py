@@ -127,9 +127,27 @@ class Writer:
             self.log.set({"kind": "scissor", "rect": state.scissor}, source)
         if any("BLEND_FACTOR" in word for word in state.blend["rgb"] + state.blend["alpha"]):
             self.log.set(state.factor, source)
-        self.add_triangles(self.coloured(record, self.passing(record)), source)
+        pieces = self.drawn(record)
+        self.add_triangles(pieces, {**source, "left_out": record.left_out} if record.left_out else source)
         if record.after:
-            self.picture = zlib.decompress(record.after)
+            self.picture = record.after.picture()
+
+    def drawn(self, record):
+        """The pieces of a draw with their colours. Where some are left out as discarded, the depths are what the others leave."""
+        before = self.depth.kept() if record.state.discards and record.state.depth["enable"] else None
+        whole = self.passing(record)
+        pieces = self.coloured(record, whole)
+        if before and sum(len(piece.passed) for piece in whole) and pieces != whole:
+            self.depth.rows = before
+            for piece in pieces:
+                self.test(piece, record.state)
+        return pieces
+
+    def test(self, piece, state):
+        """The spans at which a piece passes; the depths are what it leaves."""
+        if piece.shape.is_culled(state.raster["cull"], state.raster["front_ccw"]):
+            return []
+        return self.depth.draw(piece.shape, [z for _, _, z in piece.corners], state.depth, state.rectangle())
 
     def add_triangles(self, pieces, source):
         for start in range(0, len(pieces), MOST_TRIANGLES):
@@ -147,8 +165,7 @@ class Writer:
             if not any(True for _ in piece.shape.spans(self.width, self.height)):
                 unseen += 1
                 continue
-            if not piece.shape.is_culled(state.raster["cull"], state.raster["front_ccw"]):
-                piece.passed = self.depth.draw(piece.shape, [z for _, _, z in piece.corners], state.depth, state.rectangle())
+            piece.passed = self.test(piece, state)
             pieces.append(piece)
         if unseen:
             self.losses.add("triangles that cover no pixel's centre", "left out", unseen)

@@ -1,0 +1,117 @@
+"""What draws give: vertices in the program's own coordinates, and from those primitives in clip space."""
+from dataclasses import dataclass, field
+
+from real_frames.clipping import cut
+
+from . import matrices
+from . import numbers as gl
+from .shapes import shapes
+
+LISTED = "a draw of arrays in a list"
+OWN_SHADER = "a vertex shader of its own, which isn't worked out"
+NO_VERTICES = "vertices that aren't in the arrays"
+
+
+@dataclass
+class Done:
+    """What a call did. Primitives are ((0, number), three, two or one corners in clip space)."""
+    number: int
+    name: str
+    kind: str                   # draw, clear, copy or marker
+    target: int
+    settings: object = None
+    mode: int = 0
+    primitives: list = field(default_factory=list)
+    trouble: str = ""
+    buffers: int = 0            # glClear's
+    matrices: tuple = (matrices.IDENTITY, matrices.IDENTITY)        # projection and modelview
+
+
+def padded(values):
+    """Two, three or four coordinates as four."""
+    return tuple(values) + (0.0, 0.0, 0.0, 1.0)[len(values):]
+
+
+def rectangle(values):
+    """The four corners of glRect."""
+    (left, bottom), (right, top) = values if len(values) == 2 else (values[:2], values[2:])
+    return [padded(corner) for corner in ((left, bottom), (right, bottom), (right, top), (left, top))]
+
+
+def of_arrays(words, arrays):
+    return [(words["mode"], arrays.vertices(range(words["first"], words["first"] + words["count"])))]
+
+
+def of_elements(words, arrays):
+    return [element_part(words, arrays, words["count"], words["indices"], words.get("basevertex", 0))]
+
+
+def element_part(words, arrays, count, place, base=0):
+    numbers = arrays.indices(count, words["type"], place)
+    return words["mode"], None if numbers is None else arrays.vertices([number + base for number in numbers])
+
+
+def of_many_arrays(words, arrays):
+    return [(words["mode"], arrays.vertices(range(first, first + count))) for first, count in zip(words["first"], words["count"])]
+
+
+def of_many_elements(words, arrays):
+    return [element_part(words, arrays, count, place) for count, place in zip(words["count"], words["indices"])]
+
+
+READERS = {"glDrawArrays": of_arrays, "glDrawElements": of_elements, "glDrawRangeElements": of_elements, "glDrawElementsBaseVertex": of_elements,
+           "glMultiDrawArrays": of_many_arrays, "glMultiDrawElements": of_many_elements}
+
+
+def parts(call, arrays):
+    """[(mode, vertices or None)] of a draw of arrays."""
+    return call.words["parts"] if call.name == LISTED else READERS[call.name](call.words, arrays)
+
+
+def done(machine, call, name, some):
+    """A Done for each mode of the parts, with what the context is at."""
+    found = []
+    for mode, vertices in some:
+        one = Done(call.number, f"{name}({gl.MODE_NAMES.get(mode, mode)})", "draw", machine.target, machine.settings.copy(), mode,
+                   matrices=(machine.stacks.top(gl.PROJECTION), machine.stacks.top(gl.MODELVIEW)))
+        if machine.shared.programs.has_own_vertices(machine.program) or gl.VERTEX_PROGRAM in machine.settings.enabled:
+            one.trouble = OWN_SHADER
+        elif vertices is None:
+            one.trouble = NO_VERTICES
+        else:
+            one.primitives = primitives(mode, vertices, machine.stacks, machine.settings.clip_planes())
+        if found and (found[-1].mode, found[-1].trouble) == (mode, one.trouble):
+            last = len(found[-1].primitives)
+            found[-1].primitives += [((0, last + number), corners) for (_, number), corners in one.primitives]
+        else:
+            found.append(one)
+    return found
+
+
+def primitives(mode, vertices, stacks, planes):
+    """A draw's primitives in clip space, cut at the program's own planes."""
+    projection, view = stacks.top(gl.PROJECTION), stacks.top(gl.MODELVIEW)
+    whole = matrices.multiplied(projection, view)
+    placed = [matrices.applied(whole, vertex) for vertex in vertices]
+    if planes:
+        eyes = [matrices.applied(view, vertex) for vertex in vertices]
+        placed = [corner + tuple(sum(p * e for p, e in zip(plane, eye)) for plane in planes) for corner, eye in zip(placed, eyes)]
+    found = []
+    for primitive, numbers in shapes(mode, len(vertices)):
+        for corners in within([placed[number] for number in numbers], len(planes)):
+            found.append(((0, primitive), tuple(corner[:4] for corner in corners)))
+    return found
+
+
+def within(corners, planes):
+    """The parts of a primitive whose distances from all planes, which its corners have from the fifth number on, are at least zero."""
+    for number in range(planes):
+        inside = [corner[4 + number] >= 0 for corner in corners]
+        if not any(inside):
+            return []
+        if not all(inside):
+            corners = cut(corners, lambda corner, at=4 + number: corner[at])
+            corners = corners[:2] if len(inside) == 2 else corners
+    if len(corners) <= 3:
+        return [corners]
+    return [[corners[0], corners[i], corners[i + 1]] for i in range(1, len(corners) - 1)]

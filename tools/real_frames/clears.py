@@ -1,0 +1,57 @@
+"""What a clear does: which of colour and depth, in which rectangles, with which mask."""
+import re
+
+import renderdoc as rd
+
+from .losses import Losses
+from .viewport import meet, rectangle
+
+COLOUR, DEPTH = 1, 2                    # Vulkan's aspects
+
+
+def pass_clears(action, name):
+    """(colour, depth) of what the beginning of a Vulkan pass clears."""
+    if not action.flags & rd.ActionFlags.BeginPass:
+        return False, False
+    return "C=Clear" in name, bool(re.search(r"\bDS?=Clear", name))
+
+
+def of(frame, action, width, height):
+    """(whether it clears colour, whether depth, its rectangles, None for all, the mask) of the clear that was gone to."""
+    whole = [0, 0, width, height]
+    colour, depth, boxes, mask = of_gl(frame, action, whole) if frame.is_gl() else of_vulkan(frame, action, whole)
+    return colour, depth and int(action.depthOut) in frame.textures, [None if box == whole else box for box in boxes], mask
+
+
+def of_gl(frame, action, whole):
+    flags, name, height = action.flags, frame.name(action), whole[3]
+    depth = bool(flags & rd.ActionFlags.ClearDepthStencil) and ("Depth" in name or "glClear" not in name)
+    state = frame.state(action, *whole[2:], Losses())
+    cut = frame.controller.GetPipelineState().GetScissor(0)
+    box = meet(rectangle(cut.x, height - cut.y - cut.height, cut.width, cut.height), whole) if cut.enabled else whole
+    return bool(flags & rd.ActionFlags.ClearColor), depth and state.depth["write"], [box], state.blend["mask"]
+
+
+def of_vulkan(frame, action, whole):
+    """A pass clears within its area, vkCmdClearAttachments in rectangles, other clears an image."""
+    chunk = frame.names.chunks[action.events[-1].chunkIndex]
+    if not action.flags & rd.ActionFlags.Clear:
+        areas = [rectangle_of(area) for area in named(chunk, "renderArea")]
+        return *pass_clears(action, frame.name(action)), [meet(area, whole) for area in areas] or [whole], 15
+    aspects = [aspect.data.basic.u for aspect in named(chunk, "aspectMask")] if "Attachments" in frame.name(action) else []
+    if not aspects:
+        return bool(action.flags & rd.ActionFlags.ClearColor), bool(action.flags & rd.ActionFlags.ClearDepthStencil), [whole], 15
+    colour, depth = (any(aspect & wanted for aspect in aspects) for wanted in (COLOUR, DEPTH))
+    return colour, depth, [meet(rectangle_of(area), whole) for area in named(chunk, "rect")], 15
+
+
+def named(chunk, name):
+    """The members of a call's words that have a name, however deep."""
+    if chunk.name == name:
+        return [chunk]
+    return [found for number in range(chunk.NumChildren()) for found in named(chunk.GetChild(number), name)]
+
+
+def rectangle_of(area):
+    x, y, width, height = (named(area, name)[0].data.basic.i for name in ("x", "y", "width", "height"))
+    return rectangle(x, y, width, height)

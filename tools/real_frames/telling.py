@@ -1,0 +1,50 @@
+"""What both converters take as words, write, and tell on standard error."""
+import sys
+
+from captures import MOST_BYTES, text
+
+from .fault import Fault
+
+ALL = (0, 1 << 62)
+
+
+def span(words):
+    """A..B, A.. or ..B as two numbers."""
+    first, dots, last = words.partition("..")
+    both = int(first or ALL[0]), int(last or ALL[1])
+    if not dots or both[0] < 0 or both[0] > both[1]:
+        raise ValueError(words)
+    return both
+
+
+def add_words(parser):
+    """The words on colours and on what is told."""
+    parser.add_argument("--colours", choices=["measured", "distinct"], default="measured", help="from the frame's pictures, or one for each draw [measured]")
+    parser.add_argument("--detail", type=float, metavar="BYTES", help="cut triangles while their colours are off by more (root of the mean square)")
+    parser.add_argument("--smallest", type=int, default=16, metavar="PIXELS", help="cut none that shows at no more pixels [16]")
+    parser.add_argument("--quiet", action="store_true", help="say no draw while it is read")
+
+
+def saying(quiet):
+    """Writes progress to standard error, over itself where that is a terminal."""
+    end = "\r\x1b[K" if sys.stderr.isatty() else "\n"
+    return (lambda line: None) if quiet else lambda line: print(line[:100], end=end, file=sys.stderr, flush=True)
+
+
+def written(capture):
+    """A capture as text; a Fault where it is larger than one may be."""
+    made = text(capture)
+    if len(made.encode()) > MOST_BYTES:
+        raise Fault(f"the capture has {len(made)} bytes, and {MOST_BYTES} are the most: take a part by --draws A..B, or less --detail")
+    return made
+
+
+def tell(quiet, writer, losses, seconds):
+    """How near each draw's colours are, what was lost, and how long it took."""
+    if not quiet:
+        for event, name, pixels, fault in writer.painter.faults:
+            print(f"  colours of {event} {name}: off by {fault:.1f} of 255 over {pixels} pixels", file=sys.stderr)
+    for line in losses.lines():
+        print(line, file=sys.stderr)
+    if not quiet:
+        print(f"read in {seconds[0]:.1f} s, written in {seconds[1]:.1f} s", file=sys.stderr)

@@ -1,0 +1,175 @@
+#!/usr/bin/env python3
+"""test_foreign_frames: tools/renderdoc_to_capture beside a module of the test's own in the place of RenderDoc's: files and frames that can't be replayed, and the
+states of Direct3D, of which no frame is replayed but on Windows.
+"""
+import enum
+import importlib.machinery
+import importlib.util
+import os
+import pathlib
+import subprocess
+import sys
+import tempfile
+import types
+import unittest
+from unittest import mock
+
+from frames_testing import TOOLS
+
+from real_frames import module
+
+HERE = pathlib.Path(os.environ.get("FRAMES", TOOLS))
+MEMBERS = {"State": "rasterizer outputMerger", "Rasterizer": "state viewports scissors", "BlendState": "blendFactor blends",
+           "RasterizerState": "frontCCW depthClip depthBias slopeScaledDepthBias depthBiasClamp fillMode cullMode",
+           "DepthStencilState": "depthEnable depthWrites depthFunction stencilEnable"}      # of RenderDoc's types of Direct3D, as far as they are read
+
+
+class Word(enum.Enum):
+    """Names of RenderDoc's enumerations that the tools compare."""
+    Succeeded, FileCorrupted, Supported, Unsupported, Solid, PointList, Regular, Less, Back, SrcAlpha, InvSrcAlpha, Add = range(12)
+
+
+class Api(enum.Enum):
+    OpenGL, Vulkan, D3D11, D3D12, Metal = range(5)
+
+
+class Names:
+    """An enumeration of whatever is asked of it, each an int of its own."""
+
+    def __getattr__(self, name):
+        return Word[name] if name in Word.__members__ else 1 << sum(map(ord, name)) % 60
+
+
+class Result:
+    def __init__(self, word, text=""):
+        self.word, self.text = word, text
+
+    def __eq__(self, other):
+        return self.word == other
+
+    def Message(self):
+        return self.text
+
+
+class File:
+    """A file that opens, replays and is of an API as the environment says."""
+
+    def OpenFile(self, path, *_):
+        return Result(Word.Succeeded if pathlib.Path(path).read_bytes() == b"RDOC" else Word.FileCorrupted, "not\na capture \x1b[2J")
+
+    def LocalReplaySupport(self):
+        return Word[os.environ["SUPPORT"]]
+
+    def DriverName(self):
+        return os.environ["API"]
+
+    def OpenCapture(self, *_):
+        api = Api[os.environ["API"]]
+        word = Word[os.environ["REPLAY"]]
+        return Result(word, "no device\nfits"), types.SimpleNamespace(GetAPIProperties=lambda: types.SimpleNamespace(pipelineType=api), Shutdown=lambda: None)
+
+    def Shutdown(self):
+        pass
+
+
+def stand_in():
+    """RenderDoc's module, as far as the tools need it before a frame is there."""
+    names = ("ActionFlags", "ReplaySupport", "ResultCode", "FillMode", "Topology", "ResourceFormatType", "ShaderStage", "MeshDataStage", "CompType", "DebugOverlay")
+    calls = {name: lambda *_: types.SimpleNamespace() for name in ("InitialiseReplay", "GlobalEnvironment", "ReplayOptions", "Subresource", "ShutdownReplay")}
+    return types.SimpleNamespace(GraphicsAPI=Api, OpenCaptureFile=File, **{name: Names() for name in names}, **calls)
+
+
+class Foreign(unittest.TestCase):
+    def asked(self, content=b"RDOC", api="OpenGL", support="Supported", replay="Succeeded", display=":none"):
+        """The tool's status, output and error, with a module that says these."""
+        with tempfile.TemporaryDirectory() as folder:
+            path = pathlib.Path(folder)
+            (path / "frame.rdc").write_bytes(content)
+            (path / "renderdoc.py").write_text(f"import sys\nsys.path.insert(0, {str(TOOLS)!r})\nfrom test_foreign_frames import stand_in\nglobals().update(vars(stand_in()))\n")
+            environment = {"PATH": "/nowhere", "PYTHONPATH": folder, "PYTHONDONTWRITEBYTECODE": "1", "DISPLAY": display, "API": api, "SUPPORT": support, "REPLAY": replay}
+            told = subprocess.run([sys.executable, HERE / "renderdoc_to_capture", path / "frame.rdc"], env=environment, capture_output=True, text=True, timeout=60)
+            return told.returncode, told.stdout, told.stderr.replace(folder, "")
+
+    def test_what_can_t_be_replayed_is_a_line(self):
+        for given, wanted in (({"content": b"PNG"}, "/frame.rdc: no frame of RenderDoc's: not a capture ?[2J"),
+                              ({"support": "Unsupported", "api": "D3D11"}, "/frame.rdc: a frame of D3D11 can't be replayed on this machine (frames of Direct3D replay on Windows alone)"),
+                              ({"support": "Unsupported", "api": "Vulkan"}, "/frame.rdc: a frame of Vulkan can't be replayed on this machine"),
+                              ({"replay": "FileCorrupted"}, "/frame.rdc: it can't be replayed here: no device fits"),
+                              ({"api": "Metal"}, "/frame.rdc: a frame of Metal: only OpenGL, OpenGL ES, Vulkan and Direct3D 11 and 12 are read"),
+                              ({"display": ""}, "there is no screen (DISPLAY) and no Xvfb; on Debian: apt install xvfb")):
+            self.assertEqual(self.asked(**given), (1, "", f"renderdoc_to_capture: {wanted}\n"), given)
+
+    def test_the_states_of_direct3d(self):
+        """y is up in clip space and rows count from the top; depths go from 0 to w; counter-clockwise is so on the target; edges along a row are as framedbg has them."""
+        with mock.patch.dict(sys.modules, {"renderdoc": stand_in()}):
+            sys.modules.pop("real_frames.pipelines", None)
+            from real_frames import pipelines
+            self.addCleanup(sys.modules.pop, "real_frames.pipelines", None)
+        raster = types.SimpleNamespace(frontCCW=True, depthClip=False, depthBias=3, slopeScaledDepthBias=1.5, depthBiasClamp=.25, fillMode=Word.Solid, cullMode=Word.Back)
+        depth = types.SimpleNamespace(depthEnable=True, depthWrites=False, depthFunction=Word.Less, stencilEnable=True)
+        output = types.SimpleNamespace(depthStencilState=depth, blendState=types.SimpleNamespace(blendFactor=(0, .5, 1, 1)))
+        own = types.SimpleNamespace(rasterizer=types.SimpleNamespace(state=raster), outputMerger=output)
+        box = types.SimpleNamespace(x=10, y=20, width=100, height=50, minDepth=.25, maxDepth=.75, enabled=True)
+        pipe = types.SimpleNamespace(GetViewport=lambda number: box, GetScissor=lambda number: box)
+        for api, controller in ((Api.D3D11, types.SimpleNamespace(GetD3D11PipelineState=lambda: own)), (Api.D3D12, types.SimpleNamespace(GetD3D12PipelineState=lambda: own))):
+            read = pipelines.READERS[api](controller, pipe, 480)
+            self.assertEqual(read.viewport.place((-1, 1, 0, 1)), (10, 20, .25))
+            self.assertEqual(read.viewport.place((2, -2, 2, 2)), (110, 70, .75))
+            self.assertFalse(read.viewport.rows_from_below)
+            self.assertEqual((read.front_ccw, read.clip_depth, read.stencil, read.bias), (True, False, True, (3, 1.5, .25)))
+            self.assertEqual((read.scissor, read.depth, read.blend_factor, read.raster), ([10, 20, 110, 70], (True, False, Word.Less), (0, .5, 1, 1), raster))
+            self.assertEqual(pipelines.width_of(types.SimpleNamespace(GetPrimitiveTopology=lambda: None), raster), 1.0)
+
+    def test_one_frame_is_left(self):
+        """Those that were there before stay, and what was written beside the one that is told goes."""
+        take = self.take_frame()
+        with tempfile.TemporaryDirectory() as folder:
+            def frame_of(*_):
+                for number in (3, 4, 5):
+                    pathlib.Path(f"{folder}/a_frame{number}.rdc").touch()
+                return f"{folder}/a_frame4.rdc"
+            for name in ("a_frame1.rdc", "b_frame2.rdc"):
+                pathlib.Path(folder, name).touch()
+            control = types.SimpleNamespace(GetPID=lambda: 0, Shutdown=lambda: None)
+            with mock.patch.multiple(take, launch=lambda *_: control, frame_of=frame_of, end=lambda process: None):
+                self.assertEqual(take.taken(None, types.SimpleNamespace(out=f"{folder}/a", program="a")), f"{folder}/a_frame4.rdc")
+            self.assertEqual(sorted(os.listdir(folder)), ["a_frame1.rdc", "a_frame4.rdc", "b_frame2.rdc"])
+
+    @staticmethod
+    def take_frame():
+        """The tool as a module."""
+        loader = importlib.machinery.SourceFileLoader("take_frame", str(HERE / "take_frame"))
+        take = importlib.util.module_from_spec(importlib.util.spec_from_loader("take_frame", loader))
+        loader.exec_module(take)
+        return take
+
+    def test_a_frame_of_a_window_that_isn_t_up_is_taken_again(self):
+        take = self.take_frame()
+        with tempfile.TemporaryDirectory() as folder, tempfile.TemporaryDirectory() as tools:
+            (pathlib.Path(tools) / "renderdoc_to_capture").write_text("import sys\nprint(open(sys.argv[2]).read())\n")
+            listed = ("target 9: 300 by 9, R8, samples 1, 2 draws, events 1 to 2\ntarget 7: 1 by 1, R8, samples 1, 9 draws, events 5 to 9, shown", "target 7: 1 by 1, R8, 9 draws, shown",
+                      "target 8: 1 by 1, R8, samples 1, 2 draws, events 1 to 2\ntarget 7: 21 by 1, R8, samples 1, 9 draws, events 5 to 9, shown")
+            taken = [types.SimpleNamespace(path=f"{folder}/frame{number}.rdc") for number in range(len(listed))]
+            for one, lines in zip(taken, listed):
+                pathlib.Path(one.path).write_text(lines)
+            take.TOOLS = pathlib.Path(tools)
+            kinds = types.SimpleNamespace(NewCapture=1, RegisterAPI=2, Disconnected=3)
+            messages = iter([types.SimpleNamespace(type=1, newCapture=one) for one in taken])
+            control = types.SimpleNamespace(ReceiveMessage=lambda _: next(messages), TriggerCapture=lambda count: None, CycleActiveWindow=lambda: None)
+            path = take.frame_of(types.SimpleNamespace(TargetControlMessageType=kinds), control, types.SimpleNamespace(seconds=0, patience=30))
+            self.assertEqual((path, os.listdir(folder)), (taken[2].path, ["frame2.rdc"]))
+
+    def test_renderdoc_has_these_members(self):
+        """Its own module, where it is here: no state of Direct3D can be made without a frame, but its types can be looked at."""
+        wanted = {f"D3D{version}{name}": members.split() for version in (11, 12) for name, members in MEMBERS.items()}
+        wanted.update({"D3D11OutputMerger": ["blendState", "depthStencilState"], "D3D12OM": ["blendState", "depthStencilState"], "PipeState": ["GetViewport", "GetScissor"],
+                       "ReplayController": ["GetD3D11PipelineState", "GetD3D12PipelineState"]})
+        script = f"import renderdoc as rd\nprint([(kind, name) for kind, names in {wanted}.items() for name in names if not hasattr(getattr(rd, kind), name)])"
+        told = subprocess.run([module.SYSTEM_S_PYTHON, "-c", script], capture_output=True, text=True, timeout=60)
+        if "No module named" in told.stderr:
+            self.skipTest("RenderDoc's module isn't here")
+        self.assertEqual(told.stdout, "[]\n", told.stderr)
+
+
+if __name__ == "__main__":
+    unittest.main()
