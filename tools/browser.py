@@ -10,6 +10,8 @@ import time
 import urllib.error
 import urllib.request
 
+PATIENCE = float(os.environ.get("PATIENCE", 10))    # seconds that a page may take until it shows what it is to show
+
 KEYS = {"Home": "\ue011", "End": "\ue010", "Left": "\ue012", "Up": "\ue013", "Right": "\ue014", "Down": "\ue015", "Enter": "\ue007", "Escape": "\ue00c"}
 
 
@@ -76,7 +78,7 @@ class Browser:
             raise AssertionError(answer["fault"])
         return answer
 
-    def until(self, script, *arguments, seconds=10):
+    def until(self, script, *arguments, seconds=PATIENCE):
         """What the script gives as soon as that is true."""
         end = time.time() + seconds
         while time.time() < end:

@@ -69,6 +69,7 @@ def main():
             shown.pixel(95, 40, 120)
             shown.entry(9)
             page.click("[data-look='depth']")
+            page.until("return document.querySelector('[data-look=depth]').ariaChecked === 'true' && document.getElementById('busy').hidden", seconds=60)
             shown.save("viewer_depth")
         page_alone(page)
     finally:

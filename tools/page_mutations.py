@@ -2,6 +2,7 @@
 """page_mutations: wrong versions of the page alone, each of which its tests must see.
 
     tools/page_mutations.py [WORD ..]
+    tools/page_mutations.py --list         names them, and says which text doesn't stand once in its file, or which test there isn't
 
 Each is a copy of the viewer and the page with one text exchanged, and the test that has to fail on it (and to pass on the page as it is). With words,
 only those whose name has one of them are tried. They want Chromium, and the page made once (make page).
@@ -14,6 +15,7 @@ import sys
 import tempfile
 
 import browser
+from wrong_versions import exchanged, listed, verdict
 
 TOOLS = pathlib.Path(__file__).resolve().parent
 SESSIONS, CHANCE, WORKERS, MEMORY, LARGE = "test_sessions", "test_runs_by_chance", "test_more_workers_than_threads", "test_without_memory", "test_large_blocks_of_memory"
@@ -48,23 +50,27 @@ MUTATIONS = [   # name, file, text, what stands there instead, test
     ("page: a coarser part", "page/part.js", "while (kept(right - left, every) * kept(bottom - top, every) > most)", "while (kept(right - left, every) * kept(bottom - top, every) >= most)", SERVER),
     ("page: an empty window", "page/part.js", "Math.max(right, left + 1)", "right", SERVER),
     ("page: the last byte of a piece", "page/output.js", "subarray(0, count - at);", "subarray(0, Math.max(1, count - at - 1));\n      if (part.length > 99) part[0] ^= 1;", SERVER),
-    ("page: the ending is lost", "page/run.js", "its.end(new Ended(`${ended.errors.trim() || \"framedbg has ended\"} (${ended.ending})`))", "its.end(new Ended(\"framedbg has ended\"))", REFUSED),
-    ("page: a restart keeps the run", "page/run.js", "off.clear(); return start(); });", "off.clear(); });", ENDS),
+    ("page: the ending is lost", "page/runner.js", "its.end(new Ended(`${ended.errors.trim() || \"framedbg has ended\"} (${ended.ending})`))", "its.end(new Ended(\"framedbg has ended\"))", REFUSED),
+    ("page: a restart keeps the run", "page/run.js", "  main.off.clear();\n  end(new Ended(\"started again\"));", "  main.off.clear();", ENDS),
+    ("page: a refusal of another event", "page/refused.js", "++count === number", "count++ === number", "test_a_refused_capture_is_explained"),
+    ("page: texts are taken for brackets", "page/refused.js", '"(?:[^"\\\\]|\\\\.)*"|', "", "test_a_refused_capture_is_explained"),
     ("page: a stop leaves the run", "page/run.js", "  stops++;\n  end(new Stopped());", "  stops++;", STOPPED),
-    ("page: a stop switches all on", "page/run.js", "    await answer([...off].map(number => `off ${number}`), null);\n", "", STOPPED),
-    ("page: another capture's events are off", "page/run.js", "  off.clear();\n  end(", "  end(", STOPPED),
+    ("page: a stop switches all on", "page/runner.js", "      if (this.off.size) await this.answer(", "      if (this.off.size > 99) await this.answer(", STOPPED),
+    ("page: another capture's events are off", "page/run.js", "  main.off.clear();\n  end(new Error(", "  end(new Error(", STOPPED),
     ("page: the first capture for ever", "page/run.js", "  [capture, events] = [other, null];", "  capture ??= other;", ANOTHER),
     ("page: triangles of another capture", "page/run.js", "  [capture, events] = [other, null];", "  capture = other;", "test_another_triangle"),
     ("page: nobody is told of another capture", "page/run.js", "  tellCapture();\n", "", ANOTHER),
     ("page: a dropped picture is a capture", "page/choose.js", "PICTURE.test(file.name) && !dialog.open", "false", "test_a_dropped_picture"),
     ("page: the sample at once", "page/choose.js", 'if ("opens" in inside.dataset) takeOwn();', "if (inside) takeOwn();", "test_the_sample"),
     ("page: the capture inside waits", "page/choose.js", 'if ("opens" in inside.dataset) takeOwn();', "if (!inside) takeOwn();", INSIDE),
+    ("page: pictures of other hunts", "page/choose.js", "buttons[i].firstElementChild", "buttons.at(-1 - i).firstElementChild", "test_the_hunts"),
+    ("page: a page without hunts", "page/packing.py", "*([] if opens else hunts())", "*[]", "test_the_hunts"),
     ("page: another page is saved", "page/choose.js", "  own.textContent = await pack(bytes);\n", "", INSIDE),
-    ("page: a saved page that doesn't open", "page/choose.js", '{ name, opens: "" }', "{ name }", INSIDE),
+    ("page: a saved page that doesn't open", "page/choose.js", '{ name, opens: "", place', "{ name, place", INSIDE),
     ("page: it may send", "page/packing.py", "default-src 'none'", "default-src *", "test_nothing_is_sent"),
     ("page: no word of what is missing", "page/needs.js", "if (missing.length) {", "if (missing.length > 9) {", "test_a_browser_that_lacks_something"),
-    ("viewer: the outline stays", "viewer/page/picture.js", "    this.setOutline(null);\n  }", "  }", ANOTHER),
-    ("viewer: the pixel stays", "viewer/page/frame.js", "  Object.assign(frame, unset());\n", "", ANOTHER),
+    ("viewer: the outline stays", "viewer/page/picture.js", "    this.setOutline(null);\n    this.setMark(null);\n", "    this.setMark(null);\n", ANOTHER),
+    ("viewer: the pixel stays", "viewer/page/frame.js", "  Object.assign(frame, unset(), { isOpening: true });\n", "", ANOTHER),
     ("viewer: the log stays", "viewer/page/log.js", "  log.replaceChildren();\n", "", ANOTHER),
     ("viewer: the old image stays", "viewer/page/picture.js", "this.sheet.hidden = this.cross.hidden = true;", "this.cross.hidden = true;", REFUSED),
 ]
@@ -77,25 +83,24 @@ def seen(mutation):
         for part in ("viewer", "page"):
             shutil.copytree(TOOLS / part, pathlib.Path(folder) / part)
         path = pathlib.Path(folder) / file
-        text = path.read_text()
-        if text.count(old) != 1:
-            sys.exit(f"page_mutations: {name}: its text stands {text.count(old)} times in {file}")
-        path.write_text(text.replace(old, new))
+        path.write_text(exchanged(path.read_text(), old, new))
         words = [sys.executable, TOOLS / "test_page.py", "-f", f"InChromium.{test}"]
-        run = subprocess.run(words, env={"EXAMPLES": TOOLS.parent / "examples", "FRAMEDBG": TOOLS.parent / "crates/framedbg/out/framedbg", **os.environ, "VIEWER": folder},
+        run = subprocess.run(words, env={"EXAMPLES": TOOLS.parent / "examples", "FRAMEDBG": TOOLS.parent / "crates/framedbg/out/framedbg", **os.environ, "VIEWER": folder, "PATIENCE": "10"},
                              capture_output=True, text=True, check=False)
-        return "skipped" if "skipped=" in run.stderr else "seen" if run.returncode and "FAILED" in run.stderr else "BROKEN" if run.returncode else "MISSED"
+        return verdict(run)
 
 
 def main():
+    if sys.argv[1:] == ["--list"]:
+        sys.exit(listed("page_mutations", [(name, TOOLS / file, old, "test_page.py", f"InChromium.{test}") for name, file, old, _, test in MUTATIONS]))
     if not browser.is_installed():
         sys.exit(print("page_mutations: not tried, Chromium and chromedriver aren't installed"))
     wanted = [m for m in MUTATIONS if not sys.argv[1:] or any(word in m[0] for word in sys.argv[1:])]
     missed = 0
     for mutation in wanted:
-        verdict = seen(mutation)
-        missed += verdict not in ("seen", "skipped")
-        print(f"{mutation[0]}: {verdict}", flush=True)
+        found = seen(mutation)
+        missed += found not in ("seen", "skipped")
+        print(f"{mutation[0]}: {found}", flush=True)
     sys.exit(f"{missed} wrong versions were missed" if missed else 0)
 
 

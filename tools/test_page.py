@@ -18,6 +18,8 @@ from unittest import mock
 
 import browser
 import passed_over
+import test_viewer_answers
+import test_viewer_maps
 import test_viewer_page
 from viewer_testing import DEPTH, EXAMPLES, PROGRAM, TOOLS, capture_of, image, png
 from viewer import image as viewer_image
@@ -34,7 +36,8 @@ ASKED = """
 const { ask } = await import("run.js"), told = [];
 const letters = bytes => { let text = ""; for (const byte of bytes) text += String.fromCharCode(byte); return btoa(text); };
 for (const [lines, window] of given[0]) {
-  told.push((await ask(lines, window)).map(({ image, ...more }) => image ? { ...more, image: { ...image, bytes: letters(image.bytes) } } : more));
+  const own = ({ delta, number, ...image }) => ({ ...image, bytes: letters(image.bytes) });       // without what it is made of
+  told.push((await ask(lines, window)).map(({ image, ...more }) => image ? { ...more, image: own(image) } : more));
 }
 return told;
 """
@@ -92,8 +95,8 @@ def exchanged(file, old, new):
     return path
 
 
-class Alone:
-    """What is tried in each browser."""
+class Opened:
+    """The page alone, opened in the place of the viewer's."""
     page = PAGE
 
     def open(self, viewer):
@@ -108,6 +111,9 @@ class Alone:
             self.browser.choose("#capture-file", capture)
         self.browser.until("return document.querySelector('#position b') !== null")
 
+    def within(self, script, *given):
+        return self.browser.within("const name = file => file;" + script, *given)
+
     def drop(self, name, data, place="#stage"):
         self.browser.within(DROP, name, base64.b64encode(data).decode(), place)
 
@@ -115,6 +121,10 @@ class Alone:
         self.browser.open("about:blank")
         self.browser.open((page or self.page).as_uri())
         self.browser.until("return document.getElementById('capture-file') !== null")
+
+
+class Alone(Opened):
+    """What is tried in each browser."""
 
     def test_sessions(self):
         self.plain()
@@ -237,12 +247,40 @@ class Alone:
         self.assertEqual(self.drawn(50, 50), [125, 95, 55, 255])
         self.assertFalse(self.browser.run("return document.querySelector('#notice').checkVisibility()"))
 
+    def test_a_refused_capture_is_explained(self):
+        """Where the event stands, and what is written there; no new start is offered."""
+        self.show(HOUSE)
+        self.at(13)
+        for text, why in (('{"format":"framedbg","version":1,"width":4,"height":4,\n"events":[{"kind":"clear","color":[1,2,3,4]},\n  {"kind":"clear","color":[1,2,300,4]}]}',
+                           'line 3, column 3: event 2 is {"kind":"clear","color":[1,2,300,4]}'),
+                          ('{"events":[], "format":"framedbg","version":1,"width":4,"height":4,"x":[{"events":[9]}],"events":[{"kind":"marker","name":"],\\"{"},7]}',
+                           "event 2 is 7"),
+                          ('{"format":"framedbg","version":3,"width":4,"height":4,"events":[]}', "version is 3"), ('{"format":"framedbg","version":1,"height":0,"events":[]}', "width is missing, height is 0")):
+            self.drop("wrong.json", text.encode())
+            self.browser.until("return document.getElementById('notice').innerText.includes(arguments[0])", why)
+            self.assertEqual(self.text("#notice button"), "Close")
+        self.drop("house.json", HOUSE.read_bytes())
+        self.at(13)
+
     def test_the_sample(self):
         self.plain()
         self.browser.until("return document.getElementById('choice').open")
         self.browser.click("#own-capture")
         self.at(13)
         self.reads("#capture", "house.json")
+
+    def test_the_hunts(self):
+        """The start has the nine of them with their pictures; one is opened by a click."""
+        self.plain()
+        names = sorted(file.stem for file in (EXAMPLES / "hunts").glob("*.json") if not file.stem.endswith("_mended"))
+        self.assertEqual(self.browser.until("return [...document.querySelectorAll('#hunts button')].map(b => b.innerText.trim())"), names)
+        self.assertEqual(len(names), 9)
+        pixels = "return [...document.querySelectorAll('#hunts canvas')].map(c => [...c.getContext('2d').getImageData(60, 60, 1, 1).data])"
+        own = [[*image(EXAMPLES / f"hunts/{name}.json")[0][4 * (60 * 120 + 60):][:3], 255] for name in names]
+        self.comes(lambda: self.browser.run(pixels), own, 60)
+        self.browser.click(f"#hunts button:nth-child({names.index('chain') + 1})")
+        self.at(9)
+        self.reads("#capture", "chain.json")
 
     def test_it_ends_and_starts_again(self):
         self.show(HOUSE)
@@ -360,6 +398,39 @@ class InFirefox(Alone, test_viewer_page.Page):
     @classmethod
     def setUpClass(cls):
         cls.browser = browser.Firefox()
+
+
+class AnswersInChromium(Opened, test_viewer_answers.AnswersInChromium):
+    test_a_place_outlasts_a_reload = test_a_pixel_is_picked_anywhere = None       # of the server; places of a saved page are tried below
+
+    def test_a_place_is_saved(self):
+        """A saved page opens where it was saved; an address goes before that."""
+        self.show(HOUSE)
+        self.at(13)
+        self.browser.run("location.hash = '#at=11&pixel=50,50&off=8'")
+        self.reads("#value", "190 60 50 128")
+        text, _ = self.browser.within(SAVED)
+        saved = PAGE.with_stem("saved")
+        saved.write_text(text)
+        for address, value, position in (("", "190 60 50 128", 11), ("#at=13&pixel=50,50", "125 95 55 128", 13)):
+            self.browser.open("about:blank")
+            self.browser.open(saved.as_uri() + address)
+            self.reads("#value", value)
+            self.at(position)
+        self.drop("chain.json", CHAIN.read_bytes())
+        self.at(9)
+
+
+class AnswersInFirefox(Opened, test_viewer_answers.AnswersInFirefox):
+    test_a_place_outlasts_a_reload = test_a_pixel_is_picked_anywhere = None
+
+
+class MapsInChromium(Opened, test_viewer_maps.MapsInChromium):
+    test_no_button_is_lit_over_another_picture = None       # a server that waits
+
+
+class MapsInFirefox(Opened, test_viewer_maps.MapsInFirefox):
+    pass
 
 
 # Of the viewer's tests, those that are tried in Firefox too

@@ -6,6 +6,10 @@
 FRAMEDBG names another program, EXAMPLES another folder of examples, VIEWER another folder that the viewer is taken from.
 """
 import passed_over
+from test_viewer_answers import *   # noqa: F401, F403
+from test_viewer_blame import *     # noqa: F401, F403
+from test_viewer_looks import *    # noqa: F401, F403
+from test_viewer_maps import *     # noqa: F401, F403
 from test_viewer_page import *     # noqa: F401, F403
 from test_viewer_server import *   # noqa: F401, F403
 

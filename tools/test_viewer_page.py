@@ -1,87 +1,21 @@
-"""The viewer's page in a real browser: Chromium by chromedriver, where both are installed."""
+"""The viewer's page in a real browser: Chromium by chromedriver, where both are installed. What answers a question is in test_viewer_answers.py."""
 import pathlib
 import random
 import tempfile
-import time
 import unittest
 from unittest import mock
 
 import browser
-from viewer_testing import DEPTH, EXAMPLES, HOLDING, SLOPE, STOPPING, WINDOW, Viewer, image, png, program_of, replies
+from viewer_hands import Hands
+from viewer_testing import DEPTH, EXAMPLES, HOLDING, STOPPING, WINDOW, Viewer, image, png, program_of, replies
 from viewer import image as viewer_image
 from viewer.handover import Handover
 
 HOUSE = EXAMPLES / "house.json"
-# Answers that the browser complains of, sometimes only in the next test: of a server that is gone before its page, of a run that ended, without the token
-ASKED_FOR = ("ERR_CONNECTION_REFUSED", "410 (Gone)", "403 (Forbidden)")
 
 
 @unittest.skipUnless(browser.is_installed(), "Chromium and chromedriver aren't installed")
-class Page(unittest.TestCase):
-    @classmethod
-    def setUpClass(cls):
-        cls.browser = browser.Browser()
-
-    @classmethod
-    def tearDownClass(cls):
-        cls.browser.close()
-
-    def tearDown(self):
-        self.assertEqual([complaint for complaint in self.browser.complaints() if not any(answer in complaint for answer in ASKED_FOR)], [])
-
-    def open(self, viewer):
-        self.browser.open("about:blank")
-        self.browser.open(viewer.server.address)
-        self.browser.until("return document.querySelector('#position b') !== null")
-
-    def text(self, selector):
-        return self.browser.run("return document.querySelector(arguments[0]).innerText", selector)
-
-    def reads(self, selector, text):
-        self.browser.until("return document.querySelector(arguments[0])?.innerText.replace(/\\s+/g, ' ').trim() === arguments[1]", selector, text)
-
-    def comes(self, read, expected, seconds=10):
-        """What the page shows as soon as it has caught up with what was done to it."""
-        end = time.time() + seconds
-        while read() != expected and time.time() < end:
-            time.sleep(0.02)
-        self.assertEqual(read(), expected)
-
-    def at(self, position):
-        self.reads("#position b", str(position))
-
-    def box(self, selector):
-        return self.browser.run("const b = document.querySelector(arguments[0]).getBoundingClientRect(); return [b.left, b.top, b.width, b.height]", selector)
-
-    def click_pixel(self, x, y, width):
-        left, top, wide, _ = self.box("#sheet")
-        self.browser.click_at(left + (x + 0.5) * wide / width, top + (y + 0.5) * wide / width)
-
-    def drawn(self, x, y):
-        return self.browser.run("return [...document.getElementById('image').getContext('2d').getImageData(arguments[0], arguments[1], 1, 1).data]", x, y)
-
-    def history(self):
-        return self.browser.run("return [...document.querySelectorAll('#history .entry')].map(e => [...e.children].map(c => c.innerText.trim()).join(' '))")
-
-    def state(self):
-        names = self.browser.run("return [...document.querySelectorAll('#state-table dt')].map(e => e.innerText)")
-        values = self.browser.run("return [...document.querySelectorAll('#state-table dd')].map(e => e.innerText.replace(/\\s+/g, ' ').trim())")
-        return dict(zip(names, values))
-
-    def command(self, line):
-        self.browser.click("#command")
-        self.browser.press(*line, "Enter")
-        self.browser.until("return document.querySelector('#log .told:last-child .asked').innerText === arguments[0]", line)
-        self.browser.press("Escape")
-        return self.text("#log .told:last-child .reply")
-
-    def row(self, number):
-        return f"#event-list [data-number='{number}']"
-
-    def choose_entry(self, event):
-        self.browser.click(f"#history [data-event='{event}']")
-        self.at(event)
-
+class Page(Hands):
     def test_who_painted_the_house_wrong(self):
         with Viewer(HOUSE) as viewer:
             self.open(viewer)
@@ -106,9 +40,9 @@ class Page(unittest.TestCase):
             self.comes(lambda: self.state()["blend"], "on")
             self.browser.press("Left", "Left")
             self.at(8)
-            self.reads("#state-table dd.changed", "on")
+            self.reads("#state-table .changed .said", "on")
             self.browser.click("[data-state='with']")
-            self.reads("#state-table dd.changed", "off")
+            self.reads("#state-table .changed .said", "off")
             for key, position in (("[", 6), ("]", 11), ("Up", 9), ("Down", 11), ("End", 13), ("Home", 0)):
                 self.browser.press(key)
                 self.at(position)
@@ -292,37 +226,6 @@ class Page(unittest.TestCase):
                 self.comes(lambda: self.drawn(1, 1), [255, 0, 0, 255])
                 self.reads(self.row(5), "5 depth src ≥ stored, not written")
 
-    def test_depths_of_what_is_in_sight(self):
-        with tempfile.TemporaryDirectory() as folder:
-            file = pathlib.Path(folder) / "slope.json"
-            file.write_text(SLOPE)
-            with Viewer(file) as viewer:
-                self.open(viewer)
-                self.at(2)
-                self.browser.press("z")
-                self.reads("#difference", "the target has 19,200 pixels: depths are asked for one by one, and at most 16,384 are. Zoom in for those in sight")
-                self.comes(lambda: self.drawn(5, 5), [255, 0, 0, 255])
-                self.browser.press(*"+" * 6)
-                self.browser.until("return document.getElementById('difference').innerText.startsWith('depths ') && document.getElementById('image').width < 160")
-                self.comes(self.slope, "depths from the first column to the last, light to dark")
-
-    def slope(self):
-        """What is told and drawn of the slope at one moment, in words where both are as they should be."""
-        across, columns, told, *greys = self.browser.run(
-            "const image = document.getElementById('image'), [a, b] = [image, document.getElementById('sheet')].map(e => e.getBoundingClientRect()), { width } = image;"
-            "const grey = x => image.getContext('2d').getImageData(x, 3, 1, 1).data[0];"
-            "return [Math.round((a.left - b.left) * 160 / b.width), width, document.getElementById('difference').innerText, grey(0), grey(width - 1)]")
-        near, far = (100 * x + 50 for x in (across, across + columns - 1))
-        is_right = columns < 160 and told == f"depths {near} to {far}: nearer is lighter, and 65535 is black" and greys == [240, 60]
-        return "depths from the first column to the last, light to dark" if is_right else (across, columns, told, greys)
-
-    def drawn_of(self, width, *places):
-        """What is drawn at pixels of the target of which a part is in sight, all at one moment."""
-        return self.browser.run(
-            "const [width, places] = arguments, image = document.getElementById('image'), [a, b] = [image, document.getElementById('sheet')].map(e => e.getBoundingClientRect());"
-            "const across = Math.round((a.left - b.left) * width / b.width), down = Math.round((a.top - b.top) * width / b.width);"
-            "return places.map(([x, y]) => [...image.getContext('2d').getImageData(x - across, y - down, 1, 1).data])", width, places)
-
     def test_a_target_that_is_too_large_at_once(self):
         samples, _ = image(HOUSE)
         at = lambda x, y: [*samples[4 * (y * 96 + x):4 * (y * 96 + x) + 3], 255]
@@ -340,7 +243,6 @@ class Page(unittest.TestCase):
             self.browser.until("return /^\\d+ shown px changed, 45 36 to 75 57$/.test(document.getElementById('difference').innerText)")
             self.browser.press("+", "+", "+")
             self.reads("#part", "Of the target's 96 × 64 pixels those in sight were fetched.")
-            self.browser.until("return document.getElementById('zoom').innerText === '21×' && document.getElementById('image').width < 40")
             places = (44, 40), (43, 40), (40, 30)
             self.comes(lambda: self.drawn_of(96, *places), [at(x, y) for x, y in places])
             self.browser.press("a", "Left")
@@ -454,7 +356,9 @@ class Page(unittest.TestCase):
                 self.comes(lambda: self.drawn(10, 6), [g, g, g, 255])
                 self.browser.click("#larger")
                 self.assertGreater(self.box("#image")[2], width)
-                self.click_pixel(20, 20, 64)
+                for x, inside in ((19, 0.85), (20, 0.15), (21, 0.85), (20, 0.5)):
+                    self.click_pixel(x, 20, 64, inside)
+                    self.reads("#place", f"{x} 20")
                 self.reads("#value", shown[20, 20].removeprefix("pixel "))
                 self.browser.press("0")
                 self.assertEqual(self.box("#image")[2], width)
@@ -471,7 +375,7 @@ class Page(unittest.TestCase):
             try:
                 self.browser.open(handover.page.as_uri())
                 self.at(13)
-                self.assertEqual(self.browser.run("return location.href"), viewer.server.origin + "/")
+                self.assertNotIn(viewer.server.token, self.browser.run("return location.href"))
             finally:
                 handover.close()
 
@@ -483,7 +387,7 @@ class Page(unittest.TestCase):
             self.at(13)
             self.browser.call("/refresh", {})
             self.at(13)
-            self.assertEqual(self.browser.run("return location.href"), viewer.server.origin + "/")
+            self.assertEqual(self.browser.until("return location.hash && location.href"), viewer.server.origin + "/#at=13")     # and no token
 
     def test_stopped_and_ended(self):
         with tempfile.TemporaryDirectory() as folder:
@@ -504,17 +408,6 @@ class Page(unittest.TestCase):
                 self.browser.press("Left")
                 self.at(1)
 
-    def stop(self):
-        """The button, as soon as it can be pressed."""
-        self.browser.until("return document.getElementById('stop').getAttribute('aria-disabled') === 'false'", seconds=20)
-        self.browser.run("document.getElementById('notice').replaceChildren()")      # what is told from now on counts
-        self.browser.click("#stop")
-
-    def stopped_at(self, position):
-        self.reads("#notice", f"Stopped: at {position}")
-        self.at(position)
-        self.assertEqual(self.browser.run("return document.getElementById('stop').getAttribute('aria-disabled')"), "true")
-
     def test_a_long_move_is_stopped(self):
         """The page stays where it stood, with the events off that were off, and what waited is dropped."""
         with tempfile.TemporaryDirectory() as folder:
@@ -528,10 +421,12 @@ class Page(unittest.TestCase):
                 self.at(0)
                 hold.touch()
                 self.browser.press("End")
-                self.browser.until("return document.getElementById('stop').getAttribute('aria-disabled') === 'false'", seconds=20)
+                self.browser.until("return document.getElementById('stop').getAttribute('aria-disabled') === 'false'")
+                self.assertTrue(self.browser.run("return document.getElementById('busy').checkVisibility()"))
                 self.browser.press("Left")                                  # waits, and is dropped
                 self.stop()
                 self.stopped_at(0)
+                self.assertFalse(self.browser.run("return document.getElementById('busy').checkVisibility()"))
                 self.assertEqual(self.browser.run("return [...document.querySelectorAll('#event-list .off')].map(e => e.dataset.number)"), ["3"])
                 self.assertEqual(viewer.ask("events")[0]["replies"][0], {"text": "events 3 at 0", "lines": ["1 on clear 1 2 3 4", "2 on clear 1 2 3 4", "3 off clear 1 2 3 4"], "left_out": 0})
                 self.browser.press("Right")

@@ -2,6 +2,7 @@
 import json
 import os
 import pathlib
+import random
 import signal
 import socket
 import stat
@@ -14,13 +15,16 @@ import time
 import unittest
 from unittest import mock
 
-from viewer_testing import EXAMPLES, HOLDING, PROGRAM, TOOLS, Viewer, image, program_of, replies
-from viewer import image as viewer_image
+from page import runs as chance
+from viewer_testing import EXAMPLES, HOLDING, PROGRAM, TOOLS, Viewer, capture_of, file_of, image, program_of, replies
+from viewer import image as viewer_image, nearby as viewer_nearby, session as viewer_session
+from viewer.capture import Capture
 from viewer.doors import MAX_BODY
 from viewer.handover import Handover
 from viewer.session import Ended, Session, Stopped
 
 HOUSE = EXAMPLES / "house.json"
+VIEW = pathlib.Path(os.environ.get("VIEWER", str(TOOLS))) / "view"
 
 
 class Doors(unittest.TestCase):
@@ -65,7 +69,7 @@ class Doors(unittest.TestCase):
         own = self.viewer.server.token
         self.assertGreaterEqual(len(own), 43)            # 256 bits in letters of six bits
         for token in (None, "", "x", own[:-1], own + "x", own.swapcase()):
-            for call in ({}, {"path": "/triangle", "body": b"11 0"}, {"path": "/restart", "body": b""}, {"path": "/stop", "body": b""}, {"method": "GET", "path": "/capture"}):
+            for call in ({}, {"path": "/triangle", "body": b"11 0"}, {"path": "/draw", "body": b"11"}, {"path": "/restart", "body": b""}, {"path": "/stop", "body": b""}, {"method": "GET", "path": "/capture"}, {"method": "GET", "path": "/sources"}):
                 self.assertEqual(self.status(X_Token=token, **call), 403, (token, call))
         self.assertEqual(self.status(more=[("X-Token", own)]), 403)
 
@@ -85,8 +89,12 @@ class Doors(unittest.TestCase):
             self.assertEqual(self.status(body=body), 400, body[:20])
         for window in ("", "1 2 3", "1 2 3 4 5", "-1 0 2 2", "a 0 1 1", "0 0 1 11111111111"):
             self.assertEqual(self.status(X_Window=window), 400, window)
+        for base in ("", "-1", "a", "1 2", "11111111111"):
+            self.assertEqual(self.status(X_Base=base), 400, base)
         for body in (b"", b"1", b"1 2 3", b"-1 0", b"a b", b"1 11111111111", b"\xb2 1"):
             self.assertEqual(self.status(path="/triangle", body=body), 400, body)
+        for body in (b"", b"1 2", b"-1", b"a", b"11111111111"):
+            self.assertEqual(self.status(path="/draw", body=body), 400, body)
         self.assertEqual(self.viewer.ask("nonsense")[0]["replies"], [{"text": "bad 1 unknown command"}])
 
     def test_methods(self):
@@ -111,6 +119,14 @@ class Run(unittest.TestCase):
             self.assertEqual(corners(b"11 0"), [[44, 36], [76, 36], [44, 60]])
             for body in (b"11 2", b"10 0", b"0 0", b"99 0", b"11 4294967296"):
                 self.assertIn(corners(body), (None, []), body)
+
+    def test_draws(self):
+        with Viewer(HOUSE) as viewer:
+            draw = lambda body: json.loads(viewer.request(path="/draw", body=body)[2])
+            event = json.loads(HOUSE.read_text())["events"][10]
+            self.assertEqual(draw(b"11"), {"interp": "flat", "vertices": [[v["x"], v["y"], None, v["color"]] for v in event["vertices"]], "indices": event.get("indices")})
+            for body in (b"10", b"0", b"14", b"4294967296"):
+                self.assertIsNone(draw(body), body)
 
     def test_a_session_is_answered_as_framedbg_answers_it(self):
         for line in (EXAMPLES / "sessions.txt").read_text().splitlines():
@@ -155,6 +171,233 @@ class Run(unittest.TestCase):
             self.assertEqual(counts, [[1, 2], [2, 2], [2, 4], [4, 4]])
             viewer.request(path="/restart", body=b"")
             self.assertEqual(viewer.ask("state")[0]["switches"], [5, 5])
+
+
+class Refusals(unittest.TestCase):
+    def test_a_refused_capture_is_explained(self):
+        """Before any page comes: the member, with line and column."""
+        with tempfile.TemporaryDirectory() as folder:
+            file = pathlib.Path(folder) / "wrong.json"
+            file.write_text('{"format":"framedbg","version":1,"width":4,"height":4,\n"events":[{"kind":"clear","color":[1,2,3,4]},\n  {"kind":"clear","color":[1,2,300,4]}]}\n')
+            run = subprocess.run([VIEW, "--no-browser", "--program", PROGRAM, file], capture_output=True, text=True, timeout=30)
+            self.assertEqual((run.returncode, run.stderr), (1, "view: framedbg: capture refused 8 bad field 2 (status 2)\n"
+                             "line 3, column 32: event 2 (clear), color 2: a whole number from 0 to 255 is wanted, not 300\n"))
+
+
+class ChangedRows(unittest.TestCase):
+    def test_the_rows_that_changed(self):
+        """Put over the image before they are the image, whatever the moves were."""
+        with Viewer(HOUSE) as viewer:
+            base, whole, few = 0, None, 0
+            for position in (0, 13, 12, 3, 4, 4, 6, 11, 10, 11, 13, 0):
+                told, data = self.shown(viewer, position, base)
+                own = viewer.session.answer([b"show"])[1][0]
+                if "bands" in told:
+                    self.assertEqual(told["base"], base)
+                    self.assertEqual(sum(count for _, count in told["bands"]) * 96 * 4, len(data))
+                    for first, count in told["bands"]:
+                        whole = whole[:384 * first] + data[:384 * count] + whole[384 * (first + count):]
+                        data = data[384 * count:]
+                    few += 1
+                else:
+                    whole = data
+                self.assertEqual(whole, own)
+                base = told["number"]
+            self.assertGreaterEqual(few, 6)
+            self.assertEqual(self.shown(viewer, 13, base)[0]["bytes"], 96 * 64 * 4)         # all but nothing is another
+
+    def test_another_base(self):
+        """A page that has another image gets all of it, and so does one that looks at another part."""
+        with Viewer(HOUSE) as viewer:
+            number = self.shown(viewer, 13, 0)[0]["number"]
+            for base, window in ((0, None), (99, None), (number, (0, 0, 9, 9))):
+                told, data = self.shown(viewer, 12, base, window)
+                self.assertNotIn("bands", told)
+                number = told["number"]
+            left = self.shown(viewer, 0, 0, (0, 0, 40, 64))[0]["number"]
+            self.assertNotIn("bands", self.shown(viewer, 0, left, (40, 0, 80, 64))[0])      # of the same bytes
+
+    def test_a_picture_that_was_not_sent(self):
+        """The rows that changed are those since the last one that was."""
+        with Viewer(HOUSE) as viewer:
+            told, whole = self.shown(viewer, 10, 0)
+            viewer.session.answer([b"goto 11", b"show"])
+            told, data = self.shown(viewer, 10, told["number"])
+            self.assertEqual((told.get("bands"), data), ([], b""))
+            viewer.session.answer([b"goto 11", b"show"])
+            told, data = self.shown(viewer, 11, told["number"])
+            self.assertEqual(whole[:384 * 36] + data + whole[384 * 60:], viewer.session.answer([b"show"])[1][0])
+
+    def shown(self, viewer, position, base, window=None):
+        given = {"X_Window": " ".join(map(str, window))} if window else {}
+        told, _, data = viewer.request(body=b"goto %d\nshow\n" % position, X_Base=str(base), **given)[2].partition(b"\n")
+        return json.loads(told)["replies"][1]["image"], data
+
+
+class NearPictures(unittest.TestCase):
+    """The picture of a position near the last one, put together from the pixels that may be others: byte for byte the one that framedbg writes."""
+
+    def walk(self, file, events, dice, moves):
+        """How many of the pictures on a way by chance weren't asked for as a whole; events are switched on it, and parts of the target looked at."""
+        capture, near = Capture(file), 0
+        session, own = Session(PROGRAM, str(file), 1, capture.box), Session(PROGRAM, str(file), 1)
+        self.addCleanup(session.close)
+        self.addCleanup(own.close)
+        position, window = events, None
+        for _ in range(moves):
+            position = max(0, min(events, dice.choice((position - 1, position + 1, position + 1, position - 3, position + 5, dice.randrange(events + 1)))))
+            if dice.random() < 0.1:
+                window = dice.choice((None, (3, 2, 20, 19), (0, 0, 11, 30)))
+            number = dice.choice(sorted(session.off)) if session.off and dice.random() < 0.5 else dice.randrange(1, events + 1)
+            switch = [b"%s %d" % (b"on" if number in session.off else b"off", number)]
+            if dice.random() < 0.1:
+                session.answer(switch)
+                own.answer(switch)
+            switched = [*switch, b"goto %d" % (number - 1), b"show", b"goto %d" % number, b"show"] if dice.random() < 0.1 else []
+            lines = [*switched, b"goto %d" % position, b"show", b"show"]
+            (replies, images, _), (wanted, theirs, _) = session.answer(lines, window), own.answer(lines, window)
+            self.assertEqual([reply["text"] for reply in replies], [reply["text"] for reply in wanted])
+            self.assertEqual([bytes(image) for image in images], [bytes(image) for image in theirs], lines)
+            near += "since" in replies[-2]["image"]
+        return near
+
+    def test_they_are_the_program_s(self):
+        dice, near = random.Random(11), 0
+        with tempfile.TemporaryDirectory() as folder:
+            for _ in range(12):
+                events = [event for event in (chance.event(dice, 32, 28, 2) for _ in range(60)) if event["kind"] != "clear" or dice.random() < 0.2]
+                for event in events:
+                    if event["kind"] == "draw" and dice.random() < 0.8:
+                        self.make_small(dice, event)
+                near += self.walk(file_of(folder, capture_of(32, 28, events, 2)), len(events), dice, 40)
+        self.assertGreater(near, 200)
+
+    def test_a_switch_in_the_same_call(self):
+        """What a call switches on is drawn in its pictures, also in those near each other."""
+        corners = [{"x": x << 16, "y": y << 16, "color": [9, 9, 9, 255]} for x, y in ((0, 0), (5, 0), (0, 5))]
+        events = [{"kind": "clear", "color": [1, 2, 3, 4]}, {"kind": "draw", "interp": "flat", "vertices": corners}]
+        with tempfile.TemporaryDirectory() as folder:
+            file = file_of(folder, capture_of(9, 9, events))
+            near, own = (Session(PROGRAM, str(file), 1, box) for box in (Capture(file).box, None))
+            for session in (near, own):
+                self.addCleanup(session.close)
+                session.answer([b"off 2"])
+            lines = [b"on 2", b"goto 1", b"show", b"goto 2", b"show"]
+            pictures, theirs = ([bytes(image) for image in session.answer(lines)[1]] for session in (near, own))
+            self.assertEqual(pictures, theirs)
+            self.assertNotEqual(*pictures)
+
+    def make_small(self, dice, event):
+        """Its corners near each other, some on the middles of pixels and beside them."""
+        left, top = dice.randrange(-3, 32), dice.randrange(-3, 28)
+        place = lambda start: (start << 16) + dice.choice((0, 32768, 32768 - 128, 32768 + 128, 32768 - 129, 32768 + 129, dice.randrange(65536))) + (dice.randrange(4) << 16)
+        for vertex in event["vertices"]:
+            vertex.update(x=place(left), y=place(top))
+        if dice.random() < 0.3:         # edges at the left and at the top that are moved onto the middles of pixels
+            x, y = ((start << 16) + 32768 + 128 for start in (left, top))
+            for i, vertex in enumerate(event["vertices"]):
+                vertex.update(x=x + (3 << 16) * (i % 3 == 1), y=y + (3 << 16) * (i % 3 == 2))
+
+    def test_few_lines_are_asked(self):
+        """Of a draw one for each pixel of its box, 32 by 24, and of state events, or of what is off, none at all."""
+        with Viewer(HOUSE) as viewer:
+            def lines(*asked):
+                before = viewer.session.lines
+                viewer.ask(*asked, "show")
+                return viewer.session.lines - before - len(asked)
+
+            self.assertEqual([lines(f"goto {position}") for position in (10, 11, 10)], [1, 32 * 24, 32 * 24])
+            self.assertEqual([lines("off 11", "goto 10"), lines("goto 11"), lines("goto 10")], [1, 0, 0])
+            self.assertEqual([lines("on 11", "goto 8"), lines("goto 7"), lines("goto 8")], [1, 0, 0])
+
+    def test_another_file(self):
+        """Where the file may not be what framedbg has read, nothing is known of its events."""
+        with tempfile.TemporaryDirectory() as folder:
+            file = file_of(folder, HOUSE.read_text())
+            capture = Capture(file)
+            self.assertEqual([capture.box(number) for number in (8, 11)], [(0, 0, 0, 0), (44, 36, 76, 60)])
+            file.write_text(HOUSE.read_text() + " ")
+            self.assertEqual([capture.box(number) for number in (8, 11)], [None, None])
+            self.assertIsNone(Capture("no capture").box(8))
+
+    def test_a_run_without_lines_left(self):
+        """Another stands in its place, with the same events off."""
+        with mock.patch.object(viewer_session, "MOST_LINES", 2000), mock.patch.object(viewer_nearby, "MOST_PIXELS", 800), Viewer(HOUSE) as viewer:
+            viewer.ask("off 8")
+            processes = set()
+            for position in (13, 11, 10, 11, 10, 11):
+                self.assertEqual(viewer.ask(f"goto {position}", "pixel 50 50", "show")[0]["replies"][1]["text"], "pixel 190 60 50 128" if position > 10 else "pixel 60 130 60 255")
+                processes.add(viewer.session.run.pid)
+                self.assertLessEqual(viewer.session.lines, 2000)
+            self.assertGreater(len(processes), 1)
+            self.assertEqual(viewer.ask("state")[0]["switches"], [2, 2])
+
+
+class Beside(unittest.TestCase):
+    """Runs beside the page's own: they stand elsewhere, and the same events are off there."""
+
+    def ask(self, viewer, *lines, run="end"):
+        told = viewer.request(body="".join(line + "\n" for line in lines).encode(), X_Run=run)[2].partition(b"\n")[0]
+        return [reply["text"] for reply in json.loads(told)["replies"]]
+
+    def test_each_stands_where_it_stands(self):
+        with Viewer(HOUSE) as viewer:
+            viewer.ask("goto 4")
+            self.assertEqual(self.ask(viewer, "goto 13", "pixel 50 50"), ["at 13", "pixel 125 95 55 128"])
+            self.assertEqual(self.ask(viewer, "goto 10", "pixel 50 50", run="depths"), ["at 10", "pixel 60 130 60 255"])
+            self.assertEqual([viewer.ask("events")[0]["replies"][0]["text"], *self.ask(viewer, "events"), *self.ask(viewer, "events", run="depths")],
+                             ["events 13 at 4", "events 13 at 13", "events 13 at 10"])
+
+    def test_the_same_events_are_off(self):
+        with Viewer(HOUSE) as viewer:
+            self.ask(viewer, "goto 13")
+            for lines in (["off 8"], ["off 10", "off 12"], ["on 8", "on 10", "off 3"], ["on 12", "on 3"]):
+                own = viewer.ask("goto 13", *lines, "goto 13", "pixel 50 50", "events")[0]["replies"]
+                told = json.loads(viewer.request(body=b"goto 13\npixel 50 50\nevents\n", X_Run="end")[2].partition(b"\n")[0])["replies"]
+                self.assertEqual(told, own[-3:])
+            viewer.ask("off 8")
+            viewer.request(path="/restart", body=b"")
+            self.assertEqual(self.ask(viewer, "goto 13", "pixel 50 50"), ["at 13", "pixel 125 95 55 128"])
+
+    def test_the_bound_on_lines(self):
+        """Before a run has no lines left another stands in its place, with the same events off."""
+        with mock.patch.object(viewer_session, "MOST_LINES", 10), Viewer(HOUSE) as viewer:
+            viewer.ask("off 8")
+            processes = set()
+            for _ in range(4):
+                self.assertEqual(self.ask(viewer, "goto 13", *["pixel 50 50"] * 3), ["at 13", *["pixel 190 60 50 128"] * 3])
+                processes.add(viewer.server.runs.beside["end"].run.pid)
+                self.assertLessEqual(viewer.server.runs.beside["end"].lines, 10)
+            self.assertEqual(len(processes), 2)
+
+    def test_one_that_ends_is_no_ending(self):
+        """The next call has another."""
+        with Viewer(HOUSE) as viewer:
+            self.ask(viewer, "goto 13")
+            viewer.server.runs.beside["end"].run.kill()
+            self.assertEqual(viewer.request(X_Run="end")[0], 410)
+            self.assertEqual(self.ask(viewer, "goto 13", "pixel 50 50"), ["at 13", "pixel 125 95 55 128"])
+            self.assertEqual(viewer.request()[0], 200)
+
+    def test_a_stop_reaches_them(self):
+        with tempfile.TemporaryDirectory() as folder:
+            hold, held = (pathlib.Path(folder) / name for name in ("hold", "held"))
+            with Viewer(HOUSE, program_of(HOLDING, folder)) as viewer:
+                hold.touch()
+                found = []
+                caller = threading.Thread(target=lambda: found.append(viewer.request(body=b"goto 3\n", X_Run="end")), daemon=True)
+                caller.start()
+                end = time.time() + 10
+                while not held.exists() and time.time() < end:
+                    time.sleep(0.01)
+                self.assertEqual(viewer.request(path="/stop", body=b"")[0], 200)
+                caller.join(10)
+                self.assertEqual((found[0][0], json.loads(found[0][2])["stopped"]), (410, True))
+
+    def test_others_are_refused(self):
+        with Viewer(HOUSE) as viewer:
+            for name in ("", "main", "END", "../end"):
+                self.assertEqual(viewer.request(X_Run=name)[0], 400, name)
 
 
 class Stops(unittest.TestCase):

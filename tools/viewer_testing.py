@@ -18,6 +18,7 @@ from viewer.session import Session   # noqa: E402
 
 PROGRAM = os.path.abspath(os.environ.get("FRAMEDBG", TOOLS.parent / "crates/framedbg/out/framedbg"))
 EXAMPLES = pathlib.Path(os.environ.get("EXAMPLES", TOOLS.parent / "examples")).resolve()
+HOUSE = EXAMPLES / "house.json"
 
 
 def vertices(*corners):
@@ -39,11 +40,6 @@ DEPTH = capture_of(8, 8, [
     {"kind": "draw", "interp": "flat", "vertices": vertices((0, 0, 1000, RED), (8, 0, 1000, RED), (0, 8, 1000, RED))},
     {"kind": "draw", "interp": "flat", "vertices": vertices((0, 0, 2000, BLUE), (16, 0, 2000, BLUE), (0, 16, 2000, BLUE))},
     {"kind": "depth", "enable": True, "write": False, "func": "GREATER_EQUAL"}, {"kind": "depth_clear", "depth": 3000}], 2)
-# A slope in depth from left to right, on more pixels than are asked for one by one
-SLOPE = capture_of(160, 120, [
-    {"kind": "depth", "enable": True, "write": True, "func": "LESS"},
-    {"kind": "draw", "interp": "linear", "vertices": vertices(
-        (0, 0, 0, RED), (160, 0, 16000, RED), (0, 120, 0, RED), (160, 0, 16000, RED), (160, 120, 16000, RED), (0, 120, 0, RED))}], 2)
 # Answers as framedbg does where memory is wanted on the way forward: it never comes past position 2
 STOPPING = """#!/usr/bin/env python3
 import sys
@@ -99,6 +95,13 @@ for line in sys.stdin:
 """
 
 
+def file_of(folder, text, name="capture.json"):
+    """A capture as a file in a folder."""
+    file = pathlib.Path(folder) / name
+    file.write_text(text)
+    return file
+
+
 def program_of(text, folder):
     """A program in a folder that a test has for itself."""
     program = pathlib.Path(folder) / "program"
@@ -150,8 +153,9 @@ class Viewer:
     """A server over a run, for the time of a test."""
 
     def __init__(self, capture, program=PROGRAM):
-        self.session = Session(program, str(capture), 2)
-        self.server = Server(self.session, Capture(capture))
+        its = Capture(capture)
+        self.session = Session(program, str(capture), 2, its.box if program == PROGRAM else None)
+        self.server = Server(self.session, its)
         self.thread = threading.Thread(target=self.server.serve_forever, args=(0.02,))
         self.thread.start()
 
@@ -161,7 +165,7 @@ class Viewer:
     def __exit__(self, *_):
         self.server.shutdown()
         self.server.server_close()
-        self.session.close()
+        self.server.runs.close()
         self.thread.join()
 
     def request(self, method="POST", path="/commands", body=b"state\n", more=(), **headers):

@@ -2,11 +2,13 @@
 import base64
 import gzip
 import html
+import os
 import pathlib
 import re
 
 HERE = pathlib.Path(__file__).resolve().parent
-SCRIPTS = ["run.js", "choose.js", "output.js", "packed.js", "part.js"]      # run.js in the place of the viewer's
+EXAMPLES = pathlib.Path(os.environ.get("EXAMPLES", HERE.parent.parent / "examples"))
+SCRIPTS = ["run.js", "runner.js", "choose.js", "output.js", "packed.js", "part.js", "refused.js"]      # run.js in the place of the viewer's
 POLICY = ("default-src 'none'; script-src 'unsafe-inline' 'wasm-unsafe-eval' data: blob:; worker-src blob:; style-src 'unsafe-inline'; img-src data:; "
           "base-uri 'none'; form-action 'none'")
 
@@ -31,6 +33,12 @@ def inside(identity, name, text, more=""):
     return f'<script type="text/plain" id="{identity}" data-name="{html.escape(name)}"{more}>{text}</script>\n'
 
 
+def hunts():
+    """The frames with a planted bug, for somebody who was sent the page and has no capture."""
+    files = [file for file in sorted((EXAMPLES / "hunts").glob("*.json")) if not file.stem.endswith("_mended")]
+    return [f'<script type="text/plain" class="hunt" data-name="{html.escape(file.name)}">{packed(file.read_bytes())}</script>\n' for file in files]
+
+
 def exchanged(whole, old, new):
     if whole.count(old) != 1:
         raise ValueError(f"index.html has {whole.count(old)} times {old}")
@@ -38,12 +46,12 @@ def exchanged(whole, old, new):
 
 
 def page(module, capture, opens=False, viewer=HERE.parent / "viewer/page", own=HERE):
-    """The page's text. It opens the capture at once, or offers it beside the reader's own."""
+    """The page's text. It opens the capture at once, or offers it and the hunts beside the reader's own."""
     whole = (viewer / "index.html").read_text()
     head = f'<meta http-equiv="Content-Security-Policy" content="{POLICY}">\n<style>\n{(viewer / "viewer.css").read_text()}</style>\n{imports(viewer, own)}'
     whole = exchanged(whole, '<link rel="stylesheet" href="viewer.css">\n', head)
     whole = exchanged(whole, '<script type="module" src="viewer.js"></script>\n', "")
     texts = [inside("program", "program.js", (own / "program.js").read_text()), inside("module", "framedbg.wasm", packed(module)),
-             inside("own", capture.name, packed(capture.read_bytes()), ' data-opens=""' if opens else "")]
+             inside("own", capture.name, packed(capture.read_bytes()), ' data-opens=""' if opens else ""), *([] if opens else hunts())]
     wants = "<noscript>This page runs framedbg itself, as WebAssembly: it wants JavaScript.</noscript>\n"
     return exchanged(whole, "</body>", f"{wants}{''.join(texts)}<script>\n{(own / 'needs.js').read_text()}</script>\n</body>")

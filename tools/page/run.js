@@ -2,21 +2,29 @@
 // It has the names of the viewer's own run.js, so the rest of the viewer doesn't know.
 
 import { chooseCaptures } from "./choose.js";
+import { bandsBetween } from "./image.js";
 import { unpack } from "./packed.js";
-import { Output } from "./output.js";
+import { explained } from "./refused.js";
+import { Ended, Runner, Stopped } from "./runner.js";
 
 const WORDS = ["framedbg", "run", "--workers", "1", "CAPTURE"];
 const MAX_OUTLINED = 32 << 20;     // bytes of a capture that is read for outlines
 const PIXEL = 65536;               // positions are in 1/65536 pixel
 
-export class Ended extends Error {}
-export class Stopped extends Error {}
+export { Ended, Stopped };
 
 const text = name => document.getElementById(name).textContent;
 const program = unpack(text("module")).then(bytes => WebAssembly.compile(bytes));
-const off = new Set();              // the events that are off
-let worker = null, output = null, turn = Promise.resolve(), events = null, capture, stops = 0, tellCapture = () => {};
+const main = new Runner(started), beside = new Map();      // the run that the page moves, and those that stand elsewhere
+let turn = Promise.resolve(), events = null, capture, newest = null, images = 0, stops = 0, tellCapture = () => {};
 
+// What the address says, or the saved page of the capture that it opens
+export const blame = null, stopBlame = null;      // the search is Python's: the page alone has none
+
+export const firstPlace = () => {
+  const { opens, place = "" } = document.getElementById("own").dataset;
+  return location.hash.slice(1) || (opens === undefined ? "" : place);
+};
 // Nobody else switches events here
 export const onForeign = () => {};
 export const switchedElsewhere = () => false;
@@ -27,26 +35,35 @@ const chosen = new Promise(resolve => chooseCaptures(other => {
   const isFirst = !capture;
   [capture, events] = [other, null];
   if (isFirst) return resolve();
-  off.clear();
+  main.off.clear();
   end(new Error(`${capture.name} is shown now`));
   tellCapture();
-}));
+}, drawOther));
 
 function end(why) {
-  worker?.terminate();
-  output?.end(why);
-  worker = null;
+  for (const run of [main, ...beside.values()]) run.end(why);
+  beside.clear();
 }
 
-async function start() {
-  end(new Ended("started again"));
-  const before = stops, [compiled] = await Promise.all([program, chosen]);
+// A worker with the program in it, and the capture
+async function started() {
+  const before = stops;
+  await Promise.all([program, chosen]);
   if (before !== stops) throw new Stopped();
-  const its = output = new Output();
-  worker = new Worker(URL.createObjectURL(new Blob([text("program")], { type: "text/javascript" })));
-  worker.onmessage = ({ data: { pieces, ended } }) => pieces ? its.add(pieces) : its.end(new Ended(`${ended.errors.trim() || "framedbg has ended"} (${ended.ending})`));
-  worker.onerror = fault => its.end(new Ended(fault.message));
-  worker.postMessage({ program: compiled, words: WORDS, capture: capture.bytes });
+  return workerOf(capture.bytes);
+}
+
+async function workerOf(bytes) {
+  const compiled = await program, worker = new Worker(URL.createObjectURL(new Blob([text("program")], { type: "text/javascript" })));
+  worker.postMessage({ program: compiled, words: WORDS, capture: bytes });
+  return worker;
+}
+
+// The image of a capture that isn't the chosen one
+async function drawOther(bytes) {
+  const run = new Runner(() => workerOf(bytes)), [{ text: told }] = await run.ask(["events"], null), [, { image }] = await run.ask([`goto ${told.split(" ")[1]}`, "show"], null);
+  run.end(new Ended("drawn"));
+  return image;
 }
 
 const inTurn = job => {
@@ -55,30 +72,41 @@ const inTurn = job => {
   return done;
 };
 
-// The replies to some lines, with no other caller's between: { text, lines?, left_out?, image? }. Of an image the part in the window comes
-export const ask = (lines, window = null) => inTurn(async () => {
-  if (!worker) {
-    await start();
-    if (off.size) await answer([...off].map(number => `off ${number}`), null);     // no lines at all would end the input
+// The replies to some lines, with no other caller's between: { text, lines?, left_out?, image? }. Of an image the part in the window comes.
+// A run beside may answer them, "end" or "depths": it has the same events off, and where it stands is nobody else's
+export const ask = (lines, window = null, name = null) => inTurn(async () => {
+  if (!name) return follow(await main.ask(lines, window));
+  if (!beside.has(name)) beside.set(name, new Runner(started));
+  const run = beside.get(name);
+  try {
+    await run.follow(main.off, lines.length);
+    return await run.ask(lines, window);
+  } catch (fault) {
+    run.end(fault);
+    beside.delete(name);
+    throw fault;
   }
-  const replies = await answer(lines, window);
-  for (const [i, { text }] of replies.entries()) {
-    const [word, number] = lines[i].trim().split(/ +/);
-    if (/^(at|stopped) /.test(text) && word === "off") off.add(+number);
-    if (/^(at|stopped) /.test(text) && word === "on") off.delete(+number);
-  }
-  return replies;
 });
 
-async function answer(lines, window) {
-  worker?.postMessage({ lines: new TextEncoder().encode(lines.map(line => line + "\n").join("")) });
-  const replies = [];
-  for (const _ of lines) replies.push(await output.reply(window));
+// Each image has a number, and knows in which rows it differs from the one before it
+function follow(replies) {
+  for (const { image } of replies) {
+    if (!image) continue;
+    image.number = ++images;
+    if (newest && ["width", "left", "top", "every", "columns", "rows"].every(side => newest[side] === image[side])) image.delta = { base: newest.number, bands: bandsBetween(image, newest) };
+    newest = image;
+  }
   return replies;
 }
 
+// Why the capture is refused, where that is what was said; a new start is of no help then
+export const refusal = said => explained(said, capture.bytes);
+
 export const captureName = async () => { await chosen; return capture.name; };
-export const restart = () => inTurn(() => { off.clear(); return start(); });
+export const restart = () => inTurn(() => {
+  main.off.clear();
+  end(new Ended("started again"));
+});
 
 // Ends the run in the midst of what it is at; another begins with the same events off where something is asked
 export async function stop() {
@@ -86,15 +114,35 @@ export async function stop() {
   end(new Stopped());
 }
 
-// The corners of a triangle in pixels, as the capture has them, or null where that is too large to be read for it
-export async function triangle(event, number) {
+// An event of the capture, or undefined where that is too large to be read for it
+function eventOf(number) {
   const { bytes } = capture;
+  events ??= bytes.length > MAX_OUTLINED ? [] : JSON.parse(new TextDecoder().decode(bytes)).events;
+  return events[number - 1];
+}
+
+// The corners of a triangle in pixels, as the capture has them, or null
+export async function triangle(event, number) {
   try {
-    events ??= bytes.length > MAX_OUTLINED ? [] : JSON.parse(new TextDecoder().decode(bytes)).events;
-    const { vertices, indices } = events[event - 1];
-    const corners = [0, 1, 2].map(i => vertices[indices ? indices[3 * number + i] : 3 * number + i]);
+    const { vertices, indices } = eventOf(event), corners = [0, 1, 2].map(i => vertices[indices ? indices[3 * number + i] : 3 * number + i]);
     return corners.map(({ x, y }) => [x / PIXEL, y / PIXEL]);
   } catch {
     return null;
+  }
+}
+
+// A draw as the capture has it (mesh.js), or null
+export async function draw(event) {
+  const { interp, vertices, indices = null } = eventOf(event) ?? {};
+  return vertices ? { interp, vertices: vertices.map(({ x, y, z = null, color }) => [x, y, z, color]), indices } : null;
+}
+
+// The calls that events come from: [number, { event, name, until }]
+export async function sources() {
+  try {
+    eventOf(0);
+    return events.flatMap(({ source }, i) => Number.isInteger(source?.event) ? [[i + 1, { event: source.event, name: String(source.name ?? ""), until: source.until ?? null }]] : []);
+  } catch {
+    return [];
   }
 }

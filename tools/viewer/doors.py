@@ -1,9 +1,11 @@
 """What a request must be, to be answered: the page's own, of this run, and of a bounded length."""
 import hmac
 
+from .runs import BESIDE
 from .session import MAX_LINE
 
 MAX_BODY = 1 << 16       # bytes of a call
+MAX_PICTURE = 1 << 25    # bytes of a picture
 MAX_COMMANDS = 4096      # lines of a call
 MAX_NUMBER = 10          # digits
 HEADERS = {
@@ -40,11 +42,11 @@ def check_token(headers, token):
         raise Refused(403, "no token")
 
 
-def body_length(headers):
+def body_length(headers, most=MAX_BODY):
     length = headers.get("Content-Length", "")
     if not length.isascii() or not length.isdigit() or len(length) > MAX_NUMBER:
         raise Refused(411, "a length is wanted")
-    if int(length) > MAX_BODY:
+    if int(length) > most:
         raise Refused(413, "too long")
     return int(length)
 
@@ -60,6 +62,14 @@ def commands(body):
         if line.split()[:1] == [b"quit"]:
             raise Refused(400, "the viewer ends the run itself")
     return lines
+
+
+def beside(headers):
+    """The run beside that is to answer, or None; such a call switches nothing."""
+    name = headers.get("X-Run")
+    if name is not None and name not in BESIDE:
+        raise Refused(400, "no such run")
+    return name
 
 
 def numbers(text, count):

@@ -4,11 +4,18 @@ It listens on 127.0.0.1 and answers what passes the doors (doors.py). Nothing of
 are read once at the start and found by exact name, and a call is a few lines for framedbg's standard input.
 
     POST /commands   lines for framedbg; the answer is a line of JSON, {switches: [before, after], replies: [{text, lines?, left_out?, image?}]},
-                     and then the bytes of the images in their order. The header X-Window, four numbers, names the part of the images that is wanted
+                     and then the bytes of the images in their order. The header X-Window, four numbers, names the part of the images that is wanted;
+                     X-Base, the number of the image that came last, has of the next one the changed rows alone, {base, bands: [[first row, rows]]};
+                     X-Run, `end` or `depths`, has a run beside answer them, which stands anywhere and has the same events off
     POST /triangle   an event's and a triangle's number; the answer is its three corners in pixels, as JSON
+    POST /draw       an event's number; the answer is its vertices and indices as the file has them, as JSON
+    POST /blame      a picture as PAM, and how far each channel may be off in X-Tolerance; the answer is a line of JSON, who made the image at the end of
+                     the frame differ, as `framedbg-blame --json` says it, and then the samples of the picture after the best change
+    POST /blame/stop ends that search, which is answered with {"stopped": true}
     POST /restart    a new run of the same capture, after one that has ended
     POST /stop       a new run with the same events off, in the place of one that takes long: the call that it was at is answered with "stopped"
     GET  /capture    the capture's name, as JSON
+    GET  /sources    the calls of a captured program that events come from, as JSON
 """
 import http.server
 import json
@@ -16,7 +23,10 @@ import pathlib
 import secrets
 
 from . import doors
+from .blame import Blame
 from .doors import Refused
+from .runs import Runs
+from .sent import Sent
 from .session import Ended, Stopped
 
 PAGE = pathlib.Path(__file__).parent / "page"
@@ -29,11 +39,16 @@ class Server(http.server.ThreadingHTTPServer):
 
     def __init__(self, session, capture, port=0, on_first_call=lambda: None):
         super().__init__(("127.0.0.1", port), Handler)
-        self.session, self.capture, self.on_first_call = session, capture, on_first_call
+        self.runs, self.capture, self.sent, self.on_first_call = Runs(session), capture, Sent(), on_first_call
+        self.blame = Blame(*session.words[:2])
         self.token = secrets.token_urlsafe(32)
         self.host = f"127.0.0.1:{self.server_address[1]}"
         self.origin = f"http://{self.host}"
         self.address = f"{self.origin}/#{self.token}"   # a fragment stays in the browser, and in no log
+
+    def server_close(self):
+        super().server_close()
+        self.blame.stop()
 
     def handle_error(self, request, client_address):
         pass             # a browser that went away in the middle of an answer
@@ -71,33 +86,54 @@ class Handler(http.server.BaseHTTPRequestHandler):
         if self.path == "/capture":
             self.check_token()
             return self.send_json({"name": self.server.capture.name})
+        if self.path == "/sources":
+            self.check_token()
+            return self.send_json(self.server.capture.sources())
         if self.path not in FILES:
             raise Refused(404, "no such page")
         self.send(200, *FILES[self.path])
 
     def post(self):
         self.check_token()
-        calls = {"/commands": self.commands, "/triangle": self.triangle, "/restart": self.restart, "/stop": self.stop}
+        calls = {"/commands": self.commands, "/triangle": self.triangle, "/draw": self.draw, "/restart": self.restart, "/stop": self.stop,
+                 "/blame": self.blame, "/blame/stop": self.stop_blame}
         if self.path not in calls:
             raise Refused(404, "no such call")
-        calls[self.path](self.rfile.read(doors.body_length(self.headers)))
+        calls[self.path](self.rfile.read(doors.body_length(self.headers, doors.MAX_PICTURE if self.path == "/blame" else doors.MAX_BODY)))
 
     def commands(self, body):
         window = self.headers.get("X-Window")
         window = None if window is None else doors.numbers(window, 4)
-        replies, images, switches = self.server.session.answer(doors.commands(body), window)
+        base = doors.numbers(self.headers.get("X-Base", "0"), 1)[0]
+        replies, images, switches = self.server.runs.answer(doors.commands(body), window, doors.beside(self.headers))
+        shown = [reply for reply in replies if "image" in reply]
+        sent = self.server.sent.shortened([(reply["image"], data) for reply, data in zip(shown, images)], base)
+        for reply, (image, _) in zip(shown, sent):
+            reply["image"] = image
         told = json.dumps({"switches": switches, "replies": replies}, separators=(",", ":"))
-        self.send(200, "application/octet-stream", told.encode() + b"\n", *images)
+        self.send(200, "application/octet-stream", told.encode() + b"\n", *(data for _, data in sent))
 
     def triangle(self, body):
         self.send_json(self.server.capture.triangle(*doors.numbers(body.decode("latin-1"), 2)))
 
+    def draw(self, body):
+        self.send_json(self.server.capture.draw(*doors.numbers(body.decode("latin-1"), 1)))
+
+    def blame(self, picture):
+        tolerance = doors.numbers(self.headers.get("X-Tolerance", "0 0 0 0"), 4)
+        told, samples = self.server.blame.answer(picture, [min(by, 255) for by in tolerance], set(self.server.runs.session.off))
+        self.send(200, "application/octet-stream", json.dumps(told).encode() + b"\n", samples)
+
+    def stop_blame(self, _):
+        self.server.blame.stop()
+        self.send_json({})
+
     def restart(self, _):
-        self.server.session.start()
+        self.server.runs.start()
         self.send_json({})
 
     def stop(self, _):
-        self.server.session.stop()
+        self.server.runs.stop()
         self.send_json({})
 
     def send_json(self, told, status=200):

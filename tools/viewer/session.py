@@ -7,9 +7,11 @@ from framedbg_client.connection import Connection
 from framedbg_client.replies import extent
 
 from .image import read_image, widen
+from .nearby import Nearby
 
 MAX_LINE = 256           # bytes of a command, as framedbg has it
 MAX_LISTED = 100_000     # lines of a list that are kept; the rest is read and counted
+MOST_LINES = 1_000_000   # that framedbg answers in a run
 
 
 class Stopped(Ended):
@@ -20,13 +22,16 @@ class Stopped(Ended):
 
 
 class Session:
-    def __init__(self, program, capture, workers):
+    def __init__(self, program, capture, workers, box=None):
+        """`box` gives the box of an event, where the capture's own are known (nearby.py)."""
         self.words = program, capture, workers
+        self.nearby = Nearby(box)
         self.lock = threading.Lock()
         self.connection = self.run = None        # to the run, and its process
         self.switches = 0        # how often events were switched, or all of them on by a new start
         self.off, self.flipped = set(), []       # the events that are off, and the switches of the call that is answered
         self.stopping = False
+        self.lines = self.position = 0           # lines that the run has been given, and where it stands
         self.start()
 
     def start(self):
@@ -47,16 +52,20 @@ class Session:
     def answer(self, lines, window=None):
         """The replies to some commands, the images among them, and the count of switches before and after. No other caller's commands
         come between. Of an image the part in the window is kept."""
+        images = []
         with self.lock:
-            before, images = self.switches, []
-            try:
-                replies = self._answer(lines, images, window)
-            except Ended as ended:
-                if not self.stopping:
-                    raise
-                self._start_again()
-                raise Stopped(ended.said, ended.status) from None
+            before = self.switches
+            self._keep_room(len(lines) + self.nearby.most)
+            replies = self._unless_stopped(lambda: self._answer(lines, images, window))
             return replies, images, (before, self.switches)
+
+    def follow(self, off, count):
+        """Has the same events off as another run, and lines left for so many more. The position may be any then."""
+        with self.lock:
+            self._keep_room(count + len(off ^ self.off) + 1)
+            other = sorted(off ^ self.off)
+            lines = [b"%s %d" % (b"off" if number in off else b"on", number) for number in other]
+            self._unless_stopped(lambda: self._answer([b"goto %d" % (other[0] - 1), *lines] if len(other) > 1 else lines, [], None))
 
     def close(self):
         """Ends the run for good, whatever it is at."""
@@ -66,24 +75,56 @@ class Session:
 
     def _start(self):
         self._close()
-        self.connection = Connection(*self.words)
+        self.nearby.forget()
+        self.connection, self.lines, self.position = Connection(*self.words), 0, 0
         self.run = self.connection.process
         widen(self.run.stdout)
 
+    def _unless_stopped(self, job):
+        try:
+            return job()
+        except Ended as ended:
+            if not self.stopping:
+                raise
+            self._start_again()
+            raise Stopped(ended.said, ended.status) from None
+
     def _start_again(self):
         self._start()
-        self.stopping = False
+        self.stopping, switches = False, self.switches
         self._answer([b"off %d" % number for number in sorted(self.off)], [], None)
+        self.switches = switches
+
+    def _keep_room(self, count):
+        """Another run with the same events off, where this one has no lines left for so many more. The position may be any then."""
+        if self.lines + count > MOST_LINES:
+            self._unless_stopped(self._start_again)
 
     def _answer(self, lines, images, window):
         """The replies. What the lines switched counts when all of them are answered."""
         replies, self.flipped = [], []
         for bundle in bundles(lines):
-            self.connection.write(bundle)
-            replies += [self._reply(line, images, window) for line in bundle]
+            near = self._near(images, window) if bundle == [b"show"] and not self.flipped else None
+            replies += [near] if near else self._given(bundle, images, window)
         for word, number in self.flipped:
             (self.off.add if word == b"off" else self.off.discard)(int(number))
         return replies
+
+    def _given(self, bundle, images, window):
+        self.lines += len(bundle)
+        self.connection.write(bundle)
+        return [self._reply(line, images, window) for line in bundle]
+
+    def _near(self, images, window):
+        """The reply to `show` where the picture is near the last one, else None. `since` says of what it was made, and which rows may be others."""
+        places, before = self.nearby.places(self.position, self.off, window), self.nearby.pixels
+        if places is None:
+            return None
+        lines = [b"pixel %d %d" % (x, y) for y, x in places]
+        replies = [reply["text"] for bundle in bundles(lines) for reply in self._given(bundle, images, window)]
+        pixels, rows = self.nearby.move(self.position, places, replies)
+        images.append(pixels)
+        return {"text": self.nearby.text, "image": {**self.nearby.part, "bytes": len(pixels), "since": (before, rows)}}
 
     def _reply(self, line, images, window):
         first = self.connection.line()
@@ -93,16 +134,20 @@ class Session:
             image = read_image(self.run.stdout, size, window)
             if image is None:
                 raise self.connection.end()
-            reply["image"], pieces = image
-            images.append(pieces)
+            reply["image"], pixels = image
+            self.nearby.keep(self.position, first, {name: value for name, value in image[0].items() if name != "bytes"}, pixels)
+            images.append(pixels)
         elif word in ("history", "events"):
             reply["lines"] = [self.connection.line() for _ in range(min(lines, MAX_LISTED))]
             reply["left_out"] = lines - len(reply["lines"])
             for _ in range(reply["left_out"]):
                 self.connection.line()
-        elif word in ("at", "stopped") and line.split()[:1] in ([b"on"], [b"off"]):
-            self.switches += 1
-            self.flipped.append(line.split())
+        elif word in ("at", "stopped"):
+            self.position = int(first.split(" ")[1])
+            if line.split()[:1] in ([b"on"], [b"off"]):
+                self.switches += 1
+                self.flipped.append(line.split())
+                self.nearby.forget()
         return reply
 
     def _close(self):

@@ -1,29 +1,16 @@
 // A picture of the depths, pixel by pixel: framedbg's images show colours alone.
 
 import { readPixel } from "./replies.js";
+import { askSamples, sizeOf } from "./samples.js";
+import { everyOf } from "./words.js";
 
-export const MOST_DEPTHS = 16_384;    // pixels that are asked for one by one
-const LINES = 4096;                   // of a call
 const FAR = 65_535;
 
-// The part of the target whose depths are asked for, [left, top, right, bottom]: all of it, or what is in sight; null where that is too much
-export function depthPart({ width, height }, [left, top, right, bottom]) {
-  if (width * height <= MOST_DEPTHS) return [0, 0, width, height];
-  return (right - left) * (bottom - top) <= MOST_DEPTHS ? [left, top, right, bottom] : null;
-}
-
-export const tooManyDepths = ({ width, height }) =>
-  `the target has ${(width * height).toLocaleString("en")} pixels: depths are asked for one by one, and at most ${MOST_DEPTHS.toLocaleString("en")} are. Zoom in for those in sight`;
-
-// The depths of a part, each from a `pixel` reply
-export async function askDepths(ask, part) {
-  const [left, top, right, bottom] = part, depths = new Uint16Array((right - left) * (bottom - top)), lines = [];
-  for (let y = top; y < bottom; y++) for (let x = left; x < right; x++) lines.push(`pixel ${x} ${y}`);
-  for (let i = 0; i < lines.length; i += LINES) {
-    const replies = await ask(lines.slice(i, i + LINES));
-    for (const [k, { text }] of replies.entries()) depths[i + k] = readPixel(text).depth;
-  }
-  return { part, depths };
+// The depths of a part at a position, each from a `pixel` reply; null where that was given up
+export async function askDepths(ask, position, part, goesOn) {
+  const depths = new Uint16Array(sizeOf(part)), askThere = async lines => (await ask([`goto ${position}`, ...lines], null, "depths")).slice(1);
+  const take = (replies, first) => replies.forEach(({ text }, i) => { depths[first + i] = readPixel(text).depth; });
+  return await askSamples(part, "pixel", askThere, take, goesOn) ? { look: "depth", part, values: depths, ...greyOf(depths) } : null;
 }
 
 // Greys of depths, nearer is lighter, and black where nothing is in front of the far plane; and the range that they stretch over
@@ -41,7 +28,7 @@ export function greyOf(depths) {
   return { greys, near, far };
 }
 
-export function tellDepths({ near, far }) {
-  if (near > far) return `every pixel has depth ${FAR}, the farthest`;
-  return `depths ${near} to ${far}: nearer is lighter, and ${FAR} is black`;
+export function tellDepths({ near, far, part }) {
+  if (near > far) return `${everyOf(part)} pixel has depth ${FAR}, the farthest`;
+  return `${part.every > 1 ? `of ${everyOf(part)} pixel ` : ""}depths ${near} to ${far}: nearer is lighter, and ${FAR} is black`;
 }

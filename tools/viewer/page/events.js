@@ -1,39 +1,78 @@
 // The list of events with the markers as heads of groups, and the marks over the slider.
 
-import { frame, goTo, last, switchOver } from "./frame.js";
+import { canUndo, frame, goTo, last, switchOver, undo } from "./frame.js";
 import { List, element } from "./list.js";
 import { describeEvent } from "./words.js";
 
-const list = new List(document.getElementById("event-list"), 26, rowOf, press), ticks = document.getElementById("ticks");
+const $ = id => document.getElementById(id);
+const list = new List($("event-list"), 26, rowOf, { onKey: press, look: lookOf }), ticks = document.getElementById("ticks");
 const folded = new Set();
 let filter = "", shown = -1;
 export const WRITES = new Set(["clear", "draw", "depth_clear"]);    // kinds that can write pixels
 
 export function setFilter(text) {
-  filter = text.toLowerCase();
+  filter = text.trim().toLowerCase();
+  group();
   listEvents();
 }
 
+// The event to which the filter leads: the last one of the call whose number it is, else the first that is found
+export function foundFirst() {
+  const own = frame.events.filter(event => String(frame.sources.get(event.number)?.event) === filter);
+  return filter ? (own.at(-1) ?? frame.events.find(matches))?.number : undefined;
+}
+
 export function listEvents() {
-  const rows = [];
   if (!frame.events.length) folded.clear();
-  let group = null;
-  for (const event of frame.events) {
-    if (event.kind === "marker") {
-      group = { event, members: [] };
-      if (!filter || event.name.toLowerCase().includes(filter)) rows.push(group);
-      continue;
-    }
-    group?.members.push(event.number);
-    if (filter ? matches(event, group) : !(group && folded.has(group.event.number))) rows.push({ event, inside: group !== null });
-  }
+  const rows = filter ? frame.events.filter(event => matches(event)).map(event => rowIn(event, groupsOf(event))) : unfolded();
   shown = -1;
+  $("found").textContent = filter ? rows.length ? `${rows.length.toLocaleString("en")} found` : "nothing found" : "";
+  drawOff();
   list.show(rows);
 }
 
-function matches(event, group) {
-  return `${event.number} ${event.kind} ${event.words.join(" ")} ${group?.event.name ?? ""}`.toLowerCase().includes(filter);
+const heads = new Map();               // of each event the markers of its groups, from the outermost on
+const groupsOf = event => heads.get(event.number) ?? [];
+const rowIn = (event, groups) => ({ event, depth: groups.length, members: event.kind === "marker" ? membersOf.get(event.number) : null });
+const membersOf = new Map();
+
+// A marker's group goes on to the next marker, or to the last call of a captured frame's group
+function group() {
+  heads.clear();
+  membersOf.clear();
+  let open = [];
+  for (const event of frame.events) {
+    const { event: call, until } = frame.sources.get(event.number) ?? {};
+    open = open.filter(head => head.until === null ? event.kind !== "marker" : call === undefined || call <= head.until);
+    heads.set(event.number, open.map(head => head.number));
+    for (const head of open) if (event.kind !== "marker") membersOf.get(head.number).push(event.number);
+    if (event.kind !== "marker") continue;
+    membersOf.set(event.number, []);
+    open.push({ number: event.number, until: until ?? null });
+  }
 }
+
+function unfolded() {
+  group();
+  return frame.events.filter(event => !groupsOf(event).some(head => folded.has(head))).map(event => rowIn(event, groupsOf(event)));
+}
+
+// All words of the filter: `off`, `wrote` (the chosen pixel), or what stands in the row or its group's name
+function matches(event) {
+  const source = frame.sources.get(event.number), names = groupsOf(event).map(head => frame.events[head - 1].name);
+  const text = `${event.number} ${event.kind} ${event.words.join(" ")} ${names.join(" ")} ${source ? `${source.event} ${source.name}` : ""}`.toLowerCase();
+  return filter.split(/\s+/).every(word => word === "off" ? !event.on : word === "wrote" ? frame.writers.has(event.number) : text.includes(word));
+}
+
+function drawOff() {
+  const off = frame.events.filter(event => !event.on);
+  $("off-bar").hidden = !off.length && !canUndo();
+  $("off-told").textContent = `${off.length || "no"} event${off.length === 1 ? "" : "s"} off`;
+  $("all-on").hidden = !off.length;
+  $("undo").hidden = !canUndo();
+}
+$("all-on").onclick = () => switchOver(frame.events.filter(event => !event.on).map(event => event.number), true);
+$("undo").onclick = () => undo();
 
 export function drawEvents() {
   if (shown !== frame.position) list.choose(list.items.findIndex(row => row.event.number === frame.position));
@@ -41,14 +80,22 @@ export function drawEvents() {
   list.draw();
 }
 
-function rowOf({ event, members, inside }) {
+// What a move changes of a row
+function lookOf({ event: { number } }) {
+  return `${Math.sign(number - frame.position)} ${frame.writers.has(number)}`;
+}
+
+function rowOf({ event, members, depth }) {
   const row = element("div", `row event ${event.kind}`);
-  const mark = { off: !event.on, inside, ahead: event.number > frame.position, hit: frame.writers.has(event.number) };
+  const mark = { off: !event.on, inside: depth > 0, ahead: event.number > frame.position, hit: frame.writers.has(event.number) };
   for (const [name, holds] of Object.entries(mark)) row.classList.toggle(name, Boolean(holds));
   row.setAttribute("role", "option");
   row.setAttribute("aria-selected", event.number === frame.position);
   row.dataset.number = event.number;
   row.append(checkBox(event, members ?? []), element("span", "number", String(event.number)), ...(members ? headOf(event) : describeEvent(event)));
+  const source = frame.sources.get(event.number);
+  if (source) row.append(Object.assign(element("span", "source", `${source.event} ${source.name}`), { title: `The program's call ${source.event}: ${source.name}` }));
+  if (depth > 1) row.style.paddingLeft = `${10 + 10 * depth}px`;
   row.addEventListener("click", () => goTo(event.number));
   return row;
 }
@@ -78,6 +125,7 @@ function checkBox(event, members) {
   box.setAttribute("aria-label", members.length ? `all of ${event.name} on` : `event ${event.number} on`);
   box.addEventListener("click", click => {
     click.stopPropagation();
+    list.forget();
     list.element.focus({ preventScroll: true });
     switchOver(members.length ? members : [event.number], box.checked);
   });
@@ -100,6 +148,7 @@ function fold(event) {
   if (!folded.delete(event.number)) folded.add(event.number);
   listEvents();
   drawEvents();
+  list.choose(list.items.findIndex(row => row.event === event));      // also where the frame is still on its way there
 }
 
 // A mark for each event: low for states, higher for draws, highest for those that wrote the chosen pixel

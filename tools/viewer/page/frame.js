@@ -1,20 +1,22 @@
 // The frame at a position: what framedbg said of it, and the moves that ask for more. Every move is one call of a few commands.
 
-import { restart, triangle, switchedElsewhere, onForeign, Ended, Stopped } from "./run.js";
+import { refusal, restart, sources, triangle, switchedElsewhere, onForeign, Ended, Stopped } from "./run.js";
 import { ask, stop as stopAnswer } from "./working.js";
 import { readEvent, readEntry, readPixel, readState, positionIn, isRefusal } from "./replies.js";
-import { askDepths, depthPart, greyOf, tooManyDepths } from "./depths.js";
+import { forgetHistories, isCoarse, readMap, wantMap as setMap } from "./maps.js";
 import { tell, notice } from "./log.js";
 
 // Nothing is known yet
 const unset = () => ({
   position: 0, target: 0,             // where it stands, and where the last move asked for leads
+  isOpening: false,                   // on its way to its first place
   events: [],
+  sources: new Map(),                 // of each event the call of a captured program that it comes from: { event, name, until }
   before: null, after: null,          // the images before the last event and after it
   part: null,                         // the part of a large target that is fetched, else null
   states: { with: null, next: null }, // the state that the last event was drawn with, and the one that the next event will meet
   hasDepth: false,
-  depths: null,                       // their picture, where it is wanted: { part, depths, greys, near, far } or { reason }
+  map: null,                          // depths, verdicts or overdraw here, where they are wanted (maps.js)
   pixel: null, value: null,           // the chosen place, and its colour and depth here
   entries: [], writers: new Set(),
   outlined: null, corners: null,      // the entry whose triangle is outlined
@@ -23,7 +25,7 @@ export const frame = unset();
 
 const IMAGES = 6;                     // positions whose images are kept here
 const images = new Map();
-let wanted = null, queue = Promise.resolve(), round = 0, isReturning = false, show = () => {}, sight = null;
+let wanted = null, queue = Promise.resolve(), waiting = 0, round = 0, isReturning = false, show = () => {};
 
 export const onShow = draw => { show = draw; };
 export const last = () => frame.events.length;
@@ -31,7 +33,8 @@ export const last = () => frame.events.length;
 // One thing after another, so that each finds the run where the page says it is. What waits when something is stopped is dropped
 export const inTurn = job => {
   const its = round;
-  return (queue = queue.then(() => its === round ? job() : undefined).catch(fail));
+  waiting++;
+  return (queue = queue.then(() => { waiting--; return its === round ? job() : undefined; }).catch(fail));
 };
 
 // Stops what the run is at, and takes back what waits for it
@@ -86,7 +89,7 @@ async function arrive(to, told = "") {
   frame.value = found.value;
   if (wanted === null) frame.target = position;
   if (frame.outlined && frame.outlined.event > position) outline(null);
-  await readDepths();
+  await drawMap();
   show("position");
 }
 
@@ -122,6 +125,7 @@ function keep(position, image) {
 // Without a history, which the way to the end is wanted for, the pixel's stays where nothing was switched meanwhile
 async function refresh(position = frame.position, withHistory = true) {
   images.clear();
+  forgetHistories();
   const [events] = await ask(["events"]), flags = frame.events.map(({ on }) => on).join();
   switchedElsewhere();
   frame.events = events.lines.map(readEvent);
@@ -137,14 +141,38 @@ function forgetPixel() {
   Object.assign(frame, { pixel, value, entries, writers, outlined, corners });
 }
 
-// The run's capture, from its end
-export const open = () => inTurn(async () => {
-  Object.assign(frame, unset());
-  sight = null;
+// The run's capture, from its end or from a place
+export const open = place => inTurn(async () => {
+  Object.assign(frame, unset(), { isOpening: true });
+  before = [];
+  setMap(null);
   show("events");
-  await refresh(0);
-  await arrive(last(), `goto ${last()}`);
+  try {
+    await refresh(0);
+    await (place ? lead(place) : arrive(last(), `goto ${last()}`));
+  } finally {
+    frame.isOpening = false;
+  }
+  show("history");
+  if (!last()) notice("This capture has no events");
+  frame.sources = new Map((await sources()).map(([number, source]) => [number, source]));
+  if (frame.sources.size) show("events");
 });
+
+// To a place: what is off there is off, and all else is on
+export const goToPlace = place => inTurn(() => lead(place));
+
+async function lead({ at, pixel, off }) {
+  const { after } = frame, other = frame.events.filter(({ number, on }) => on === off.has(number));
+  const lines = other.map(({ number, on }) => `${on ? "off" : "on"} ${number}`);
+  for (const { number, on } of frame.events) if (!on && off.has(number)) tell(`off ${number}`, "at 0");      // it was off before this page came
+  if (lines.length) {
+    await askAndTell(["goto 0", ...lines], 1);
+    await refresh(0);
+  }
+  await arrive(Math.min(at, last()), `goto ${Math.min(at, last())}`);
+  if (pixel && pixel.x < after.width && pixel.y < after.height) await readHistory(pixel, true);
+}
 
 // Looks whether another page of this run has switched events meanwhile
 export const again = () => inTurn(async () => {
@@ -161,39 +189,65 @@ export const fetchPart = part => inTurn(() => {
   return arrive(frame.position);
 });
 
-// Asks for the depths of what is in sight, from now on; null asks for none
-export const wantDepths = visible => inTurn(async () => {
-  sight = visible;
-  await readDepths();
-  show("depths");
+// Asks for a map of what is in sight, from now on (maps.js); another look asks for none
+export const wantMap = (look, sight) => inTurn(async () => {
+  setMap(look, sight);
+  if (frame.map?.look === look && !isCoarse(frame, frame.map)) return;       // it is as fine as it can be already
+  await drawMap();
+  show("map");
 });
 
-async function readDepths() {
-  const { after } = frame;
-  frame.depths = null;
-  if (!sight || !after || wanted !== null) return;
-  const part = depthPart(after, sight);
-  if (!part) return void (frame.depths = { reason: tooManyDepths(after) });
-  const read = await askDepths(ask, part);
-  frame.depths = { ...read, ...greyOf(read.depths) };
+// The map here: of few pixels at once, and of more in its turn
+async function drawMap() {
+  frame.map = await readMap(frame, { ask, askEnd }, () => true);
+  if (isCoarse(frame, frame.map)) refine(frame.map);
 }
 
+// Until something else waits; then again after that, unless another map is shown by then
+const refine = coarse => inTurn(async () => {
+  if (frame.map !== coarse) return;
+  const fine = await readMap(frame, { ask, askEnd }, () => waiting === 0, true);
+  if (frame.map !== coarse) return;
+  if (!fine) return void refine(coarse);
+  frame.map = fine;
+  show("map");
+});
+
 // Switches events; many at once before the first of them, where a switch draws nothing
-export const switchOver = (numbers, on) => inTurn(async () => {
+export const switchOver = (numbers, on) => inTurn(() => switchAll(numbers, on));
+let before = [];                       // which events were off before each switch of this page
+
+async function switchAll(numbers, on, isUndo = false) {
   const lines = numbers.filter(number => frame.events[number - 1].on !== on).map(number => `${on ? "on" : "off"} ${number}`);
   if (!lines.length) return;
+  if (!isUndo) before.push(frame.events.filter(event => !event.on).map(event => event.number));
   const many = lines.length > 1, here = `goto ${frame.position}`;
   const all = many ? [`goto ${numbers[0] - 1}`, ...lines, here] : [here, ...lines];
+  await refresh(await askAndTell(all, many ? 0 : 1));
+}
+
+export const canUndo = () => before.length > 0;
+
+// Takes the last switch of this page back
+export const undo = () => inTurn(async () => {
+  const off = new Set(before.pop());
+  await switchAll(frame.events.filter(event => event.on && off.has(event.number)).map(event => event.number), false, true);
+  await switchAll(frame.events.filter(event => !event.on && !off.has(event.number)).map(event => event.number), true, true);
+  show("events");
+});
+
+// Tells of each line, but for some at first, and gives the position that they lead to
+async function askAndTell(lines, untold) {
   let position = frame.position;
-  for (let i = 0; i < all.length; i += 2000) {
-    for (const [k, { text }] of (await ask(all.slice(i, i + 2000))).entries()) {
-      if (many || i + k > 0) tell(all[i + k], text);
+  for (let i = 0; i < lines.length; i += 2000) {
+    for (const [k, { text }] of (await ask(lines.slice(i, i + 2000))).entries()) {
+      if (i + k >= untold) tell(lines[i + k], text);
       position = positionIn(text) ?? position;
       if (isRefusal(text)) notice(text, true);
     }
   }
-  await refresh(position);
-});
+  return position;
+}
 
 export const pick = ({ x, y }) => inTurn(() => {
   outline(null);
@@ -202,21 +256,31 @@ export const pick = ({ x, y }) => inTurn(() => {
 
 // The pixel here, and the whole frame's history, so that it stays while one walks through it. Another page may have moved the run
 async function readHistory({ x, y }, told = false) {
-  const there = `goto ${last()}`, here = `goto ${frame.position}`;
-  const lines = [here, `pixel ${x} ${y}`, there, `history ${x} ${y}`, here], replies = await ask(lines);
+  const here = `goto ${frame.position}`, pixel = `pixel ${x} ${y}`, history = `history ${x} ${y}`, isAway = frame.position !== last();
+  const [, value, own] = await ask([here, pixel, ...(isAway ? [] : [history])]);
+  const [there, entries] = isAway ? await askEnd([history]) : [null, own];
   frame.pixel = { x, y };
-  for (const [i, { text, lines: listed, left_out }] of replies.entries()) {
-    if (told && i > 0 && !(here === there && lines[i] === here)) tell(lines[i], text);
-    if (isRefusal(text)) notice(text, true);
-    if (text.startsWith("pixel ")) frame.value = readPixel(text);
-    if (listed) frame.entries = listed.map(readEntry);
-    if (left_out) notice(`${left_out} more entries aren't listed here`);
+  if (told) {
+    tell(pixel, value.text);
+    if (isAway) tell(there.line, there.text);
+    tell(history, entries.text);
+    if (isAway) tell(here, `at ${frame.position}`);
   }
+  for (const { text } of [value, entries]) if (isRefusal(text)) notice(text, true);
+  if (value.text.startsWith("pixel ")) frame.value = readPixel(value.text);
+  if (entries.lines) frame.entries = entries.lines.map(readEntry);
+  if (entries.left_out) notice(`${entries.left_out} more entries aren't listed here`);
   if (switchedElsewhere()) return refresh();
   const { outlined } = frame;
   frame.outlined = outlined && frame.entries.find(entry => entry.event === outlined.event && entry.triangle === outlined.triangle);
   frame.writers = new Set(frame.entries.filter(entry => entry.verdict === "drawn").map(entry => entry.event));
   show("history");
+}
+
+// The replies at the end of the frame, that of the way there before them: by a run that stays there, so that nothing is drawn anew
+export async function askEnd(lines) {
+  const line = `goto ${last()}`, [there, ...replies] = await ask([line, ...lines], null, "end");
+  return [{ line, ...there }, ...replies];
 }
 
 // An entry's event, and the outline of its triangle as the capture's file has it
@@ -252,6 +316,8 @@ export const command = line => inTurn(async () => {
 function fail(fault) {
   if (fault instanceof Stopped) return void goBack();
   if (!(fault instanceof Ended)) return notice(String(fault.message ?? fault), true);
+  const why = refusal(fault.message);
+  if (why) return notice(`This capture is refused: ${fault.message}\n${why}`, true, "Close", () => {});
   notice(`The run has ended: ${fault.message}`, true, "Start again", () => {
     const off = frame.events.filter(event => !event.on).map(event => `off ${event.number}`);
     inTurn(async () => {

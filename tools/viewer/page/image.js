@@ -12,6 +12,38 @@ export function colourAt(image, x, y) {
   return { r: bytes[at], g: bytes[at + 1], b: bytes[at + 2], a: bytes[at + 3] };
 }
 
+// The bytes of an image with some bands of rows exchanged, each [first row, rows]; theirs stand one after another
+export function patched({ bytes, columns }, bands, theirs) {
+  if (!bands.length) return bytes;
+  const made = bytes.slice();
+  let at = 0;
+  for (const [first, count] of bands) {
+    made.set(theirs.subarray(at, at + 4 * columns * count), 4 * columns * first);
+    at += 4 * columns * count;
+  }
+  return made;
+}
+
+// The bands of rows in which two images of one part differ
+export function bandsBetween({ bytes, columns, rows }, other) {
+  const one = wordsOf(bytes), two = wordsOf(other.bytes), bands = [];
+  for (let row = 0, at = 0; row < rows; row++, at += columns) {
+    let i = at;
+    while (i < at + columns && one[i] === two[i]) i++;
+    if (i === at + columns) continue;
+    const last = bands.at(-1);
+    if (last && last[0] + last[1] === row) last[1]++;
+    else bands.push([row, 1]);
+  }
+  return bands;
+}
+
+// The bands outside of which two images are the same, as far as that is known: of an image itself, and where one was told of as the other with some rows changed
+export const knownBands = (image, other) => image === other ? [] : follows(image, other) ? image.delta.bands : follows(other, image) ? other.delta.bands : null;
+
+// By its number, so that no image holds the one before it
+const follows = ({ delta }, { number }) => delta !== undefined && delta.base === number;
+
 // Whether two images can be compared: the other is whole, or the same part
 export const isComparable = (image, other) => isWhole(other) || ["left", "top", "every", "columns", "rows"].every(name => image[name] === other[name]);
 
@@ -24,23 +56,26 @@ export function difference(image, other, tolerance = 0) {
   const compared = other.hasAlpha === false ? 0xffffff : -1, mask = new Uint8Array(columns * rows);
   const found = { mask, count: 0, most: 0, left: Infinity, top: Infinity, right: -1, bottom: -1, every, whole: isWhole(image) };
   const aside = every / other.every;              // from one of the kept pixels to the next, in the other's
-  for (let row = 0, i = 0; row < rows; row++) {
-    let q = indexIn(other, left, top + row * every) / 4;
-    for (let column = 0; column < columns; column++, i++, q += aside) {
-      if (((one[i] ^ two[q]) & compared) === 0) continue;
-      const by = mostBetween(one[i] & compared, two[q] & compared);
-      if (by <= tolerance) continue;
-      mask[i] = 1;
-      found.count++;
-      if (by > found.most) found.most = by;
-      if (column < found.left) found.left = column;
-      if (column > found.right) found.right = column;
-      if (row < found.top) found.top = row;
-      found.bottom = row;
-    }
+  for (const [first, count] of knownBands(image, other) ?? [[0, rows]]) {
+    for (let row = first; row < first + count; row++) compareRow(found, row, { one, two, compared, tolerance, aside, columns, q: indexIn(other, left, top + row * every) / 4 });
   }
   for (const [side, start] of [["left", left], ["right", left], ["top", top], ["bottom", top]]) found[side] = start + found[side] * every;
   return found;
+}
+
+function compareRow(found, row, { one, two, compared, tolerance, aside, columns, q }) {
+  for (let column = 0, i = row * columns; column < columns; column++, i++, q += aside) {
+    if (((one[i] ^ two[q]) & compared) === 0) continue;
+    const by = mostBetween(one[i] & compared, two[q] & compared);
+    if (by <= tolerance) continue;
+    found.mask[i] = 1;
+    found.count++;
+    if (by > found.most) found.most = by;
+    if (column < found.left) found.left = column;
+    if (column > found.right) found.right = column;
+    if (row < found.top) found.top = row;
+    found.bottom = row;
+  }
 }
 
 function mostBetween(a, b) {

@@ -1,11 +1,14 @@
 // A list of any length: only the rows in sight stand in the page. The keyboard's focus is the list's own, so it lasts as rows come and go.
+// A row stays as long as its item is the same one and looks the same.
 
 export class List {
-  constructor(element, rowHeight, row, onKey = () => {}) {
+  constructor(element, rowHeight, row, { onKey = () => {}, look = () => NaN } = {}) {
     this.element = element;
     this.rowHeight = rowHeight;
     this.row = row;               // the element of item i
+    this.look = look;             // what of an item's row may be another at another time; NaN is never the same
     this.items = [];
+    this.rows = new Map();        // those that stand in the page, by the item's number: { item, look, row }
     this.chosen = -1;             // the item that keys move from
     this.body = element.appendChild(document.createElement("div"));
     this.body.className = "rows";
@@ -18,6 +21,7 @@ export class List {
 
   // Up and down choose rows; onKey(key, item) is told of these, and of what else is pressed, and says whether it took the key
   press(event, onKey) {
+    if (event.shiftKey) return;          // the page's own: the pixel is moved
     const aside = { ArrowUp: -1, ArrowDown: 1 }[event.key] ?? 0;
     if (aside) this.chosen = Math.max(0, Math.min(this.items.length - 1, this.chosen + aside));
     const item = this.items[this.chosen];
@@ -38,21 +42,36 @@ export class List {
   }
 
   draw() {
-    const { scrollTop, clientHeight } = this.element;
+    const { scrollTop, clientHeight } = this.element, before = this.rows;
     const first = Math.max(0, Math.floor(scrollTop / this.rowHeight) - 5);
     const last = Math.min(this.items.length, Math.ceil((scrollTop + clientHeight) / this.rowHeight) + 5);
     this.body.style.height = `${this.items.length * this.rowHeight}px`;
-    this.body.replaceChildren(...this.items.slice(first, last).map((item, i) => {
-      const row = this.row(item, first + i);
-      row.id = `${this.element.id}-${first + i}`;
-      row.style.top = `${(first + i) * this.rowHeight}px`;
-      row.style.height = `${this.rowHeight}px`;
-      row.setAttribute("aria-posinset", first + i + 1);
-      row.setAttribute("aria-setsize", this.items.length);
-      return row;
-    }));
+    this.rows = new Map(this.items.slice(first, last).map((item, i) => [first + i, this.rowOf(item, first + i)]));
+    for (const [i, { row }] of before) if (this.rows.get(i)?.row !== row) row.remove();
+    let next = this.body.firstChild;
+    for (const { row } of this.rows.values()) {
+      if (row === next) next = next.nextSibling;
+      else this.body.insertBefore(row, next);
+    }
     if (this.chosen >= 0) this.element.setAttribute("aria-activedescendant", `${this.element.id}-${this.chosen}`);
     else this.element.removeAttribute("aria-activedescendant");
+  }
+
+  // The rows that stand there are made anew when they are drawn next: a hand has changed one
+  forget() {
+    for (const kept of this.rows.values()) kept.look = NaN;
+  }
+
+  rowOf(item, i) {
+    const was = this.rows.get(i), look = this.look(item);
+    if (was?.item === item && was.look === look) return was;
+    const row = this.row(item, i);
+    row.id = `${this.element.id}-${i}`;
+    row.style.top = `${i * this.rowHeight}px`;
+    row.style.height = `${this.rowHeight}px`;
+    row.setAttribute("aria-posinset", i + 1);
+    row.setAttribute("aria-setsize", this.items.length);
+    return { item, look, row };
   }
 
   reveal(i) {

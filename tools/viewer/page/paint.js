@@ -36,3 +36,10 @@ export function paintGreys(out, greys) {
     out[p + 3] = 255;
   }
 }
+
+export function paintValues(out, values, colour) {
+  for (let i = 0, p = 0; i < values.length; i++, p += 4) {
+    [out[p], out[p + 1], out[p + 2]] = colour(values[i]);
+    out[p + 3] = 255;
+  }
+}

@@ -1,17 +1,19 @@
-// The pixel with its history, and the pipeline state.
+// The pixel with its history, and how its chosen entry came about.
 
 import { frame, goToEntry } from "./frame.js";
 import { List, element, swatch } from "./list.js";
-import { equation, figures, hex, rectangle, test } from "./words.js";
+import { sumOf } from "./sum.js";
+import { figures, hex } from "./words.js";
 
 const $ = id => document.getElementById(id);
-const ROW = 26, DEEP_ROW = 40;        // pixels of the page: a row of the history, and one with depths under the colours
-const history = new List($("history"), ROW, entryRow, (key, entry) => /^(ArrowUp|ArrowDown|Enter)$/.test(key) && (goToEntry(entry), true));
+const ROW = 26, DEEP_ROW = 40;        // pixels of the page: a row of the history, and one with depths or figures under the colours
+const NARROW = 480;                   // where figures have no room beside their colours
+const history = new List($("history"), ROW, entryRow, { onKey: (key, entry) => /^(ArrowUp|ArrowDown|Enter)$/.test(key) && (goToEntry(entry), true) });
 let shown = -1;
 
 export function drawPixel() {
   const { pixel, value, entries, position } = frame;
-  for (const id of ["colour", "history-head", "history", "writer-before", "writer-after"]) $(id).hidden = !pixel;
+  for (const id of ["colour", "history-head", "history", "sum", "writer-before", "writer-after"]) $(id).hidden = !pixel;
   $("hint").hidden = pixel !== null;
   if (!pixel || !value) return;
   $("place").textContent = `${pixel.x} ${pixel.y}`;
@@ -20,13 +22,16 @@ export function drawPixel() {
   $("hex").textContent = hex(value.colour);
   $("depth-here").hidden = value.depth === null;
   $("depth-here").replaceChildren("depth ", element("b", "", String(value.depth)));
-  const deep = entries.some(entry => entry.depth);
+  const deep = entries.some(entry => entry.depth) || $("pixel").clientWidth < NARROW;
   $("pixel").classList.toggle("deep", deep);
   history.rowHeight = deep ? DEEP_ROW : ROW;
   history.show(entries);
+  drawSum();
   if (shown !== position) history.choose(entries.findLastIndex(entry => entry.event <= position));
   shown = position;
 }
+
+new ResizeObserver(() => drawPixel()).observe($("pixel"));
 
 function entryRow(entry) {
   const { event, triangle, verdict, source, before, after, depth } = entry;
@@ -52,28 +57,13 @@ function cell(colour, depth) {
   return made;
 }
 
-// The state that the last event was drawn with, or the next one will meet; what differs between the two is marked
-export function drawState(whose) {
-  const state = frame.states[whose] ?? frame.states.next, other = frame.states[whose === "with" ? "next" : "with"];
-  for (const button of document.querySelectorAll("[data-state]")) button.setAttribute("aria-checked", button.dataset.state === whose);
-  $("state-table").replaceChildren();
-  if (!state) return;
-  const line = (name, keys, ...inside) => {
-    const changed = other && keys.some(key => JSON.stringify(other[key]) !== JSON.stringify(state[key]));
-    const value = element("dd", changed ? "changed" : "", ...inside);
-    if (changed) value.title = `event ${frame.position} sets it`;
-    $("state-table").append(element("dt", "", name), value);
-  };
-  const lamp = (on, text = on ? "on" : "off") => element("span", `lamp${on ? " lit" : ""}`, text);
-  const idle = (live, kind, ...inside) => element(kind, live ? "" : "idle", ...inside);
-  line("blend", ["blend"], lamp(state.blend));
-  line("colour", ["rgb"], idle(state.blend, "code", equation(state.rgb)));
-  line("alpha", ["alpha"], idle(state.blend, "code", equation(state.alpha)));
-  line("factor", ["factor"], swatch(state.factor), ` ${figures(state.factor)}`);
-  line("writes", ["mask"], ...["R", "G", "B", "A"].map((letter, i) => lamp(state.mask >> i & 1, letter)));
-  line("cull", ["cull", "ccw"], `${state.cull}, front is ${state.ccw ? "counter-clockwise" : "clockwise"}`);
-  line("scissor", ["scissor", "rect"], lamp(state.scissor), idle(state.scissor, "span", ` ${rectangle(state.rect)}`));
-  if (!state.depth) return;
-  const { enable, write, func } = state.depth;
-  line("depth", ["depth"], lamp(enable), idle(enable, "span", " passes where ", element("code", "", test(func))), " ", lamp(enable && write, "written"));
+// Under the history: of the outlined entry, or of the last one of the event at which the frame stands
+function drawSum() {
+  const { position, entries, outlined, states, pixel } = frame, own = entries.filter(entry => entry.event === position);
+  const entry = own.includes(outlined) ? outlined : own.at(-1);
+  $("sum").replaceChildren(...(entry && states.with ? sumOf(entry, states.with, pixel) : []).map(([channel, how, ours, theirs]) => {
+    const line = element("div", "", ...(channel ? [element("b", "", channel.toUpperCase()), " "] : []), how, ...(channel ? [" → ", element("b", "", String(theirs))] : []));
+    if (channel && ours !== theirs) line.append(element("strong", "differs", ` (this page makes ${ours} of it: please tell its makers)`));
+    return line;
+  }));
 }

@@ -1,6 +1,7 @@
 // Which part of a large target is fetched: all of it with pixels left out, or what is in sight, whole where that is small enough.
 
 import { isWhole } from "./image.js";
+import { everyOf } from "./words.js";
 
 const step = (wide, high, most) => Math.ceil(Math.sqrt(wide * high / most));
 
@@ -29,8 +30,6 @@ function wider({ width, height, most }, [left, top, right, bottom], wanted) {
 export function tellPart(image) {
   if (isWhole(image)) return "";
   const size = `${image.width} × ${image.height}`;
-  if (image.every > 1) return `Every ${ordinal(image.every)} pixel is shown: the target's ${size} are too many at once. Zoom in for all.`;
+  if (image.every > 1) return `E${everyOf(image).slice(1)} pixel is shown: the target's ${size} are too many at once. Zoom in for all.`;
   return `Of the target's ${size} pixels those in sight were fetched.`;
 }
-
-const ordinal = n => `${n}${n % 100 > 10 && n % 100 < 14 ? "th" : ["th", "st", "nd", "rd"][n % 10] ?? "th"}`;

@@ -1,36 +1,51 @@
 // The image on its canvas: channels, zoom, what changed, and what is laid over it.
 
-import { paint, paintGreys } from "./paint.js";
+import { listenToHands } from "./touch.js";
+import { knownBands } from "./image.js";
+import { paint, paintGreys, paintValues } from "./paint.js";
 
 export class Picture {
   constructor(parts) {
-    Object.assign(this, parts);         // stage, sheet, canvas, grid, scissor, cross, outline: elements of the page
+    Object.assign(this, parts);         // stage, sheet, canvas, grid, scissor, cross, outline, mark: elements of the page
     this.zoom = 1;
     this.fitted = true;
     this.channels = { r: true, g: true, b: true, a: false };
-    this.onPick = this.onHover = this.onZoom = this.onMove = () => {};
+    this.onPick = this.onHover = this.onZoom = this.onMove = this.onView = () => {};
     this.moved = 0;
     this.listen();
   }
 
-  // Shows an image; where a difference is given, what is the same is dim
+  // Shows an image; where a difference is given, what is the same is dim. Of one that differs in some rows from what is shown those alone are painted
   show(image, difference = null) {
     this.setSize(image);
-    this.draw(image, pixels => paint(pixels, image.bytes, difference?.mask, this.channels));
+    const how = JSON.stringify(this.channels), bands = this.plain?.how === how && !difference ? knownBands(image, this.plain.image) : null;
+    if (bands) this.drawBands(image, bands);
+    else this.draw(image, pixels => paint(pixels, image.bytes, difference?.mask, this.channels));
+    this.plain = difference ? null : { image, how };
     this.sheet.classList.toggle("transparent", this.channels.a && (this.channels.r || this.channels.g || this.channels.b));
   }
 
-  // Shows depths as greys, in their part of the target
-  showDepths({ part: [left, top, right, bottom], greys }) {
-    this.draw({ left, top, every: 1, columns: right - left, rows: bottom - top }, pixels => paintGreys(pixels, greys));
+  drawBands({ bytes, columns }, bands) {
+    for (const [first, count] of bands) {
+      const shown = new ImageData(columns, count);
+      paint(shown.data, bytes.subarray(4 * columns * first, 4 * columns * (first + count)), null, this.channels);
+      this.canvas.getContext("2d").putImageData(shown, 0, first);
+    }
+  }
+
+  // Shows a map in its part of the target: greys, or of each value its colour
+  showMap({ part, values, greys }, colour) {
+    this.plain = null;
+    this.draw(part, pixels => greys ? paintGreys(pixels, greys) : paintValues(pixels, values, colour));
     this.sheet.classList.remove("transparent");
   }
 
   // Nothing is shown until there is another image
   clear() {
-    Object.assign(this, { width: 0, height: 0, part: null, fitted: true, crossAt: null });
+    Object.assign(this, { width: 0, height: 0, part: null, plain: null, fitted: true, crossAt: null });
     this.sheet.hidden = this.cross.hidden = true;
     this.setOutline(null);
+    this.setMark(null);
   }
 
   setSize({ width, height }) {
@@ -97,7 +112,9 @@ export class Picture {
     this.placeCanvas();
     this.place(this.cross, this.crossAt);
     this.place(this.scissor, this.scissorAt);
+    this.setMark(this.markAt);
     this.onZoom(zoom);
+    this.onView();
     this.tellMove();
   }
 
@@ -109,6 +126,13 @@ export class Picture {
 
   setCross(x, y) { this.place(this.cross, this.crossAt = [x, y, x + 1, y + 1]); }
   setScissor(rect) { this.place(this.scissor, this.scissorAt = rect && this.inside(rect)); }
+
+  // A ring round a place between pixels, or none
+  setMark(at) {
+    this.markAt = at;
+    this.mark.hidden = !at;
+    if (at) Object.assign(this.mark.style, { left: `${at[0] * this.zoom}px`, top: `${at[1] * this.zoom}px` });
+  }
 
   // Three corners in pixels, or null
   setOutline(corners) {
@@ -130,7 +154,8 @@ export class Picture {
 
   listen() {
     const { stage, sheet } = this;
-    let from = null, turned = 0;
+    const isPinched = listenToHands(stage, this);
+    let from = null;
     const at = event => {
       const box = sheet.getBoundingClientRect();
       const x = Math.floor((event.clientX - box.left) / this.zoom), y = Math.floor((event.clientY - box.top) / this.zoom);
@@ -142,6 +167,7 @@ export class Picture {
     });
     stage.addEventListener("pointermove", event => {
       this.onHover(at(event));
+      if (isPinched()) from = null;         // which ends in no click
       if (!from) return;
       const dx = event.clientX - from.x, dy = event.clientY - from.y;
       from.moved ||= Math.hypot(dx, dy) > 4;
@@ -152,20 +178,13 @@ export class Picture {
       from = null;
       if (picked) this.onPick(picked);
     });
-    stage.addEventListener("scroll", () => this.tellMove());
+    stage.addEventListener("scroll", () => { this.onView(); this.tellMove(); });
     stage.addEventListener("pointerleave", () => this.onHover(null));
-    stage.addEventListener("wheel", event => {
-      event.preventDefault();
-      turned += event.deltaY * (event.deltaMode ? 40 : 1);
-      if (Math.abs(turned) < 40) return;                // a touchpad tells of many small turns
-      const box = stage.getBoundingClientRect();
-      this[turned < 0 ? "larger" : "smaller"](event.clientX - box.left, event.clientY - box.top);
-      turned = 0;
-    }, { passive: false });
     new ResizeObserver(() => {
       if (!this.part) return;
       if (this.fitted) this.fit();
       else this.tellMove();
+      this.onView();
     }).observe(stage);
   }
 }

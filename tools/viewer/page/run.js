@@ -1,15 +1,20 @@
-// The run behind the page: lines out, replies back. The token came behind the # of the address, which the browser sends to nobody.
+// The run behind the page: lines out, replies back. The token came behind the # of the address, which the browser sends to nobody; a place may stand there too.
 
-const token = location.hash.slice(1) || sessionStorage.getItem("token") || "";
+import { patched } from "./image.js";
+
+const words = location.hash.slice(1).split("&"), place = words.filter(word => word.includes("=")).join("&");
+const token = words.find(word => word && !word.includes("=")) || sessionStorage.getItem("token") || "";
 sessionStorage.setItem("token", token);
-history.replaceState(null, "", location.pathname);
+history.replaceState(null, "", location.pathname + (place && `#${place}`));
+
+export const firstPlace = () => place;
 
 export class Ended extends Error {}
 export class Stopped extends Error {}
 
 // Pages of one run tell each other of switches; those in another browser are noticed by the count that comes with each answer
 const others = new BroadcastChannel("switches");
-let switches = null, foreign = false;
+let switches = null, foreign = false, newest = null;         // the image that came last
 export const onForeign = told => { others.onmessage = told; };
 export const onCapture = () => {};        // this run has one capture; that of the page alone has others
 
@@ -23,17 +28,20 @@ async function call(path, body, headers = {}) {
   return answer;
 }
 
-// The replies to some lines, with no other caller's between: { text, lines?, left_out?, image? }. Of an image the part in the window comes
-export async function ask(lines, window = null) {
-  const headers = window ? { "X-Window": window.join(" ") } : {};
+// The replies to some lines, with no other caller's between: { text, lines?, left_out?, image? }. Of an image the part in the window comes.
+// A run beside may answer them, "end" or "depths": it has the same events off, and where it stands is nobody else's
+export async function ask(lines, window = null, beside = null) {
+  const headers = { "X-Base": newest?.number ?? 0, ...(window && { "X-Window": window.join(" ") }), ...(beside && { "X-Run": beside }) };
   const bytes = new Uint8Array(await (await call("/commands", lines.join("\n") + "\n", headers)).arrayBuffer());
   const cut = bytes.indexOf(10), told = JSON.parse(new TextDecoder().decode(bytes.subarray(0, cut)));
   let at = cut + 1;
   for (const { image } of told.replies) {
     if (!image) continue;
-    const size = image.bytes;
-    image.bytes = bytes.slice(at, at + size);       // a copy begins at a whole word, so it can be read by words
-    at += size;
+    const sent = bytes.subarray(at, at + image.bytes);
+    at += sent.length;
+    if (image.base) Object.assign(image, { bytes: patched(newest, image.bands, sent), delta: { base: newest.number, bands: image.bands } });
+    else image.bytes = sent.slice();                // a copy begins at a whole word, so it can be read by words
+    newest = image;
   }
   const [before, after] = told.switches;
   foreign ||= switches !== null && switches !== before;
@@ -49,6 +57,9 @@ export function switchedElsewhere() {
   return was;
 }
 
+// Why the capture is refused: the server has told that before any page comes, so a file that is mended since then may be tried again
+export const refusal = () => "";
+
 export const captureName = async () => (await (await call("/capture")).json()).name;
 
 export async function restart() {
@@ -60,5 +71,20 @@ export async function restart() {
 // Ends the run in the midst of what it is at; another begins with the same events off
 export const stop = () => call("/stop", "");
 
+// Who made the image at the end of the frame differ from a whole picture (blame.js): what is found, and the samples of the picture after the best change
+export async function blame({ width, height, bytes, hasAlpha }, by) {
+  const picture = new Blob([`P7\nWIDTH ${width}\nHEIGHT ${height}\nDEPTH 4\nMAXVAL 255\nTUPLTYPE RGB_ALPHA\nENDHDR\n`, bytes]);
+  const answer = await call("/blame", picture, { "X-Tolerance": [by, by, by, hasAlpha === false ? 255 : by].join(" ") });
+  const found = new Uint8Array(await answer.arrayBuffer()), cut = found.indexOf(10);
+  return { ...JSON.parse(new TextDecoder().decode(found.subarray(0, cut))), samples: found.slice(cut + 1) };
+}
+export const stopBlame = () => call("/blame/stop", "");
+
 // The corners of a triangle in pixels, as the capture's file has them, or null where that is too large to be read for it
 export const triangle = async (event, number) => (await call("/triangle", `${event} ${number}`)).json();
+
+// A draw as the capture's file has it (mesh.js), or null
+export const draw = async event => (await call("/draw", String(event))).json();
+
+// The calls that events come from, as the capture's file has them: [number, { event, name, until }]
+export const sources = async () => (await call("/sources")).json();

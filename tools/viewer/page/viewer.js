@@ -1,35 +1,52 @@
 // The page: wires the panels to the frame, and hands to both.
 
-import { captureName, onCapture } from "./run.js";
+import { captureName, firstPlace, onCapture } from "./run.js";
 import { onWorking } from "./working.js";
-import { frame, onShow, inTurn, open, again, last, stop, goTo, neighbour, switchOver, pick, command, fetchPart, wantDepths } from "./frame.js";
-import { WRITES, setFilter, listEvents, drawEvents, drawTicks } from "./events.js";
-import { drawPixel, drawState } from "./panels.js";
+import { frame, onShow, inTurn, open, goToPlace, again, last, stop, goTo, neighbour, switchOver, undo, pick, command, fetchPart, wantMap } from "./frame.js";
+import { WRITES, setFilter, foundFirst, listEvents, drawEvents, drawTicks } from "./events.js";
+import { drawPixel } from "./panels.js";
+import { drawState } from "./state.js";
+import { forgetTriangles, redraw, showTriangles } from "./triangles.js";
+import { followBookmarks, keepBookmark, showBookmarks } from "./bookmarks.js";
+import { dragColumns } from "./columns.js";
+import { listenToLine } from "./typed.js";
+import { Film } from "./film.js";
+import { followBlame, forgetFindings } from "./blame.js";
 import { Picture } from "./picture.js";
+import { keepPlace, onPlace, placeOf, readPlace } from "./place.js";
 import { colourAt, difference, isComparable, nextIn } from "./image.js";
 import { partFor, tellPart } from "./parts.js";
 import { tellDepths } from "./depths.js";
+import { colourOf, legendOf, nameOf } from "./fates.js";
+import { LOOKS } from "./maps.js";
+import { indexOf } from "./samples.js";
 import { readPicture } from "./compare.js";
 import { followTheme } from "./theme.js";
 import { element, swatch } from "./list.js";
-import { figures } from "./words.js";
+import { everyOf, figures } from "./words.js";
 import { forget, notice, session } from "./log.js";
 
 const $ = id => document.getElementById(id);
-const picture = new Picture(Object.fromEntries(["stage", "sheet", "grid", "scissor", "cross", "outline"].map(id => [id, $(id)]).concat([["canvas", $("image")]])));
-const view = { look: "after", held: null, whose: "with", other: null, found: null, hover: null, shown: null };
+const picture = new Picture(Object.fromEntries(["stage", "sheet", "grid", "scissor", "cross", "outline", "mark"].map(id => [id, $(id)]).concat([["canvas", $("image")]])));
+const view = { look: "after", held: null, whose: "with", other: null, found: null, hover: null, shown: null, mended: null };
+
+const film = new Film(frame, last, goTo, plays => $("play").setAttribute("aria-pressed", plays));
 
 // ---- What is drawn ---------------------------------------------------------------------------------------
 
 onShow(what => {
-  if (what === "events") listEvents();
+  if (what === "events") listEvents(), forgetFindings();
   if (what === "events" || what === "history") drawTicks();
-  if (what === "outline") return picture.setOutline(frame.corners), drawPixel();
+  if (what === "outline") return picture.setOutline(frame.corners), drawPixel(), showTriangles(picture);
   drawPosition();
   drawImage();
   drawEvents();
   drawPixel();
   drawState(view.whose);
+  showTriangles(picture);
+  if (frame.after && what !== "events" && !frame.isOpening) keepPlace(placeOf(frame));
+  if (what === "position") film.arrived();
+  tellLive();
 });
 
 function drawPosition() {
@@ -42,13 +59,15 @@ function drawPosition() {
 }
 
 function drawImage() {
-  const { after, before, states, pixel, depths } = frame, { look } = view, compared = look === "compared" || look === "other";
+  const { before, states, pixel } = frame, look = lookNow(), map = LOOKS.has(look) ? frame.map : null, compared = ["compared", "other", "mended"].includes(look);
+  const after = look === "mended" ? view.mended : frame.after;
   if (!after) return;
   const other = compared ? view.other : before, comparable = other && isComparable(after, other);
-  view.found = comparable && look !== "depth" ? difference(after, other, compared ? +$("tolerance").value : 0) : null;
+  view.found = comparable && !map ? difference(after, other, compared ? +$("tolerance").value : 0) : null;
   view.shown = look === "before" && before ? before : look === "other" ? view.other : after;
   picture.show(view.shown, look === "changed" || look === "compared" ? view.found : null);
-  if (look === "depth" && depths?.greys) picture.showDepths(depths);
+  if (map) picture.showMap(map, colourOf(map));
+  drawLegend(map);
   const state = states.with ?? states.next;
   picture.setScissor($("scissor-shown").checked && state?.scissor ? state.rect : null);
   if (pixel) picture.setCross(pixel.x, pixel.y);
@@ -60,15 +79,15 @@ function drawImage() {
   $("difference").title = $("difference").textContent = tellFound(look, compared && other && !comparable);
   $("part").textContent = tellPart(after);
   $("look-depth").hidden = !frame.hasDepth;
-  for (const button of document.querySelectorAll("[data-look]")) button.setAttribute("aria-checked", button.dataset.look === look);
+  for (const button of document.querySelectorAll("[data-look]")) button.setAttribute("aria-checked", button.dataset.look === look), button.setAttribute("aria-busy", button.dataset.look === view.look && look !== view.look);
   for (const button of document.querySelectorAll("[data-channel]")) button.setAttribute("aria-pressed", picture.channels[button.dataset.channel]);
   drawHover();
 }
 
 function tellFound(look, elsewhere) {
   if (elsewhere) return "another part of the target was pinned";
-  if (look === "depth") return frame.depths?.reason ?? (frame.depths ? tellDepths(frame.depths) : "");
-  return view.found ? tellDifference(view.found, look === "compared" || look === "other") : "";
+  if (LOOKS.has(look)) return look === "depth" ? tellDepths(frame.map) : frame.map.part.every > 1 ? `of ${everyOf(frame.map.part)} pixel` : "";
+  return view.found ? tellDifference(view.found, ["compared", "other", "mended"].includes(look)) : "";
 }
 
 function tellDifference({ count, most, left, top, right, bottom, every, whole }, compared) {
@@ -79,17 +98,24 @@ function tellDifference({ count, most, left, top, right, bottom, every, whole },
 
 const tellOther = (other, colour) => [`${other.name} has`, element("br"), swatch(colour), ` ${other.hasAlpha === false ? figures(colour).replace(/ \d+$/, "") : figures(colour)}`];
 
-function drawHover() {
-  const { hover, shown, look } = view, colour = hover && shown && colourAt(shown, hover.x, hover.y);
-  if (!colour) return void ($("hover").textContent = "\u00a0");
-  const depth = look === "depth" ? depthUnder(hover) : null;
-  $("hover").replaceChildren(element("span", "place", `${hover.x} ${hover.y}`), swatch(colour), figures(colour), ...(depth === null ? [] : [`depth ${depth}`]));
+// What is shown: a map only when it is there, so that no button is lit over another picture
+const lookNow = () => LOOKS.has(view.look) && frame.map?.look !== view.look ? "after" : view.look;
+
+function drawLegend(map) {
+  const named = map && map.look !== "depth" ? legendOf(map) : [];
+  $("legend").replaceChildren(...named.map(({ colour: [r, g, b], count, name }) =>
+    element("span", "", swatch({ r, g, b, a: 255 }), ` ${name} `, element("b", "", count.toLocaleString("en")))));
 }
 
-function depthUnder({ x, y }) {
-  if (!frame.depths?.greys) return null;
-  const { part: [left, top, right, bottom], depths } = frame.depths;
-  return x >= left && x < right && y >= top && y < bottom ? depths[(y - top) * (right - left) + x - left] : null;
+function drawHover() {
+  const { hover, shown } = view, colour = hover && shown && colourAt(shown, hover.x, hover.y);
+  if (!colour) return void ($("hover").textContent = "\u00a0");
+  $("hover").replaceChildren(element("span", "place", `${hover.x} ${hover.y}`), swatch(colour), figures(colour), ...(LOOKS.has(lookNow()) ? tellUnder(frame.map, hover) : []));
+}
+
+function tellUnder(map, place) {
+  const at = indexOf(map.part, place);
+  return at < 0 ? [] : [map.look === "depth" ? `depth ${map.values[at]}` : nameOf(map, map.values[at])];
 }
 
 // ---- Hands ------------------------------------------------------------------------------------------------
@@ -97,8 +123,7 @@ function depthUnder({ x, y }) {
 function setLook(look) {
   const was = view.look;
   view.look = look;
-  if (look === "depth") wantDepths(picture.visible());
-  else if (was === "depth") wantDepths(null);
+  if (LOOKS.has(look) || LOOKS.has(was)) wantMap(look, picture.visible());
   drawImage();
 }
 
@@ -107,7 +132,7 @@ function move(visible) {
   if (!frame.after) return;
   const part = partFor(frame.after, visible);
   if (part !== undefined) fetchPart(part);
-  if (view.look === "depth") wantDepths(visible);
+  if (LOOKS.has(view.look)) wantMap(view.look, visible);
 }
 
 function goToWriter(way) {
@@ -132,6 +157,7 @@ function compareWith(other) {
     return notice(`${other.name} is ${other.width} × ${other.height}, the target ${after.width} × ${after.height}`, true);
   }
   view.other = other;
+  forgetFindings();
   setLook("compared");
 }
 
@@ -145,24 +171,28 @@ function nextDifferent() {
   else notice("no pixel differs");
 }
 
+const turnLook = look => setLook(view.look === look ? "after" : look);
+
 const KEYS = {
   ArrowLeft: () => goTo(frame.target - 1), ArrowRight: () => goTo(frame.target + 1), ArrowUp: () => goToDraw(-1), ArrowDown: () => goToDraw(1),
   Home: () => goTo(0), End: () => goTo(last()), "[": () => goToWriter(-1), "]": () => goToWriter(1),
-  " ": switchLast, ".": stop,
-  a: () => setLook("after"), c: () => setLook(view.look === "changed" ? "after" : "changed"), d: () => setLook(view.look === "compared" ? "after" : "compared"),
+  " ": switchLast, ".": stop, f: () => film.play(), u: undo, m: () => notice(keepBookmark(placeOf(frame)) ? "This place is kept among the bookmarks" : "This place is forgotten"),
+  a: () => setLook("after"), c: () => turnLook("changed"), d: () => turnLook("compared"),
   b: () => { view.held ??= view.look; setLook(view.held === "compared" && view.other ? "other" : "before"); },
-  z: () => frame.hasDepth && setLook(view.look === "depth" ? "after" : "depth"), p: pin, n: nextDifferent, s: () => $("scissor-shown").click(),
+  z: () => frame.hasDepth && turnLook("depth"), v: () => turnLook("fate"), o: () => turnLook("overdraw"), p: pin, n: nextDifferent, s: () => $("scissor-shown").click(), t: () => $("wires-shown").click(),
   "+": () => picture.larger(), "=": () => picture.larger(), "-": () => picture.smaller(), 0: () => picture.fit(),
   ":": () => $("command").focus(), "?": () => $("help").showModal(),
 };
 
 function press(event) {
-  if (event.target.matches("input:not([type=range]):not([type=checkbox])")) return void (event.key === "Escape" && event.target.blur());
+  if (event.target.matches("input:not([type=range]):not([type=checkbox]), select")) return void (event.key === "Escape" && event.target.blur());
   if (event.key === " " && event.target.matches("button, input")) return;
   if (event.key === "Escape") return document.activeElement.blur();
-  const doing = KEYS[event.key.length === 1 ? event.key.toLowerCase() : event.key];
+  const moves = event.shiftKey && MOVES[event.key];
+  const doing = moves ? () => movePixel(...moves) : KEYS[event.key.length === 1 ? event.key.toLowerCase() : event.key];
   if (!doing || event.ctrlKey || event.metaKey || event.altKey || $("help").open) return;
   event.preventDefault();
+  if (doing !== KEYS.f) film.stop();
   doing();
 }
 
@@ -172,16 +202,52 @@ function release(event) {
   view.held = null;
 }
 
+async function copy(text, what) {
+  await navigator.clipboard.writeText(text);
+  notice(`Copied: ${what}`);
+}
+
+// What is shown, in the pixels of its part of the target
+function savePng() {
+  $("image").toBlob(blob => {
+    const link = document.createElement("a");
+    link.href = URL.createObjectURL(blob);
+    link.download = `${$("capture").textContent.replace(/\.json$/i, "")}_${frame.position}.png`;
+    link.click();
+    setTimeout(() => URL.revokeObjectURL(link.href), 60_000);
+  });
+}
+
+// The pixel beside the chosen one, or the middle of the image
+function movePixel(dx, dy) {
+  const { after, pixel } = frame;
+  if (!after) return;
+  const { x, y } = pixel ?? { x: Math.floor(after.width / 2) - dx, y: Math.floor(after.height / 2) - dy };
+  pick({ x: Math.max(0, Math.min(after.width - 1, x + dx)), y: Math.max(0, Math.min(after.height - 1, y + dy)) });
+}
+const MOVES = { ArrowLeft: [-1, 0], ArrowRight: [1, 0], ArrowUp: [0, -1], ArrowDown: [0, 1] };
+
+// For who hears the page
+function tellLive() {
+  const { position, events, pixel, value } = frame, event = events[position - 1];
+  const stands = `position ${position} of ${last()}${event ? `: ${event.kind}` : ""}`;
+  $("live").textContent = `${stands}${pixel && value ? `; pixel ${pixel.x} ${pixel.y} is ${figures(value.colour)}` : ""}`;
+  $("image").setAttribute("aria-label", `The image at ${stands}`);
+}
+
 function listen() {
   const clicks = {
-    first: KEYS.Home, back: KEYS.ArrowLeft, step: KEYS.ArrowRight, last: KEYS.End, stop, fit: KEYS[0], larger: KEYS["+"], smaller: KEYS["-"], keys: KEYS["?"],
+    first: KEYS.Home, back: KEYS.ArrowLeft, step: KEYS.ArrowRight, last: KEYS.End, play: KEYS.f, stop, fit: KEYS[0], larger: KEYS["+"], smaller: KEYS["-"], keys: KEYS["?"],
     "writer-before": KEYS["["], "writer-after": KEYS["]"], pin, load: () => $("file").click(), "next-different": nextDifferent,
-    copy: async () => { await navigator.clipboard.writeText(session()); notice("Copied: a session for framedbg run"); },
+    copy: () => copy(session(), "a session for framedbg run"), "copy-value": () => copy($("value").textContent, $("value").textContent), "save-png": savePng,
   };
   for (const [id, doing] of Object.entries(clicks)) $(id).onclick = doing;
+  document.addEventListener("pointerdown", event => event.target.closest("#play") || film.stop(), true);
   $("slider").oninput = () => goTo(+$("slider").value);
   $("filter").oninput = () => setFilter($("filter").value);
+  $("filter").onkeydown = event => { if (event.key === "Enter" && foundFirst()) goTo(foundFirst()); };
   $("scissor-shown").onchange = $("tolerance").oninput = drawImage;
+  $("wires-shown").onchange = () => showTriangles(picture);
   $("file").onchange = () => { load($("file").files[0]); $("file").value = ""; };
   for (const button of document.querySelectorAll("[data-look]")) button.onclick = () => setLook(button.dataset.look);
   for (const button of document.querySelectorAll("[data-state]")) button.onclick = () => drawState(view.whose = button.dataset.state);
@@ -193,14 +259,14 @@ function listen() {
   $("view").ondragover = event => { event.preventDefault(); $("view").classList.add("over"); };
   $("view").ondragleave = () => $("view").classList.remove("over");
   $("view").ondrop = event => { event.preventDefault(); $("view").classList.remove("over"); load(event.dataTransfer.files[0]); };
-  $("ask").onsubmit = event => {
-    event.preventDefault();
-    if ($("command").value.trim()) command($("command").value);
-    $("command").value = "";
-  };
+  listenToLine($("ask"), $("command"), command);
+  followBlame({ other: () => view.other, tolerance: () => +$("tolerance").value, goTo, pick, show: mended => { view.mended = mended; setLook(mended ? "mended" : "compared"); } });
+  dragColumns();
+  followBookmarks(goToPlace);
   picture.onPick = pick;
   picture.onZoom = zoom => { $("zoom").textContent = zoom >= 1 ? `${zoom}×` : `${Math.round(zoom * 100)}%`; };
   picture.onMove = move;
+  picture.onView = redraw;
   picture.onHover = place => { view.hover = place; drawHover(); };
   addEventListener("keydown", press);
   addEventListener("keyup", release);
@@ -208,19 +274,28 @@ function listen() {
   $("theme").onclick = followTheme(drawTicks);
 }
 
-// The run's capture: at first, and where there is another
-function begin() {
-  Object.assign(view, { look: "after", held: null, other: null, found: null, hover: null, shown: null });
+// The run's capture: at first, perhaps at a place, and where there is another
+function begin(place = null) {
+  film.stop();
+  Object.assign(view, { look: "after", held: null, other: null, found: null, hover: null, shown: null, mended: null });
+  forgetFindings();
   picture.clear();
   forget();
+  forgetTriangles();
   inTurn(async () => {
     $("capture").textContent = await captureName();
+    showBookmarks($("capture").textContent);
     document.title = `${$("capture").textContent} – framedbg`;
   });
-  open();
+  open(place);
 }
 
 listen();
-onCapture(begin);
-onWorking(isSlow => $("stop").setAttribute("aria-disabled", !isSlow));
-begin();
+onCapture(() => begin());
+onPlace(goToPlace);
+onWorking(isSlow => {
+  $("stop").setAttribute("aria-disabled", !isSlow);
+  $("view").setAttribute("aria-busy", isSlow);
+  $("busy").hidden = !isSlow;
+});
+begin(readPlace(firstPlace()));

@@ -16,6 +16,9 @@ export const figures = ({ r, g, b, a }) => `${r} ${g} ${b} ${a}`;
 export const hex = ({ r, g, b, a }) => `#${[r, g, b, a].map(v => v.toString(16).padStart(2, "0")).join("")}`;
 export const rectangle = ([left, top, right, bottom]) => `${left} ${top} to ${right} ${bottom}`;
 export const test = func => TESTS[func];
+export const compare = (func, source, stored) => test(func).replace("src", source).replace("stored", stored);
+const ordinal = n => `${n}${n % 100 > 10 && n % 100 < 14 ? "th" : ["th", "st", "nd", "rd"][n % 10] ?? "th"}`;
+export const everyOf = ({ every }) => every > 1 ? `every ${ordinal(every)}` : "every";
 const onOff = flag => flag === "1" ? "on" : "off";
 const letters = mask => ["R", "G", "B", "A"].filter((_, i) => mask >> i & 1).join("") || "nothing";
 

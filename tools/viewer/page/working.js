@@ -8,10 +8,10 @@ let asked = null, tell = () => {};
 // Told true where an answer takes a while, and false when it is there
 export const onWorking = told => { tell = told; };
 
-export async function ask(lines, window = null) {
+export async function ask(lines, window = null, beside = null) {
   const its = asked = { stopped: false }, late = setTimeout(() => tell(true), A_WHILE);
   try {
-    const replies = await askRun(lines, window);
+    const replies = await askRun(lines, window, beside);
     if (its.stopped) throw new Stopped();
     return replies;
   } finally {

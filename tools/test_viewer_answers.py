@@ -1,0 +1,557 @@
+"""What the viewer's page answers beyond framedbg's replies: who set a state, how a colour came about, what met a pixel. In Chromium, and in Firefox where it is installed."""
+import json
+import random
+import tempfile
+import time
+import unittest
+
+import browser
+import reference
+from viewer_hands import Hands
+from viewer_testing import HOUSE, PROGRAM, Viewer, asked, capture_of, file_of, replies, vertices
+
+FACTORS = ["ZERO", "ONE", "SRC_ALPHA", "INV_SRC_ALPHA", "DEST_ALPHA", "INV_DEST_ALPHA", "BLEND_FACTOR", "INV_BLEND_FACTOR"]
+COLOURS = ["SRC_COLOR", "INV_SRC_COLOR", "DEST_COLOR", "INV_DEST_COLOR"]
+OPERATIONS = ["ADD", "SUBTRACT", "REV_SUBTRACT", "MIN", "MAX"]
+# What the page makes of entries that were drawn, without what framedbg replied
+SUMS = """
+const { sumOf } = await import(name("sum.js")), names = ["r", "g", "b", "a"], colour = values => Object.fromEntries(values.map((v, i) => [names[i], v]));
+return given[0].map(({ source, before, factor, blend: [enable, rgb, alpha, mask] }) => sumOf({ event: 1, triangle: 0, verdict: "drawn",
+  source: colour(source), before: colour(before), after: colour(before) }, { blend: enable, rgb, alpha, mask, factor: colour(factor) }, { x: 0, y: 0 }).map(([, how, ours]) => [how, ours]));
+"""
+# Presses F as soon as the frame stands at position 2
+ONCE = """
+new MutationObserver((_, watch) => {
+  if (document.querySelector("#position b").innerText !== "2") return;
+  watch.disconnect();
+  window.pressed = true;
+  document.body.dispatchEvent(new KeyboardEvent("keydown", { key: "f", bubbles: true }));
+}).observe(document.getElementById("position"), { childList: true });
+"""
+# The texts in sight whose contrast with what is behind them is too small
+CONTRAST = """
+const parts = text => text.match(/[\\d.]+/g).map(Number), light = ([r, g, b]) => [r, g, b].map(v => v / 255).map(v => v <= 0.04045 ? v / 12.92 : ((v + 0.055) / 1.055) ** 2.4)
+  .reduce((sum, v, i) => sum + v * [0.2126, 0.7152, 0.0722][i], 0);
+const behind = e => { for (; e; e = e.parentElement) { const c = parts(getComputedStyle(e).backgroundColor); if (c.length === 3 || c[3] === 1) return c; } return [255, 255, 255]; };
+const opacity = e => { let all = 1; for (; e; e = e.parentElement) all *= getComputedStyle(e).opacity; return all; };
+return [...document.querySelectorAll("body *")].filter(e => e.checkVisibility() && !e.closest("#stage, .unseen, [aria-disabled=true]") && [...e.childNodes].some(n => n.nodeType === 3 && n.data.trim())).map(e => {
+  const ground = behind(e), own = parts(getComputedStyle(e).color), by = opacity(e), [a, b] = [light(own.slice(0, 3).map((v, i) => v * by + ground[i] * (1 - by))), light(ground)];
+  return [(Math.max(a, b) + 0.05) / (Math.min(a, b) + 0.05), e.className || e.id || e.tagName, e.innerText.slice(0, 20)];
+}).filter(([ratio]) => ratio < 4.5);
+"""
+
+
+class Answers(Hands):
+    def shows(self, text, folder):
+        """A server for a capture, and the page at its end."""
+        viewer = Viewer(file_of(folder, text))
+        self.addCleanup(viewer.__exit__)
+        self.open(viewer)
+        self.at(len(json.loads(text)["events"]))
+        return viewer
+
+    def setters(self):
+        """Who set each part of the state, in the order of the table."""
+        return self.browser.run("return [...document.querySelectorAll('#state-table dd')].map(e => [...e.querySelectorAll('.setter')].map(s => s.innerText).join(' ')).filter(said => said)")
+
+    def sum(self):
+        return self.browser.run("return [...document.querySelectorAll('#sum > div')].map(e => e.innerText.replace(/\\s+/g, ' ').trim())")
+
+    def test_who_set_the_state(self):
+        with Viewer(HOUSE) as viewer:
+            self.open(viewer)
+            self.at(13)
+            self.click_pixel(50, 50, 96)
+            self.browser.until("return document.querySelectorAll('#history .entry').length === 4")
+            self.choose_entry(11)
+            self.comes(self.setters, ["set by 8 off", *["as at the start"] * 4])
+            self.browser.click("#state-table .setter.go")
+            self.at(8)
+            self.comes(self.setters, ["as at the start"] * 5)               # before the event, when its state is told; and after it
+            self.browser.click("[data-state='next']")
+            self.comes(self.setters, ["set by 8 off", *["as at the start"] * 4])
+            self.browser.click("[data-state='with']")
+            self.choose_entry(11)
+            self.browser.click("#state-table .setter.off")
+            self.reads("#value", "190 60 50 128")
+            self.at(11)
+            self.comes(self.setters, ["as at the start"] * 5)
+            self.comes(lambda: self.state()["blend"], "off")
+
+    def test_each_part_has_its_own_event(self):
+        """A scissor rectangle is set by one event and switched on by another."""
+        states = [{"kind": "raster", "cull": "none", "front_ccw": False, "scissor": True}, {"kind": "scissor", "rect": [1, 1, 7, 7]}, {"kind": "factor", "color": [1, 2, 3, 4]},
+                  {"kind": "depth", "enable": True, "write": True, "func": "LESS"}, {"kind": "factor", "color": [5, 6, 7, 8]}]
+        with tempfile.TemporaryDirectory() as folder:
+            self.shows(capture_of(8, 8, states, 2), folder)
+            self.browser.click("[data-state='next']")
+            names = self.browser.run("return [...document.querySelectorAll('#state-table dd')].filter(e => e.querySelector('.setter')).map(e => e.previousElementSibling.innerText)")
+            self.assertEqual(names, ["blend", "factor", "cull", "scissor", "rect", "depth"])
+            self.comes(self.setters, ["as at the start", "set by 5 off", "set by 1 off", "set by 1 off", "set by 2 off", "set by 4 off"])
+            self.browser.click("#state-table dd:nth-of-type(5) .setter.off")
+            self.comes(self.setters, ["as at the start", "set by 3 off", "set by 1 off", "set by 1 off", "set by 2 off", "set by 4 off"])
+            self.comes(lambda: self.state()["factor"], "1 2 3 4")
+
+    def test_the_sum_under_an_entry(self):
+        with Viewer(HOUSE) as viewer:
+            self.open(viewer)
+            self.at(13)
+            self.click_pixel(50, 50, 96)
+            self.browser.until("return document.querySelectorAll('#history .entry').length === 4")
+            self.comes(self.sum, [])                                        # the last event did nothing to this pixel
+            self.choose_entry(11)
+            self.comes(self.sum, ["R 190 × 128/255 + 60 × 127/255 = 125.25 → 125", "G 60 × 128/255 + 130 × 127/255 = 94.86 → 95",
+                                  "B 50 × 128/255 + 60 × 127/255 = 54.98 → 55", "A 128 × 255/255 + 255 × 0/255 = 128.00 → 128"])
+            self.choose_entry(2)
+            self.comes(self.sum, ["a clear: each pixel has its colour, whatever the state"])
+            self.assertEqual(self.browser.run("return document.querySelectorAll('#sum .differs').length"), 0)
+
+    def test_why_a_triangle_was_thrown_away(self):
+        events = [{"kind": "depth", "enable": True, "write": True, "func": "LESS"}, {"kind": "raster", "cull": "back", "front_ccw": False, "scissor": True},
+                  {"kind": "scissor", "rect": [0, 0, 4, 8]}]
+        one = {"kind": "draw", "interp": "flat", "vertices": vertices(*(((0, 0, 1000, [9, 8, 7, 6]), (16, 0, 1000, [1] * 4), (0, 16, 1000, [1] * 4))))}
+        far = {**one, "vertices": [{**vertex, "z": 2000} for vertex in one["vertices"]]}
+        events += [one, far, {**one, "vertices": one["vertices"][::-1]}]
+        with tempfile.TemporaryDirectory() as folder:
+            self.shows(capture_of(8, 8, events, 2), folder)
+            self.click_pixel(1, 1, 8)
+            self.comes(self.sum, ["thrown away: cull is back, the front is clockwise, and this triangle shows its back"])
+            self.choose_entry(5)
+            self.comes(self.sum, ["thrown away: the depth test (2000 < 1000) doesn't hold"])
+            self.choose_entry(4)
+            self.comes(self.sum, [*(f"{name} {value}, as blending is off → {value}" for name, value in zip("RGBA", (9, 8, 7, 6))), "the depth test (1000 < 65535) holds: 1000 is stored"])
+            self.click_pixel(6, 2, 8)
+            self.comes(self.sum, ["thrown away: 6 2 is outside of the scissor rectangle 0 0 to 4 8"])
+
+    def test_a_sum_knows_the_state_before(self):
+        """A draw's state is the one before it, also where another is marked in the table."""
+        blend = {"kind": "blend", "enable": True, "rgb": ["ONE", "ONE", "ADD"], "alpha": ["ONE", "ONE", "ADD"], "mask": 7}
+        events = [blend, {"kind": "draw", "interp": "flat", "vertices": vertices(*((x, y, [9, 8, 250, 6]) for x, y in ((0, 0), (16, 0), (0, 16))))}]
+        with tempfile.TemporaryDirectory() as folder:
+            self.shows(capture_of(8, 8, [*events, events[1]]), folder)
+            self.click_pixel(1, 1, 8)
+            self.comes(self.sum, ["R 9 × 255/255 + 9 × 255/255 = 18.00 → 18", "G 8 × 255/255 + 8 × 255/255 = 16.00 → 16", "B 250 × 255/255 + 250 × 255/255 = 500.00 → 255",
+                                  "A not written → 0"])
+            self.browser.click("[data-state='next']")
+            self.browser.click(self.row(1) + " input")
+            self.comes(self.sum, [f"{name} {value}, as blending is off → {value}" for name, value in zip("RGBA", (9, 8, 250, 6))])
+
+    def test_the_sum_is_the_definitions(self):
+        """Of states and colours by chance, beside the definition of blending."""
+        dice, asked = random.Random(5), []
+        for _ in range(3000):
+            rgb, alpha = ([*dice.choices(factors, k=2), dice.choice(OPERATIONS)] for factors in (FACTORS + COLOURS, FACTORS))
+            colours = {name: [dice.choice((0, 255, dice.randrange(256))) for _ in range(4)] for name in ("source", "before", "factor")}
+            asked.append({**colours, "blend": [dice.random() < 0.8, rgb, alpha, dice.choice((15, dice.randrange(16)))]})
+        with Viewer(HOUSE) as viewer:
+            self.open(viewer)
+            self.at(13)
+            found = self.within(SUMS, asked)
+        for given, made in zip(asked, found):
+            state = {"blend": given["blend"], "factor": given["factor"]}
+            self.assertEqual([ours for _, ours in made], list(reference.blend(state, given["source"], given["before"])), given)
+
+    def test_a_sum_that_differs_is_marked(self):
+        """Where page and program differ, the page says so: here it is told of another source than was drawn."""
+        with Viewer(HOUSE) as viewer:
+            self.open(viewer)
+            self.at(13)
+            self.click_pixel(50, 50, 96)
+            self.browser.until("return document.querySelectorAll('#history .entry').length === 4")
+            self.choose_entry(11)
+            self.comes(lambda: len(self.sum()), 4)
+            self.within("const { frame } = await import(name('frame.js')); frame.entries.at(-1).source.r = 200;")
+            self.browser.press("Escape", "Left", "Right")
+            self.comes(lambda: self.sum()[:1], ["R 200 × 128/255 + 60 × 127/255 = 130.27 → 125 (this page makes 130 of it: please tell its makers)"])
+
+    # ---- Places
+
+    def address(self):
+        """What stands behind the # of the address."""
+        return self.browser.run("return location.hash")
+
+    def off(self):
+        return self.browser.run("return [...document.querySelectorAll('#event-list .event.off')].map(e => e.dataset.number).join()")
+
+    def asked(self):
+        return self.browser.run("return [...document.querySelectorAll('#log .asked')].map(e => e.innerText)")
+
+    def test_a_place_is_a_link(self):
+        with Viewer(HOUSE) as viewer:
+            self.open(viewer)
+            self.at(13)
+            self.comes(self.address, "#at=13")
+            self.click_pixel(50, 50, 96)
+            self.comes(self.address, "#at=13&pixel=50,50")
+            self.browser.click(self.row(8) + " input")
+            self.comes(self.address, "#at=13&pixel=50,50&off=8")
+            self.browser.run("location.hash = '#at=11&pixel=5,5&off=10,12'")
+            self.at(11)
+            self.reads("#place", "5 5")
+            self.comes(self.off, "10,12")
+            self.assertEqual([line for line in self.asked() if line[0] == "o"], ["off 8", "on 8", "off 10", "off 12"])
+            self.browser.run("location.hash = '#at=99&pixel=96,5'")
+            self.at(13)
+            self.comes(self.off, "")
+            self.reads("#place", "5 5")                                     # there is no pixel 96 5
+            for text in ("#pixel=1,1", "#at=x", "#at=-3"):
+                self.browser.run("location.hash = arguments[0]", text)
+            self.browser.press("Escape", "Left")
+            self.comes(self.address, "#at=12&pixel=5,5")                    # those were no places
+
+    def test_a_place_outlasts_a_reload(self):
+        """And what was told of since then is a session that leads there."""
+        with Viewer(HOUSE) as viewer:
+            self.open(viewer)
+            self.at(13)
+            self.browser.run("location.hash = '#at=11&pixel=50,50&off=8'")
+            self.reads("#value", "190 60 50 128")
+            self.comes(self.address, "#at=11&pixel=50,50&off=8")
+            self.browser.call("/refresh", {})
+            self.at(11)
+            self.reads("#value", "190 60 50 128")
+            self.comes(self.off, "8")
+            self.reads("#place", "50 50")
+            session = self.asked()
+            self.assertEqual(replies(HOUSE, [*session, "pixel 50 50", "events"])[-15:-13], ["pixel 190 60 50 128", "events 13 at 11"])
+
+    # ---- Runs beside
+
+    def test_a_pixel_is_picked_anywhere(self):
+        """The whole frame's history, and the run that the page moves isn't moved for it."""
+        with Viewer(HOUSE) as viewer:
+            self.open(viewer)
+            self.at(13)
+            self.browser.press("Escape", "Home")
+            self.at(0)
+            before = viewer.session.lines
+            for x, y, entries in ((50, 50, 4), (5, 5, 2)):
+                self.click_pixel(x, y, 96)
+                self.reads("#place", f"{x} {y}")
+                self.comes(lambda: len(self.history()), entries)
+            self.assertEqual(viewer.session.lines - before, 4)               # the way here and the pixel, twice
+            self.browser.click(self.row(3) + " input")
+            self.comes(lambda: len(self.history()), 1)
+            told = self.browser.run("return [...document.querySelectorAll('#log .told')].map(e => [...e.children].map(c => c.innerText))")
+            own = [line for line in replies(HOUSE, [asked for asked, *_ in told]) if not line[0].isdigit()]
+            self.assertEqual([reply for _, reply, *_ in told], own)          # what the page tells of is a session of framedbg
+
+    # ---- Moves
+
+    def test_each_step_shows_the_image(self):
+        """Forward and back, by rows that changed, in each look: what stands in the canvas is the image."""
+        few = 96 * 64 * 4
+        with Viewer(HOUSE) as viewer:
+            self.open(viewer)
+            self.at(13)
+            whole = {position: asked(PROGRAM, HOUSE, [f"goto {position}", "show"]).stdout[-few:] for position in range(14)}
+            opaque = lambda data: [255 if i % 4 == 3 else v for i, v in enumerate(data)]
+            pixels = "return [...document.getElementById('image').getContext('2d').getImageData(0, 0, 96, 64).data]"
+            self.browser.press("Escape")
+            for key, position in (("Left", 12), ("Left", 11), ("Left", 10), ("Right", 11), ("Right", 12), ("Home", 0), ("Right", 1), ("Right", 2), ("Right", 3), ("End", 13), ("Left", 12)):
+                self.browser.press(key)
+                self.at(position)
+                self.comes(lambda: self.browser.run(pixels), opaque(whole[position]))
+                if position == 11:
+                    self.browser.press("c")
+                    self.comes(lambda: self.browser.run(pixels) == opaque(whole[11]), False)
+                    self.browser.press("a")
+                    self.comes(lambda: self.browser.run(pixels), opaque(whole[11]))
+
+    def test_no_image_holds_another(self):
+        """However many were shown: those that are gone can be given back."""
+        held = """const { frame } = await import(name("frame.js")), seen = new Set(), todo = [frame.after];
+          while (todo.length) { const it = todo.pop(); if (it && typeof it === "object" && !seen.has(it) && !ArrayBuffer.isView(it)) { seen.add(it); todo.push(...Object.values(it)); } }
+          return [...seen].filter(it => "columns" in it).length"""
+        with Viewer(HOUSE) as viewer:
+            self.open(viewer)
+            self.at(13)
+            self.browser.press("Escape")
+            for position in (12, 11, 10, 9):
+                self.browser.press("Left")
+                self.at(position)
+            self.assertEqual(self.within(held), 1)
+
+    def test_rows_stay_and_are_right(self):
+        """Of the list of events those rows alone are made anew that look otherwise after a move."""
+        rows = ("return [...document.querySelectorAll('#event-list .event')].map(e => [+e.dataset.number, e.classList.contains('ahead'), e.classList.contains('hit'),"
+                "e.getAttribute('aria-selected') === 'true'])")
+        with Viewer(HOUSE) as viewer:
+            self.open(viewer)
+            self.at(13)
+            self.click_pixel(50, 50, 96)
+            self.browser.until("return document.querySelectorAll('#history .entry').length === 4")
+            self.comes(lambda: self.browser.run(rows), [[n, False, n in (2, 3, 6, 11), n == 13] for n in range(1, 14)])
+            self.browser.run("document.querySelector(arguments[0]).marked = true", self.row(4))
+            self.browser.press("Escape")
+            for key, position in (("Left", 12), ("Left", 11), ("Right", 12), ("Home", 0), ("End", 13)):
+                self.browser.press(key)
+                self.at(position)
+                self.comes(lambda: self.browser.run(rows), [[n, n > position, n in (2, 3, 6, 11), n == position] for n in range(1, 14)])
+                if key == "Right":
+                    self.assertTrue(self.browser.run("return document.querySelector(arguments[0]).marked", self.row(4)))
+
+    def test_a_film(self):
+        """It plays from where the frame stands to its end, by each event, and a key stops it."""
+        seen = "new MutationObserver(() => { (window.seen ??= []).push(document.querySelector('#position b').innerText); }).observe(document.getElementById('position'), { childList: true });"
+        with Viewer(HOUSE) as viewer:
+            self.open(viewer)
+            self.at(13)
+            self.browser.run(seen)
+            self.browser.press("Escape", "f")                               # at the end: from the start
+            self.comes(lambda: self.browser.run("return (window.seen ?? []).join(' ')"), " ".join(map(str, range(14))))
+            self.comes(lambda: self.browser.run("return document.getElementById('play').getAttribute('aria-pressed')"), "false")
+            self.browser.press("Home")
+            self.at(0)
+            self.browser.run(ONCE)                                          # in the page, where no film is over before the key comes
+            self.browser.press("f")
+            self.browser.until("return window.pressed")
+            stood = self.comes_to_rest()
+            self.assertLess(stood, 13)
+
+    def comes_to_rest(self):
+        """The position, once it stays for longer than a film's event lasts."""
+        read = lambda: int(self.text("#position b"))
+        position = read()
+        for _ in range(20):
+            time.sleep(0.6)
+            if read() == position:
+                return position
+            position = read()
+        raise AssertionError("the film plays on")
+
+    # ---- Triangles
+
+    def corners(self):
+        """The rows of the table of corners."""
+        return self.browser.run("return [...document.querySelectorAll('#vertices .row')].map(e => [...e.children].map(c => c.innerText).filter(said => said).join(' '))")
+
+    def test_the_triangles_of_a_draw(self):
+        """Outlined, with a table of corners; a click on one marks it."""
+        with Viewer(HOUSE) as viewer:
+            self.open(viewer)
+            self.at(13)
+            self.browser.press("t")
+            self.browser.click(self.row(11) + " .what")
+            self.at(11)
+            self.reads("#mesh-told", "2, each of its first corner's colour")
+            event = json.loads(HOUSE.read_text())["events"][10]
+            rows = []
+            for k, number in enumerate(event.get("indices", range(len(event["vertices"])))):
+                vertex = event["vertices"][number]
+                rows += [f"{k // 3} clockwise: front, area 384"] * (k % 3 == 0)
+                rows.append(f"{number} {vertex['x'] // 65536} {vertex['y'] // 65536} {' '.join(map(str, vertex['color']))}")
+            self.comes(self.corners, rows)
+            wires = "const c = document.getElementById('wires'), [x, y] = arguments; const zoom = c.width / 96; return [...c.getContext('2d').getImageData(Math.round(x * zoom), Math.round(y * zoom), 1, 1).data]"
+            self.comes(lambda: self.browser.run(wires, 60, 48)[3] > 0, True)                 # on the edge from 76 36 to 44 60, which both have
+            self.assertEqual(self.browser.run(wires, 50, 40), [0, 0, 0, 0])
+            self.browser.click("#vertices .row:nth-child(3)")
+            left, top, width, _ = self.box("#sheet")
+            x, y, wide, high = self.box("#mark")
+            place = [round((x + wide / 2 - left) * 96 / width, 1), round((y + high / 2 - top) * 96 / width, 1)]
+            self.assertEqual(place, [event["vertices"][1]["x"] / 65536, event["vertices"][1]["y"] / 65536])
+            self.browser.press("Escape", "Left")
+            self.at(10)
+            self.reads("#mesh-told", "the last event is no draw")
+            self.assertEqual(self.browser.run("return ['#wires', '#mark', '#vertices .row'].map(s => document.querySelector(s)?.checkVisibility() ?? false)"), [False] * 3)
+            self.browser.press("t")
+            self.comes(lambda: self.browser.run("return document.getElementById('mesh').hidden"), True)
+
+    def test_winding_and_area(self):
+        """As the definitions have them: corners snapped to 1/256 pixel, and what is too thin has no area."""
+        dice, shapes = random.Random(9), []
+        place = lambda: dice.choice((dice.randrange(8 << 16), dice.randrange(8 << 9) << 7, dice.randrange(8) << 16))
+        for _ in range(40):
+            shapes += [(place(), place()) for _ in range(3)]
+        shapes += [(0, 0), (65536 + 128, 0), (2 * 65536, 1), (0, 0), (65536, 128), (2 * 65536, 384)]
+        corners = [{"x": x, "y": y, "z": 7 * i, "color": [i % 256] * 4} for i, (x, y) in enumerate(shapes)]
+        indices = [*range(len(corners)), 0, 1][::-1]
+        events = [{"kind": "raster", "cull": "back", "front_ccw": True, "scissor": False}, {"kind": "draw", "interp": "linear", "vertices": corners, "indices": indices}]
+        told = []
+        for k in range(len(indices) // 3):
+            twice = reference.cross(*([reference.nearest_even(v) for v in shapes[i]] for i in indices[3 * k:3 * k + 3]))
+            side = "back, culled" if twice > 0 else "front"
+            area = f"{abs(twice) / 2 / 65536:.2f}".rstrip("0").rstrip(".") if abs(twice) / 2 / 65536 >= 0.01 else "below 0.01"
+            told.append(f"{'counter-' * (twice < 0)}clockwise: {side}, area {area}" if twice else "area zero: it covers no pixel")
+        with tempfile.TemporaryDirectory() as folder:
+            self.shows(capture_of(8, 8, events, 2), folder)
+            self.browser.press("t")
+            self.reads("#mesh-told", "42, linear; 2 corners are left over")
+            found = {}
+            for row in range(0, 168, 4):
+                self.browser.run("document.getElementById('vertices').scrollTop = 24 * arguments[0]", row)
+                head = "return document.getElementById(arguments[0])?.querySelector('.what').innerText"
+                found[row // 4] = self.browser.until(head, f"vertices-{row}")
+            self.assertEqual([found[k] for k in range(42)], told)
+
+    # ---- Hands
+
+    def test_filter_words(self):
+        with Viewer(HOUSE) as viewer:
+            self.open(viewer)
+            self.at(13)
+            self.click_pixel(50, 50, 96)
+            self.browser.until("return document.querySelectorAll('#history .entry').length === 4")
+            self.browser.click(self.row(3) + " input")
+            self.comes(self.off, "3")
+            listed = lambda: self.browser.run("return [...document.querySelectorAll('#event-list .event')].map(e => e.dataset.number).join()")
+            kinds = [event["kind"] for event in json.loads(HOUSE.read_text())["events"]]
+            draws = ",".join(str(i) for i, kind in enumerate(kinds, 1) if kind == "draw")
+            for words, numbers, found in (("off", "3", "1 found"), ("wrote", "2,6,11", "3 found"), ("wrote draw", "6,11", "2 found"), ("DRAW", draws, f"{draws.count(',') + 1} found"), ("sing", "", "nothing found")):
+                self.browser.run("const f = document.getElementById('filter'); f.value = arguments[0]; f.oninput()", words)
+                self.comes(listed, numbers)
+                self.reads("#found", found)
+
+    def test_off_all_on_and_undo(self):
+        with Viewer(HOUSE) as viewer:
+            self.open(viewer)
+            self.at(13)
+            self.browser.click(self.row(8) + " input")
+            self.comes(self.off, "8")
+            self.browser.click(self.row(10) + " input")                     # a group
+            self.comes(lambda: len(self.off().split(",")), 4)
+            self.reads("#off-told", "4 events off")
+            self.browser.click("#undo")
+            self.comes(self.off, "8")
+            self.reads("#off-told", "1 event off")
+            self.browser.click("#all-on")
+            self.comes(self.off, "")
+            self.browser.press("Escape", "u")
+            self.comes(self.off, "8")
+            self.browser.press("u")
+            self.comes(self.off, "")
+            self.assertFalse(self.browser.run("return document.getElementById('off-bar').checkVisibility()"))
+
+    def test_a_pixel_is_moved_by_keys(self):
+        shift = lambda key: self.browser.run("document.body.dispatchEvent(new KeyboardEvent('keydown', { key: arguments[0], shiftKey: true, bubbles: true }))", key)
+        with Viewer(HOUSE) as viewer:
+            self.open(viewer)
+            self.at(13)
+            for key, place in (("ArrowRight", "48 32"), ("ArrowRight", "49 32"), ("ArrowDown", "49 33"), ("ArrowLeft", "48 33"), ("ArrowUp", "48 32")):
+                shift(key)
+                self.reads("#place", place)
+            self.at(13)
+            self.browser.run("location.hash = '#at=13&pixel=95,63'")
+            self.reads("#place", "95 63")
+            shift("ArrowRight")
+            shift("ArrowDown")
+            shift("ArrowLeft")
+            self.reads("#place", "94 63")
+
+    def test_the_line_remembers(self):
+        with Viewer(HOUSE) as viewer:
+            self.open(viewer)
+            self.at(13)
+            self.command("goto 4")
+            self.command("pixel 1 1")
+            self.browser.click("#command")
+            for key, text in (("Up", "pixel 1 1"), ("Up", "goto 4"), ("Up", "goto 4"), ("Down", "pixel 1 1"), ("Down", "")):
+                self.browser.press(key)
+                self.assertEqual(self.browser.run("return document.getElementById('command').value"), text)
+
+    def test_bookmarks(self):
+        with Viewer(HOUSE) as viewer:
+            self.open(viewer)
+            self.at(13)
+            self.browser.run("location.hash = '#at=11&pixel=50,50&off=8'")
+            self.reads("#value", "190 60 50 128")
+            self.browser.press("Escape", "m", "Home")
+            self.at(0)
+            kept = "return [...document.getElementById('bookmarks').options].map(o => o.value).slice(1)"
+            self.assertEqual(self.browser.run(kept), ["at=11&pixel=50,50&off=8"])
+            self.browser.run("const list = document.getElementById('bookmarks'); list.value = list.options[1].value; list.onchange()")
+            self.at(11)
+            self.browser.press("m")
+            self.comes(lambda: self.browser.run(kept), [])
+            self.browser.run("localStorage.clear()")
+
+    def test_columns(self):
+        """The picture has half of the page and more; a column is dragged, moved by keys and folded."""
+        with Viewer(HOUSE) as viewer:
+            self.open(viewer)
+            self.at(13)
+            wide = lambda selector: round(self.box(selector)[2])
+            self.assertGreaterEqual(2 * wide("#view"), self.browser.run("return innerWidth"))
+            was, view = wide("#events"), wide("#view")
+            self.browser.run("document.querySelector('[data-side=left]').focus()")
+            self.browser.press("Left", "Left")
+            self.comes(lambda: (wide("#events"), wide("#view")), (was - 40, view + 40))
+            self.browser.press("Enter")
+            self.comes(lambda: wide("#events"), 0)
+            self.browser.press("Enter")
+            self.comes(lambda: wide("#events"), was)
+            self.browser.run("localStorage.clear()")
+
+    def test_a_capture_without_events(self):
+        with tempfile.TemporaryDirectory() as folder:
+            self.shows(capture_of(4, 4, []), folder)
+            self.reads("#notice", "This capture has no events")
+
+    # ---- For everybody
+
+    def test_contrast(self):
+        """All texts have at least 4.5 to 1, in both themes, also of events ahead and of those that are off."""
+        with Viewer(HOUSE) as viewer:
+            self.open(viewer)
+            self.at(13)
+            self.click_pixel(50, 50, 96)
+            self.browser.until("return document.querySelectorAll('#history .entry').length === 4")
+            self.browser.click(self.row(8) + " input")
+            self.comes(self.off, "8")
+            self.choose_entry(6)
+            for _ in range(2):
+                self.assertEqual(self.browser.run(CONTRAST), [])
+                self.browser.click("#theme")
+            self.browser.run("localStorage.clear()")
+
+    def test_who_hears_the_page(self):
+        with Viewer(HOUSE) as viewer:
+            self.open(viewer)
+            self.at(13)
+            self.click_pixel(50, 50, 96)
+            self.browser.until("return document.querySelectorAll('#history .entry').length === 4")
+            self.choose_entry(11)
+            self.comes(lambda: self.browser.run("return document.getElementById('live').textContent"), "position 11 of 13: draw; pixel 50 50 is 125 95 55 128")
+            self.assertEqual(self.browser.run("return document.getElementById('image').getAttribute('aria-label')"), "The image at position 11 of 13: draw")
+            nameless = "return [...document.querySelectorAll('button, input, select, canvas')].filter(e => !e.closest('[aria-hidden], dialog') && !e.hidden && !(e.innerText || e.ariaLabel || e.title || e.labels?.length)).map(e => e.outerHTML)"
+            self.assertEqual(self.browser.run(nameless), [])
+
+    # ---- Where events come from
+
+    def test_the_program_s_calls(self):
+        """Beside the events, known to the filter, and a captured group is folded as such."""
+        mark = lambda name, event, until: {"kind": "marker", "name": name, "source": {"event": event, "name": "push", "until": until}}
+        clear = lambda event, name: {"kind": "clear", "color": [event, 0, 0, 255], "source": {"event": event, "name": name}}
+        events = [mark("frame", 10, 40), mark("shadows", 11, 20), clear(15, "glClear 50"), clear(20, "vkCmdDraw"), clear(30, "glFinish"), clear(50, "after it")]
+        with tempfile.TemporaryDirectory() as folder:
+            self.shows(capture_of(4, 4, events), folder)
+            self.reads(self.row(4) + " .source", "20 vkCmdDraw")
+            listed = lambda: self.browser.run("return [...document.querySelectorAll('#event-list .event')].map(e => e.dataset.number).join()")
+            self.browser.click(self.row(2) + " .fold")
+            self.comes(listed, "1,2,5,6")
+            self.browser.click(self.row(2) + " .fold")
+            self.browser.click(self.row(1) + " .fold")
+            self.comes(listed, "1,6")
+            self.browser.click(self.row(1) + " input")
+            self.comes(self.off, "")
+            self.reads("#off-told", "3 events off")
+            for words, numbers in (("vkcmd", "4"), ("30", "5"), ("shadows gl", "3")):
+                self.browser.run("const f = document.getElementById('filter'); f.value = arguments[0]; f.oninput()", words)
+                self.comes(listed, numbers)
+            for words, key, number in (("20", "Enter", 4), ("50", "Enter", 6), ("after", "Enter", 6), ("10", "Enter", 1), ("gl", "Enter", 3), ("20", "0", 3)):
+                self.browser.run("const f = document.getElementById('filter'); f.value = arguments[0]; f.oninput(); f.onkeydown({key: arguments[1]})", words, key)
+                self.at(number)
+
+
+@unittest.skipUnless(browser.is_installed(), "Chromium and chromedriver aren't installed")
+class AnswersInChromium(Answers):
+    pass
+
+
+@unittest.skipUnless(browser.Firefox.installed(), "Firefox isn't installed")
+class AnswersInFirefox(Answers):
+    kind = browser.Firefox
+    test_the_sum_is_the_definitions = test_a_sum_that_differs_is_marked = test_no_image_holds_another = None       # its driver imports none of the page's scripts
+
+
+del Answers     # it is tried in browsers alone

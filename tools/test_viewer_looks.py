@@ -1,0 +1,153 @@
+"""The viewer's page on other screens and under other hands: narrow windows, colours of the system's own, the wheel, two fingers, and the PNG that is saved."""
+import base64
+import pathlib
+import tempfile
+import unittest
+
+import browser
+from viewer_hands import Hands
+from viewer_testing import HOUSE, WINDOW, Viewer, file_of, image
+
+# Turns the wheel over the picture, at a place of the page
+TURN = """const [x, y, more] = arguments;
+document.getElementById("stage").dispatchEvent(new WheelEvent("wheel", { clientX: x, clientY: y, bubbles: true, cancelable: true, ...more }));"""
+# Presses PNG, and leaves the file that is given to the browser as text
+SAVE = """const [done] = arguments, create = URL.createObjectURL;
+HTMLAnchorElement.prototype.click = function () { window.saved = this.download; };
+URL.createObjectURL = blob => {
+  URL.createObjectURL = create;
+  blob.arrayBuffer().then(buffer => { let text = ""; for (const byte of new Uint8Array(buffer)) text += String.fromCharCode(byte); setTimeout(() => done([window.saved, btoa(text)])); });
+  return create.call(URL, blob);
+};
+document.getElementById("save-png").onclick();"""
+# What of the page runs out of its right edge, and which two parts of it lie over each other
+APART = """const shown = [...document.querySelectorAll("header > *, #events, #view, aside > section, footer, .head > *, .foot > *, #view > *")].filter(e => e.checkVisibility() && e.getClientRects().length);
+const box = e => e.getBoundingClientRect(), name = e => e.id || e.className || e.tagName, wide = document.documentElement.clientWidth;
+const out = shown.filter(e => box(e).right > wide + 0.5).map(name), over = [];
+for (const one of shown) for (const two of shown) {
+  if (one === two || one.contains(two) || two.contains(one) || one.closest("header") !== two.closest("header")) continue;
+  const [a, b] = [box(one), box(two)];
+  if (name(one) < name(two) && a.left < b.right - 1 && b.left < a.right - 1 && a.top < b.bottom - 1 && b.top < a.bottom - 1) over.push(`${name(one)} ${name(two)}`);
+}
+return [out, over, document.documentElement.scrollWidth > wide];"""
+
+
+@unittest.skipUnless(browser.is_installed(), "Chromium and chromedriver aren't installed")
+class Looks(Hands):
+    def devtools(self, command, **parameters):
+        return self.browser.call("/goog/cdp/execute", {"cmd": command, "params": parameters})
+
+    def of_size(self, width, height):
+        self.devtools("Emulation.setDeviceMetricsOverride", width=width, height=height, deviceScaleFactor=1, mobile=False)
+        self.addCleanup(self.devtools, "Emulation.clearDeviceMetricsOverride")
+
+    def shows_house(self):
+        viewer = Viewer(HOUSE)
+        self.addCleanup(viewer.__exit__)
+        self.open(viewer)
+        self.at(13)
+        self.click_pixel(50, 50, 96)
+        self.browser.until("return document.querySelectorAll('#history .entry').length === 4")
+        return viewer
+
+    # ---- Screens
+
+    def test_on_a_small_screen(self):
+        """The picture has half of 1280 by 720 and more; at 1024 and on a phone nothing runs out, and nothing lies over another thing."""
+        for width, height in ((1280, 720), (1024, 768), (390, 844)):
+            self.of_size(width, height)
+            self.shows_house()
+            self.assertEqual(self.browser.run("return [innerWidth, innerHeight]"), [width, height])
+            self.comes(lambda: self.browser.run(APART), [[], [], False])
+            if width == 1280:
+                self.assertGreaterEqual(self.box("#view")[2] * 2, width)
+                self.assertGreaterEqual(self.box("#stage")[3] * 2, height)
+
+    def test_colours_of_the_system(self):
+        """Swatches and the picture keep theirs, and what is chosen has a line."""
+        self.shows_house()
+        kept = ("return ['.swatch', '#image', '#ticks', '#outline'].map(s => getComputedStyle(document.querySelector(s)).forcedColorAdjust)"
+                ".concat(['[data-look=after]', '.event[aria-selected=true]', '[data-channel=r]'].map(s => getComputedStyle(document.querySelector(s)).outlineStyle))")
+        self.devtools("Emulation.setEmulatedMedia", features=[{"name": "forced-colors", "value": "active"}])
+        self.addCleanup(self.devtools, "Emulation.setEmulatedMedia", features=[])
+        self.comes(lambda: self.browser.run(kept), ["none"] * 4 + ["solid"] * 3)
+
+    # ---- Hands
+
+    def zoom(self):
+        return round(self.box("#sheet")[2] / 64, 3)
+
+    def scrolled(self):
+        return self.browser.run("const s = document.getElementById('stage'); return [Math.round(s.scrollLeft), Math.round(s.scrollTop)]")
+
+    def shows_window(self):
+        folder = tempfile.TemporaryDirectory()
+        self.addCleanup(folder.cleanup)
+        viewer = Viewer(file_of(folder.name, WINDOW))
+        self.addCleanup(viewer.__exit__)
+        self.open(viewer)
+        self.at(4)
+        left, top, wide, high = self.box("#stage")
+        return left + wide / 2, top + high / 2
+
+    def place_at(self, x, y):
+        """What of the target lies at a place of the page, in pixels."""
+        left, top, wide, _ = self.box("#sheet")
+        return (x - left) * 64 / wide, (y - top) * 64 / wide
+
+    def test_the_wheel(self):
+        """It zooms in fine steps round where it is turned; with Shift, or turned sideways, it pans."""
+        x, y = self.shows_window()
+        zoom, place = self.zoom(), self.place_at(x, y)
+        for turned, factor in ((-100, 2.718281828 ** 0.25), (-100, 2.718281828 ** 0.5), (-100, 2.718281828 ** 0.75), (100, 2.718281828 ** 0.5)):
+            self.browser.run(TURN, x, y, {"deltaY": turned})
+            self.assertAlmostEqual(self.zoom() / zoom, factor, 2)
+        for there, was in zip(self.place_at(x, y), place):
+            self.assertAlmostEqual(there, was, delta=0.2)
+        self.browser.run(TURN, x, y, {"deltaY": -800})
+        zoom, (left, top) = self.zoom(), self.scrolled()
+        for more, moved in (({"deltaX": 30}, (30, 0)), ({"deltaY": 20, "shiftKey": True}, (50, 0)), ({"deltaX": -40, "deltaY": 5}, (10, 5))):
+            self.browser.run(TURN, x, y, more)
+            self.assertEqual((self.scrolled(), self.zoom()), ([left + moved[0], top + moved[1]], zoom), more)
+
+    def test_two_fingers(self):
+        """Moved apart they zoom in round their middle, and pick no pixel."""
+        x, y = self.shows_window()
+        zoom, place = self.zoom(), self.place_at(x, y)
+        moves = [[x - 20, x - 40, x - 60], [x + 20, x + 40, x + 60]]
+        fingers = [{"type": "pointer", "id": f"finger{i}", "parameters": {"pointerType": "touch"}, "actions": [
+            {"type": "pointerMove", "x": round(some[0]), "y": round(y)}, {"type": "pointerDown", "button": 0},
+            *({"type": "pointerMove", "duration": 50, "x": round(at), "y": round(y)} for at in some[1:]), {"type": "pointerUp", "button": 0}]} for i, some in enumerate(moves)]
+        self.browser.call("/actions", {"actions": fingers})
+        self.comes(lambda: round(self.zoom() / zoom, 1), 3.0)
+        for there, was in zip(self.place_at(x, y), place):
+            self.assertAlmostEqual(there, was, delta=0.5)
+        self.assertTrue(self.browser.run("return document.getElementById('history').hidden"))
+
+    # ---- The PNG
+
+    def test_the_png_is_the_picture(self):
+        """At its place, in the target's pixels, and with the colours that framedbg writes."""
+        samples, _ = image(HOUSE)
+        self.shows_house()
+        self.browser.press("Escape", "Left", "Right")
+        self.at(13)
+        name, text = self.browser.run_to_end(SAVE)
+        self.assertEqual(name, "house_13.png")
+        with tempfile.TemporaryDirectory() as folder:
+            saved = pathlib.Path(folder) / "saved.png"
+            saved.write_bytes(base64.b64decode(text))
+            self.browser.press("d")
+            self.browser.choose("#file", saved)
+            self.reads("#compared-with", "saved.png")
+            width, height, bits, kind = *(int.from_bytes(saved.read_bytes()[at:at + 4], "big") for at in (16, 20)), *saved.read_bytes()[24:26]
+            self.assertEqual((width, height, bits, kind), (96, 64, 8, 6))
+        opaque = bytearray(samples)
+        opaque[3::4] = b"\xff" * (96 * 64)
+        drawn = self.browser.run_to_end("const [text, done] = arguments, it = new Image(); it.onload = () => { const c = Object.assign(document.createElement('canvas'), { width: it.width, height: it.height }).getContext('2d');"
+                                        "c.drawImage(it, 0, 0); done([...c.getImageData(0, 0, it.width, it.height).data]); }; it.src = `data:image/png;base64,${text}`", text)
+        self.assertEqual(drawn, list(opaque))
+
+
+if __name__ == "__main__":
+    unittest.main()

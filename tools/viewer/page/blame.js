@@ -1,0 +1,82 @@
+// Who made the image differ from the compared picture: what framedbg-blame found, as a list. A click leads to the event, and to a pixel that differs;
+// the picture after what mends it can be looked at.
+
+import { blame, stopBlame } from "./run.js";
+import { isWhole } from "./image.js";
+import { element } from "./list.js";
+import { notice } from "./log.js";
+
+const $ = id => document.getElementById(id);
+const count = number => `${number.toLocaleString("en")} pixel${number === 1 ? "" : "s"}`;
+let searches = 0, looking = false;
+
+// `hands` of the page: other() and tolerance() are what is compared with, goTo(event) and pick(pixel) lead there, and show(picture) shows what is mended
+export function followBlame(hands) {
+  $("who").hidden = !blame;            // the page alone has no search
+  $("who").onclick = () => looking ? stopBlame() : look(hands).catch(fault => notice(String(fault.message ?? fault), true));
+}
+
+// What was found is of another picture now, or of other events
+export function forgetFindings() {
+  searches++;
+  if (looking) stopBlame();
+  $("findings").hidden = true;
+  $("findings").replaceChildren();
+}
+
+async function look(hands) {
+  const other = hands.other();
+  if (!other || !isWhole(other)) return notice("A whole picture to compare with is wanted: pin this image, or open or drop one");
+  forgetFindings();
+  const its = searches;
+  setLooking(true);
+  try {
+    const found = await blame(other, hands.tolerance());
+    if (its === searches && !found.stopped) show(found, other, hands);
+  } finally {
+    setLooking(false);
+  }
+}
+
+function setLooking(is) {
+  looking = is;
+  $("who").textContent = is ? "Stop looking" : "Who did it?";
+  $("who").setAttribute("aria-busy", is);
+}
+
+function show({ differ, changes, findings, samples }, { width, height }, hands) {
+  const best = changes[0], mended = best && pictureOf(samples, width, height);
+  $("findings").replaceChildren(element("span", "verdict", tell(differ, best)), ...(mended ? [mendedButton(mended, hands)] : []),
+    ...findings.map(finding => row(finding, hands)));
+  $("findings").hidden = false;
+}
+
+function tell(differ, best) {
+  if (!differ) return "At the end of the frame no pixel differs";
+  if (!best) return "No change that was tried mends it";
+  return `Event ${best.event}, ${best.change}: ${best.differ ? `${count(best.differ)} still differ, so it is a hint` : "no pixel differs after it"}`;
+}
+
+function row({ number, pixels, pixel, event, change, left }, { goTo, pick }) {
+  const who = event === null ? "nobody is named" : `event ${event}`, what = change === undefined ? "" : left ? `, fewer by ${change}` : `, mended by ${change}`;
+  const button = element("button", "finding", `${number}: ${count(pixels)} at ${pixel.join(" ")}: ${who}${what}`);
+  button.onclick = () => {
+    if (event !== null) goTo(event);
+    pick({ x: pixel[0], y: pixel[1] });
+  };
+  return button;
+}
+
+function mendedButton(picture, { show: showMended }) {
+  const button = element("button", "mended", "Mended");
+  button.title = "The picture after the change";
+  button.setAttribute("aria-pressed", false);
+  button.onclick = () => {
+    const is = button.getAttribute("aria-pressed") !== "true";
+    button.setAttribute("aria-pressed", is);
+    showMended(is ? picture : null);
+  };
+  return button;
+}
+
+const pictureOf = (bytes, width, height) => ({ name: "mended", width, height, left: 0, top: 0, every: 1, columns: width, rows: height, bytes });

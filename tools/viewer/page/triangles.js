@@ -1,0 +1,79 @@
+// The triangles of the draw at which the frame stands: outlined in the image, and a table of their corners beside it.
+
+import { frame } from "./frame.js";
+import { draw } from "./run.js";
+import { List, element, swatch } from "./list.js";
+import { countOf, leftOver, placeOf, tellTriangle, trianglePlaces, vertexAt } from "./mesh.js";
+import { drawWires } from "./wires.js";
+import { figures } from "./words.js";
+
+const $ = id => document.getElementById(id);
+const ROWS = 4;                          // of a triangle: what is told of it, and its corners
+const list = new List($("vertices"), 24, rowOf, { onKey: (key, i) => /^(ArrowUp|ArrowDown|Enter)$/.test(key) && (mark(i), true) });
+let mesh = null, its = null, marked = -1, picture = null;
+
+export const areShown = () => $("wires-shown").checked;
+
+// Of the last event, where they are wanted; what came of another event meanwhile is dropped
+export async function showTriangles(shownIn) {
+  picture = shownIn;
+  const event = frame.events[frame.position - 1], wanted = areShown() && event?.kind === "draw" ? event.number : null;
+  if (wanted !== its) {
+    its = wanted;
+    mesh = null;
+    marked = -1;
+    const found = wanted && await draw(wanted);
+    if (wanted !== its) return;
+    mesh = found || null;
+  }
+  $("mesh").hidden = !areShown();
+  $("mesh-told").textContent = told(event);
+  list.show(mesh ? Array.from({ length: ROWS * countOf(mesh) }, (_, i) => i) : []);
+  if (frame.outlined && frame.outlined.event === wanted) list.choose(ROWS * frame.outlined.triangle);
+  redraw();
+}
+
+// Another capture: nothing is kept of the one before
+export function forgetTriangles() {
+  [mesh, its, marked] = [null, null, -1];
+}
+
+// The image has been moved, or is shown larger
+export function redraw() {
+  if (!picture) return;
+  drawWires($("wires"), areShown() ? mesh : null, picture);
+  const corner = mesh && marked >= 0 && marked % ROWS ? placeOf(mesh, vertexOf(marked)) : null;
+  picture.setMark(areShown() ? corner : null);
+}
+
+function told(event) {
+  if (event?.kind !== "draw") return "the last event is no draw";
+  if (!mesh) return "the capture's file is too large to be read for them";
+  const left = leftOver(mesh), much = countOf(mesh).toLocaleString("en");
+  return `${much}${mesh.interp === "flat" ? ", each of its first corner's colour" : ", linear"}${left ? `; ${left === 1 ? "a corner is" : "2 corners are"} left over` : ""}`;
+}
+
+const vertexOf = i => vertexAt(mesh, 3 * Math.floor(i / ROWS) + i % ROWS - 1);
+
+function rowOf(i) {
+  const triangle = Math.floor(i / ROWS), row = element("div", `row vertex${i % ROWS ? "" : " triangle"}`);
+  row.setAttribute("role", "option");
+  row.setAttribute("aria-selected", i === marked);
+  row.addEventListener("click", () => { list.chosen = i; mark(i); });
+  if (i % ROWS === 0) {
+    row.append(element("span", "number", String(triangle)), element("span", "what", frame.states.with ? tellTriangle(mesh, triangle, frame.states.with) : ""));
+    return row;
+  }
+  const number = vertexOf(i), [, , depth, [r, g, b, a]] = mesh.vertices[number], colour = { r, g, b, a };
+  row.append(element("span", "number", String(number)), ...placeOf(mesh, number).map(at => element("span", "at", String(+at.toFixed(5)))),
+    element("span", "cell", swatch(colour), figures(colour)), element("span", "deep", depth === null || !frame.hasDepth ? "" : String(depth)));
+  return row;
+}
+
+// A corner is marked in the image, and a triangle outlined
+function mark(i) {
+  marked = i;
+  picture.setOutline(trianglePlaces(mesh, Math.floor(i / ROWS)));
+  list.draw();
+  redraw();
+}

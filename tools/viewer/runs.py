@@ -1,0 +1,57 @@
+"""The run that the page moves, and others of the same capture beside it, for what would move it away: histories of the whole frame, pictures of depths."""
+import threading
+
+from .session import Ended, Session, Stopped
+
+BESIDE = ("end", "depths")       # what the runs beside are for; each is started when it is asked for the first time
+
+
+class Runs:
+    def __init__(self, session):
+        self.session, self.beside, self.lock = session, {}, threading.Lock()
+
+    def answer(self, lines, window=None, beside=None):
+        """The replies to some lines, the images among them, and the count of switches before and after; those beside have the same events off."""
+        if beside is None:
+            return self.session.answer(lines, window)
+        before, run = self.session.switches, self._run(beside)
+        try:
+            run.follow(set(self.session.off), len(lines))
+            replies, images, _ = run.answer(lines, window)
+        except Stopped:
+            raise
+        except Ended:
+            self._drop(beside, run)
+            raise
+        return replies, images, (before, before)
+
+    def start(self):
+        self._drop_all()
+        self.session.start()
+
+    def stop(self):
+        """Those beside that are at something are ended too."""
+        for run in list(self.beside.values()):
+            if run.lock.locked():
+                run.stop()
+        self.session.stop()
+
+    def close(self):
+        self._drop_all()
+        self.session.close()
+
+    def _run(self, name):
+        with self.lock:
+            if name not in self.beside:
+                self.beside[name] = Session(*self.session.words)
+            return self.beside[name]
+
+    def _drop(self, name, run):
+        with self.lock:
+            if self.beside.get(name) is run:
+                del self.beside[name]
+        run.close()
+
+    def _drop_all(self):
+        for name, run in list(self.beside.items()):
+            self._drop(name, run)

@@ -1,0 +1,43 @@
+"""The image that a page was sent last: of the next one only the rows that are others go through the air."""
+import threading
+
+NUMBER = 0               # of an image that is nobody's
+
+
+class Sent:
+    def __init__(self):
+        self.lock, self.last, self.count = threading.Lock(), (NUMBER, None, None), NUMBER
+
+    def shortened(self, images, base):
+        """The descriptions of some images and their bytes, and of those that follow on the base, or on the one before them, their changed rows alone."""
+        with self.lock:
+            return [self._shortened(image, data, base if i == 0 else self.count) for i, (image, data) in enumerate(images)]
+
+    def _shortened(self, image, data, base):
+        number, part, old = self.last
+        made_of, rows = image.get("since", (None, None))
+        image = {name: value for name, value in image.items() if name != "since"}
+        self.count += 1
+        self.last = self.count, image, data
+        told = {**image, "number": self.count}
+        if number == NUMBER or base != number or part != image:
+            return told, data
+        bands = changed_rows(data, old, 4 * image["columns"], rows if made_of is old else None)
+        piece = b"".join(data[4 * image["columns"] * first:4 * image["columns"] * (first + count)] for first, count in bands)
+        return ({**told, "base": base, "bands": bands, "bytes": len(piece)}, piece) if 2 * len(piece) < len(data) else (told, data)
+
+
+def changed_rows(new, old, stride, rows=None):
+    """Bands of rows that differ, of all rows or of some: (the first, how many)."""
+    if new is old or rows is None and new == old:
+        return []
+    bands = []
+    for row in range(len(new) // stride) if rows is None else rows:
+        at = stride * row
+        if new[at:at + stride] == old[at:at + stride]:
+            continue
+        if bands and sum(bands[-1]) == row:
+            bands[-1][1] += 1
+        else:
+            bands.append([row, 1])
+    return bands
