@@ -1,0 +1,1 @@
+"""Bugs planted by chance, by which blame is measured."""
