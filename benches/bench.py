@@ -5,6 +5,10 @@ import re
 import subprocess
 import sys
 import time
+from dataclasses import dataclass
+
+import turns
+from turns import Taken
 
 HERE = pathlib.Path(__file__).resolve().parent
 PROGRAM = pathlib.Path(os.environ.get("FRAMEDBG", HERE.parent / "crates/framedbg/out/framedbg"))
@@ -17,8 +21,8 @@ MIB = 1 << 20
 class Session:
     """A run of the program that is asked one command after another: what each takes of the processor (user and system, all threads), and of the clock."""
 
-    def __init__(self, path, workers=1):
-        words = [PROGRAM, "run", "--workers", str(workers), path]
+    def __init__(self, path, workers=1, program=PROGRAM):
+        words = [program, "run", "--workers", str(workers), path]
         self.child = subprocess.Popen(words, stdin=subprocess.PIPE, stdout=subprocess.PIPE)
         self.ask(["pixel 0 0"])
 
@@ -29,6 +33,9 @@ class Session:
         self.child.communicate(b"quit\n")
 
     def processor(self):
+        stat = pathlib.Path(f"/proc/{self.child.pid}/stat")
+        while stat.read_text().rpartition(")")[2].split()[0] == "R":        # its clock is exact once it waits
+            pass
         # the clock of another process, as clock_getcpuclockid names it
         return time.clock_gettime(~self.child.pid << 3 | 2)
 
@@ -54,31 +61,55 @@ class Session:
         return int(re.search(r"VmHWM:\s*(\d+) kB", status)[1]) * 1024
 
 
+@dataclass(frozen=True)
+class Asked:
+    """What is asked of a figure; a comparison with what isn't measured is not."""
+    ratio: float = None     # at most so many times plain C
+    most: float = None
+    least: float = None
+    times: float = None     # at least so many times less than the program beside
+
+    def words(self, compared, unit, is_beside):
+        found = [compared.beside and not is_beside and self.ratio and f"<= {self.ratio:g}", self.most and f"<= {self.most:g} {unit}",
+                 self.least and f">= {self.least:g} {unit}", compared.beside and is_beside and self.times and f"<= 1/{self.times:g}"]
+        return ", ".join(filter(None, found))
+
+    def is_reached(self, compared, is_beside):
+        factor = None if compared.beside is None else 1 / self.times if is_beside and self.times else None if is_beside else self.ratio
+        return not (factor and compared.here > factor * compared.beside or self.most is not None and compared.here > self.most
+                    or self.least is not None and compared.here < self.least)
+
+
 class Bench:
-    def __init__(self, folder, markdown):
-        self.folder, self.markdown = pathlib.Path(folder), markdown
+    def __init__(self, folder, markdown, beside=None, instructions=False):
+        self.folder, self.markdown, self.figures = pathlib.Path(folder), markdown, {}
+        self.programs = [PROGRAM, pathlib.Path(beside)] if beside else [PROGRAM]
         if not PROGRAM.exists():
             sys.exit(f"{PROGRAM} is missing: make program, or name another one by FRAMEDBG")
-        for name in ["plain", "scanner", "usage"]:
-            subprocess.run([*COMPILER, "-o", self.folder / name, HERE / f"{name}.c"], check=True)
+        if beside and not os.access(beside, os.X_OK):
+            sys.exit(f"measure: {beside} is no program")
+        self.counter = turns.counter(self.folder) if instructions else None
         if markdown:
-            print("| Work | ratio | framedbg | plain C | asked |\n|---|---|---|---|---|")
+            print(f"| Work | ratio | framedbg | {'beside it' if beside else 'plain C'} | asked |\n|---|---|---|---|---|")
 
     def title(self, text):
         if not self.markdown:
             print(f"\n{text}\n  ratio              asked", flush=True)
 
-    def figure(self, name, value, unit, plain=None, ratio=None, most=None, least=None):
-        """A line: the value and plain C's, and what is asked: a greatest ratio of the two, a greatest value, or a least one."""
-        reached = (ratio is None or value <= ratio * plain) and (most is None or value <= most) and (least is None or value >= least)
-        asked = [f"<= {ratio:g}" if ratio else "", f"<= {most:g} {unit}" if most else "", f">= {least:g} {unit}" if least else ""]
-        asked = ", ".join(filter(None, asked)) + ("" if reached else " !")
-        times = f"{value / plain:.2f}" if plain else ""
-        beside = f"{short(plain)} {unit}" if plain else ""
+    def figure(self, name, value, unit, plain=None, **asked):
+        """A line: the ratio to plain C or to the other program first, then what is asked (as Asked has it), and what was measured."""
+        taken, asked = value if isinstance(value, Taken) else Taken(value), Asked(**asked)
+        self.figures[name] = taken.here, unit, plain
+        is_beside = len(self.programs) > 1
+        compared = taken if is_beside else Taken(taken.here, plain)
+        ratio = "" if compared.ratio() is None else f"{compared.ratio():.2f}" if compared.ratio() >= 0.1 else short(compared.ratio())
+        other = "" if compared.beside is None else f"{short(compared.beside)} {unit}"
+        words, reached = asked.words(compared, unit, is_beside), asked.is_reached(compared, is_beside)
         if self.markdown:
-            print(f"| {name} | {times} | {short(value)} {unit} | {beside} | {asked.replace(' !', ': not reached')} |", flush=True)
+            print(f"| {name} | {ratio} | {short(taken.here)} {unit} | {other} | {words}{'' if reached else ': not reached'} |", flush=True)
         else:
-            print(f"{times:>7} {asked:>18}  {name:64} {short(value)} {unit}{beside and ', plain C ' + beside}", flush=True)
+            other = other and f", {'beside it' if is_beside else 'plain C'} {other}"
+            print(f"{ratio:>7} {words + ('' if reached else ' !'):>18}  {name:64} {short(taken.here)} {unit}{other}", flush=True)
 
     def scaled(self, count, multiple=1):
         """A count or a side, made smaller by SCALE to try the scripts."""
@@ -89,27 +120,57 @@ class Bench:
         path.write_bytes(data)
         return path
 
+    def built(self, name):
+        """A program of C that stands here, compiled as it is wanted first."""
+        if not (self.folder / name).exists():
+            subprocess.run([*COMPILER, "-o", self.folder / name, HERE / f"{name}.c"], check=True)
+        return self.folder / name
+
+    def by_turns(self, run, rounds=ROUNDS):
+        """The least of each value that a run of a program gives: each the best of several runs, this program's and the other one's by turns."""
+        return turns.best(self.programs, run, rounds)
+
     def there_and_back(self, path, start, end, rounds=ROUNDS):
         """Processor seconds from a position forward to another, and back; each the best of several fresh runs with one worker."""
-        forward, back = [], []
-        for _ in range(rounds):
-            with Session(path) as session:
+        def run(program):
+            with Session(path, program=program) as session:
                 session.ask([f"goto {start}"])
-                forward.append(session.ask([f"goto {end}"])[0])
-                back.append(session.ask([f"goto {start}"])[0])
-        return min(forward), min(back)
+                return session.ask([f"goto {end}"])[0], session.ask([f"goto {start}"])[0]
+
+        return self.by_turns(run, rounds)
+
+    def best(self, work):
+        """Processor seconds of some commands, with one worker."""
+        def run(program):
+            with Session(work.path, program=program) as session:
+                session.ask(work.before)
+                seconds = session.ask(work.lines)[0]
+                if session.first != work.answer:
+                    sys.exit(f"{work.lines[0]} was answered by {session.first}")
+            return (seconds,)
+
+        return self.by_turns(run)[0]
+
+    def timed(self, name, work, unit="ms", **asked):
+        """A figure of the time that some commands take; and one of their instructions, where these are counted. Gives the instructions, or else the time."""
+        taken = self.best(work)
+        self.figure(name, taken * {"s": 1, "ms": 1e3}[unit], unit, **asked)
+        if self.counter:
+            taken = Taken(*(self.counter.work(program, work) for program in self.programs))
+            self.figure(f"{name}, instructions", taken / 1e6, "M", times=asked.get("times"))
+        return taken
 
     def usage(self, words, output=subprocess.PIPE):
         """Status, processor seconds and most memory of a whole run, and what it printed and complained of."""
         path = self.folder / "usage.txt"
-        run = subprocess.run([self.folder / "usage", path, *words], stdin=subprocess.DEVNULL, stdout=output, stderr=subprocess.PIPE, check=True)
+        run = subprocess.run([self.built("usage"), path, *words], stdin=subprocess.DEVNULL, stdout=output, stderr=subprocess.PIPE, check=True)
         status, seconds, kib = path.read_text().split()
         return int(status), float(seconds), int(kib) * 1024, (run.stdout or b"") + run.stderr
 
     def plain(self, scene, rounds=ROUNDS):
         """The same drawing by plain C: processor seconds forward and back, and the most memory."""
         path = self.capture(scene.numbers(), "triangles")
-        runs = [self.usage([self.folder / "plain", path]) for _ in range(rounds)]
+        runs = [self.usage([self.built("plain"), path]) for _ in range(rounds)]
         if any(status for status, *_ in runs):
             sys.exit("plain C failed")
         times = [[float(word) for word in printed.split()] for *_, printed in runs]
@@ -117,11 +178,11 @@ class Bench:
 
     def plain_side_by_side(self, scene, number):
         """Seconds of the clock that so many processes of plain C take together to draw this scene there and back, each by itself."""
-        path = self.capture(scene.numbers(), "triangles")
+        words = [self.built("plain"), self.capture(scene.numbers(), "triangles")]
         clocks = []
         for _ in range(ROUNDS):
             start = time.monotonic()
-            runs = [subprocess.Popen([self.folder / "plain", path], stdout=subprocess.DEVNULL) for _ in range(number)]
+            runs = [subprocess.Popen(words, stdout=subprocess.DEVNULL) for _ in range(number)]
             if any([run.wait() for run in runs]):
                 sys.exit("plain C failed")
             clocks.append(time.monotonic() - start)
@@ -132,7 +193,7 @@ class Bench:
         shown, colours = self.folder / "shown", self.folder / "colours"
         with open(shown, "wb") as output:
             self.usage([PROGRAM, "image", self.capture(scene.capture(per_draw))], output)
-        self.usage([self.folder / "plain", self.capture(scene.numbers(), "triangles"), colours])
+        self.usage([self.built("plain"), self.capture(scene.numbers(), "triangles"), colours])
         if not shown.read_bytes().endswith(b"ENDHDR\n" + colours.read_bytes()):
             sys.exit(f"{name}: plain C and the program draw two different images")
 

@@ -3,6 +3,7 @@ import random
 import struct
 
 UNIT = 65536
+FARTHEST = 16_384 * UNIT      # a position's greatest distance from the corner
 BLENDED = '{"kind":"blend","enable":true,"rgb":["SRC_ALPHA","INV_SRC_ALPHA","ADD"],"alpha":["ONE","INV_SRC_ALPHA","ADD"],"mask":15}'
 TESTED = '{"kind":"depth","enable":true,"write":true,"func":"LESS_EQUAL"}'
 NOTHING = '{"kind":"draw","interp":"flat","vertices":[]}'
@@ -97,6 +98,16 @@ def small(width, height, count, scattered):
         colour = (x % 256, y % 256, 99, 128)
         triangles.append([(x, y, 0, colour), (x + 8, y, 0, colour), (x, y + 8, 0, colour)])
     return Scene(width, height, triangles)
+
+
+def shuffled_mesh(side, count):
+    """Triangles side by side over the target, as many as asked or as have room, their legs as long as fit, in random order."""
+    count = min(count, (side // 2) ** 2)
+    across = next(number for number in range(1, side) if number * number >= count)
+    leg = side // across
+    places = [(leg * (number % across), leg * (number // across)) for number in range(count)]
+    random.Random(1).shuffle(places)
+    return Scene(side, side, [[(x, y, 0, colour), (x + leg, y, 0, colour), (x, y + leg, 0, colour)] for x, y in places for colour in [(x % 256, y % 256, 99, 128)]])
 
 
 def in_the_middle(side, count):

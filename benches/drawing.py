@@ -40,9 +40,9 @@ def compare(bench, name, scene, per_draw, divisor, unit, forward_asked, back_ask
     end = start + -(-len(scene.triangles) // per_draw)
     forward, back = bench.there_and_back(bench.capture(scene.capture(per_draw)), start, end)
     forward_plain, back_plain, _ = bench.plain(scene)
-    bench.figure(f"{name}, forward", forward / divisor, unit, forward_plain / divisor, forward_asked)
+    bench.figure(f"{name}, forward", forward / divisor, unit, forward_plain / divisor, ratio=forward_asked)
     if back_asked:
-        bench.figure(f"{name}, back", back / divisor, unit, back_plain / divisor, back_asked)
+        bench.figure(f"{name}, back", back / divisor, unit, back_plain / divisor, ratio=back_asked)
 
 
 def workers(bench):

@@ -1,31 +1,57 @@
-"""Parts on what touches few tiles of many: draws on ever larger targets, triangles that draw nothing, thin ones, switches of a state."""
+"""Parts on what touches few tiles of many: draws on ever larger targets, triangles that draw nothing, thin ones, switches of a state, histories in a mesh."""
 import random
 
 import captures
-from frames import best, to_the_end
+from frames import to_the_end
+from turns import Work
 
 SIDE = 2048
+BOTH_SIDES = '{"kind":"raster","cull":"none","front_ccw":false,"scissor":false}'
 
 
 def few_tiles(bench):
     """events that touch few tiles or none: goto to the end, and a state switched off and on there"""
+    least, taken = bench.scaled(512, 32), []
+    triangles = captures.small(least, least, bench.scaled(1_000), True).triangles
     for side in [512, 1024, 2048]:
-        side = bench.scaled(side, 32)
-        scene = captures.small(side, side, bench.scaled(1_000), True)
-        forward, _ = bench.there_and_back(bench.capture(scene.capture()), 1, 1 + len(scene.triangles))
-        bench.figure(f"{len(scene.triangles):,} draws of 8 pixels, {side} by {side}, forward", forward * 1e3, "ms")
-    side = bench.scaled(SIDE, 32)
-    flat = flat_triangles(side, bench.scaled(65_536))
-    to_the_end(bench, f"{len(flat.triangles):,} triangles without an area, one draw, {side} by {side}", flat.capture(len(flat.triangles)), 2)
+        side, end = bench.scaled(side, 32), 1 + len(triangles)
+        work = Work(bench.capture(captures.Scene(side, side, triangles).capture()), ("goto 1",), (f"goto {end}",), f"at {end}")
+        taken.append(bench.timed(f"the same {len(triangles):,} draws of 8 pixels, {side} by {side}, forward", work))
+    # they touch the same tiles of each target
+    bench.figure("the same draws, the largest target beside the least", taken[2].over(taken[0]), "times", most=1.1)
+    side, count = bench.scaled(SIDE, 32), bench.scaled(65_536)
+    to_the_end(bench, f"{count:,} triangles without an area, one draw, {side} by {side}", nothing_drawn(side, count, flat=True), 2, times=500)
+    to_the_end(bench, f"{count:,} culled triangles, one draw, {side} by {side}", nothing_drawn(side, count, flat=False), 2, times=100)
     thin = thin_triangles(side, bench.scaled(3_000))
-    to_the_end(bench, f"{len(thin.triangles):,} thin triangles, one draw, {side} by {side}", thin.capture(len(thin.triangles)), 2)
+    to_the_end(bench, f"{len(thin.triangles):,} thin triangles, one draw, {side} by {side}", thin.capture(len(thin.triangles)), 2, times=7)
     switches(bench, side)
 
 
-def flat_triangles(side, count):
-    """Triangles whose three corners lie on one line over the whole target."""
-    colour = (9, 9, 9, 255)
-    return captures.Scene(side, side, [[(0, 0, 0, colour), (side // 2, side // 2, 0, colour), (side, side, 0, colour)]] * count)
+def in_draws(bench):
+    """4,000 triangles anywhere, in draws of 25 and in one draw, and a history in 65,536 of them in random order"""
+    count = bench.scaled(4_000, 25)
+    for side, most in [(512, 1.5), (SIDE, None)]:
+        side, taken = bench.scaled(side, 32), []
+        scene, anywhere = captures.small(side, side, count, True), f"{count:,} triangles anywhere, {side} by {side}"
+        for per_draw in [25, count]:
+            end = 1 + count // per_draw
+            work = Work(bench.capture(scene.capture(per_draw)), ("goto 1",), (f"goto {end}",), f"at {end}")
+            taken.append(bench.timed(f"{anywhere}, {'one draw' if per_draw == count else 'draws of 25'}, forward", work))
+        bench.figure(f"{anywhere}, draws of 25 beside one draw", taken[0].over(taken[1]), "times", most=most)
+    scene = captures.shuffled_mesh(bench.scaled(SIDE, 32), bench.scaled(65_536))
+    path, (x, y, _, _), times = bench.capture(scene.capture(len(scene.triangles))), scene.triangles[0][0], 100
+    # the corner's own pixel is its triangle's, and no other one covers it
+    work = Work(path, ("goto 2",), (f"history {x} {y}",) * times, "history 1")
+    bench.timed(f"a hundred histories in {len(scene.triangles):,} triangles in random order", work)
+
+
+def nothing_drawn(side, count, flat):
+    """One draw of triangles over the whole target, by indices of one digit, so that the capture is short: without an area, or culled."""
+    places = [(0, 0), (side // 2, side // 2), (side, side)] if flat else [(0, 0), (0, side), (side, 0)]
+    vertices = ",".join([f'{{"x":{x * captures.UNIT},"y":{y * captures.UNIT},"color":[9,9,9,255]}}' for x, y in places])
+    draw = f'{{"kind":"draw","interp":"flat","vertices":[{vertices}],"indices":[{",".join(["0,1,2"] * count)}]}}'
+    # what is culled stands in the state that a frame begins with
+    return captures.frame(side, side, [BOTH_SIDES if flat else captures.MARKER, draw])
 
 
 def thin_triangles(side, count):
@@ -49,7 +75,6 @@ def switches(bench, side):
             events.append(opaque if number % 20 else captures.BLENDED)
         events.append(draw)
     middle = 1 + 11 * (len(scene.triangles) // 20)
-    path = bench.capture(captures.frame(side, side, events))
     end = len(events)
-    taken = best(path, [f"goto {end}"], [f"off {middle}", f"on {middle}"], f"at {end}")
-    bench.figure(f"a state of {end:,} events off and on at the end, {side} by {side}", taken * 1e3, "ms")
+    work = Work(bench.capture(captures.frame(side, side, events)), (f"goto {end}",), (f"off {middle}", f"on {middle}"), f"at {end}")
+    bench.timed(f"a state of {end:,} events off and on at the end, {side} by {side}", work)

@@ -1,9 +1,9 @@
 """Parts on whole frames: events that touch no tile, the largest frames, history, memory, growth."""
 import subprocess
-import sys
 
 import captures
-from bench import MIB, PROGRAM, ROUNDS, Session
+from bench import MIB, ROUNDS, Session
+from turns import Work
 
 
 def events_on_a_tile(bench):
@@ -18,13 +18,15 @@ def events_on_a_tile(bench):
 def many_events(bench):
     """events by the thousand over many tiles: goto to the end, and the peak memory of the session"""
     side, count = bench.scaled(2048, 32), bench.scaled(65_536)
-    path = bench.capture(captures.markers(side, side, count))
-    bench.figure(f"{count:,} markers, {side} by {side}, forward and back", best(path, [], [f"goto {count}", "goto 0"], f"at {count}"), "s", most=1)
+    work = Work(bench.capture(captures.markers(side, side, count)), (), (f"goto {count}", "goto 0"), f"at {count}")
+    bench.timed(f"{count:,} markers, {side} by {side}, forward and back", work, "s", most=1)
     count = bench.scaled(999_992, 8)
     to_the_end(bench, f"{count:,} markers, {side} by {side}", captures.markers(side, side, count), count)
     # a capture of 64 MiB holds no million draws of a triangle
     scene = captures.small(side, side, count // 8, True)
-    to_the_end(bench, f"{count:,} draws, one in 8 not empty, {side} by {side}", scene.capture(1, 7), 1 + count, scene)
+    fresh = to_the_end(bench, f"{count:,} draws, one in 8 not empty, {side} by {side}", scene.capture(1, 7), 1 + count, scene, times=5)
+    if fresh.beside:
+        bench.figure("reading and starting, more than the program beside", (fresh.here - fresh.beside) / count, "bytes an event", most=40)
     scene = captures.small(side, side, bench.scaled(330_000), True)
     number = len(scene.triangles)
     to_the_end(bench, f"{number:,} draws of 8 pixels, {side} by {side}", scene.capture(), 1 + number, scene)
@@ -35,41 +37,43 @@ def largest_target(bench):
     side = bench.scaled(16_384, 32)
     scene = captures.small(side, side, bench.scaled(65_536), True)
     number = len(scene.triangles)
-    to_the_end(bench, f"{number:,} draws of 8 pixels, {side:,} by {side:,}", scene.capture(), 1 + number, scene)
+    to_the_end(bench, f"{number:,} draws of 8 pixels, {side:,} by {side:,}", scene.capture(), 1 + number, scene, times=40)
     for version in [1, 2]:
         path = bench.capture(captures.frame(side, side, [], version))
         for name, words in [("a fresh session", ["run"]), ("image", ["image"])]:
-            status, seconds, most, _ = bench.usage([PROGRAM, *words, "--workers", "1", path], subprocess.DEVNULL)
-            name = f"{name}, {side:,} by {side:,}, version {version}" + (f", status {status}" if status else "")
-            bench.figure(name, seconds, "s")
-            bench.figure(f"{name}, peak memory", most / MIB, "MiB")
+            whole_run(bench, f"{name}, {side:,} by {side:,}, version {version}", [*words, "--workers", "1", path])
 
 
-def best(path, before, lines, answer):
-    """Processor seconds of some commands after others, with one worker; the first one has an answer that is known."""
-    taken = []
-    for _ in range(ROUNDS):
-        with Session(path) as session:
-            session.ask(before)
-            taken.append(session.ask(lines)[0])
-            if session.first != answer:
-                sys.exit(f"{lines[0]} was answered by {session.first}")
-    return min(taken)
+def whole_run(bench, name, words, unit="s", times=None, memory=None):
+    """Processor time and peak memory of a program's whole run with these words. Of the time it may be asked how many times less it is; `memory` says what of that one."""
+    status = []
+
+    def run(program):
+        ended, seconds, most, _ = bench.usage([program, *words], subprocess.DEVNULL)
+        status.append(ended)
+        return seconds, most
+
+    seconds, most = bench.by_turns(run)
+    name += f", status {status[0]}" if status[0] else ""
+    bench.figure(name, seconds * {"s": 1, "ms": 1e3}[unit], unit, times=times)
+    bench.figure(f"{name}, peak memory", most / MIB, "MiB", **(memory or {}))
 
 
-def to_the_end(bench, name, data, end, scene=None):
-    """goto to the end, the better of two runs (one if it is long), and the session's peak memory before and after."""
+def to_the_end(bench, name, data, end, scene=None, **asked):
+    """goto to the end, and the session's peak memory before and after, which is given; a run that is long isn't made again."""
     path = bench.capture(data)
-    taken = []
-    while len(taken) < min(ROUNDS, 2) and sum(taken) < 10:
-        with Session(path) as session:
+
+    def run(program):
+        with Session(path, program=program) as session:
             fresh = session.memory()
-            taken.append(session.ask([f"goto {end}"])[0])
-            most = session.memory()
+            return session.ask([f"goto {end}"])[0], session.memory(), fresh
+
+    forward, most, fresh = bench.by_turns(run)
     forward_plain, _, memory_plain = bench.plain(scene, min(ROUNDS, 2)) if scene else (None, None, None)
-    bench.figure(f"{name}, forward", min(taken), "s", forward_plain)
+    bench.figure(f"{name}, forward", forward, "s", forward_plain, **asked)
     bench.figure(f"{name}, peak memory", most / MIB, "MiB", memory_plain and memory_plain / MIB)
     bench.figure(f"{name}, peak memory of reading and starting", fresh / MIB, "MiB")
+    return fresh
 
 
 def history(bench):
@@ -79,7 +83,7 @@ def history(bench):
     for name, per_draw in [("as many draws", 1), ("one draw", count)]:
         path = bench.capture(scene.capture(per_draw))
         end = 1 + -(-count // per_draw)
-        taken = best(path, [f"goto {end}"], ["history 0 0"] * times, f"history {count}")
+        taken = bench.best(Work(path, (f"goto {end}",), ("history 0 0",) * times, f"history {count}"))
         bench.figure(f"history of {count:,} entries, {name}", taken / times * 1e3, "ms", most=10)
 
 

@@ -67,9 +67,9 @@ def reading(bench):
 
 def beside_scanner(bench, name, path, rounds, time_asked=None, memory_asked=None):
     runs = [bench.usage([PROGRAM, "run", "--workers", "1", path]) for _ in range(min(rounds, ROUNDS))]
-    plain = [bench.usage([bench.folder / "scanner", path]) for _ in range(min(rounds, ROUNDS))]
+    plain = [bench.usage([bench.built("scanner"), path]) for _ in range(min(rounds, ROUNDS))]
     status, _, most, said = runs[0]
     if status:
         name += f" ({said.decode().strip().removeprefix('framedbg: ').removeprefix('capture ')})"
-    bench.figure(f"{name}, time", min(run[1] for run in runs), "s", min(run[1] for run in plain), time_asked)
-    bench.figure(f"{name}, peak memory", most / 1e6, "MB", plain[0][2] / 1e6, memory_asked, 300)
+    bench.figure(f"{name}, time", min(run[1] for run in runs), "s", min(run[1] for run in plain), ratio=time_asked)
+    bench.figure(f"{name}, peak memory", most / 1e6, "MB", plain[0][2] / 1e6, ratio=memory_asked, most=300)
