@@ -16,9 +16,10 @@ import tempfile
 from wrong_versions import all_seen, exchanged
 
 TOOLS = pathlib.Path(__file__).resolve().parent
-NOTE, RUN, PREPARE, GATE = "passed_over.py", "run_tests", "prepare_machine", "check_gate"
-TESTS = {NOTE: "test_passed_over.py", RUN: "test_run_tests.py", PREPARE: "test_prepare_machine.py", GATE: "test_check_gate.py"}
-OTHERS = (*TESTS, *TESTS.values(), "machine_packages.txt")
+NOTE, RUN, PREPARE, GATE, PROSE, SENTENCES = "passed_over.py", "run_tests", "prepare_machine", "check_gate", "prose.py", "check_sentences"
+TESTS = {NOTE: "test_passed_over.py", RUN: "test_run_tests.py", PREPARE: "test_prepare_machine.py", GATE: "test_check_gate.py", PROSE: "test_check_sentences.py",
+         SENTENCES: "test_check_sentences.py"}
+OTHERS = (*TESTS, *TESTS.values(), "machine_packages.txt", "wrong_versions.py")
 MUTATIONS = [   # name, tool, text, what stands there instead, test
     ("noted: with CI=true it goes on", NOTE, '        sys.exit(f"passed over, which', '        print(f"passed over, which', "PassedOver.test_it_fails_where_nobody_looks"),
     ("noted: any CI is a gate", NOTE, 'os.environ.get("CI") == "true"', '"CI" in os.environ', "PassedOver.test_it_fails_where_nobody_looks"),
@@ -28,8 +29,11 @@ MUTATIONS = [   # name, tool, text, what stands there instead, test
     ("noted: tests that failed did not run", NOTE, " + len(ran.failures)", "", "PassedOver.test_tests_that_ran_are_counted"),
     ("noted: tests that were skipped aren't noted", NOTE, '        note(f"{what}, {count} tests", why)', "        pass", "PassedOver.test_tests_that_did_not_run_are_told"),
     ("noted: tests that fail are passed", NOTE, "sys.exit(not ran.wasSuccessful())", "sys.exit(0)", "PassedOver.test_tests_that_ran_are_counted"),
-    ("run: on behind a fault", RUN, "            failed = part\n            break", "            failed = part", "RunsTests.test_the_first_that_fails_is_the_last"),
-    ("run: a fault is no fault", RUN, 'sys.exit(f"{failed}: status {status}" if failed else 0)', "sys.exit(0)", "RunsTests.test_the_first_that_fails_is_the_last"),
+    ("run: on behind a fault", RUN, "        if failed:\n            break", "        pass", "RunsTests.test_the_first_that_fails_is_the_last"),
+    ("run: a fault is no fault", RUN, "for part, status in failed.items()) or 0)", "for part, status in failed.items()) and 0)", "RunsTests.test_the_first_that_fails_is_the_last"),
+    ("run: one after another", RUN, "ThreadPoolExecutor(os.cpu_count())", "ThreadPoolExecutor(1)", "RunsTests.test_some_at_once"),
+    ("run: lines of one between those of another", RUN, "ended = run(part, told)", "ended = run(part)", "RunsTests.test_some_at_once"),
+    ("run: what is run beside others can't fail", RUN, "for part, (status, _) in ended.items() if status}", "for part, (status, _) in ended.items() if status and len(parts) == 1}", "RunsTests.test_all_at_once_end_where_one_fails"),
     ("run: no minutes", RUN, '*took.items(), ("in all"', '("in all"', "RunsTests.test_all_in_their_order"),
     ("run: no list", RUN, '    subprocess.run([sys.executable, PASSED_OVER, "--list"], check=True)', "    pass", "RunsTests.test_what_was_passed_over_is_listed_last"),
     ("run: nothing is forgotten", RUN, '    subprocess.run([sys.executable, PASSED_OVER, "--begin"], check=True)', "    pass", "RunsTests.test_what_was_passed_over_is_listed_last"),
@@ -40,6 +44,17 @@ MUTATIONS = [   # name, tool, text, what stands there instead, test
     ("gate: an edit that shows nothing is no fault", GATE, "if gate.returncode or empty:", "if gate.returncode:", "ChecksTheGate.test_an_edit_that_takes_a_name_away"),
     ("gate: any line is an edit", GATE, '.startswith(EDIT) and', '.startswith("") and', "ChecksTheGate.test_words_elsewhere_are_no_edit"),
     ("gate: silent", GATE, '            print(line, end="", flush=True)', "            pass", "ChecksTheGate.test_a_gate_that_passes"),
+    ("prose: a line ends a sentence", PROSE, 'yield " ".join(text)', "yield from text", "Sentences.test_a_line_goes_on"),
+    ("prose: an item goes on the paragraph before", PROSE, "is_row or opens or not", "is_row or not", "Sentences.test_paragraphs_items_and_headings_stand_alone"),
+    ("prose: a row is a text", PROSE, 'line.strip().strip("|").split("|")', "[line]", "Sentences.test_cells"),
+    ("prose: code ends sentences", PROSE, "CODE.sub(hidden, ", "(", "Sentences.test_code_is_a_word"),
+    ("prose: blocks are prose", PROSE, 'FENCE.sub("\\n", ', "(", "Sentences.test_blocks_comments_and_pictures_are_left_out"),
+    ("prose: addresses are words", PROSE, 'LINK.sub(r"\\1", ', "(", "Sentences.test_a_link_is_its_text"),
+    ("prose: short forms end sentences", PROSE, '"e.g.", ', "", "Sentences.test_numbers_and_short_forms_end_none"),
+    ("prose: signs are words", PROSE, "if re.search(r\"[^\\W_]\", word)", "", "Sentences.test_signs_are_no_words"),
+    ("prose: names are sentences", PROSE, "bool(STOP.search(sentence))", "True", "Sentences.test_names_are_no_sentences"),
+    ("sentences: a long page is no fault", SENTENCES, "sys.exit(bool(failed))", "sys.exit(0)", "Pages.test_the_mean"),
+    ("sentences: a page that isn't there ends it badly", SENTENCES, "except (OSError, UnicodeDecodeError)", "except UnicodeDecodeError", "Pages.test_a_page_that_is_not_there"),
     ("prepared: half installed is there", PREPARE, "s/ installed$//p", "s/ .*$//p", "PreparesMachine.test_half_installed_is_missing"),
     ("prepared: by anybody", PREPARE, '"$(id -u)" != 0', '"$(id -u)" = -', "PreparesMachine.test_nothing_is_installed_unasked"),
     ("prepared: for ever", PREPARE, 'timeout --kill-after=10 "$seconds" apt-get', "apt-get", "PreparesMachine.test_it_does_not_hang"),

@@ -47,6 +47,24 @@ class RunsTests(unittest.TestCase):
         status, said, _ = self.ran(NOTES, "true", ci="true")
         self.assertEqual((status, said[-3:]), (1, [f"N  {NOTES}  FAILED", "N  in all", "nothing was passed over"]))
 
+    def test_some_at_once(self):
+        """Two parts that each wait for the other; what they print stays together, and the part after them waits for both."""
+        for name, other in (("one", "two"), ("two", "one")):
+            path = self.tools / name
+            path.write_text(f"#!/bin/sh\necho {name} begins\ntouch {name}.begun\nfor _ in $(seq 100); do test -e {other}.begun && break; sleep 0.1; done\ntest -e {other}.begun || exit 1\necho {name} ends\n")
+            path.chmod(0o755)
+        status, said, _ = self.ran("& tools/one", "& tools/two", "ls one.begun two.begun")
+        self.assertEqual(status, 0)
+        blocks = [["== tools/one", "one begins", "one ends"], ["== tools/two", "two begins", "two ends"]]
+        self.assertIn(said[:6], (sum(blocks, []), sum(reversed(blocks), [])))
+        self.assertEqual(said[6:], ["== ls one.begun two.begun", "one.begun", "two.begun", "== minutes", "N  tools/one", "N  tools/two", "N  ls one.begun two.begun", "N  in all", "nothing was passed over"])
+
+    def test_all_at_once_end_where_one_fails(self):
+        status, said, errors = self.ran("& false", "& echo second", "& nowhere", "echo after")
+        self.assertEqual((status, sorted(said[:5])), (1, ["== echo second", "== false", "== nowhere", "run_tests: [Errno 2] No such file or directory: 'nowhere'", "second"]))
+        self.assertEqual(said[5:], ["== minutes", "N  false  FAILED", "N  echo second", "N  nowhere  FAILED", "N  in all", "nothing was passed over"])
+        self.assertEqual(errors, "false: status 1\nnowhere: status 1\n")
+
     def test_words(self):
         self.assertEqual(self.ran("echo one", "echo two", words=["two"])[1][:2], ["== echo two", "two"])
         self.assertEqual(self.ran("echo one", words=["three"])[0], 1)
@@ -59,9 +77,9 @@ class RunsTests(unittest.TestCase):
         made = (TOOLS.parent / "Makefile").read_text()
         for path in sorted([*TOOLS.glob("check_*"), *TOOLS.glob("test_*.py")]):
             if os.access(path, os.X_OK):
-                is_part = re.search(rf"^\t?tools/{re.escape(path.name)}\b", lines + made, re.M)
+                is_part = re.search(rf"^(?:\t|& )?tools/{re.escape(path.name)}\b", lines + made, re.M)
                 self.assertTrue(is_part, f"{path.name} is no part of make test")
-        for line in lines.splitlines():
+        for line in [line.lstrip("& ") for line in lines.splitlines()]:
             if line.startswith("tools/"):
                 self.assertTrue(os.access(TOOLS.parent / line.split()[0], os.X_OK), line)
 
