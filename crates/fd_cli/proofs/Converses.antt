@@ -12,9 +12,8 @@ use Rattle.fd_cli.specs.declared.command.Command.{Command}
 use Rattle.fd_cli.specs.declared.command.Command.TheVariants.{Step, Back, Goto, On, Off, Pixel, History, State as ShowState, Events, Show, Quit}
 use Rattle.fd_cli.specs.declared.command.CommandFault.{CommandFault}
 use Rattle.fd_cli.specs.declared.command.CommandFault.TheVariants.{Unknown, Arguments, TooLong}
-use Rattle.fd_cli.specs.Agreeing.{NamesMemory}
 use Rattle.fd_cli.specs.Line.{command_of}
-use Rattle.fd_cli.specs.Run.{Answers}
+use Rattle.fd_cli.specs.Run.{Answers, NamesMemory}
 use Rattle.fd_cli.specs.Text.{pixel_line, entry_list, state_line, state_text}
 use Rattle.fd_cli.specs.Transcript.{Reply, moved_to, refusal_reply, switched, replied, transcript, TranscriptRuns}
 

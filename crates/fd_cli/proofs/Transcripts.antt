@@ -14,9 +14,8 @@ use Rattle.fd_session.specs.Machine.{State, at_position, with_flag_at, Steps, Go
 use Rattle.fd_cli.specs.declared.command.Command.{Command}
 use Rattle.fd_cli.specs.declared.command.Command.TheVariants.{Step, Back, Goto, On, Off, Pixel, History, State as ShowState, Events, Show, Quit}
 use Rattle.fd_cli.specs.declared.command.CommandFault.{CommandFault}
-use Rattle.fd_cli.specs.Agreeing.{NamesMemory}
 use Rattle.fd_cli.specs.Line.{command_of}
-use Rattle.fd_cli.specs.Run.{Answers, Run}
+use Rattle.fd_cli.specs.Run.{Answers, Run, NamesMemory}
 use Rattle.fd_cli.specs.Show.{show_text}
 use Rattle.fd_cli.specs.Text.{number_line, refusal_line, answer_line, back_line, pixel_line, entry_list, history_text}
 use Rattle.fd_cli.specs.Transcript.{Reply, moved_to, refusal_reply, switched, at_pixel, replied, transcript, WritesUpToMemory, WritesTranscript}

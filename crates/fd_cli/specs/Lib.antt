@@ -9,7 +9,6 @@ pub mod Serving
 pub mod Progress
 pub mod Report
 pub mod Listing
-pub mod Agreeing
 pub mod Counting
 pub mod Transcript
 pub mod Output

@@ -9,9 +9,8 @@ use Rattle.fd_session.specs.Machine.{State, at_position, with_flag_at}
 use Rattle.fd_cli.specs.declared.command.Command.{Command}
 use Rattle.fd_cli.specs.declared.command.Command.TheVariants.{Step, Back, Goto, On, Off, Pixel, History, State as ShowState, Events, Show, Quit}
 use Rattle.fd_cli.specs.declared.command.CommandFault.{CommandFault}
-use Rattle.fd_cli.specs.Agreeing.{NamesMemory, RunWithoutMemory}
 use Rattle.fd_cli.specs.Line.{command_of}
-use Rattle.fd_cli.specs.Run.{Run}
+use Rattle.fd_cli.specs.Run.{Run, NamesMemory, RunWithoutMemory}
 use Rattle.fd_cli.specs.Show.{show_text}
 use Rattle.fd_cli.specs.Text.{number_line, refusal_line, fault_line, pixel_line, state_text, events_text, entry_list}
 
@@ -84,3 +83,9 @@ WritesTranscript = (state : State) (lines : List (List ℕ)) (text : List ℕ) (
 abbrev pub TranscriptRuns : Type 0
 TranscriptRuns =
     (state : State) (lines : List (List ℕ)) → state.position ≤ length state.table.events → RunWithoutMemory state lines (transcript state lines) (left_by state lines)
+
+-- A run in which no reply tells of one is a run, writes the whole transcript, and leaves the state that the transcript leaves. So memory alone is left open.
+abbrev pub WithoutMemoryWritesAll : Type 0
+WithoutMemoryWritesAll =
+    (state : State) (lines : List (List ℕ)) (text : List ℕ) (new : State) → RunWithoutMemory state lines text new
+    → Run state lines text new × (text ≡ transcript state lines) × (new ≡ left_by state lines)
