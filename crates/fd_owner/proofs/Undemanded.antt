@@ -95,16 +95,10 @@ demands_nothing false found event s p is none = (refl, refl)
 demands_nothing true found event s p is none =
     (ap (λ (e : Option Event). spans_of e s p) is ∙ none.0, ap (λ (e : Option Event). pixels_written e s p) is ∙ none.1)
 
--- an event that demands nothing in any state leaves the place as it is
+-- an event that demands nothing in any state writes nothing
 pub untouched_undemanded : (table : Table) (k : ℕ) (p : Place) (event : Event) → event_at table (k + 1) ≡ Some event
     → ((s : Pipeline) → (event_spans event s p ≡ 0) × (event_pixels event s p ≡ 0)) → IsUntouched table k p
 untouched_undemanded table k p event is none =
-    let s = state_at table k in
     let there : slice_get table.events k ≡ Some event = sym (at_number-next table.events k) ∙ is in
-    let parts = demands_nothing (is_set table.flags (suc k)) (slice_get table.events k) event s p there (none s) in
-    record {
-      spans = parts.0;
-      pixels = parts.1;
-      stays = λ x y before held. (by_any s p x y before held (active_event table (suc k)) parts.1).0;
-      kept = λ x y before held. (by_any s p x y before held (active_event table (suc k)) parts.1).1;
-    }
+    let parts = demands_nothing (is_set table.flags (suc k)) (slice_get table.events k) event (state_at table k) p there (none (state_at table k)) in
+    record { spans = parts.0; pixels = parts.1 }

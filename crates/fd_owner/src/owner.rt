@@ -5,7 +5,7 @@ ghost use Rattle.fd_draw.specs.Paints.{Paints};
 ghost use Rattle.fd_owner.specs.History.{position, last_image, pixels_kept, pixels_recorded, pixel_past, kept_past};
 ghost use Rattle.fd_owner.specs.Shown.{gone_forward, gone_on_to, gone_back, gone_back_to, refused, forgotten, IsInside};
 ghost use Rattle.fd_owner.specs.Step.{IsPlanPast, MayBeginPast, spans_past, pixels_past};
-ghost use Rattle.fd_owner.specs.Untouched.{Misses, IsUntouched, AreUntouched};
+ghost use Rattle.fd_owner.specs.Untouched.{IsUntouched, AreUntouched};
 ghost use Rattle.fd_events.specs.Table.{flag_at};
 ghost use Rattle.fd_cover.specs.Bounds.{is_within};
 

@@ -1,11 +1,10 @@
 -- What a switch of an event changes lies in the box of the event itself, and in those of later draws before which the state is another one.
-use Rattle.std.proofs.Common.{◌≡◌, ◌≢◌, ℕ, zero, suc, ◌+◌, ◌<◌, ◌≤◌, Bool, true, false, cond, IsTrue, List, [], Option, Some, None, refl, sym, ap, ◌∙◌, subst, add-one, unwrap_or, arith, inl, inr}
+use Rattle.std.proofs.Common.{◌≡◌, ℕ, zero, suc, ◌+◌, ◌<◌, ◌≤◌, Bool, true, false, cond, IsTrue, [], Option, Some, None, refl, sym, ap, ◌∙◌, subst, add-one, unwrap_or, arith, inl, inr}
 use Rattle.std.specs.Prelude.{IfSome, ◌||◌}
-use Rattle.std.proofs.lemmas.Bool.{cases_eq, cases_lt}
+use Rattle.std.proofs.lemmas.Bool.{cases_lt}
 use Rattle.fd_cover.specs.declared.bounds.Bounds.{Bounds}
 use Rattle.fd_cover.specs.Bounds.{is_within, HoldsBoth}
 use Rattle.fd_tile.specs.declared.place.Place.{Place}
-use Rattle.fd_tile.specs.Place.{Holds}
 use Rattle.fd_tile.specs.Tile.{Pixel}
 use Rattle.fd_events.specs.declared.event.Event.{Event}
 use Rattle.fd_events.specs.declared.pipeline.Pipeline.{Pipeline}
@@ -16,8 +15,7 @@ use Rattle.fd_events.specs.Image.{pixel_after_event, kept_by_event}
 use Rattle.fd_events.proofs.States.{state_of-set}
 use Rattle.fd_owner.specs.History.{pixel_past, kept_past, drawn_history}
 use Rattle.fd_owner.specs.Shown.{IsInside}
-use Rattle.fd_owner.specs.Untouched.{Misses}
-use Rattle.fd_session.specs.Switch.{HoldsByState, HoldsChanged}
+use Rattle.fd_session.specs.Switch.{HoldsByState, HoldsChanged, Misses}
 use Rattle.fd_session.proofs.Alike.{history_same}
 use Rattle.fd_session.proofs.Switching.{active_other, same_past}
 

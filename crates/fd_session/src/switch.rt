@@ -6,8 +6,7 @@ ghost use Rattle.fd_events.specs.Pipeline.{state_after};
 ghost use Rattle.fd_events.specs.Reach.{HoldsWritten};
 ghost use Rattle.fd_events.specs.Table.{with_flag, flag_at, state_at};
 ghost use Rattle.fd_owner.specs.Shown.{IsInside};
-ghost use Rattle.fd_owner.specs.Untouched.{Misses};
-ghost use Rattle.fd_session.specs.Switch.{HoldsChanged, HoldsByState, HoldsSwitched, IsSpared};
+ghost use Rattle.fd_session.specs.Switch.{HoldsChanged, HoldsByState, HoldsSwitched, IsSpared, Misses};
 
 use fd_cover::Bounds;
 use fd_events::{Event, EventTable, Pipeline};

@@ -1,6 +1,6 @@
 use Rattle.std.proofs.Common.{◌+◌, Option, Some, None, arith}
 use Rattle.std.specs.Prelude.{IfNone}
-use Rattle.fd_owner.proofs.PassedForward.{untouched_from}
+use Rattle.fd_owner.proofs.PassedOver.{untouched_from}
 use Rattle.fd_owner.proofs.Undemanded.{untouched_undemanded}
 use Rattle.fd_owner.proofs.owner.first_near.Goals as goal
 

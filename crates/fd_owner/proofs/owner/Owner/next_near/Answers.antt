@@ -3,7 +3,7 @@ use Rattle.fd_tile.specs.declared.place.Place.{Place}
 use Rattle.fd_tile.specs.Place.{IsTilePlace}
 use Rattle.fd_owner.specs.Shown.{IsInside}
 use Rattle.fd_owner.specs.Untouched.{IsUntouched}
-use Rattle.fd_owner.proofs.PassedForward.{untouched_from}
+use Rattle.fd_owner.proofs.PassedOver.{untouched_from}
 use Rattle.fd_owner.proofs.owner.Owner.next_near.Goals as goal
 
 pub returns : goal.returns

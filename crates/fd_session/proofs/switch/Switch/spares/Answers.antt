@@ -1,7 +1,6 @@
 use Rattle.std.proofs.Common.{subst}
 use Rattle.fd_tile.specs.declared.place.Place.{Place}
-use Rattle.fd_owner.specs.Untouched.{Misses}
-use Rattle.fd_session.specs.Switch.{unswitched}
+use Rattle.fd_session.specs.Switch.{unswitched, Misses}
 use Rattle.fd_session.proofs.Spared.{spared}
 use Rattle.fd_session.proofs.switch.Switch.spares.Goals as goal
 
