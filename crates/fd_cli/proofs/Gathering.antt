@@ -1,24 +1,9 @@
 -- Lines that are gathered, one after another.
-use Rattle.std.proofs.Common.{◌≡◌, ℕ, ◌+◌, List, [], ◌++◌, length, Option, Bool, true, false, refl, sym, ap, ◌∙◌, arith, subst, append_assoc, append-nil, length-append}
-use Rattle.std.proofs.KnownBytes.{Appends-nil, Appends-trans}
+use Rattle.std.proofs.Common.{◌≡◌, ℕ, ◌+◌, List, ◌++◌, Option, Bool, true, false, sym, ap, ◌∙◌, arith, subst, append_assoc, length-append}
+use Rattle.std.proofs.KnownBytes.{Appends-trans}
 use Rattle.fd_pam.specs.Transfer.{Puts}
 use Rattle.fd_cli.specs.Sending.{Waits}
-use Rattle.fd_pam.proofs.Transfers.{puts_whole, puts_then, puts_broken, puts_all}
-
--- all of it waits
-pub waits_all : (held : Option (List ℕ)) (m : ℕ) (text : List ℕ) → Waits held held m m text text
-waits_all held m text = record { gone = []; whole = refl; appended = Appends-nil held; counted = omega arith }
-
--- all of it was sent
-pub waits_none : (old new : Option (List ℕ)) (m n : ℕ) (text : List ℕ) → Puts old new m n text true → Waits old new m n text []
-waits_none old new m n text puts =
-    let all = puts_all old new m n text puts in
-    record { gone = text; whole = sym (append-nil text); appended = all.0; counted = all.1 }
-
--- a line joins what waits
-pub waits_line : (old new : Option (List ℕ)) (m n : ℕ) (text waiting line : List ℕ) → Waits old new m n text waiting → Waits old new m n (text ++ line) (waiting ++ line)
-waits_line old new m n text waiting line w =
-    record { gone = w.gone; whole = ap (λ xs. xs ++ line) w.whole ∙ append_assoc w.gone waiting line; appended = w.appended; counted = w.counted }
+use Rattle.fd_pam.proofs.Transfers.{puts_whole, puts_then, puts_broken}
 
 -- what waits is gathered further
 pub waits_then : (a b c : Option (List ℕ)) (m n k : ℕ) (front line before after : List ℕ) → Waits a b m n front before → Waits b c n k (before ++ line) after
@@ -46,7 +31,3 @@ waits_broken a b c m n k front line rest whole before p broken is =
 pub waits_sent : (a b c : Option (List ℕ)) (m n k : ℕ) (text waiting : List ℕ) (ok : Bool) → Waits a b m n text waiting → Puts b c n k waiting ok → Puts a c m k text ok
 waits_sent a b c m n k text waiting ok p q =
     subst (λ t. Puts a c m k t ok) (sym p.whole) (puts_then a b c m n k p.gone waiting ok (sent_before a b m n text waiting p) q)
-
--- the count before what waits
-pub waits_count : (a b : Option (List ℕ)) (m n : ℕ) (text waiting : List ℕ) → Waits a b m n text waiting → n + length waiting ≡ m + length text
-waits_count a b m n text waiting p = omega (arith, p.counted, ap length p.whole, length-append p.gone waiting)

@@ -1,6 +1,5 @@
 -- A run on a capture of version 1 writes what version 1 says.
-use Rattle.std.proofs.Common.{◌≡◌, ℕ, zero, suc, ◌+◌, ◌<◌, List, [], ◌∷◌, ◌++◌, map, length, Bool, true, false, Result, Ok, Err, ◌⊎◌, inl, inr, ◌↔◌, refl, sym, ap, ◌∙◌, subst, codes}
-use Rattle.std.specs.Prelude.{All}
+use Rattle.std.proofs.Common.{◌≡◌, ℕ, zero, suc, ◌+◌, List, [], ◌∷◌, ◌++◌, map, length, Bool, true, false, Result, Ok, Err, inl, inr, refl, sym, ap, ◌∙◌, subst, codes}
 use Rattle.std.specs.List.{flat_map}
 use Rattle.std.proofs.lemmas.List.{length-map}
 use Rattle.std.proofs.lemmas.List.Elements.{All-head, All-tail}
@@ -17,11 +16,10 @@ use Rattle.fd_history.specs.History.{history_at}
 use Rattle.fd_history.specs.VersionOne as past
 use Rattle.fd_history.proofs.VersionOnes.{without_depths, histories_same}
 use Rattle.fd_capture.proofs.VersionOnes.{reads_same}
-use Rattle.fd_pam.specs.Pam.{header, pam_len, tuple, pam}
+use Rattle.fd_pam.specs.Pam.{header, pam_len, tuple}
 use Rattle.fd_session.specs.declared.answer.Answer.{Answer}
 use Rattle.fd_session.specs.declared.answer.Answer.TheVariants.{Moved, Stopped, Refused}
 use Rattle.fd_session.specs.declared.answer.SessionFault.{SessionFault}
-use Rattle.fd_session.specs.declared.answer.SessionFault.TheVariants.{Memory}
 use Rattle.fd_session.specs.Machine.{State, opening, at_position, with_flag_at, Steps, GoesBack, Jumps, Switches, ShowsPixel, ShowsDepth, ShowsHistory}
 use Rattle.fd_cli.specs.declared.command.Command.{Command}
 use Rattle.fd_cli.specs.declared.command.Command.TheVariants.{Step, Back, Goto, On, Off, Pixel, History, State as ShowState, Events, Show, Quit}
@@ -29,7 +27,7 @@ use Rattle.fd_cli.specs.declared.command.CommandFault.{CommandFault}
 use Rattle.fd_cli.specs.Line.{command_of}
 use Rattle.fd_cli.specs.Run.{Answers, Run}
 use Rattle.fd_cli.specs.Show.{show_text}
-use Rattle.fd_cli.specs.Text.{pixel_line, state_line, state_text, event_words, event_line, event_lines, event_list, events_head, events_text, entry_line, entry_list, history_text, number_line, refusal_line}
+use Rattle.fd_cli.specs.Text.{pixel_line, state_line, state_text, event_words, event_line, event_lines, event_list, events_head, entry_line, entry_list, history_text, number_line}
 use Rattle.fd_cli.specs.VersionOne as one
 
 -- a state of version 1

@@ -1,5 +1,5 @@
 -- Working. How far a run has come.
-use Rattle.std.specs.Prelude.{◌≡◌, ℕ, ◌≤◌, ◌*◌, ◌^◌, List, ◌++◌, Result, Ok, Err, Option, true, length, take}
+use Rattle.std.specs.Prelude.{◌≡◌, ℕ, ◌≤◌, ◌*◌, List, ◌++◌, Result, Ok, Err, Option, true, length, take}
 use Rattle.std.specs.Io.KnownBytes.{Appends}
 use Rattle.fd_cli.specs.Limits.{most_reply_bytes}
 use Rattle.fd_events.specs.Table.{Table}

@@ -10,7 +10,7 @@ use Rattle.fd_owner.proofs.Histories.{drop_first, position_first, first_all, fir
 use Rattle.fd_crew.specs.declared.fence.View.{View}
 use Rattle.fd_crew.specs.declared.crew.Outcome.TheVariants.{Reached, Stopped}
 use Rattle.fd_owner.specs.Shown.{Shown, gone_back, gone_back_to}
-use Rattle.fd_crew.specs.Lanes.{RefusedAt, IsQuiet, Drawn, AnyZip, Worked, CanRun, GoneTo, RefusedNoLower, EndsAs}
+use Rattle.fd_crew.specs.Lanes.{RefusedAt, IsQuiet, Drawn, AnyZip, Worked, GoneTo, RefusedNoLower, EndsAs}
 
 with_history : (s : Shown) (h k : History) → h ≡ k → (let a : Shown = record { place = s.place; history = h; refusals = s.refusals; refused_at = s.refused_at } in a) ≡ record { place = s.place; history = k; refusals = s.refusals; refused_at = s.refused_at }
 with_history s h k e = λ i. record { place = s.place; history = e i; refusals = s.refusals; refused_at = s.refused_at }
@@ -126,9 +126,6 @@ module _ {L : Type 0} (shown : L → Shown) (fits : L → Table → Type 0) (tab
 
   abbrev Back : ℕ → L → L → Type 0
   Back at x y = shown y ≡ gone_back_to at (shown x)
-
-  pub can_all : (o : ℕ) (old : List L) → All (λ l. position (shown l).history ≡ o) old → o ≤ target → All (λ l. fits l table) old → All (CanRun shown fits table target) old
-  can_all o old p le f = λ k d in'. let e = p k d in' in record { within = omega arith; fits_table = f k d in' }
 
   pub above_all : (v w : View) (at : ℕ) (old mid : List L) → Worked shown fits table target v w old mid → at ≤ w.seen → All (λ l. at ≤ position (shown l).history) mid
   above_all v w at old mid worked under = all_second (Done w) (λ l. at ≤ position (shown l).history) (λ x y d. let r = d.0.reached in omega arith) old mid worked.lanes

@@ -7,7 +7,7 @@ use Rattle.fd_cover.specs.declared.bounds.Bounds.{Bounds}
 use Rattle.fd_cover.specs.Bounds.{is_within}
 use Rattle.fd_tile.specs.declared.place.Place.{Place}
 use Rattle.fd_tile.specs.Place.{Holds, HasRow}
-use Rattle.fd_draw.specs.Area.{LiesIn, IsPartOfBox, IsWrittenIn, place_of_box}
+use Rattle.fd_draw.specs.Area.{LiesIn, IsWrittenIn, place_of_box}
 use Rattle.fd_draw.specs.Demand.{total, written_in_row, row_spans, pixels_in, spans_in}
 use Rattle.fd_draw.specs.Span.{IsRowSpan, in_span}
 use Rattle.fd_draw.specs.Writing.{in_row}
@@ -134,17 +134,6 @@ pub box_span : (covered : ℕ → ℕ → Bool) (box : Bounds) (y : ℕ) (span :
 box_span covered box y span order is =
     let right : box.left + (box.right - box.left) ≡ box.right = omega arith in
     rw right is
-
--- a part of a box lies in the place that the box takes, and in each that the box lies in
-pub part_of_box : (part box : Bounds) → box.left ≤ box.right → box.top ≤ box.bottom → IsPartOfBox part box → LiesIn part (place_of_box box)
-part_of_box part box columns rows is = record {
-  from_left = is.from_left;
-  columns = omega (arith, is.columns);
-  to_right = omega (arith, is.to_right);
-  from_top = is.from_top;
-  rows = omega (arith, is.rows);
-  to_bottom = omega (arith, is.to_bottom);
-}
 
 -- no pixel is written in rows outside the box
 module _ (written covered : ℕ → ℕ → Bool) (p : Place) (box : Bounds) (inside : LiesIn box p) (is : IsWrittenIn written covered p box) where

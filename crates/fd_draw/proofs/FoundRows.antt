@@ -1,8 +1,6 @@
 -- The rows of a triangle in a box, found one after the other.
-use Rattle.std.proofs.Common.{◌≡◌, ℕ, ◌+◌, ◌-◌, ◌<◌, ◌≤◌, inl, inr, true, List, length, set, refl, sym, subst, arith, Option}
-use Rattle.std.specs.Prelude.{Some, nat_lt}
+use Rattle.std.proofs.Common.{◌≡◌, ℕ, ◌+◌, ◌-◌, ◌<◌, ◌≤◌, inl, inr, List, length, set, sym, subst, arith, Option}
 use Rattle.std.proofs.lemmas.Bool.{cases_lt}
-use Rattle.std.proofs.lemmas.Bool.Decides.{nat_tests}
 use Rattle.std.proofs.lemmas.List.{get_or-set_same, get_or-set_other}
 use Rattle.fd_cover.specs.declared.bounds.Bounds.{Bounds}
 use Rattle.fd_cover.specs.declared.triangle.Tri.{Tri}
@@ -10,15 +8,6 @@ use Rattle.fd_cover.specs.Covers.{covers}
 use Rattle.fd_draw.specs.declared.found.RowSpan.{RowSpan}
 use Rattle.fd_draw.specs.Found.{AreRowSpans, no_pixel, span_from}
 use Rattle.fd_draw.specs.Span.{IsRowSpan}
-
--- columns that are counted from one, and back
-pub span_back : (left first past : ℕ) → left ≤ first → first < past
-    → span_from left (record { first = first - left; past = past - left }) ≡ Some (first, past)
-span_back left first past low some =
-    let below : nat_lt (first - left) (past - left) ≡ true = grind (arith, nat_tests) in
-    let a : left + (first - left) ≡ first = omega arith in
-    let b : left + (past - left) ≡ past = omega arith in
-    rw (below, a, b) refl
 
 -- one row more is found
 pub rows_more : (t : Tri) (box : Bounds) (rows : List RowSpan) (y : ℕ) (row : RowSpan) (span : Option (ℕ × ℕ)) → box.top ≤ y → y - box.top < length rows

@@ -6,7 +6,7 @@ use Rattle.std.specs.Io.KnownBytes.{Appends}
 use Rattle.std.proofs.lemmas.List.{length-take}
 use Rattle.std.proofs.lemmas.List.Concat.{flat_map-append}
 use Rattle.std.proofs.Math.Nat.{mul-le-mul}
-use Rattle.std.proofs.Math.Seq.{take-add, take-append_seam, take-length}
+use Rattle.std.proofs.Math.Seq.{take-add, take-length}
 use Rattle.fd_blend.specs.declared.channel.Colour.{Colour}
 use Rattle.fd_events.specs.Image.{image_at, colour_at}
 use Rattle.fd_events.proofs.Images.{length-image_at}
@@ -94,12 +94,6 @@ body_last state a b c m n k text chunk ok appended counted puts all =
 -- a text that was sent from its beginning
 pub writes_all : (a b : Option (List ℕ)) (sent : ℕ) (text : List ℕ) → Puts a b 0 sent text true → Appends a b text
 writes_all a b sent text puts = (puts_all a b 0 sent text puts).0
-
-pub writes_front : (a b : Option (List ℕ)) (sent : ℕ) (text : List ℕ) → Puts a b 0 sent text false → sent < length text → (sent < length text) × Appends a b (take sent text)
-writes_front a b sent text puts cut =
-    let count : sent ≡ length puts.taken = omega (arith, puts.counted) in
-    let front : puts.taken ≡ take sent text = sym (ap (λ t. take sent t) puts.whole ∙ ap (λ n. take n (puts.taken ++ puts.left)) count ∙ take-append_seam puts.taken puts.left) in
-    (cut, subst (Appends a b) front puts.appended)
 
 -- the header's length
 pub length-header : (width height : ℕ) → length (header width height) ≡ 63 + length (decimal width) + length (decimal height)

@@ -50,20 +50,11 @@ puts_broken a b m n first second p =
       all = λ e. absurd (false≢true e);
     }
 
--- a call that moves no byte
-pub puts_kept : (a b c : Option (List ℕ)) (m n : ℕ) (text : List ℕ) (other : Bool) → Puts a b m n text true → Keeps b c → Puts a c m n text other
-puts_kept a b c m n text other p kept =
-    record { taken = p.taken; left = p.left; whole = p.whole; appended = Appends-kept a b c p.taken p.appended kept; counted = p.counted; all = λ e. p.all refl }
-
 -- all of a text that was put whole
 pub puts_all : (a b : Option (List ℕ)) (m n : ℕ) (text : List ℕ) → Puts a b m n text true → Appends a b text × (n ≡ m + length text)
 puts_all a b m n text p =
     let is : p.taken ≡ text = sym (p.whole ∙ ap (λ xs. p.taken ++ xs) (p.all refl) ∙ append-nil p.taken) in
     (subst (Appends a b) is p.appended, p.counted ∙ ap (λ xs. m + length xs) is)
-
--- what a writer did that counts from earlier bytes on: all of the text, or the first bytes of it
-pub puts_from_all : (a b : Option (List ℕ)) (m : ℕ) (text : List ℕ) → Appends a b text → Puts a b m (m + length text) text true
-puts_from_all a b m text appended = puts_whole a b m (m + length text) text appended refl true
 
 pub puts_from_front : (a b : Option (List ℕ)) (m sent : ℕ) (text : List ℕ) → sent < length text → Appends a b (take sent text) → Puts a b m (m + sent) text false
 puts_from_front a b m sent text within appended =

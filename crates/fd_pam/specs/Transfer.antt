@@ -1,12 +1,8 @@
 -- Promised. What moves between the program and its reader and writer.
-use Rattle.std.specs.Prelude.{◌≡◌, min, ℕ, ◌+◌, ◌-◌, ◌^◌, ◌<◌, ◌≤◌, List, [], ◌++◌, Option, Result, Ok, Err, Bool, true, false, length, take, ◌⊎◌, ◌||◌, ◌&&◌, ◌==◌, nat_lt}
+use Rattle.std.specs.Prelude.{◌≡◌, min, ℕ, ◌+◌, ◌-◌, ◌^◌, ◌<◌, ◌≤◌, List, [], ◌++◌, Option, Result, Ok, Err, Bool, true, false, length, take, ◌||◌, ◌&&◌, ◌==◌, nat_lt}
 use Rattle.std.specs.Io.KnownBytes.{Consumes, Appends, Keeps, IsAtEnd}
 use Rattle.fd_pam.specs.declared.writer.PamFault.{PamFault}
 use Rattle.fd_pam.specs.declared.writer.PamFault.TheVariants.{Memory, Write}
-
--- A failure count rose, or stands at its largest value.
-abbrev pub Rises : ℕ → ℕ → Type 0
-Rises old new = (old < new) ⊎ (new ≡ 2 ^ 64 - 1)
 
 -- Only a failure changes the count, and it raises it.
 abbrev pub CountsFailure : ℕ → ℕ → Bool → Type 0

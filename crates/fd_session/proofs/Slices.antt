@@ -1,5 +1,5 @@
 -- What the slices of a move leave of the owners.
-use Rattle.std.proofs.Common.{◌≡◌, ℕ, ◌≤◌, List, [], ◌∷◌, Result, Ok, Err, refl, sym, ◌∙◌, subst, arith, All, inl, inr}
+use Rattle.std.proofs.Common.{◌≡◌, ℕ, ◌≤◌, List, [], ◌∷◌, Result, Ok, Err, sym, ◌∙◌, subst, arith, All, inl, inr}
 use Rattle.std.specs.Prelude.{MatchResult}
 use Rattle.std.specs.Result.{result_unwrap_or}
 use Rattle.std.proofs.lemmas.Bool.{cases_lt}
@@ -49,7 +49,3 @@ pub goes_on_or_stays : {E : Type 0} (table : Table) (k to : ℕ) (old between ne
     → MatchResult further (λ outcome. GoesOn table to between new outcome) (λ _. new ≡ between) → GoesOn table to old new (result_unwrap_or further (StoppedCrew k))
 goes_on_or_stays table k to old between new (Ok outcome) before went = goes_on_then table k to old between new outcome before.0 before.2 went
 goes_on_or_stays table k to old between new (Err refused) before same = subst (λ (l : List Shown). GoesOn table to old l (StoppedCrew k)) (sym same) before
-
--- none yet
-pub left_here : (table : Table) (old : List Shown) → All (StandsAt table (opening_position old)) old → IsLeftAt table (opening_position old) old old
-left_here table old at = record { places = refl; stand = at }

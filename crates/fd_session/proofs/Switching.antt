@@ -67,10 +67,6 @@ pub inside_with : (table : Table) (number : ℕ) (on : Bool) (place : Place) →
 inside_with table zero on place inside = inside
 inside_with table (suc i) on place inside = record { right = inside.right; bottom = inside.bottom }
 
-pub events_with : (table : Table) (number : ℕ) (on : Bool) → (with_flag table number on).events ≡ table.events
-events_with table zero on = refl
-events_with table (suc i) on = refl
-
 -- all that a session holds, but for where the owners stand
 held_with : (table : Table) (number : ℕ) (on : Bool) (size : TargetSize) (owners new : List Shown) (workers : ℕ) → HoldsFrame table size owners workers → places_of new ≡ places_of owners
     → All (StandsAt (with_flag table number on) (opening_position new)) new → opening_position new ≤ length table.events → HoldsFrame (with_flag table number on) size new workers

@@ -1,4 +1,4 @@
-use Rattle.std.proofs.Common.{◌≡◌, sym, ap, arith}
+use Rattle.std.proofs.Common.{sym, ap, arith}
 use Rattle.fd_owner.specs.History.{History}
 use Rattle.fd_owner.specs.Shown.{Shown}
 use Rattle.fd_owner.proofs.Histories.{extend_none}
