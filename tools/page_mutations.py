@@ -71,6 +71,7 @@ MUTATIONS = [   # name, file, text, what stands there instead, test
     ("page: no word of what is missing", "page/needs.js", "if (missing.length) {", "if (missing.length > 9) {", "test_a_browser_that_lacks_something"),
     ("viewer: the outline stays", "viewer/page/picture.js", "    this.setOutline(null);\n    this.setMark(null);\n", "    this.setMark(null);\n", ANOTHER),
     ("viewer: the pixel stays", "viewer/page/frame.js", "  Object.assign(frame, unset(), { isOpening: true });\n", "", ANOTHER),
+    ("viewer: groups of another capture", "viewer/page/events.js", "  group();\n  const rows", "  if (!filter) group();\n  const rows", "test_another_capture_is_filtered"),
     ("viewer: the log stays", "viewer/page/log.js", "  log.replaceChildren();\n", "", ANOTHER),
     ("viewer: the old image stays", "viewer/page/picture.js", "this.sheet.hidden = this.cross.hidden = true;", "this.cross.hidden = true;", REFUSED),
 ]

@@ -200,6 +200,17 @@ class Alone(Opened):
         self.at(13)
         self.assertEqual(self.drawn(50, 50), [125, 95, 55, 255])
 
+    def test_another_capture_is_filtered(self):
+        """By the groups of its own."""
+        clear = {"kind": "clear", "color": [1, 2, 3, 4]}
+        self.show(HOUSE)
+        self.at(13)
+        self.browser.run("const f = document.getElementById('filter'); f.value = 'stars'; f.oninput()")
+        self.reads("#found", "nothing found")
+        self.drop("stars.json", capture_of(4, 4, [clear, clear, {"kind": "marker", "name": "stars"}, clear, clear]).encode())
+        self.at(5)
+        self.comes(lambda: self.browser.run("return [...document.querySelectorAll('#event-list .event')].map(e => e.dataset.number).join()"), "3,4,5")
+
     def test_another_triangle(self):
         """The outline is that of the capture that is shown."""
         self.show(HOUSE)
@@ -401,7 +412,7 @@ class InFirefox(Alone, test_viewer_page.Page):
 
 
 class AnswersInChromium(Opened, test_viewer_answers.AnswersInChromium):
-    test_a_place_outlasts_a_reload = test_a_pixel_is_picked_anywhere = None       # of the server; places of a saved page are tried below
+    test_a_place_outlasts_a_reload = test_a_pixel_is_picked_anywhere = test_a_filter_before_the_history = None      # of the server; places of a saved page are tried below
 
     def test_a_place_is_saved(self):
         """A saved page opens where it was saved; an address goes before that."""
@@ -422,7 +433,7 @@ class AnswersInChromium(Opened, test_viewer_answers.AnswersInChromium):
 
 
 class AnswersInFirefox(Opened, test_viewer_answers.AnswersInFirefox):
-    test_a_place_outlasts_a_reload = test_a_pixel_is_picked_anywhere = None
+    test_a_place_outlasts_a_reload = test_a_pixel_is_picked_anywhere = test_a_filter_before_the_history = None
 
 
 class MapsInChromium(Opened, test_viewer_maps.MapsInChromium):

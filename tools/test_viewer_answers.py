@@ -2,13 +2,16 @@
 import json
 import random
 import tempfile
+import threading
 import time
 import unittest
+from unittest import mock
 
 import browser
 import reference
 from viewer_hands import Hands
 from viewer_testing import HOUSE, PROGRAM, Viewer, asked, capture_of, file_of, replies, vertices
+from viewer.runs import Runs
 
 FACTORS = ["ZERO", "ONE", "SRC_ALPHA", "INV_SRC_ALPHA", "DEST_ALPHA", "INV_DEST_ALPHA", "BLEND_FACTOR", "INV_BLEND_FACTOR"]
 COLOURS = ["SRC_COLOR", "INV_SRC_COLOR", "DEST_COLOR", "INV_DEST_COLOR"]
@@ -386,21 +389,57 @@ class Answers(Hands):
 
     # ---- Hands
 
+    def filtered(self, words):
+        self.browser.run("const f = document.getElementById('filter'); f.value = arguments[0]; f.oninput()", words)
+
+    def listed(self):
+        return self.browser.run("return [...document.querySelectorAll('#event-list .event')].map(e => e.dataset.number).join()")
+
+    def shows_writers(self, viewer):
+        """House, with the pixel that four events wrote."""
+        self.open(viewer)
+        self.at(13)
+        self.click_pixel(50, 50, 96)
+        self.browser.until("return document.querySelectorAll('#history .entry').length === 4")
+
     def test_filter_words(self):
         with Viewer(HOUSE) as viewer:
-            self.open(viewer)
-            self.at(13)
-            self.click_pixel(50, 50, 96)
-            self.browser.until("return document.querySelectorAll('#history .entry').length === 4")
+            self.shows_writers(viewer)
             self.browser.click(self.row(3) + " input")
             self.comes(self.off, "3")
-            listed = lambda: self.browser.run("return [...document.querySelectorAll('#event-list .event')].map(e => e.dataset.number).join()")
             kinds = [event["kind"] for event in json.loads(HOUSE.read_text())["events"]]
             draws = ",".join(str(i) for i, kind in enumerate(kinds, 1) if kind == "draw")
             for words, numbers, found in (("off", "3", "1 found"), ("wrote", "2,6,11", "3 found"), ("wrote draw", "6,11", "2 found"), ("DRAW", draws, f"{draws.count(',') + 1} found"), ("sing", "", "nothing found")):
-                self.browser.run("const f = document.getElementById('filter'); f.value = arguments[0]; f.oninput()", words)
-                self.comes(listed, numbers)
+                self.filtered(words)
+                self.comes(self.listed, numbers)
                 self.reads("#found", found)
+
+    def test_the_filter_follows_the_pixel(self):
+        """Whose writers are others after a switch, and those of another pixel are others too."""
+        with Viewer(HOUSE) as viewer:
+            self.shows_writers(viewer)
+            self.filtered("wrote")
+            self.comes(self.listed, "2,3,6,11")
+            self.browser.click(self.row(3) + " input")
+            self.comes(self.listed, "2,6,11")
+            self.reads("#found", "3 found")
+            self.click_pixel(5, 5, 96)
+            self.comes(self.listed, "2")
+
+    def test_a_filter_before_the_history(self):
+        """A switch's history comes late, and the word before it: then those are listed that are known, and later those that there are."""
+        go, answer = threading.Event(), Runs.answer
+        slow = lambda runs, lines, *more: (b"history 50 50" in lines and go.wait(120), answer(runs, lines, *more))[1]
+        with Viewer(HOUSE) as viewer:
+            self.shows_writers(viewer)
+            with mock.patch.object(Runs, "answer", slow):
+                self.addCleanup(go.set)
+                self.browser.click(self.row(3) + " input")
+                self.comes(self.off, "3")
+                self.filtered("wrote")
+                self.comes(self.listed, "2,3,6,11")
+                go.set()
+                self.comes(self.listed, "2,6,11")
 
     def test_off_all_on_and_undo(self):
         with Viewer(HOUSE) as viewer:
@@ -526,18 +565,17 @@ class Answers(Hands):
         with tempfile.TemporaryDirectory() as folder:
             self.shows(capture_of(4, 4, events), folder)
             self.reads(self.row(4) + " .source", "20 vkCmdDraw")
-            listed = lambda: self.browser.run("return [...document.querySelectorAll('#event-list .event')].map(e => e.dataset.number).join()")
             self.browser.click(self.row(2) + " .fold")
-            self.comes(listed, "1,2,5,6")
+            self.comes(self.listed, "1,2,5,6")
             self.browser.click(self.row(2) + " .fold")
             self.browser.click(self.row(1) + " .fold")
-            self.comes(listed, "1,6")
+            self.comes(self.listed, "1,6")
             self.browser.click(self.row(1) + " input")
             self.comes(self.off, "")
             self.reads("#off-told", "3 events off")
             for words, numbers in (("vkcmd", "4"), ("30", "5"), ("shadows gl", "3")):
-                self.browser.run("const f = document.getElementById('filter'); f.value = arguments[0]; f.oninput()", words)
-                self.comes(listed, numbers)
+                self.filtered(words)
+                self.comes(self.listed, numbers)
             for words, key, number in (("20", "Enter", 4), ("50", "Enter", 6), ("after", "Enter", 6), ("10", "Enter", 1), ("gl", "Enter", 3), ("20", "0", 3)):
                 self.browser.run("const f = document.getElementById('filter'); f.value = arguments[0]; f.oninput(); f.onkeydown({key: arguments[1]})", words, key)
                 self.at(number)

@@ -12,8 +12,12 @@ export const WRITES = new Set(["clear", "draw", "depth_clear"]);    // kinds tha
 
 export function setFilter(text) {
   filter = text.trim().toLowerCase();
-  group();
   listEvents();
+}
+
+// Another pixel, or another history of it: a filter that asks for its writers finds others
+export function listWriters() {
+  if (words().includes("wrote")) listEvents();
 }
 
 // The event to which the filter leads: the last one of the call whose number it is, else the first that is found
@@ -24,7 +28,8 @@ export function foundFirst() {
 
 export function listEvents() {
   if (!frame.events.length) folded.clear();
-  const rows = filter ? frame.events.filter(event => matches(event)).map(event => rowIn(event, groupsOf(event))) : unfolded();
+  group();
+  const rows = frame.events.filter(filter ? matches : isUnfolded).map(event => rowIn(event, groupsOf(event)));
   shown = -1;
   $("found").textContent = filter ? rows.length ? `${rows.length.toLocaleString("en")} found` : "nothing found" : "";
   drawOff();
@@ -52,16 +57,14 @@ function group() {
   }
 }
 
-function unfolded() {
-  group();
-  return frame.events.filter(event => !groupsOf(event).some(head => folded.has(head))).map(event => rowIn(event, groupsOf(event)));
-}
+const isUnfolded = event => !groupsOf(event).some(head => folded.has(head));
+const words = () => filter.split(/\s+/);
 
 // All words of the filter: `off`, `wrote` (the chosen pixel), or what stands in the row or its group's name
 function matches(event) {
   const source = frame.sources.get(event.number), names = groupsOf(event).map(head => frame.events[head - 1].name);
   const text = `${event.number} ${event.kind} ${event.words.join(" ")} ${names.join(" ")} ${source ? `${source.event} ${source.name}` : ""}`.toLowerCase();
-  return filter.split(/\s+/).every(word => word === "off" ? !event.on : word === "wrote" ? frame.writers.has(event.number) : text.includes(word));
+  return words().every(word => word === "off" ? !event.on : word === "wrote" ? frame.writers.has(event.number) : text.includes(word));
 }
 
 function drawOff() {

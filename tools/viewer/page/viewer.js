@@ -3,7 +3,7 @@
 import { captureName, firstPlace, onCapture } from "./run.js";
 import { onWorking } from "./working.js";
 import { frame, onShow, inTurn, open, goToPlace, again, last, stop, goTo, neighbour, switchOver, undo, pick, command, fetchPart, wantMap } from "./frame.js";
-import { WRITES, setFilter, foundFirst, listEvents, drawEvents, drawTicks } from "./events.js";
+import { WRITES, setFilter, foundFirst, listEvents, listWriters, drawEvents, drawTicks } from "./events.js";
 import { drawPixel } from "./panels.js";
 import { drawState } from "./state.js";
 import { forgetTriangles, redraw, showTriangles } from "./triangles.js";
@@ -36,6 +36,7 @@ const film = new Film(frame, last, goTo, plays => $("play").setAttribute("aria-p
 
 onShow(what => {
   if (what === "events") listEvents(), forgetFindings();
+  if (what === "history") listWriters();
   if (what === "events" || what === "history") drawTicks();
   if (what === "outline") return picture.setOutline(frame.corners), drawPixel(), showTriangles(picture);
   drawPosition();
