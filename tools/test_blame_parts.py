@@ -9,8 +9,9 @@ import zlib
 import reference
 from blame_testing import EXAMPLES, Folder, blend, box, capture, clear, depth, draw, pam, raster
 
-from blaming import blending, clusters, comparing, corners, fragments, frame, kinds, pictures, searching, windows
+from blaming import blending, clusters, comparing, corners, evidence, fragments, frame, kinds, pictures, searching, windows
 from blaming.faults import Fault
+from framedbg_client import Entry
 from planting import plants
 
 
@@ -106,6 +107,7 @@ class Comparisons(unittest.TestCase):
     def test_masks(self):
         self.assertEqual(comparing.both(bytes([1, 1, 0, 0, 1]), bytes([1, 0, 1, 0, 1])), 2)
         self.assertEqual(comparing.pixels_of(bytes([0, 1, 0, 1])), [1, 3])
+        self.assertEqual(comparing.pixels_of(bytes([1, 1, 1, 0, 0, 1, 1, 0])), [0, 1, 2, 5, 6])
 
 
 class Clusters(unittest.TestCase):
@@ -126,6 +128,13 @@ class Clusters(unittest.TestCase):
         self.assertEqual(len({(pixel % 64 // 16, pixel // 64 // 16) for pixel in some}), 16)
         self.assertEqual(sorted(clusters.spread(pixels[:7], 64, 100)), pixels[:7])
         self.assertEqual(len(set(clusters.spread(pixels, 64, 500))), 500)
+
+    def test_very_many_pixels(self):
+        """Some of them stand for all, from the first to the last, and in no one column."""
+        some = clusters.thinned(range(2048 * 2048))
+        self.assertTrue(clusters.MANY // 2 <= len(some) <= 2 * clusters.MANY)
+        self.assertEqual((some[0], some[-1] > 2048 * 2047, len({pixel % 2048 for pixel in some})), (0, True, 2048))
+        self.assertEqual(clusters.thinned((4, 5, 6)), (4, 5, 6))
 
 
 class Frames(unittest.TestCase):
@@ -158,6 +167,19 @@ class Frames(unittest.TestCase):
         self.assertIsNone(windows.window_of(frame.Frame(capture([], 24, 18)), clusters.clusters_of(b"\1" * 432, 24)))
         far = frame.Frame(capture([draw((-16384, 0, (1, 2, 3, 4)), (5, 5, (1, 2, 3, 4)), (0, 9, (1, 2, 3, 4)))], 2000, 1500))
         self.assertIsNone(windows.window_of(far, clusters.clusters_of(bytes(700 * 2000 + 900) + b"\1", 2000)))
+
+    def test_ways_to_set_a_state(self):
+        """Of each one event, the first that sets it so; of many the nearest."""
+        made = frame.Frame(capture([blend(), blend(mask=1), blend(mask=2), blend() | {"source": 4}, blend(mask=3), box(0, 0, 2, 2, (1, 2, 3, 4)), blend(mask=4)]))
+        self.assertEqual(made.settings(6, "blend", 9), [1, 2, 3, 5, 7])
+        self.assertEqual(made.settings(6, "blend", 3), [1, 5, 7])
+        self.assertEqual(made.settings(6, "depth", 3), [])
+
+    def test_differing_part(self):
+        a, b, c, d, x = ({"kind": name} for name in "abcdx")
+        made = frame.Frame(capture([a, b, c, d]))
+        for events, wanted in (([a, b, c, d], (4, 0)), ([a, x, c, d], (1, 2)), ([a, c, d], (1, 2)), ([a, b, b, c, d], (2, 2)), ([b, c, d], (0, 3)), ([a, b, c], (3, 0)), ([a, b, c, d, x], (4, 0))):
+            self.assertEqual(made.differing_part(events), wanted)
 
     def test_setters(self):
         made = frame.Frame(capture([blend(), box(0, 0, 2, 2, (1, 2, 3, 4)), blend(False), box(0, 0, 2, 2, (1, 2, 3, 4))]))
@@ -209,6 +231,25 @@ class Working(unittest.TestCase):
         self.assertEqual(join([a, b, y, d], [b, a, c, d]), "bayd")
         self.assertIsNone(join([a, x, c, d], [a, y, c, d]))
         self.assertIsNone(join([a, c, b, d], [a, b, x, d]))
+
+
+class Evidence(unittest.TestCase):
+    def history(self, made, x, y):
+        """A pixel's history by the reference, as framedbg's client gives it."""
+        entries = reference.Frame(made).replay(len(made["events"]), x, y)[1]
+        return [Entry(event, None if triangle == "-" else triangle, verdict, source, before, after) for event, triangle, verdict, source, before, after, *_ in entries]
+
+    def test_what_shows_where_all_is_right(self):
+        """A glass is wrong below a veil over the whole target: the veil is drawn last, and shows at each pixel that is right."""
+        made = capture([clear(9, 9, 9, 255), box(1, 1, 23, 17, (70, 20, 10, 255)), blend(mask=3), box(4, 4, 12, 12, (200, 10, 10, 90)), blend(rgb="ONE ONE ADD"), box(0, 0, 24, 18, (3, 3, 3, 0))])
+        wrong = [evidence.Sample(0, x, x, (1, 2, 3, 4), self.history(made, x, x), 0) for x in (5, 7, 9)]
+        ranks = lambda right: [suspect.event for suspect in evidence.suspects_of(frame.Frame(made), wrong, lambda one, other: one == other, right)]
+        right = [self.history(made, x, x) for x in (2, 13, 16)]
+        self.assertEqual(ranks([])[:2], [6, 5])
+        self.assertEqual(set(ranks(right)[:4]), {1, 3, 4, 6})
+        self.assertLess(ranks(right).index(4), ranks(right).index(6))
+        self.assertEqual(evidence.shown(frame.Frame(made), right[0]), {2, 5, 6})
+        self.assertEqual(evidence.shown(frame.Frame(made), wrong[0].entries), {2, 3, 4, 5, 6})
 
 
 class Planted(unittest.TestCase):

@@ -60,6 +60,27 @@ class Worked(unittest.TestCase):
                 other = changed(rng, events)
                 self.assertEqual([tuple(colour) for colour in made.after(other)], [tuple(colour) for colour in colours_of(other)])
 
+    def test_a_draw_with_other_fragments(self):
+        """At single pixels: with its own ones all is as it was, and with none as without it."""
+        rng = random.Random(12)
+        for _ in range(5):
+            events = a_frame(rng)
+            at_first = colours_of(events)
+            made = points_of(events, at_first)
+            for k in [k for k, event in enumerate(events) if event["kind"] == "draw"][:3]:
+                own, without = made.fragments(k), colours_of(events[:k] + events[k + 1:])
+                self.assertEqual([made.final(point, k, own.get(point, [])) for point in range(len(made))], [tuple(colour) for colour in at_first])
+                self.assertEqual([made.final(point, k, []) for point in range(len(made))], [tuple(colour) for colour in without])
+
+    def test_states_that_are_set_again(self):
+        """Of a state that is changed only the draws up to the next one like it are drawn otherwise, and of those behind what lies on other colours."""
+        over = box(4, 3, 12, 12, (200, 10, 10, 90), 20000)
+        events = [clear(9, 8, 7, 6), blend(), depth(), over, blend(mask=7), box(2, 5, 16, 9, (4, 90, 200, 60), 10000), clear(1, 1, 1, 1), blend(rgb="ONE ONE ADD"), box(6, 2, 9, 14, (30, 30, 30, 30), 20000)]
+        made = points_of(events, colours_of(events))
+        for number, event in ((2, blend(mask=3)), (3, depth("GREATER")), (3, depth(write=False)), (5, blend(False)), (8, blend()), (7, depth("NEVER")), (1, depth("ALWAYS"))):
+            other = [*events[:number - 1], event, *events[number:]]
+            self.assertEqual([tuple(colour) for colour in made.after(other)], [tuple(colour) for colour in colours_of(other)], number)
+
     def test_what_is_left(self):
         right, wrong = [clear(1, 2, 3, 4), box(2, 2, 9, 9, (9, 9, 9, 9))], [clear(1, 2, 3, 4), box(2, 2, 9, 8, (9, 9, 9, 9))]
         made = points_of(wrong, colours_of(right))

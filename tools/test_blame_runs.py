@@ -119,6 +119,22 @@ class Findings(Folder):
         self.assertEqual((outcome.is_mended, outcome.suspects[0].event, outcome.changes[0].change.says), (True, 13, "linear in place of flat"))
         self.assertEqual({suspect.event for suspect in outcome.suspects}, set(range(1, 15)))
 
+    def test_the_event_that_a_change_stands_in_for(self):
+        """The blending of the lower glass is wrong. That the one behind it is set earlier mends all too; but the event that is there says more."""
+        right = [clear(*SKY), box(4, 4, 18, 14, RED), blend(), box(5, 5, 17, 13, GLASS), blend() | {"source": 1}, box(4, 4, 18, 14, GLASS)]
+        wrong = [*right[:2], blend(rgb="SRC_ALPHA INV_SRC_ALPHA REV_SUBTRACT"), *right[3:]]
+        outcome = self.found(capture(wrong), capture(right))
+        self.assertIn("set before event 4", {one.change.says for one in outcome.changes if one.left == 0})
+        self.assertEqual((outcome.suspects[0].event, outcome.changes[0].change.event, outcome.changes[0].change.kind), (3, 3, "operation of blending"))
+
+    def test_the_event_whose_state_is_replaced(self):
+        """Where no change of its own mends all, the event whose state another one stands in for is a suspect behind it."""
+        right = [clear(*SKY), box(4, 4, 18, 14, RED), blend(), box(5, 5, 17, 13, GLASS), blend() | {"source": 1}, box(4, 4, 18, 14, GLASS)]
+        wrong = [*right[:2], blend(False, "ZERO ZERO MIN", "ZERO ZERO MAX", 3), *right[3:]]
+        outcome = self.found(capture(wrong), capture(right))
+        self.assertEqual((outcome.is_mended, outcome.changes[0].change.event), (True, 5))
+        self.assertIn(3, [suspect.event for suspect in outcome.suspects[:3]])
+
     def test_off_and_what_is_spoilt(self):
         """Without the box that is drawn last the ones below show, 20 pixels as they should be; 30 that were right aren't any more."""
         right = [clear(*SKY), box(2, 2, 12, 7, RED), box(2, 7, 12, 10, GREEN)]

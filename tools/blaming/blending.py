@@ -58,16 +58,17 @@ class Chain:
 
     def __init__(self, frame, entries):
         kinds = {entry.event: frame.kind(entry.event) for entry in entries}
-        self.frame, self.entries = frame, [entry for entry in entries if entry.is_drawn and kinds[entry.event] != "depth_clear"]
-        self.kinds = kinds
+        self.entries = [entry for entry in entries if entry.is_drawn and kinds[entry.event] != "depth_clear"]
+        self.states = [None if kinds[entry.event] == "clear" else (frame.state(entry.event, "blend"), frame.state(entry.event, "factor")["color"]) for entry in self.entries]
 
     def final(self, at, colour, source=None, factors=None):
         """The pixel's last colour, where before the entry number `at` it had been `colour`. The entry may have another source, and events another factor."""
-        for number, entry in enumerate(self.entries[at:]):
-            drawn = source if source is not None and number == 0 else entry.source
-            if self.kinds[entry.event] == "clear":
+        for number in range(at, len(self.entries)):
+            entry = self.entries[number]
+            drawn = source if source is not None and number == at else entry.source
+            if self.states[number] is None:
                 colour = drawn
                 continue
-            factor = (factors or {}).get(entry.event) or self.frame.state(entry.event, "factor")["color"]
-            colour = blended(self.frame.state(entry.event, "blend"), factor, drawn, colour)
+            state, factor = self.states[number]
+            colour = blended(state, factors.get(entry.event, factor) if factors else factor, drawn, colour)
         return tuple(colour)

@@ -5,6 +5,7 @@ from dataclasses import dataclass
 from .comparing import pixels_of
 
 CELL = 4                 # pixels in cells of so many that touch, also at a corner, hang together
+MANY = 20_000            # pixels of a cluster, of which some stand for all
 BOXES, MARGIN = 3, 6     # clusters round which pixels that are right are taken, and how far round them
 ROUND, ANYWHERE = 24, 24
 
@@ -56,7 +57,7 @@ def box_of(pixels, width):
 
 def spread(pixels, width, most):
     """At most so many of some pixels, from all over them: of one cell of sixteen by sixteen after the other, in turn."""
-    cells = {}
+    cells, pixels = {}, thinned(pixels)
     for pixel in pixels:
         y, x = divmod(pixel, width)
         cells.setdefault((x // 16, y // 16), []).append(pixel)
@@ -66,6 +67,11 @@ def spread(pixels, width, most):
         found += [order[turn] for order in orders if turn < len(order)][:most - len(found)]
         turn += 1
     return found
+
+
+def thinned(pixels):
+    """Some of very many pixels, as far apart in the list as each other."""
+    return pixels[::len(pixels) // MANY | 1]
 
 
 def outside(mask, clusters, width):

@@ -61,8 +61,10 @@ def pixels_of(mask):
     """The numbers of the pixels that a mask has."""
     at, found = mask.find(1), []
     while at >= 0:
-        found.append(at)
-        at = mask.find(1, at + 1)
+        end = mask.find(0, at)
+        end = end if end >= 0 else len(mask)
+        found.extend(range(at, end))
+        at = mask.find(1, end)
     return found
 
 

@@ -9,6 +9,7 @@ WEIGHTS = {"hidden": 3, "hider": 4, "over": 3, "last": 1, "blend": 3, "state": 0
 
 REACHES = "has vertices round the pixel, and doesn't cover it"
 REACH = 2                # pixels round a draw's vertices
+CLEARED = 0.9            # of its weight that an event loses which shows at each pixel that is right
 
 
 @dataclass
@@ -79,18 +80,34 @@ def last(frame, entry, wanted, is_near):
 
 def reaching(frame, samples):
     """What can't be in a history: draws whose vertices lie round a pixel, which none of their triangles covers."""
+    met = [(sample, {entry.event for entry in sample.entries}) for sample in samples]
     for number, event in enumerate(frame.events, 1):
         if event["kind"] != "draw" or not event["vertices"]:
             continue
-        x, y = ([vertex[name] / PIXEL for vertex in event["vertices"]] for name in "xy")
-        box = min(x) - REACH, min(y) - REACH, max(x) + REACH, max(y) + REACH
-        for sample in samples:
-            if box[0] <= sample.x <= box[2] and box[1] <= sample.y <= box[3] and all(entry.event != number for entry in sample.entries):
+        x, y = ([vertex[name] for vertex in event["vertices"]] for name in "xy")
+        box = min(x) / PIXEL - REACH, min(y) / PIXEL - REACH, max(x) / PIXEL + REACH, max(y) / PIXEL + REACH
+        for sample, events in met:
+            if box[0] <= sample.x <= box[2] and box[1] <= sample.y <= box[3] and number not in events:
                 yield sample, (number, None, REACHES, WEIGHTS["reaches"])
 
 
-def suspects_of(frame, samples, is_near):
-    """The suspects by the evidence of some pixels, the strongest first."""
+def shown(frame, entries):
+    """The events whose colours a pixel has in the end, and those that set their states."""
+    found = set()
+    for entry in reversed([entry for entry in entries if entry.is_drawn and frame.kind(entry.event) != "depth_clear"]):
+        found.add(entry.event)
+        if frame.kind(entry.event) == "clear":
+            break
+        found.update(by for by in (frame.setter(entry.event, kind) for kind in STATES) if by)
+        blend = frame.state(entry.event, "blend")
+        if not blend["enable"] and blend["mask"] == 15:
+            break
+    return found
+
+
+def suspects_of(frame, samples, is_near, right=()):
+    """The suspects by the evidence of some pixels, the strongest first; what shows at pixels that are right is the less suspected, the more of them show it.
+    `right` are their histories."""
     found = {}
     for sample, (event, triangle, reason, weight) in [*((sample, fact) for sample in samples for fact in facts(frame, sample, is_near)), *reaching(frame, samples)]:
         suspect = found.setdefault(event, Suspect(event))
@@ -99,4 +116,7 @@ def suspects_of(frame, samples, is_near):
         suspect.clusters[sample.cluster] += 1
         if triangle is not None:
             suspect.triangles[triangle] += 1
+    for event, count in collections.Counter(event for entries in right for event in shown(frame, entries)).items():
+        if event in found:
+            found[event].weight *= 1 - CLEARED * count / len(right)
     return sorted(found.values(), key=lambda suspect: (-suspect.weight, suspect.event))

@@ -2,7 +2,10 @@
 
 A list of events is never changed: a change makes another list, in which the events that stay are the same objects.
 """
+import bisect
+import itertools
 import json
+import operator
 import pathlib
 
 from explaining.rules import MOST_BYTES, MOST_POSITION
@@ -11,7 +14,6 @@ from .faults import READING, Fault
 
 PIXEL = 65536            # captures give positions in 1/65536 pixel
 STATES = ("raster", "scissor", "blend", "factor", "depth")
-NOTHING = {"kind": "draw", "interp": "flat", "vertices": []}
 AT_START = {
     "raster": {"kind": "raster", "cull": "back", "front_ccw": False, "scissor": False},
     "scissor": {"kind": "scissor", "rect": [0, 0, 0, 0]},
@@ -39,9 +41,26 @@ def text_of(event):
     return json.dumps(event, separators=(",", ":"), ensure_ascii=False)
 
 
+def key_of(event):
+    """What an event sets, the same for two that set the same."""
+    return json.dumps({name: what for name, what in event.items() if name != "source"}, sort_keys=True)
+
+
 def order_of(draw):
     """The vertices' numbers that a draw takes, three a triangle."""
     return draw["indices"] if "indices" in draw else list(range(len(draw["vertices"])))
+
+
+def differing_part(events, changed):
+    """Where two lists of events differ: from where, and how many behind it are the same."""
+    most = min(len(events), len(changed))
+    start = first_other(events, changed, most)
+    return start, first_other(reversed(events), reversed(changed), most - start)
+
+
+def first_other(some, others, most):
+    """The first place at which two rows have different objects, or the most that is looked at."""
+    return next(itertools.compress(range(most), map(operator.is_not, some, others)), most)
 
 
 class Frame:
@@ -49,7 +68,8 @@ class Frame:
         self.capture, self.events = capture, capture["events"]
         self.version, self.width, self.height = capture["version"], capture["width"], capture["height"]
         self.states = [kind for kind in STATES if kind != "depth" or self.version == 2]
-        self._setters = {}
+        self._setters, self._ways = {}, {}
+        self._differing = None           # the list that was asked about last, and the answer
         self._texts = {}                 # by an event's identity and a window; the event is kept with it, so that its identity stays its own
 
     def with_events(self, events):
@@ -57,15 +77,36 @@ class Frame:
         made._texts = self._texts
         return made
 
+    def differing_part(self, events):
+        """Where a list differs from the frame's events: from where, and how many behind it are the same."""
+        if self._differing is None or self._differing[0] is not events:
+            self._differing = events, differing_part(self.events, events)
+        return self._differing[1]
+
     def kind(self, number):
         return self.events[number - 1]["kind"]
 
     def setter(self, number, kind):
         """The event that set a part of the state with which an event is drawn, or None: it is as at the start."""
-        key = number, kind
-        if key not in self._setters:
-            self._setters[key] = next((i for i in range(number - 1, 0, -1) if self.events[i - 1]["kind"] == kind), None)
-        return self._setters[key]
+        places = self.setters(kind)
+        at = bisect.bisect_left(places, number)
+        return places[at - 1] if at else None
+
+    def setters(self, kind):
+        """The events that set a part of the state."""
+        if kind not in self._setters:
+            self._setters[kind] = [i for i, event in enumerate(self.events, 1) if event["kind"] == kind]
+        return self._setters[kind]
+
+    def settings(self, number, kind, most):
+        """Of each way in which a part of the state is set the first event that sets it so; where there are many, those that are set nearest to an event."""
+        if kind not in self._ways:
+            ways = {}
+            for by in self.setters(kind):
+                ways.setdefault(key_of(self.events[by - 1]), []).append(by)
+            self._ways[kind] = list(ways.values())
+        near = sorted(self._ways[kind], key=lambda numbers: min(abs(by - number) for by in numbers))[:most]
+        return sorted(numbers[0] for numbers in near)
 
     def state(self, number, kind):
         """That part of the state, as the event that sets it."""
@@ -85,13 +126,15 @@ class Frame:
         head = {"format": "framedbg", "version": self.version, "width": self.width, "height": self.height}
         if window:
             head |= {"width": window[2] - window[0], "height": window[3] - window[1]}
-        return json.dumps(head)[:-1] + ',"events":[' + ",\n".join(self._text(event, window) for event in events) + "]}"
+        texts = (self._text(event, window) for event in events)
+        return json.dumps(head)[:-1] + ',"events":[' + ",\n".join(text for text in texts if text) + "]}"
 
     def _text(self, event, window):
         key = id(event), window
         if key not in self._texts:
             shown = {name: what for name, what in event.items() if name != "source"} if "source" in event else event
-            self._texts[key] = event, text_of(moved(shown, window) if window else shown)
+            shown = moved(shown, window) if window else shown
+            self._texts[key] = event, text_of(shown) if shown else ""
         return self._texts[key][1]
 
     def forget(self, events):
@@ -101,7 +144,7 @@ class Frame:
 
 
 def moved(event, window):
-    """An event as it is drawn on a window: what can't reach it is left out."""
+    """An event as it is drawn on a window: what can't reach it is left out, and a draw that can't is None."""
     left, top, right, bottom = window
     if event["kind"] == "scissor":
         low, high = -(1 << 31), (1 << 31) - 1
@@ -113,7 +156,7 @@ def moved(event, window):
     vertices, order = event["vertices"], order_of(event)
     named = [order[k:k + 3] for k in range(0, len(order) - 2, 3) if meets([vertices[i] for i in order[k:k + 3]], box)]
     if not named:
-        return NOTHING
+        return None
     numbers = {number: at for at, number in enumerate(dict.fromkeys(i for triangle in named for i in triangle))}
     shifted = [vertices[i] | {"x": vertices[i]["x"] - box[0], "y": vertices[i]["y"] - box[1]} for i in numbers]
     return {"kind": "draw", "interp": event["interp"], "vertices": shifted, "indices": [numbers[i] for triangle in named for i in triangle]}

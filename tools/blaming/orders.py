@@ -32,13 +32,13 @@ def moves(case, number):
 
 @kind("order of states", "raster", "scissor", "blend", "factor", "depth")
 def state_moves(case, number):
-    """Set later or earlier: a state event on the other side of a draw."""
+    """Set later or earlier: a state event on the other side of a draw. One that is set earlier stands in for the one by which the draw had been drawn."""
     events, event = case.frame.events, case.frame.events[number - 1]
     rest = events[:number - 1] + events[number:]
     draws = case.frame.draws()
     for other in [d for d in draws if d < number][-3:] + [d for d in draws if d > number][:3]:
-        to = other - 1
-        yield f"set {'before' if other < number else 'after'} event {other}", rest[:to] + [event] + rest[to:], other
+        to, by = other - 1, case.frame.setter(other, event["kind"]) if other < number else None
+        yield f"set {'before' if other < number else 'after'} event {other}", rest[:to] + [event] + rest[to:], *([by] if by else []), other
 
 
 @kind("two events exchanged", *DRAWN)

@@ -1,5 +1,6 @@
 """What comes out at some pixels after a change, worked out here without a run of framedbg. It says which of many changes are worth a picture, and proves
 nothing: what is told of a change in the end was drawn by framedbg."""
+import bisect
 import operator
 
 from .blending import blended
@@ -23,6 +24,7 @@ class Points:
         self.wanted = [wanted for _, _, wanted in [*wrong, *right]]
         self.centres = [centre(x, y) for x, y in self.places]
         self.triangles, self.covered, self.corners, self.paths = {}, {}, {}, {}
+        self.settings, self.drawing = {kind: [] for kind in AT_START}, []       # places of the list: that set a part of the state, that draw at a point
         self.steps = self._steps()
 
     def __len__(self):
@@ -85,59 +87,90 @@ class Points:
     def _steps(self):
         """Before each event of the frame the state, and the colours and depths of all points; those that stay the same are shared."""
         state, colours, depths, made = AT_START, [FRESH[0]] * len(self), [FRESH[1]] * len(self), []
-        for event in self.frame.events:
+        for at, event in enumerate(self.frame.events):
             made.append((state, colours, depths))
             if event["kind"] == "draw":
                 self.covered[id(event)] = self._covering(event)
             if event["kind"] in AT_START:
                 state = state | {event["kind"]: event}
+                self.settings[event["kind"]].append(at)
             elif event["kind"] in ("clear", "depth_clear") or event["kind"] == "draw" and self.covering(event):
                 colours, depths = list(colours), list(depths)
                 self._run(event, state, colours, depths)
+                self.drawing.append(at)
         return made + [(state, colours, depths)]
 
     def after(self, events):
         """The colours of all points after some events."""
         base = self.frame.events
-        start = next((at for at, (a, b) in enumerate(zip(base, events)) if a is not b), min(len(base), len(events)))
-        if len(base) == len(events) and start < len(base) and base[start]["kind"] == events[start]["kind"] == "draw" and all(map(operator.is_, base[start + 1:], events[start + 1:])):
-            return self._after_draw(start, dict(self.covering(events[start])))
+        start, behind = self.frame.differing_part(events)
         state, colours, depths = self.steps[start]
         state, colours, depths = dict(state), list(colours), list(depths)
-        for event in events[start:]:
+        for event in events[start:len(events) - behind]:
             if event["kind"] in state:
                 state[event["kind"]] = event
-            else:
+            elif event["kind"] != "draw" or self.covering(event):
                 self._run(event, state, colours, depths)
-        return colours
+        return self._to_the_end(len(base) - behind, state, colours, depths)
 
-    def _after_draw(self, at, covering):
-        """The same where one draw covers them otherwise: those alone that it covers otherwise are drawn anew."""
-        was, colours = dict(self.covering(self.frame.events[at])), list(self.steps[-1][1])
-        for point in was.keys() | covering.keys():
-            fragments = covering.get(point, [])
-            if fragments != was.get(point, []):
-                colours[point] = self.final(point, at, fragments)
-        return colours
+    def _to_the_end(self, at, state, colours, depths):
+        """The colours where the frame's events from a place of the list on are drawn over others. What comes out as in the frame isn't drawn anew."""
+        held, was, was_deep = self.steps[at]
+        kinds = {kind: self.until(kind, at) for kind in state if state[kind] is not held[kind]}
+        points = {point: (colours[point], depths[point]) for point in range(len(self)) if colours[point] != was[point] or depths[point] != was_deep[point]}
+        for k in self.drawing[bisect.bisect_left(self.drawing, at):]:
+            kinds = {kind: end for kind, end in kinds.items() if k < end}
+            if not kinds and not points:
+                break
+            self._step(k, {kind: state[kind] for kind in kinds}, points)
+        made = list(self.steps[-1][1])
+        for point, (colour, _) in points.items():
+            made[point] = colour
+        return made
 
-    def path(self, at):
-        """What is drawn behind an event: (event, state, the fragments of each point)."""
-        if at not in self.paths:
-            self.paths[at] = [(event, self.steps[k][0], dict(self.covering(event)) if event["kind"] == "draw" else ())
-                              for k, event in enumerate(self.frame.events[at + 1:], at + 1) if event["kind"] in ("draw", "clear", "depth_clear")]
-        return self.paths[at]
+    def until(self, kind, at):
+        """The place of the list from one on at which a part of the state is set."""
+        places = self.settings[kind]
+        k = bisect.bisect_left(places, at)
+        return places[k] if k < len(places) else len(self.frame.events)
+
+    def _step(self, k, other, points):
+        """Draws an event of the frame at the points that are otherwise than in the frame, or at all that it covers where its state is; the points that
+        come out otherwise are kept."""
+        event, (state, colours, depths), (_, after, after_deep) = self.frame.events[k], self.steps[k], self.steps[k + 1]
+        if event["kind"] == "draw":
+            covering = self.fragments(k)
+            state = state | other if other else state
+            found = {point: self._drawn(point, covering[point], state, *points.get(point, (colours[point], depths[point])))
+                     for point in (covering if other else points.keys() & covering.keys())}
+        elif event["kind"] == "clear":
+            found = {point: (after[point], depth) for point, (_, depth) in points.items()}
+        else:
+            found = {point: (colour, after_deep[point]) for point, (colour, _) in points.items()}
+        for point, (colour, depth) in found.items():
+            if colour == after[point] and depth == after_deep[point]:
+                points.pop(point, None)
+            else:
+                points[point] = colour, depth
+
+    def fragments(self, k):
+        """The fragments that a draw of the frame has, by point."""
+        if k not in self.paths:
+            self.paths[k] = dict(self.covering(self.frame.events[k]))
+        return self.paths[k]
 
     def final(self, point, at, fragments):
         """A point's colour in the end, where the draw that stands at a place of the list has some fragments there."""
         state, colours, depths = self.steps[at]
         colour, depth = self._drawn(point, fragments, state, colours[point], depths[point])
-        for event, state, covering in self.path(at):
+        for k in self.drawing[bisect.bisect_right(self.drawing, at):]:
+            event = self.frame.events[k]
             if event["kind"] == "clear":
                 colour = tuple(event["color"])
             elif event["kind"] == "depth_clear":
                 depth = event["depth"]
-            elif point in covering:
-                colour, depth = self._drawn(point, covering[point], state, colour, depth)
+            elif point in self.fragments(k):
+                colour, depth = self._drawn(point, self.fragments(k)[point], self.steps[k][0], colour, depth)
         return colour
 
     def _run(self, event, state, colours, depths):

@@ -10,7 +10,7 @@ from . import states, orders, slips, corners     # noqa: F401  each puts kinds i
 from .clusters import clusters_of, outside, spread
 from .evidence import REACHES, Sample, suspects_of
 from .faults import MEMORY, Fault
-from .frame import STATES
+from .frame import STATES, differing_part
 from .kinds import KINDS, Case, changes_of, searching, simple
 from .orders import WITHOUT
 from .points import Points
@@ -19,6 +19,7 @@ from .windows import comparison_on, cut, window_of
 
 NAMED_CLUSTERS = 8       # the largest: each has its own verdict
 AT_FIRST, AT_ALL = (3, 8), 24      # suspects whose changes are tried, as long as nothing mends all
+AT_LAST = 200            # suspects of a large frame, after a search in the first
 SEARCHED, LATER = 5, 16  # suspects for which a search is worth its time; others, for which it is where none of these mends all
 PAIRED, FOLLOWED = 10, 3  # best changes that are tried in pairs; that are taken to look for a second one
 MOST_BLIND = 40          # simple changes of an event that are tried with those of another, where none is better alone
@@ -26,6 +27,7 @@ CHECKED = 12             # best changes of a window that are drawn whole
 PARTIAL, OF_EVENT = 12, 2      # changes after which some points are right that are drawn, where none mends all; of one event
 TOLD_EVERY = 64          # changes, after so many of which it is told how far the search has come
 MOST_PERFECT = 32        # changes of a step after which all points are right that are drawn
+SHOWN_AT = 1             # draws that are suspects behind the event that set their state
 TOLD_ALONE = 3           # suspects of which it is told what differs without them
 
 
@@ -72,6 +74,10 @@ def asked(path, program):
         raise
 
 
+def history_of(client, pixel, width):
+    return client.value(f"history {pixel % width} {pixel // width}", History).entries
+
+
 class Search:
     """Over one frame; a second one stands on a frame that is changed already."""
 
@@ -82,8 +88,10 @@ class Search:
             self.mask = comparison.differing(self.image.samples)
             self.clusters = clusters_of(self.mask, frame.width)
             self.samples = self._samples(client, comparison)
+            self.right = outside(self.mask, self.clusters, frame.width) if self.clusters else []
+            right = [history_of(client, pixel, frame.width) for pixel in self.right]
         self.is_near = comparison.is_near
-        self.suspects = suspects_of(frame, self.samples, comparison.is_near)
+        self.suspects = suspects_of(frame, self.samples, comparison.is_near, right)
         self.case = Case(frame, self.samples, self.clusters, {one.event: one for one in self.suspects}, comparison.is_near, comparison.looked_at, trials)
         self.whole = self._view(comparison, None)
         window = window_of(frame, self.clusters) if self.clusters else None
@@ -91,6 +99,8 @@ class Search:
         self.case.points = self.points = self._points(comparison)
         self.few = self.points.few()
         self.tried, self.checked, self.breadths, self.hints = [], {}, {}, []
+        self.looked_at = set()           # the events whose simple changes were tried
+        self.met = collections.Counter(event for sample in self.samples for event in {entry.event for entry in sample.entries})
 
     def _view(self, comparison, window):
         named = [cluster.mask(len(self.mask)) for cluster in self.clusters[:NAMED_CLUSTERS]] + [self.mask]
@@ -107,8 +117,7 @@ class Search:
         made = []
         for number, pixel in places:
             y, x = divmod(pixel, width)
-            entries = client.value(f"history {x} {y}", History).entries
-            made.append(Sample(pixel, x, y, tuple(comparison.wanted[4 * pixel:4 * pixel + 4]), entries, number))
+            made.append(Sample(pixel, x, y, tuple(comparison.wanted[4 * pixel:4 * pixel + 4]), history_of(client, pixel, width), number))
         return made
 
     def _points(self, comparison):
@@ -118,24 +127,32 @@ class Search:
         for sample in self.samples:
             wrong.append((turns[sample.cluster], sample.cluster, (sample.x, sample.y, sample.wanted)))
             turns[sample.cluster] += 1
-        right = outside(self.mask, self.clusters, self.frame.width) if self.clusters else []
-        places = [(pixel % self.frame.width, pixel // self.frame.width, tuple(comparison.wanted[4 * pixel:4 * pixel + 4])) for pixel in right]
+        places = [(pixel % self.frame.width, pixel // self.frame.width, tuple(comparison.wanted[4 * pixel:4 * pixel + 4])) for pixel in self.right]
         return Points(self.frame, [point for _, _, point in sorted(wrong)], places, comparison)
 
     # ---- The steps, each of which ends the search where no pixel differs any more
     def run(self, deep=True):
         ranked = [suspect.event for suspect in self.suspects]
         few, more = AT_FIRST
-        simple_ = [lambda some=some: self.attempt(self._simple(some)) for some in (ranked[:few], ranked[few:more], ranked[more:AT_ALL])]
+        groups = ranked[:few], ranked[few:more], ranked[more:AT_ALL], ranked[AT_ALL:AT_LAST]
+        *simple_, last = [lambda some=some: self.attempt(self._simple(some)) for some in groups]
         first, later = (lambda some=some: self.attempt(self._searched(*some), stops=True) for some in ((0, SEARCHED), (SEARCHED, LATER)))
-        for step in [*simple_, first, lambda: self.attempt(self._pairs()), later] if deep else [*simple_[:2], first]:
+        for step in [*simple_, first, last, lambda: self.attempt(self._pairs()), later] if deep else [*simple_[:2], first]:
             if self.is_mended or self.trials.is_over():
                 break
             step()
+        self.attempt(self._simple(self._stood_in_for()))
         return self
 
     def _simple(self, events):
-        return itertools.chain.from_iterable(changes_of(self.case, event, simple()) for event in events)
+        for event in events:
+            self.looked_at.add(event)
+            yield from changes_of(self.case, event, simple())
+
+    def _stood_in_for(self):
+        """The state events that a mending change of another event stands in for: a change of their own is as good, and says more."""
+        mending = [one.change for one in self.checked.values() if one.left == 0]
+        return sorted({event for change in mending for event in change.also if self.frame.kind(event) in STATES} - self.looked_at)
 
     def _searched(self, start, end):
         helped = {}
@@ -217,15 +234,23 @@ class Search:
         return self.breadths[event]
 
     def ranked(self):
-        """All suspects: those of the best changes, each with the events that it has to do with, and then the others by evidence."""
-        by_change = {}
-        for change in [*(one.change for one in sorted(self.tried, key=self.order)), *(change for _, _, change in sorted(self.hints, key=by_rank))]:
-            by_change |= dict.fromkeys((change.event, *change.also))
-        return [self.case.suspects[event] for event in dict.fromkeys([*by_change, *(suspect.event for suspect in self.suspects)]) if event in self.case.suspects]
+        """All suspects: those of the best changes, each with the events that it has to do with, and then the others by evidence. Behind the state event of the
+        best change stand the draws at which it shows."""
+        whole = sorted((self.checked.get(id(one.change), one) for one in self.tried), key=self.order)
+        changes = [*(one.change for one in whole), *(change for _, _, change in sorted(self.hints, key=by_rank))]
+        first = [changes[0].event, *changes[0].also, *self.shows_at(changes[0].event)] if changes else []
+        by_change = [event for change in changes for event in (change.event, *change.also)]
+        return [self.case.suspects[event] for event in dict.fromkeys([*first, *by_change, *(suspect.event for suspect in self.suspects)]) if event in self.case.suspects]
+
+    def shows_at(self, event):
+        """The draws with a state that an event sets which the most wrong pixels have met."""
+        kind = self.frame.kind(event)
+        drawn = [other for other, _ in self.met.most_common() if self.frame.kind(other) == "draw" and self.frame.setter(other, kind) == event] if kind in STATES else []
+        return drawn[:SHOWN_AT]
 
     def specific(self, event):
         """Draws that all wrong pixels have to do with before others, and of those the smallest first: a bug in one draw shows nowhere else."""
-        count = len({sample.pixel for sample in self.samples for entry in sample.entries if entry.event == event}) + self.case.suspects[event].reasons[REACHES]
+        count = self.met[event] + self.case.suspects[event].reasons[REACHES]
         corners_ = self.frame.events[event - 1].get("vertices") or [{"x": 0, "y": 0}]
         wide, high = (max(corner[name] for corner in corners_) - min(corner[name] for corner in corners_) for name in "xy")
         return -count, wide * high, event
@@ -253,14 +278,6 @@ def best_of_each(weighed, most, of_event):
 
 def together(first, event, says, events):
     return Change(first.event, "two at once", f"{first.says}; and event {event}, {says}", events, (event,))
-
-
-def differing_part(events, changed):
-    """Where two lists of events differ: from where, and how many behind it are the same."""
-    start = next((i for i, (a, b) in enumerate(zip(events, changed)) if a is not b), min(len(events), len(changed)))
-    most = min(len(events), len(changed)) - start
-    end = next((i for i in range(most) if events[-1 - i] is not changed[-1 - i]), most)
-    return start, end
 
 
 def joined(events, one, other):

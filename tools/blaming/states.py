@@ -4,10 +4,11 @@ import collections
 from explaining.rules import ALPHA_FACTORS, FACTORS, FUNCTIONS, OPERATIONS
 
 from .blending import Chain
-from .frame import AT_START
+from .frame import AT_START, key_of
 from .kinds import inserted, kind, replaced
 
 MOST_VALUES = 4          # of several values that all pixels allow
+MOST_HELD = 48           # states that other events set, of those that differ the nearest
 
 
 def with_members(case, number, says, **members):
@@ -192,13 +193,13 @@ USUAL = {                # states that a program often sets, for where the one t
 def before(case, number):
     """As at the start, as another event sets it, or as is usual: a state that was never set, or never taken back."""
     for part in case.frame.states:
-        now, by = case.frame.state(number, part), case.frame.setter(number, part)
-        held = [("as at the start", AT_START[part]), *((f"as event {i} sets it", other) for i, other in enumerate(case.frame.events, 1) if other["kind"] == part),
+        by = case.frame.setter(number, part)
+        held = [("as at the start", AT_START[part]), *((f"as event {i} sets it", case.frame.events[i - 1]) for i in case.frame.settings(number, part, MOST_HELD)),
                 *((told(event), event) for event in USUAL.get(part, ()))]
-        seen = [now]
+        seen = {key_of(case.frame.state(number, part))}
         for says, event in held:
-            if event not in seen:
-                seen.append(event)
+            if key_of(event) not in seen:
+                seen.add(key_of(event))
                 yield f"with {part} {says}", inserted(case.frame.events, number, event), *([by] if by else [])
 
 

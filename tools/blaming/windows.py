@@ -1,4 +1,5 @@
 """Which part of a large target is looked at while changes are tried: the one with the most pixels that differ."""
+from .clusters import thinned
 from .comparing import Comparison
 
 SIDE = 144               # pixels of a window's side at most
@@ -35,7 +36,7 @@ def side(low, high, size, middle):
 
 def fullest(clusters, axis, width):
     """The middle of the largest cluster's pixels on one axis."""
-    pixels = clusters[0].pixels
+    pixels = thinned(clusters[0].pixels)
     places = sorted((pixel // width if axis else pixel % width) for pixel in pixels)
     return places[len(places) // 2]
 
