@@ -74,6 +74,9 @@ MUTATIONS = [
     ("lists: alike from the first one that is", "frame.py", "most - start)", "most)", PARTS, "Frames.test_differing_part"),
     # suspects and changes
     ("suspects: what shows at right pixels is suspected as much", "evidence.py", "CLEARED = 0.9 ", "CLEARED = 0.0 ", PARTS, "Evidence.test_what_shows_where_all_is_right"),
+    ("suspects: what lies below a clear", "evidence.py", "return min(cleared, last(\"depth_clear\", entries)) if is_tested else cleared", "return 0", PARTS, "Evidence.test_what_lies_below_a_clear"),
+    ("suspects: depths below a clear hide nothing", "evidence.py", "return min(cleared, last(\"depth_clear\", entries)) if is_tested else cleared", "return cleared", PARTS, "Evidence.test_what_lies_below_a_clear"),
+    ("suspects: a draw below a clear reaches above it", "evidence.py", "if number > since and box[0]", "if box[0]", PARTS, "Evidence.test_what_lies_below_a_clear"),
     ("suspects: what is hidden shows", "evidence.py", "        if not blend[\"enable\"] and blend[\"mask\"] == 15:\n            break\n", "", PARTS, "Evidence.test_what_shows_where_all_is_right"),
     ("suspects: a change that stands in for another one is enough", "searching.py", "        self.attempt(self._simple(self._stood_in_for()))\n", "", RUNS, "Findings.test_the_event_that_a_change_stands_in_for"),
     ("suspects: nobody is stood in for", "orders.py", "rest[:to] + [event] + rest[to:], *([by] if by else []), other", "rest[:to] + [event] + rest[to:], other", RUNS, "Findings.test_the_event_whose_state_is_replaced"),

@@ -252,6 +252,17 @@ class Evidence(unittest.TestCase):
         self.assertEqual(evidence.shown(frame.Frame(made), wrong[0].entries), {2, 3, 4, 5, 6})
 
 
+    def test_what_lies_below_a_clear(self):
+        """Neither shows nor hides anything, unless its depth does: the depths may be cleared earlier than the colours, and be tested behind them."""
+        glass, near = box(2, 2, 9, 9, (90, 20, 10, 90), 20000), draw((0, 0, (1, 1, 1, 1)), (9, 0, (1, 1, 1, 1)), (0, 3, (1, 1, 1, 1)))
+        events = [clear(1, 2, 3, 4), blend(), glass, near, {"kind": "depth_clear", "depth": 50000}, glass, clear(9, 8, 7, 6), depth(enable=False), glass, near, glass]
+        for state, first, wanted in ((depth(enable=False), 7, {2, 7, 8, 9, 10, 11}), (depth("ALWAYS"), 5, {2, 5, 6, 7, 8, 9, 10, 11})):
+            made = capture([*events[:7], state, *events[8:]])
+            sample = evidence.Sample(0, 4, 4, (1, 2, 3, 4), self.history(made, 4, 4), 0)
+            self.assertEqual(evidence.first_that_counts(frame.Frame(made), sample.entries), first)
+            self.assertEqual({suspect.event for suspect in evidence.suspects_of(frame.Frame(made), [sample], lambda one, other: False)}, wanted)
+
+
 class Planted(unittest.TestCase):
     """The bugs by which blame is measured: captures still, changed, of one seed always the same ones, and with numbers of events that are there."""
 

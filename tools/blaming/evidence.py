@@ -38,22 +38,33 @@ class Suspect:
 
 def facts(frame, sample, is_near):
     """(event, triangle, what the pixel says of it, weight) of one pixel."""
-    wanted, drawn = sample.wanted, sample.drawn
+    wanted, drawn, since = sample.wanted, sample.drawn, first_that_counts(frame, sample.entries)
     for entry in sample.entries:
-        if not entry.is_drawn:
-            yield from hidden(frame, entry, is_near(entry.source, wanted))
+        is_wanted = is_near(entry.source, wanted)
+        if not entry.is_drawn and (is_wanted or entry.event >= since):
+            yield from hidden(frame, entry, is_wanted)
     right = [k for k, entry in enumerate(drawn) if is_near(entry.after, wanted)]
     if right and right[-1] + 1 < len(drawn):
         later = drawn[right[-1] + 1]
         yield later.event, later.triangle, f"is drawn over the colour that is wanted, which event {drawn[right[-1]].event} had left", WEIGHTS["over"]
     if drawn:
         yield from last(frame, drawn[-1], wanted, is_near)
-    for entry in drawn[:-1]:
+    for entry in [entry for entry in drawn[:-1] if entry.event >= since]:
         yield entry.event, entry.triangle, "drew the pixel before", WEIGHTS["touched"]
         for kind in STATES if frame.kind(entry.event) == "draw" else ():
             by = frame.setter(entry.event, kind)
             if by:
                 yield by, None, f"sets the {kind} state with which event {entry.event} drew the pixel before", WEIGHTS["touched"]
+
+
+def first_that_counts(frame, entries):
+    """The first event that can show at a pixel, or hide there what comes later: the last clear; where depths are tested behind it, the last of depths if that
+    is earlier."""
+    last = lambda kind, some: max((entry.event for entry in some if frame.kind(entry.event) == kind), default=0)
+    cleared = last("clear", entries)
+    behind = [entry for entry in entries if entry.event > cleared]
+    is_tested = any(frame.kind(entry.event) == "draw" and frame.state(entry.event, "depth")["enable"] for entry in behind)
+    return min(cleared, last("depth_clear", entries)) if is_tested else cleared
 
 
 def hidden(frame, entry, is_wanted):
@@ -80,14 +91,14 @@ def last(frame, entry, wanted, is_near):
 
 def reaching(frame, samples):
     """What can't be in a history: draws whose vertices lie round a pixel, which none of their triangles covers."""
-    met = [(sample, {entry.event for entry in sample.entries}) for sample in samples]
+    met = [(sample, {entry.event for entry in sample.entries}, first_that_counts(frame, sample.entries)) for sample in samples]
     for number, event in enumerate(frame.events, 1):
         if event["kind"] != "draw" or not event["vertices"]:
             continue
         x, y = ([vertex[name] for vertex in event["vertices"]] for name in "xy")
         box = min(x) / PIXEL - REACH, min(y) / PIXEL - REACH, max(x) / PIXEL + REACH, max(y) / PIXEL + REACH
-        for sample, events in met:
-            if box[0] <= sample.x <= box[2] and box[1] <= sample.y <= box[3] and number not in events:
+        for sample, events, since in met:
+            if number > since and box[0] <= sample.x <= box[2] and box[1] <= sample.y <= box[3] and number not in events:
                 yield sample, (number, None, REACHES, WEIGHTS["reaches"])
 
 
