@@ -66,7 +66,7 @@ MUTATIONS = [
     ("cells: a colour's lower bound is its upper one", "cells.py", "yield added((2, total), (1 - 2 * low, whole))", "yield added((2, total), (-1 - 2 * low, whole))", POINTS, "Cells.test_the_right_place_is_never_shut_out"),
     ("cells: the first alternative is the one", "cells.py", "        if len(left) > 1:\n", "        if False:\n", POINTS, "Cells.test_clipping"),
     ("cells: what still differs isn't asked", "corners.py", "        if not still or case.trials.is_over():\n", "        if True:\n", POINTS, "Cells.test_pixels_that_still_differ_are_asked_again"),
-    ("comparison: the pixels at the end aren't any", "comparing.py", "end = end if end >= 0 else len(mask)", "end = end if end >= 0 else len(mask) - 1", PARTS, "Comparisons.test_masks"),
+    ("comparison: the last pixel of a run isn't one", "comparing.py", "found.extend(range(at, end))", "found.extend(range(at, end - 1))", PARTS, "Comparisons.test_masks"),
     ("clusters: all of very many pixels", "clusters.py", "pixels[::len(pixels) // MANY | 1]", "pixels[::1]", PARTS, "Clusters.test_very_many_pixels"),
     ("clusters: of very many pixels those of some columns", "clusters.py", "pixels[::len(pixels) // MANY | 1]", "pixels[::len(pixels) // MANY + 55 & ~63 or 1]", PARTS, "Clusters.test_very_many_pixels"),
     ("states: of many the first", "frame.py", "key=lambda numbers: min(abs(by - number) for by in numbers)", "key=min", PARTS, "Frames.test_ways_to_set_a_state"),
@@ -74,6 +74,8 @@ MUTATIONS = [
     ("lists: alike from the first one that is", "frame.py", "most - start)", "most)", PARTS, "Frames.test_differing_part"),
     # suspects and changes
     ("suspects: what shows at right pixels is suspected as much", "evidence.py", "CLEARED = 0.9 ", "CLEARED = 0.0 ", PARTS, "Evidence.test_what_shows_where_all_is_right"),
+    ("changes: no scissor round what differs", "states.py", "[all_, *boxes[:MOST_VALUES]] if boxes", "[] if boxes", RUNS, "Findings.test_a_scissor_that_is_missing"),
+    ("changes: a scissor round one place alone", "states.py", "[all_, *boxes[:MOST_VALUES]] if boxes", "boxes[:MOST_VALUES] if boxes", RUNS, "Findings.test_a_scissor_that_is_missing"),
     ("suspects: what lies below a clear", "evidence.py", "return min(cleared, last(\"depth_clear\", entries)) if is_tested else cleared", "return 0", PARTS, "Evidence.test_what_lies_below_a_clear"),
     ("suspects: depths below a clear hide nothing", "evidence.py", "return min(cleared, last(\"depth_clear\", entries)) if is_tested else cleared", "return cleared", PARTS, "Evidence.test_what_lies_below_a_clear"),
     ("suspects: a draw below a clear reaches above it", "evidence.py", "if number > since and box[0]", "if box[0]", PARTS, "Evidence.test_what_lies_below_a_clear"),

@@ -119,6 +119,16 @@ class Findings(Folder):
         self.assertEqual((outcome.is_mended, outcome.suspects[0].event, outcome.changes[0].change.says), (True, 13, "linear in place of flat"))
         self.assertEqual({suspect.event for suspect in outcome.suspects}, set(range(1, 15)))
 
+    def test_a_scissor_that_is_missing(self):
+        """It is nowhere in the frame. Two boxes that it leaves are wrong; the rectangle round both, or round the one that there is, mends all."""
+        first, cut = {"kind": "scissor", "rect": [1, 1, 5, 5]}, {"kind": "scissor", "rect": [12, 3, 23, 15]}
+        for boxes in ([box(0, 0, 24, 18, GREEN)], [box(12, 3, 13, 17, GREEN), box(20, 2, 24, 18, GREEN)]):
+            drawn = [{"kind": "draw", "interp": "flat", "vertices": [vertex for one in boxes for vertex in one["vertices"]],
+                      "indices": [4 * number + i for number, one in enumerate(boxes) for i in one["indices"]]}]
+            right = [clear(*SKY), raster(scissor=True), first, box(0, 0, 24, 18, RED), cut, *drawn]
+            outcome = self.found(capture([*right[:4], *drawn]), capture(right))
+            self.assertEqual((outcome.is_mended, outcome.changes[0].change.event, outcome.changes[0].change.says), (True, 5, "with scissor 12 3 23 15"))
+
     def test_the_event_that_a_change_stands_in_for(self):
         """The blending of the lower glass is wrong. That the one behind it is set earlier mends all too; but the event that is there says more."""
         right = [clear(*SKY), box(4, 4, 18, 14, RED), blend(), box(5, 5, 17, 13, GLASS), blend() | {"source": 1}, box(4, 4, 18, 14, GLASS)]

@@ -35,6 +35,8 @@ class Case:
     trials: object = None
     view: object = None
     points: object = None
+    mask: bytes = b""        # of the whole target: what differs
+    near: dict = field(default_factory=dict)       # by event: its vertices near what differs
     alone: dict = field(default_factory=dict)      # by event: what differs without it
 
     def weighed(self, events):

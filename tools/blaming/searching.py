@@ -92,7 +92,7 @@ class Search:
             right = [history_of(client, pixel, frame.width) for pixel in self.right]
         self.is_near = comparison.is_near
         self.suspects = suspects_of(frame, self.samples, comparison.is_near, right)
-        self.case = Case(frame, self.samples, self.clusters, {one.event: one for one in self.suspects}, comparison.is_near, comparison.looked_at, trials)
+        self.case = Case(frame, self.samples, self.clusters, {one.event: one for one in self.suspects}, comparison.is_near, comparison.looked_at, trials, mask=self.mask)
         self.whole = self._view(comparison, None)
         window = window_of(frame, self.clusters) if self.clusters else None
         self.case.view = self.view = self._view(comparison, window) if window else self.whole

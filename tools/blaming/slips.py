@@ -1,5 +1,6 @@
 """Kinds of change: the indices of a draw. One to three of them left out, doubled, exchanged or wrong, and triangles that run the other way round."""
 import itertools
+import math
 
 from .frame import PIXEL, order_of
 from .kinds import kind, replaced
@@ -30,10 +31,11 @@ def triangles_of(case, number):
 
 
 def beside(case, number):
-    """The triangles with most of their corners near wrong pixels."""
+    """The triangles with most of their corners near wrong pixels, those before others that were asked."""
     order, near = order_of(case.frame.events[number - 1]), set(vertices_near(case, number))
-    counted = [(-sum(corner in near for corner in order[3 * t:3 * t + 3]), t) for t in range(len(order) // 3)] if near else []
-    return [t for count, t in sorted(counted) if count][:MOST_TRIANGLES]
+    asked = set(vertices_round(case, number, [(sample.x, sample.y) for sample in case.samples]))
+    counted = [(*(-sum(corner in some for corner in order[3 * t:3 * t + 3]) for some in (asked, near)), t) for t in range(len(order) // 3)] if near else []
+    return [t for _, count, t in sorted(counted) if count][:MOST_TRIANGLES]
 
 
 def turned(order, triangles):
@@ -179,8 +181,19 @@ def corners_for(case, number, at, slip):
 
 
 def vertices_near(case, number):
-    """The vertices of a draw that lie within a few pixels of one that is wrong, the nearest first."""
-    return vertices_round(case, number, [(sample.x, sample.y) for sample in case.samples])
+    """The vertices of a draw that lie within a few pixels of one that is wrong: those near the pixels that were asked, the nearest first, and then the others."""
+    if number not in case.near:
+        asked = vertices_round(case, number, [(sample.x, sample.y) for sample in case.samples])
+        case.near[number] = list(dict.fromkeys([*asked, *(at for at, vertex in enumerate(case.frame.events[number - 1]["vertices"]) if is_near_wrong(case, vertex))]))
+    return case.near[number]
+
+
+def is_near_wrong(case, vertex):
+    """Whether any pixel within reach differs."""
+    x, y, width, height = vertex["x"] / PIXEL - 0.5, vertex["y"] / PIXEL - 0.5, case.frame.width, case.frame.height
+    left, right = max(0, math.ceil(x - REACH)), min(width - 1, math.floor(x + REACH))
+    rows = range(max(0, math.ceil(y - REACH)), min(height - 1, math.floor(y + REACH)) + 1)
+    return left <= right and any(case.mask.find(1, row * width + left, row * width + right + 1) >= 0 for row in rows)
 
 
 def vertices_round(case, number, pixels):

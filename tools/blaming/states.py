@@ -195,12 +195,19 @@ def before(case, number):
     for part in case.frame.states:
         by = case.frame.setter(number, part)
         held = [("as at the start", AT_START[part]), *((f"as event {i} sets it", case.frame.events[i - 1]) for i in case.frame.settings(number, part, MOST_HELD)),
-                *((told(event), event) for event in USUAL.get(part, ()))]
+                *((told(event), event) for event in (round_clusters(case) if part == "scissor" else USUAL.get(part, ())))]
         seen = {key_of(case.frame.state(number, part))}
         for says, event in held:
             if key_of(event) not in seen:
                 seen.add(key_of(event))
                 yield f"with {part} {says}", inserted(case.frame.events, number, event), *([by] if by else [])
+
+
+def round_clusters(case):
+    """Scissors round what differs: round all of it, and round each of the largest clusters."""
+    boxes = [cluster.box for cluster in case.clusters]
+    all_ = [end(box[at] for box in boxes) for at, end in enumerate((min, min, max, max))] if boxes else []
+    return [{"kind": "scissor", "rect": list(rect)} for rect in ([all_, *boxes[:MOST_VALUES]] if boxes else [])]
 
 
 def told(event):
