@@ -76,6 +76,8 @@ MUTATIONS = [
     ("suspects: what shows at right pixels is suspected as much", "evidence.py", "CLEARED = 0.9 ", "CLEARED = 0.0 ", PARTS, "Evidence.test_what_shows_where_all_is_right"),
     ("changes: no scissor round what differs", "states.py", "[all_, *boxes[:MOST_VALUES]] if boxes", "[] if boxes", RUNS, "Findings.test_a_scissor_that_is_missing"),
     ("changes: a scissor round one place alone", "states.py", "[all_, *boxes[:MOST_VALUES]] if boxes", "boxes[:MOST_VALUES] if boxes", RUNS, "Findings.test_a_scissor_that_is_missing"),
+    ("changes: vertices near pixels that were asked alone", "slips.py", "if is_near_wrong(case, vertex))]))", "if False)]))", PARTS, "Slips.test_vertices_near_what_differs"),
+    ("changes: a vertex is near what differs at the other edge", "slips.py", "left, right = max(0, math.ceil(x - REACH))", "left, right = math.ceil(x - REACH)", PARTS, "Slips.test_vertices_near_what_differs"),
     ("suspects: what lies below a clear", "evidence.py", "return min(cleared, last(\"depth_clear\", entries)) if is_tested else cleared", "return 0", PARTS, "Evidence.test_what_lies_below_a_clear"),
     ("suspects: depths below a clear hide nothing", "evidence.py", "return min(cleared, last(\"depth_clear\", entries)) if is_tested else cleared", "return cleared", PARTS, "Evidence.test_what_lies_below_a_clear"),
     ("suspects: a draw below a clear reaches above it", "evidence.py", "if number > since and box[0]", "if box[0]", PARTS, "Evidence.test_what_lies_below_a_clear"),

@@ -3,13 +3,14 @@ by the definitions pixel by pixel."""
 import json
 import random
 import struct
+import types
 import unittest
 import zlib
 
 import reference
 from blame_testing import EXAMPLES, Folder, blend, box, capture, clear, depth, draw, pam, raster
 
-from blaming import blending, clusters, comparing, corners, evidence, fragments, frame, kinds, pictures, searching, windows
+from blaming import blending, clusters, comparing, corners, evidence, fragments, frame, kinds, pictures, searching, slips, windows
 from blaming.faults import Fault
 from framedbg_client import Entry
 from planting import plants
@@ -261,6 +262,15 @@ class Evidence(unittest.TestCase):
             sample = evidence.Sample(0, 4, 4, (1, 2, 3, 4), self.history(made, 4, 4), 0)
             self.assertEqual(evidence.first_that_counts(frame.Frame(made), sample.entries), first)
             self.assertEqual({suspect.event for suspect in evidence.suspects_of(frame.Frame(made), [sample], lambda one, other: False)}, wanted)
+
+
+class Slips(unittest.TestCase):
+    def test_vertices_near_what_differs(self):
+        """First those near a pixel that was asked, then those near any that differs, also at the target's right edge; the others are too far away."""
+        made = frame.Frame(capture([draw(*[(x, y, (1, 2, 3, 4)) for x, y in ((0, 4), (24, 4), (24, 14), (-2, 14), (10, 9), (10, 17.75), (28, 9))])]))
+        mask = bytes(int(4 <= at // 24 < 14 and at % 24 >= 6) for at in range(24 * 18))
+        case = types.SimpleNamespace(frame=made, samples=[evidence.Sample(9 * 24 + 10, 10, 9, (0, 0, 0, 0), [], 0)], mask=mask, near={})
+        self.assertEqual(slips.vertices_near(case, 1), [4, 1, 2])
 
 
 class Planted(unittest.TestCase):
