@@ -78,6 +78,8 @@ MUTATIONS = [
     ("changes: a scissor round one place alone", "states.py", "[all_, *boxes[:MOST_VALUES]] if boxes", "boxes[:MOST_VALUES] if boxes", RUNS, "Findings.test_a_scissor_that_is_missing"),
     ("changes: vertices near pixels that were asked alone", "slips.py", "if is_near_wrong(case, vertex))]))", "if False)]))", PARTS, "Slips.test_vertices_near_what_differs"),
     ("changes: a vertex is near what differs at the other edge", "slips.py", "left, right = max(0, math.ceil(x - REACH))", "left, right = math.ceil(x - REACH)", PARTS, "Slips.test_vertices_near_what_differs"),
+    ("suspects: a state of many draws as one of a few", "evidence.py", "UNSEEN = 0.8 ", "UNSEEN = 0.0 ", PARTS, "Evidence.test_states_of_many_draws"),
+    ("suspects: a pixel says the same twice", "evidence.py", "max(weights[id(sample), event], weight)", "weights[id(sample), event] + weight", PARTS, "Evidence.test_each_pixel_says_one_thing"),
     ("suspects: what lies below a clear", "evidence.py", "return min(cleared, last(\"depth_clear\", entries)) if is_tested else cleared", "return 0", PARTS, "Evidence.test_what_lies_below_a_clear"),
     ("suspects: depths below a clear hide nothing", "evidence.py", "return min(cleared, last(\"depth_clear\", entries)) if is_tested else cleared", "return cleared", PARTS, "Evidence.test_what_lies_below_a_clear"),
     ("suspects: a draw below a clear reaches above it", "evidence.py", "if number > since and box[0]", "if box[0]", PARTS, "Evidence.test_what_lies_below_a_clear"),

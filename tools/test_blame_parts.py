@@ -253,6 +253,24 @@ class Evidence(unittest.TestCase):
         self.assertEqual(evidence.shown(frame.Frame(made), wrong[0].entries), {2, 3, 4, 5, 6})
 
 
+    def test_states_of_many_draws(self):
+        """Of five draws with a state one met the pixel, so that four fifths of eight tenths of its weight are lost; of two draws half of that."""
+        far = lambda x: box(x, 12, x + 2, 16, (1, 2, 3, 255))
+        events = [blend(), raster(), far(4), far(8), far(12), depth("ALWAYS"), box(2, 2, 9, 9, (90, 20, 10, 90))]
+        made = capture([*events, far(16)])
+        left = evidence.seen_of(frame.Frame(made), [evidence.Sample(0, 4, 4, (1, 2, 3, 4), self.history(made, 4, 4), 0)])
+        self.assertEqual({by: round(share, 9) for by, share in left.items()}, {1: 0.36, 2: 0.36, 6: 0.6})
+
+    def test_each_pixel_says_one_thing(self):
+        """Of a glass whose two triangles lie over each other, and were both drawn before, a pixel says no more than of one with one."""
+        glass = box(2, 2, 9, 9, (90, 20, 10, 90))
+        twice = glass | {"indices": [0, 1, 2, 0, 1, 2]}
+        made = capture([clear(9, 9, 9, 9), blend(), glass, twice, box(0, 0, 24, 18, (3, 3, 3, 9))])
+        sample = evidence.Sample(0, 7, 3, (1, 2, 3, 4), self.history(made, 7, 3), 0)
+        weights = {suspect.event: suspect.weight for suspect in evidence.suspects_of(frame.Frame(made), [sample], lambda one, other: False)}
+        self.assertEqual(sum(entry.event == 4 for entry in sample.entries), 2)
+        self.assertEqual(weights[3], weights[4])
+
     def test_what_lies_below_a_clear(self):
         """Neither shows nor hides anything, unless its depth does: the depths may be cleared earlier than the colours, and be tested behind them."""
         glass, near = box(2, 2, 9, 9, (90, 20, 10, 90), 20000), draw((0, 0, (1, 1, 1, 1)), (9, 0, (1, 1, 1, 1)), (0, 3, (1, 1, 1, 1)))

@@ -9,6 +9,7 @@ WEIGHTS = {"hidden": 3, "hider": 4, "over": 3, "last": 1, "blend": 3, "state": 0
 
 REACHES = "has vertices round the pixel, and doesn't cover it"
 REACH = 2                # pixels round a draw's vertices
+UNSEEN = 0.8             # of its weight that a state loses of whose draws nearly none met a wrong pixel
 CLEARED = 0.9            # of its weight that an event loses which shows at each pixel that is right
 
 
@@ -117,17 +118,33 @@ def shown(frame, entries):
 
 
 def suspects_of(frame, samples, is_near, right=()):
-    """The suspects by the evidence of some pixels, the strongest first; what shows at pixels that are right is the less suspected, the more of them show it.
-    `right` are their histories."""
-    found = {}
+    """The suspects by the evidence of some pixels, the strongest first. What shows at pixels that are right is the less suspected, the more of them show it,
+    and a state the less, the fewer of the draws that have it met a pixel. `right` are the histories of right pixels."""
+    found, weights = {}, collections.Counter()
     for sample, (event, triangle, reason, weight) in [*((sample, fact) for sample in samples for fact in facts(frame, sample, is_near)), *reaching(frame, samples)]:
         suspect = found.setdefault(event, Suspect(event))
-        suspect.weight += weight
+        weights[id(sample), event] = max(weights[id(sample), event], weight)
         suspect.reasons[reason] += 1
         suspect.clusters[sample.cluster] += 1
         if triangle is not None:
             suspect.triangles[triangle] += 1
+    for (_, event), weight in weights.items():
+        found[event].weight += weight
+    shares = seen_of(frame, samples)
+    for event, suspect in found.items():
+        suspect.weight *= shares.get(event, 1)
     for event, count in collections.Counter(event for entries in right for event in shown(frame, entries)).items():
         if event in found:
             found[event].weight *= 1 - CLEARED * count / len(right)
     return sorted(found.values(), key=lambda suspect: (-suspect.weight, suspect.event))
+
+
+def seen_of(frame, samples):
+    """Of each event that sets a state what is left of its weight, by the draws that have the state and by those of them that met a pixel."""
+    met, having, seen = {entry.event for sample in samples for entry in sample.entries}, collections.Counter(), collections.Counter()
+    for kind in frame.states:
+        for number in (number for number in frame.draws() if frame.kind(number) == "draw"):
+            by = frame.setter(number, kind)
+            having[by] += 1
+            seen[by] += number in met
+    return {by: 1 - UNSEEN * (1 - seen[by] / count) for by, count in having.items() if by}

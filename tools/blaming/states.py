@@ -191,7 +191,10 @@ USUAL = {                # states that a program often sets, for where the one t
 
 @kind("a part of the state before a draw", "draw")
 def before(case, number):
-    """As at the start, as another event sets it, or as is usual: a state that was never set, or never taken back."""
+    """As at the start, as another event sets it, or as is usual: a state that was never set, or never taken back. Before a draw that covers no point it does
+    what it does before the next one that covers some."""
+    if not case.points.covering(case.frame.events[number - 1]):
+        return
     for part in case.frame.states:
         by = case.frame.setter(number, part)
         held = [("as at the start", AT_START[part]), *((f"as event {i} sets it", case.frame.events[i - 1]) for i in case.frame.settings(number, part, MOST_HELD)),
