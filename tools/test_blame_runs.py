@@ -119,6 +119,15 @@ class Findings(Folder):
         self.assertEqual((outcome.is_mended, outcome.suspects[0].event, outcome.changes[0].change.says), (True, 13, "linear in place of flat"))
         self.assertEqual({suspect.event for suspect in outcome.suspects}, set(range(1, 15)))
 
+    def test_suspects_of_a_large_frame(self):
+        """Forty layers, each as suspect as the others but the last: the one whose triangles are shaded wrong is the thirtieth."""
+        layer = lambda i, interp="linear": draw((1, 1, (6 * i, 90, 200, 90)), (23, 1, (250, 5 * i, 0, 120)), (23, 17, (0, 0, 99, 160)), (1, 17, (70, 200, 3 * i, 100)), interp=interp, indices=[0, 1, 2, 0, 2, 3])
+        right = [clear(*SKY), blend(rgb="ONE ONE ADD"), *[layer(i) for i in range(40)]]
+        wrong = [*right[:31], layer(29, "flat"), *right[32:]]
+        dim = lambda events: [event if event["kind"] != "draw" else event | {"vertices": [corner | {"color": [value // 40 for value in corner["color"]]} for corner in event["vertices"]]} for event in events]
+        outcome = self.found(capture(dim(wrong)), capture(dim(right)))
+        self.assertEqual((outcome.is_mended, outcome.suspects[0].event, outcome.changes[0].change.says), (True, 32, "linear in place of flat"))
+
     def test_a_scissor_that_is_missing(self):
         """It is nowhere in the frame. Two boxes that it leaves are wrong; the rectangle round both, or round the one that there is, mends all."""
         first, cut = {"kind": "scissor", "rect": [1, 1, 5, 5]}, {"kind": "scissor", "rect": [12, 3, 23, 15]}

@@ -18,8 +18,7 @@ from .trying import Change, View
 from .windows import comparison_on, cut, window_of
 
 NAMED_CLUSTERS = 8       # the largest: each has its own verdict
-AT_FIRST, AT_ALL = (3, 8), 24      # suspects whose changes are tried, as long as nothing mends all
-AT_LAST = 200            # suspects of a large frame
+TURNS = 3, 8, 24, 200    # up to so many suspects, whose simple changes are tried in turn, as long as nothing mends all
 SEARCHED, LATER = 5, 16  # suspects for which a search is worth its time; others, for which it is where none of these mends all
 PAIRED, FOLLOWED = 10, 3  # best changes that are tried in pairs; that are taken to look for a second one
 MOST_BLIND = 40          # simple changes of an event that are tried with those of another, where none is better alone
@@ -133,9 +132,7 @@ class Search:
     # ---- The steps, each of which ends the search where no pixel differs any more
     def run(self, deep=True):
         ranked = [suspect.event for suspect in self.suspects]
-        few, more = AT_FIRST
-        groups = ranked[:few], ranked[few:more], ranked[more:AT_ALL], ranked[AT_ALL:AT_LAST]
-        simple_ = [lambda some=some: self.attempt(self._simple(some)) for some in groups]
+        simple_ = [lambda some=ranked[start:end]: self.attempt(self._simple(some)) for start, end in zip((0, *TURNS), TURNS)]
         first, later = (lambda some=some: self.attempt(self._searched(*some), stops=True) for some in ((0, SEARCHED), (SEARCHED, LATER)))
         for step in [*simple_, first, lambda: self.attempt(self._pairs()), later] if deep else [*simple_[:2], first]:
             if self.is_mended or self.trials.is_over():
