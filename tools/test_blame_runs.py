@@ -139,12 +139,12 @@ class Findings(Folder):
             self.assertEqual((outcome.is_mended, outcome.changes[0].change.event, outcome.changes[0].change.says), (True, 5, "with scissor 12 3 23 15"))
 
     def test_the_event_that_a_change_stands_in_for(self):
-        """The blending of the lower glass is wrong. That the one behind it is set earlier mends all too; but the event that is there says more."""
-        right = [clear(*SKY), box(4, 4, 18, 14, RED), blend(), box(5, 5, 17, 13, GLASS), blend() | {"source": 1}, box(4, 4, 18, 14, GLASS)]
-        wrong = [*right[:2], blend(rgb="SRC_ALPHA INV_SRC_ALPHA REV_SUBTRACT"), *right[3:]]
+        """The blending of the lower glass is wrong. That the one behind it is set earlier mends all too, and is tried first; but the event that is there says more."""
+        right = [clear(*SKY), box(5, 5, 17, 13, RED), box(5, 5, 17, 13, GREEN), blend(), box(5, 5, 17, 13, GLASS), blend() | {"source": 1}, box(4, 4, 18, 14, GLASS)]
+        wrong = [*right[:3], blend(rgb="SRC_ALPHA INV_SRC_ALPHA REV_SUBTRACT"), *right[4:]]
         outcome = self.found(capture(wrong), capture(right))
-        self.assertIn("set before event 4", {one.change.says for one in outcome.changes if one.left == 0})
-        self.assertEqual((outcome.suspects[0].event, outcome.changes[0].change.event, outcome.changes[0].change.kind), (3, 3, "operation of blending"))
+        self.assertIn("set before event 5", {one.change.says for one in outcome.changes if one.left == 0})
+        self.assertEqual((outcome.suspects[0].event, outcome.changes[0].change.event, outcome.changes[0].change.kind), (4, 4, "operation of blending"))
 
     def test_the_event_whose_state_is_replaced(self):
         """Where no change of its own mends all, the event whose state another one stands in for is a suspect behind it."""
