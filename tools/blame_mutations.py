@@ -58,7 +58,7 @@ MUTATIONS = [
     ("points: a state stays that is set again", "points.py", "            kinds = {kind: end for kind, end in kinds.items() if k < end}\n", "", POINTS, "Worked.test_states_that_are_set_again"),
     ("points: a state ends with the next one of any kind", "points.py", "places = self.settings[kind]", "places = sorted(k for some in self.settings.values() for k in some)", POINTS, "Worked.test_states_that_are_set_again"),
     ("points: what comes out otherwise is forgotten", "points.py", "                points[point] = colour, depth\n", "                points.pop(point, None)\n", POINTS, "Worked.test_colours_after_a_change"),
-    ("points: depths that are otherwise don't matter", "points.py", " or depths[point] != was_deep[point]}", "}", POINTS, "Worked.test_colours_after_a_change"),
+    ("points: depths that are otherwise don't matter", "points.py", " or depths[point] != was_deep[point]}", "}", POINTS, "Worked.test_depths_alone"),
     ("points: a clear of depths is one of colours", "points.py", "found = {point: (colour, after_deep[point]) for point, (colour, _) in points.items()}", "found = {point: (after[point], after_deep[point]) for point in points}", POINTS, "Worked.test_colours_after_a_change"),
     ("points: edges have what lies on them", "fragments.py", "return 0 if v[1] < u[1] or v[1] == u[1] and v[0] > u[0] else 1", "return 0", POINTS, "Worked.test_fragments"),
     ("points: what was right may go wrong", "points.py", "return wrong, sum(bad) - wrong", "return wrong, 0", POINTS, "Worked.test_what_is_left"),

@@ -81,6 +81,12 @@ class Worked(unittest.TestCase):
             other = [*events[:number - 1], event, *events[number:]]
             self.assertEqual([tuple(colour) for colour in made.after(other)], [tuple(colour) for colour in colours_of(other)], number)
 
+    def test_depths_alone(self):
+        """A clear of depths that leaves all colours as they are, and lets the box behind it be seen no more."""
+        events = [clear(9, 9, 9, 9), {"kind": "depth_clear", "depth": 50000}, depth(), box(2, 2, 12, 12, (200, 10, 10, 255), 30000)]
+        other = [events[0], {"kind": "depth_clear", "depth": 10000}, *events[2:]]
+        self.assertEqual([tuple(colour) for colour in points_of(events, colours_of(events)).after(other)], [(9, 9, 9, 9)] * (WIDTH * HEIGHT))
+
     def test_what_is_left(self):
         right, wrong = [clear(1, 2, 3, 4), box(2, 2, 9, 9, (9, 9, 9, 9))], [clear(1, 2, 3, 4), box(2, 2, 9, 8, (9, 9, 9, 9))]
         made = points_of(wrong, colours_of(right))
