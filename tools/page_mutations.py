@@ -21,6 +21,8 @@ TOOLS = pathlib.Path(__file__).resolve().parent
 SESSIONS, CHANCE, WORKERS, MEMORY, LARGE = "test_sessions", "test_runs_by_chance", "test_more_workers_than_threads", "test_without_memory", "test_large_blocks_of_memory"
 SERVER, ANOTHER, INSIDE, REFUSED, ENDS = "test_answers_as_the_server_does", "test_another_capture", "test_a_capture_inside", "test_a_refused_capture", "test_it_ends_and_starts_again"
 STOPPED = "test_a_move_without_end_is_stopped"
+HUNTS, KINDS, CHANNELS = "BlamedInChromium.test_the_hunts_are_mended", "BlamedInChromium.test_kinds_of_change", "BlamedInChromium.test_channels_tolerance_and_events_off"
+CLUSTERS, STOP, OVER = "BlamedInChromium.test_what_hangs_together", "BlamedInChromium.test_a_stop_of_the_search", "BlamedInChromium.test_the_time_is_over"
 MUTATIONS = [   # name, file, text, what stands there instead, test
     ("host: a thread is promised", "page/host.c", "{ return EAGAIN; }", "{ return 0; }", WORKERS),
     ("host: blocks too short", "page/host.c", "(n + HEAD + ALIGNMENT - 1)", "(n / 2 + HEAD + ALIGNMENT - 1)", SESSIONS),
@@ -69,12 +71,44 @@ MUTATIONS = [   # name, file, text, what stands there instead, test
     ("page: a saved page that doesn't open", "page/choose.js", '{ name, opens: "", place', "{ name, place", INSIDE),
     ("page: it may send", "page/packing.py", "default-src 'none'", "default-src *", "test_nothing_is_sent"),
     ("page: no word of what is missing", "page/needs.js", "if (missing.length) {", "if (missing.length > 9) {", "test_a_browser_that_lacks_something"),
+    ("search: forgets the alpha", "viewer/page/image.js", "0xffffff : -1", "0xffffff : 0xffffff", CHANNELS),
+    ("search: forgets blue", "viewer/page/image.js", "other.hasAlpha === false ? 0xffffff : -1", "0xff00ffff", CHANNELS),
+    ("search: an alpha that the picture hasn't", "viewer/page/image.js", "0xffffff : -1", "-1 : -1", CHANNELS),
+    ("search: no tolerance", "page/search.js", "return difference(part, this.other, this.tolerance);", "return difference(part, this.other);", CHANNELS),
+    ("search: events that are off", "page/run.js", "new Capture(capture.bytes, main.off)", "new Capture(capture.bytes)", CHANNELS),
+    ("search: suspects cut too early", "page/search.js", "BATCHES = [0, 3, 8, 24]", "BATCHES = [0, 3]", HUNTS),
+    ("search: told without being drawn", "page/search.js", "this.counted(this.differing(parts))", "[0, Array(NAMED + 1).fill(0)]", HUNTS),
+    ("search: the window is all", "page/search.js", "const parts = await this.drawn(change.events, whole, run => this.picture(run));", "const parts = there ? [] : null;", HUNTS),
+    ("search: what helps is dropped", "page/search.js", ".count >= this.wrongThere) return;", ".count >= this.wrongThere - 1) return;", KINDS),
+    ("search: another picture is mended", "page/search.js", "const mended = this.best && await this.drawn(this.best.events,", "const mended = this.best && await this.drawn(events,", HUNTS),
+    ("search: the last that was found", "page/search.js", "if (!this.best || order(found, this.best) < 0) this.best = found;", "this.best = found;", HUNTS),
+    ("search: a stop that isn't heard", "page/search.js", "    for (const run of this.runs) run.end(new Stopped());\n", "", STOP),
+    ("search: nobody is told how far it is", "page/search.js", "        this.told(++this.tried);\n", "        this.tried++;\n", STOP),
+    ("search: no end of the time", "page/search.js", "return performance.now() > this.until;", "return false;", OVER),
+    ("search: nobody is told of more", "page/search.js", "more: MORE, ", "", OVER),
+    ("search: the first rows alone", "page/search.js", "for (let top = 0; top < height; top += rows) parts", "for (let top = 0; top < rows; top += rows) parts", "BlamedInChromium.test_a_target_that_comes_in_parts"),
+    ("clusters: round the edge of the target", "page/clusters.js", "Math.ceil(width / CELL) + 2", "Math.ceil(width / CELL)", CLUSTERS),
+    ("clusters: the smallest first", "page/clusters.js", "two.length - one.length ||", "one.length - two.length ||", CLUSTERS),
+    ("clusters: samples of one corner", "page/clusters.js", "for (let turn = 0;", "return pixels.slice(0, most);\n  for (let turn = 0;", CLUSTERS),
+    ("evidence: no state is a suspect", "page/evidence.js", "if (by) yield [by, weight(part)];", "if (by < 0) yield [by, weight(part)];", HUNTS),
+    ("changes: one place too far", "page/changes.js", "const moved = ({ events }, number, to) => inserted(events.toSpliced(number - 1, 1), to,", "const moved = ({ events }, number, to) => inserted(events.toSpliced(number - 1, 1), to + 1,", HUNTS),
+    ("changes: blending that stays off", "page/changes.js", "{ [part]: was.with(2, name), enable: true }", "{ [part]: was.with(2, name), enable: false }", KINDS),
+    ("worked out: the factor of the frame", "page/worked.js", 'factor = capture.setter(event, "factor") === number ? colour : ', "factor = ", KINDS),
+    ("worked out: clears as they were", "page/worked.js", "event === number ? named(colour) : source", "source", KINDS),
+    ("capture: the first that set a state", "page/capture.js", "this.events.findLastIndex(({ kind }, i)", "this.events.findIndex(({ kind }, i)", HUNTS),
+    ("capture: a scissor that stays where it was", "page/capture.js", "edge - (i % 2 ? top : left)", "edge", "BlamedInChromium.test_a_window"),
+    ("capture: triangles that end on the window's edge", "page/capture.js", "Math.min(...x) <= right", "Math.min(...x) <= right - 12", "BlamedInChromium.test_a_window"),
     ("viewer: the outline stays", "viewer/page/picture.js", "    this.setOutline(null);\n    this.setMark(null);\n", "    this.setMark(null);\n", ANOTHER),
     ("viewer: the pixel stays", "viewer/page/frame.js", "  Object.assign(frame, unset(), { isOpening: true });\n", "", ANOTHER),
     ("viewer: groups of another capture", "viewer/page/events.js", "  group();\n  const rows", "  if (!filter) group();\n  const rows", "test_another_capture_is_filtered"),
     ("viewer: the log stays", "viewer/page/log.js", "  log.replaceChildren();\n", "", ANOTHER),
     ("viewer: the old image stays", "viewer/page/picture.js", "this.sheet.hidden = this.cross.hidden = true;", "this.cross.hidden = true;", REFUSED),
 ]
+
+
+def full(test):
+    """A test with the name of its class."""
+    return test if "." in test else f"InChromium.{test}"
 
 
 def seen(mutation):
@@ -85,7 +119,7 @@ def seen(mutation):
             shutil.copytree(TOOLS / part, pathlib.Path(folder) / part)
         path = pathlib.Path(folder) / file
         path.write_text(exchanged(path.read_text(), old, new))
-        words = [sys.executable, TOOLS / "test_page.py", "-f", f"InChromium.{test}"]
+        words = [sys.executable, TOOLS / "test_page.py", "-f", full(test)]
         run = subprocess.run(words, env={"EXAMPLES": TOOLS.parent / "examples", "FRAMEDBG": TOOLS.parent / "crates/framedbg/out/framedbg", **os.environ, "VIEWER": folder, "PATIENCE": "10"},
                              capture_output=True, text=True, check=False)
         return verdict(run)
@@ -93,7 +127,7 @@ def seen(mutation):
 
 def main():
     if sys.argv[1:] == ["--list"]:
-        sys.exit(listed("page_mutations", [(name, TOOLS / file, old, "test_page.py", f"InChromium.{test}") for name, file, old, _, test in MUTATIONS]))
+        sys.exit(listed("page_mutations", [(name, TOOLS / file, old, "test_page.py", full(test)) for name, file, old, _, test in MUTATIONS]))
     if not browser.is_installed():
         sys.exit(print("page_mutations: not tried, Chromium and chromedriver aren't installed"))
     wanted = [m for m in MUTATIONS if not sys.argv[1:] or any(word in m[0] for word in sys.argv[1:])]

@@ -129,7 +129,9 @@ class WhoDidIt(Hands):
     def test_what_was_found_is_of_its_picture_and_events(self):
         with tempfile.TemporaryDirectory() as folder, Viewer(CHAIN) as viewer:
             self.open(viewer)
+            self.at(9)
             self.browser.press("d")
+            self.browser.until("return document.getElementById('who').checkVisibility()")
             self.browser.click("#who")
             self.reads("#notice", "A whole picture to compare with is wanted: pin this image, or open or drop one")
             for other in (lambda: self.browser.press("p"), lambda: self.switch(8, False)):

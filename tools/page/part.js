@@ -1,6 +1,6 @@
 // Which pixels of an image are kept: the window cut to the target, and every how many pixels one, as the viewer's server has it.
 
-const MOST_PIXELS = 1 << 22;       // those of 2048 by 2048
+export const MOST_PIXELS = 1 << 22;       // those of 2048 by 2048
 
 const kept = (length, every) => Math.ceil(length / every);
 

@@ -1,26 +1,27 @@
 // The run behind the page alone: the program itself, in a worker of this page. Lines out, replies back; there is no server.
 // It has the names of the viewer's own run.js, so the rest of the viewer doesn't know.
 
+import { Capture } from "./capture.js";
 import { chooseCaptures } from "./choose.js";
 import { bandsBetween } from "./image.js";
 import { unpack } from "./packed.js";
 import { explained } from "./refused.js";
 import { Ended, Runner, Stopped } from "./runner.js";
+import { Search } from "./search.js";
 
 const WORDS = ["framedbg", "run", "--workers", "1", "CAPTURE"];
-const MAX_OUTLINED = 32 << 20;     // bytes of a capture that is read for outlines
+const MAX_OUTLINED = 32 << 20;     // bytes of a capture that is read for outlines, and changed by a search
 const PIXEL = 65536;               // positions are in 1/65536 pixel
 
 export { Ended, Stopped };
 
 const text = name => document.getElementById(name).textContent;
+const script = URL.createObjectURL(new Blob([text("program")], { type: "text/javascript" }));
 const program = unpack(text("module")).then(bytes => WebAssembly.compile(bytes));
 const main = new Runner(started), beside = new Map();      // the run that the page moves, and those that stand elsewhere
-let turn = Promise.resolve(), events = null, capture, newest = null, images = 0, stops = 0, tellCapture = () => {};
+let turn = Promise.resolve(), events = null, capture, newest = null, images = 0, stops = 0, search = null, tellCapture = () => {};
 
 // What the address says, or the saved page of the capture that it opens
-export const blame = null, stopBlame = null;      // the search is Python's: the page alone has none
-
 export const firstPlace = () => {
   const { opens, place = "" } = document.getElementById("own").dataset;
   return location.hash.slice(1) || (opens === undefined ? "" : place);
@@ -54,7 +55,7 @@ async function started() {
 }
 
 async function workerOf(bytes) {
-  const compiled = await program, worker = new Worker(URL.createObjectURL(new Blob([text("program")], { type: "text/javascript" })));
+  const compiled = await program, worker = new Worker(script);
   worker.postMessage({ program: compiled, words: WORDS, capture: bytes });
   return worker;
 }
@@ -113,6 +114,15 @@ export async function stop() {
   stops++;
   end(new Stopped());
 }
+
+// Who made the image at the end of the frame differ from a whole picture (blame.js): what is found, and the samples of the picture after the best change.
+// It is told how many changes were tried
+export async function blame(picture, by, told) {
+  if (capture.bytes.length > MAX_OUTLINED) throw new Error("a capture of more than 32 MiB isn't searched here: framedbg-blame does it");
+  search = new Search(new Capture(capture.bytes, main.off), picture, by, { open: workerOf, told });
+  return search.run();
+}
+export const stopBlame = () => search.stop();
 
 // An event of the capture, or undefined where that is too large to be read for it
 function eventOf(number) {

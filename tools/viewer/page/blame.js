@@ -12,7 +12,6 @@ let searches = 0, looking = false;
 
 // `hands` of the page: other() and tolerance() are what is compared with, goTo(event) and pick(pixel) lead there, and show(picture) shows what is mended
 export function followBlame(hands) {
-  $("who").hidden = !blame;            // the page alone has no search
   $("who").onclick = () => looking ? stopBlame() : look(hands).catch(fault => notice(String(fault.message ?? fault), true));
 }
 
@@ -31,23 +30,25 @@ async function look(hands) {
   const its = searches;
   setLooking(true);
   try {
-    const found = await blame(other, hands.tolerance());
+    const found = await blame(other, hands.tolerance(), tried => its === searches && setLooking(true, ` (${tried.toLocaleString("en")} tried)`));
     if (its === searches && !found.stopped) show(found, other, hands);
   } finally {
     setLooking(false);
   }
 }
 
-function setLooking(is) {
+function setLooking(is, far = "") {
   looking = is;
-  $("who").textContent = is ? "Stop looking" : "Who did it?";
+  $("who").textContent = is ? `Stop looking${far}` : "Who did it?";
   $("who").setAttribute("aria-busy", is);
 }
 
-function show({ differ, changes, findings, samples }, { width, height }, hands) {
+// Where a change mends it all, neither that the time was over nor that `more` is tried elsewhere is of any weight
+function show({ differ, changes, findings, samples, over, more }, { width, height }, hands) {
   const best = changes[0], mended = best && pictureOf(samples, width, height);
+  const rest = differ && best?.differ !== 0 ? [over && "the time was over", more].filter(Boolean) : [];
   $("findings").replaceChildren(element("span", "verdict", tell(differ, best)), ...(mended ? [mendedButton(mended, hands)] : []),
-    ...findings.map(finding => row(finding, hands)));
+    ...findings.map(finding => row(finding, hands)), ...rest.map(text => element("span", "rest", text)));
   $("findings").hidden = false;
 }
 
