@@ -49,7 +49,7 @@ MUTATIONS = [
     ("shades: the smaller of two halves", "fragments.py", "(2 * rest >= whole)", "(2 * rest > whole)", PARTS, "Working.test_shades"),
     ("shades: snapped to the nearest, up", "fragments.py", "rest == 128 and quotient % 2", "rest == 128", PARTS, "Working.test_snapping"),
     ("two at once: one takes the other back", "searching.py", "if second < len(events) - behind_first or second == first:", "if False:", PARTS, "Working.test_joined_changes"),
-    ("setters: the first of them", "frame.py", "for i in range(number - 1, 0, -1)", "for i in range(1, number)", PARTS, "Frames.test_setters"),
+    ("setters: the first of them", "frame.py", "places[at - 1] if at else None", "places[0] if at else None", PARTS, "Frames.test_setters"),
     # single pixels, and where a vertex lies
     ("points: what is culled is drawn", "points.py", 'if raster["cull"] == ("front" if is_clockwise != raster["front_ccw"] else "back"):', "if False:", POINTS, "Worked.test_colours_after_a_change"),
     ("points: depths aren't written", "points.py", 'depth = own if test["write"] else depth', "pass", POINTS, "Worked.test_colours_after_a_change"),
