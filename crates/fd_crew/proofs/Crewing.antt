@@ -1,5 +1,6 @@
 -- What every run of the crew's world keeps.
-use Rattle.std.proofs.Common.{◌≡◌, ℕ, zero, suc, ◌+◌, ◌-◌, ◌<◌, ◌≤◌, ◌≢◌, ◌⊎◌, inl, inr, ⊎_elim, true, false, List, [], ◌∷◌, set, min, sym, refl, ap, ◌∙◌, subst, arith}
+use Rattle.std.proofs.Common.{◌≡◌, ℕ, zero, suc, ◌+◌, ◌-◌, ◌<◌, ◌≤◌, ◌≢◌, ◌⊎◌, inl, inr, ⊎_elim, true, false, List, [], ◌∷◌, set, min, sym, refl, ap, ◌∙◌}
+use Rattle.std.proofs.Common.{subst, arith}
 use mathlib.Core.Option.{Option, none, some, some-injective, some-ne-none}
 use mathlib.Core.Logic.{dite}
 use native.Mathlib.Decide.{ℕ_discrete}
@@ -11,7 +12,8 @@ use Rattle.fd_events.specs.Table.{Table}
 use Rattle.fd_tile.specs.declared.place.Place.{Place}
 use Rattle.fd_owner.specs.History.{History, position, extend, extend_to, drop_last}
 use Rattle.fd_owner.proofs.Histories.{position_extend, extend_more, extend_none, drop_extend, position_extend_to, position_drop}
-use Rattle.fd_crew.specs.World.{Lane, Worker, World, Action, look, draw, refuse, lower, leave, home, IsIn, MayDraw, AllLeft, NoneAbove, with_worker, with_history, Acts, Runs, IsOpening, least_or, WentOn, CrewWorld}
+use Rattle.fd_crew.specs.World.{Lane, Worker, World, Action, look, draw, refuse, lower, leave, home, IsIn, MayDraw, AllLeft, NoneAbove, with_worker}
+use Rattle.fd_crew.specs.World.{with_history, Acts, Runs, IsOpening, least_or, WentOn, CrewWorld}
 
 abbrev At : {A : Type 0} → List A → ℕ → A → Type 0
 At l i a = get_elem? l i ≡ some a
@@ -82,31 +84,41 @@ module _ (table : Table) (o target : ℕ) (x0 : World) where
     owes : p'.left ≡ true → p'.owed ≡ none
     owed_in : (q : ℕ) → p'.owed ≡ some q → In q refused'
     more : (r : ℕ) → In r x.refused → In r refused'
-    refused : (r : ℕ) → In r refused' → (o ≤ r) × (r < target) × ((fence' ≤ r) ⊎ ((p'.owed ≡ some r) ⊎ ((v : ℕ) × (u : Worker) × At x.workers v u × (u.owed ≡ some r) × (v ≢ w))))
+    refused : (r : ℕ) → In r refused' → (o ≤ r) × (r < target)
+        × ((fence' ≤ r) ⊎ ((p'.owed ≡ some r) ⊎ ((v : ℕ) × (u : Worker) × At x.workers v u × (u.owed ≡ some r) × (v ≢ w))))
     done : p'.left ≡ true → (t : ℕ) (l : Lane) → At x.lanes t l → l.owner ≡ w → fence' ≤ position l.history
 
-  changed : (x : World) (w : ℕ) (p p' : Worker) (fence' : ℕ) (refused' : List ℕ) → I x → Change x w p p' fence' refused' → I (record { lanes = x.lanes; workers = set x.workers w p'; fence = fence'; refused = refused' })
+  changed : (x : World) (w : ℕ) (p p' : Worker) (fence' : ℕ) (refused' : List ℕ) → I x → Change x w p p' fence' refused'
+      → I (record { lanes = x.lanes; workers = set x.workers w p'; fence = fence'; refused = refused' })
   changed x w p p' fence' refused' i c =
       let down = c.lower in
       record {
         lanes = i.lanes;
         floor = omega arith;
         fence = c.least;
-        seen = λ j b e. ⊎_elim (λ t. subst (λ (u : Worker). (fence' ≤ u.seen) × (u.seen ≤ target)) t.1 c.seen) (λ t. let s = i.seen j b t.1 in (omega arith, s.1)) (at_set x.workers w j p' b e);
-        owes = λ j b e out. ⊎_elim (λ t. subst (λ (u : Worker). u.left ≡ true → u.owed ≡ none) t.1 c.owes out) (λ t. i.owes j b t.1 out) (at_set x.workers w j p' b e);
-        owed_in = λ j b q e owed. ⊎_elim (λ t. c.owed_in q (ap (λ (u : Worker). u.owed) t.1 ∙ owed)) (λ t. c.more q (i.owed_in j b q t.1 owed)) (at_set x.workers w j p' b e);
+        seen = λ j b e. ⊎_elim (λ t. subst (λ (u : Worker). (fence' ≤ u.seen) × (u.seen ≤ target)) t.1 c.seen)
+            (λ t. let s = i.seen j b t.1 in (omega arith, s.1)) (at_set x.workers w j p' b e);
+        owes = λ j b e out. ⊎_elim (λ t. subst (λ (u : Worker). u.left ≡ true → u.owed ≡ none) t.1 c.owes out) (λ t. i.owes j b t.1 out)
+            (at_set x.workers w j p' b e);
+        owed_in = λ j b q e owed. ⊎_elim (λ t. c.owed_in q (ap (λ (u : Worker). u.owed) t.1 ∙ owed)) (λ t. c.more q (i.owed_in j b q t.1 owed))
+            (at_set x.workers w j p' b e);
         refused = λ r there. let f = c.refused r there in (
           f.0,
           f.1,
           ⊎_elim (λ le. inl le)
-              (λ s. ⊎_elim (λ mine. inr (record { w = w; p = p'; at = placed x.workers w p p' c.at; owes = mine })) (λ (v, u, e, owed, other). inr (record { w = v; p = u; at = set_else x.workers w v p' other ∙ e; owes = owed })) s) f.2,
+              (λ s. ⊎_elim (λ mine. inr (record { w = w; p = p'; at = placed x.workers w p p' c.at; owes = mine }))
+              (λ (v, u, e, owed, other). inr (record { w = v; p = u; at = set_else x.workers w v p' other ∙ e; owes = owed })) s) f.2,
         );
-        owners = λ t l e. let h = i.owners t l e in dite (ℕ_discrete l.owner w) (λ is. (p', subst (λ (n : ℕ). At (set x.workers w p') n p') (sym is) (placed x.workers w p p' c.at))) (λ other. (h.0, set_else x.workers w l.owner p' other ∙ h.1));
+        owners = λ t l e. let h = i.owners t l e in dite (ℕ_discrete l.owner w)
+            (λ is. (p', subst (λ (n : ℕ). At (set x.workers w p') n p') (sym is) (placed x.workers w p p' c.at)))
+            (λ other. (h.0, set_else x.workers w l.owner p' other ∙ h.1));
         after = i.after;
-        done = λ t l j b e f own out. ⊎_elim (λ s. c.done (ap (λ (u : Worker). u.left) s.1 ∙ out) t l e (own ∙ s.0)) (λ s. let d = i.done t l j b e s.1 own out in omega arith) (at_set x.workers w j p' b f);
+        done = λ t l j b e f own out. ⊎_elim (λ s. c.done (ap (λ (u : Worker). u.left) s.1 ∙ out) t l e (own ∙ s.0))
+            (λ s. let d = i.done t l j b e s.1 own out in omega arith) (at_set x.workers w j p' b f);
       }
 
-  zip_set : (xs ys : List Lane) (t : ℕ) (l l' : Lane) → AllZip (Kin table o) xs ys → At ys t l → ((a : Lane) → Kin table o a l → Kin table o a l') → AllZip (Kin table o) xs (set ys t l')
+  zip_set : (xs ys : List Lane) (t : ℕ) (l l' : Lane) → AllZip (Kin table o) xs ys → At ys t l → ((a : Lane) → Kin table o a l → Kin table o a l')
+      → AllZip (Kin table o) xs (set ys t l')
   zip_set [] [] t l l' a e f = absurd (some-ne-none l (sym e))
   zip_set [] (y ∷ ys) t l l' a e f = absurd a
   zip_set (x ∷ xs) [] t l l' a e f = absurd a
@@ -126,16 +138,19 @@ module _ (table : Table) (o target : ℕ) (x0 : World) where
     owes = i.owes;
     owed_in = i.owed_in;
     refused = λ r there. let f = i.refused r there in (f.0, f.1, ⊎_elim (λ a. inl a) (λ q. inr (record { w = q.w; p = q.p; at = q.at; owes = q.owes })) f.2);
-    owners = λ j b e. ⊎_elim (λ s. subst (λ (z : Lane). (p : Worker) × At x.workers z.owner p) s.1 (i.owners t l at)) (λ s. i.owners j b s.1) (at_set x.lanes t j (moved_lane l h) b e);
+    owners = λ j b e. ⊎_elim (λ s. subst (λ (z : Lane). (p : Worker) × At x.workers z.owner p) s.1 (i.owners t l at)) (λ s. i.owners j b s.1)
+        (at_set x.lanes t j (moved_lane l h) b e);
     after = λ j b e. ⊎_elim (λ s. subst (λ (z : Lane). o ≤ position z.history) s.1 le) (λ s. i.after j b s.1) (at_set x.lanes t j (moved_lane l h) b e);
-    done = λ j b w p e f own gone. ⊎_elim (λ s. subst (λ (z : Lane). x.fence ≤ position z.history) s.1 (out w p f (ap (λ (z : Lane). z.owner) s.1 ∙ own) gone)) (λ s. i.done j b w p s.1 f own gone) (at_set x.lanes t j (moved_lane l h) b e);
+    done = λ j b w p e f own gone. ⊎_elim (λ s. subst (λ (z : Lane). x.fence ≤ position z.history) s.1
+        (out w p f (ap (λ (z : Lane). z.owner) s.1 ∙ own) gone)) (λ s. i.done j b w p s.1 f own gone) (at_set x.lanes t j (moved_lane l h) b e);
   }
 
   seen_top : (x : World) (w : ℕ) (p : Worker) → I x → At x.workers w p → x.fence ≤ target
   seen_top x w p i at = let s = i.seen w p at in omega (arith, s.0, s.1)
 
   -- the other that owes r is another worker, or this one
-  still_owed : (x : World) (w : ℕ) (p : Worker) (r : ℕ) → At x.workers w p → Owed x r → (p.owed ≡ some r) ⊎ ((v : ℕ) × (u : Worker) × At x.workers v u × (u.owed ≡ some r) × (v ≢ w))
+  still_owed : (x : World) (w : ℕ) (p : Worker) (r : ℕ) → At x.workers w p → Owed x r → (p.owed ≡ some r)
+      ⊎ ((v : ℕ) × (u : Worker) × At x.workers v u × (u.owed ≡ some r) × (v ≢ w))
   still_owed x w p r at q = dite (ℕ_discrete q.w w)
       (λ is. inl (ap (λ (u : Worker). u.owed) (same_there x.workers w p q.p at (subst (λ (n : ℕ). At x.workers n q.p) is q.at)) ∙ q.owes))
       (λ other. inr (q.w, q.p, q.at, q.owes, other))
@@ -157,7 +172,13 @@ module _ (table : Table) (o target : ℕ) (x0 : World) where
       })
 
   refused' : (x : World) (w t : ℕ) (p : Worker) (l : Lane) → I x → MayDraw x w t p l
-      → I (record { lanes = x.lanes; workers = set x.workers w (record { seen = p.seen; owed = some (position l.history); left = false }); fence = x.fence; refused = position l.history ∷ x.refused })
+      → I (record {
+        lanes = x.lanes;
+        workers = set x.workers w (record { seen = p.seen; owed = some (position l.history); left = false });
+        fence =
+            x.fence;
+        refused = position l.history ∷ x.refused;
+      })
   refused' x w t p l i may =
       let at = may.0.0 in
       let s = i.seen w p at in
@@ -173,7 +194,12 @@ module _ (table : Table) (o target : ℕ) (x0 : World) where
         owed_in = λ q e. inl (sym (some-injective (position l.history) q e));
         more = λ r h. inr h;
         refused = λ r h. ⊎_elim (λ is. let top = s.1 in (omega arith, omega arith, inr (inl (ap (λ (n : ℕ). let o : Option ℕ = some n in o) (sym is)))))
-            (λ h'. let f = i.refused r h' in (f.0, f.1, ⊎_elim (λ a. inl a) (λ q. ⊎_elim (λ mine. absurd (some-ne-none r (sym mine ∙ may.3))) (λ other. inr (inr other)) (still_owed x w p r at q)) f.2)) h;
+            (λ h'. let f = i.refused r h' in (
+              f.0,
+              f.1,
+              ⊎_elim (λ a. inl a)
+                  (λ q. ⊎_elim (λ mine. absurd (some-ne-none r (sym mine ∙ may.3))) (λ other. inr (inr other)) (still_owed x w p r at q)) f.2,
+            )) h;
         done = λ out t l e own. true_false (sym out);
       })
 
@@ -185,7 +211,13 @@ module _ (table : Table) (o target : ℕ) (x0 : World) where
   min_in m n rs a b (inr le) = let e : min m n ≡ n = omega arith in inr (subst (λ (k : ℕ). In k rs) (sym e) b)
 
   lowered : (x : World) (w : ℕ) (p : Worker) (at : ℕ) → I x → IsIn x w p → p.owed ≡ some at
-      → I (record { lanes = x.lanes; workers = set x.workers w (record { seen = min x.fence at; owed = none; left = false }); fence = min x.fence at; refused = x.refused })
+      → I (record {
+        lanes = x.lanes;
+        workers = set x.workers w (record { seen = min x.fence at; owed = none; left = false });
+        fence =
+            min x.fence at;
+        refused = x.refused;
+      })
   lowered x w p at i in' owes =
       let top = seen_top x w p i in'.0 in
       let floor = i.floor in
@@ -203,12 +235,15 @@ module _ (table : Table) (o target : ℕ) (x0 : World) where
         refused = λ r h. let h' = i.refused r h in (
           h'.0,
           h'.1,
-          ⊎_elim (λ a. inl (omega arith)) (λ q. ⊎_elim (λ mine. let is : at ≡ r = some-injective at r (sym owes ∙ mine) in inl (omega arith)) (λ other. inr (inr other)) (still_owed x w p r in'.0 q)) h'.2,
+          ⊎_elim (λ a. inl (omega arith)) (λ q. ⊎_elim (λ mine. let is : at ≡ r = some-injective at r (sym owes ∙ mine) in inl (omega arith))
+              (λ other. inr (inr other)) (still_owed x w p r in'.0 q)) h'.2,
         );
         done = λ out t l e own. true_false (sym out);
       })
 
-  left' : (x : World) (w : ℕ) (p : Worker) → I x → IsIn x w p → p.owed ≡ none → ((t : ℕ) (l : Lane) → At x.lanes t l → l.owner ≡ w → p.seen ≤ position l.history) → I (with_worker x w (record { seen = p.seen; owed = none; left = true }))
+  left' : (x : World) (w : ℕ) (p : Worker) → I x → IsIn x w p → p.owed ≡ none
+      → ((t : ℕ) (l : Lane) → At x.lanes t l → l.owner ≡ w → p.seen ≤ position l.history)
+      → I (with_worker x w (record { seen = p.seen; owed = none; left = true }))
   left' x w p i in' none' done =
       let s = i.seen w p in'.0 in
       let under = s.0 in
@@ -221,7 +256,12 @@ module _ (table : Table) (o target : ℕ) (x0 : World) where
         owes = λ out. refl;
         owed_in = λ q e. absurd (some-ne-none q (sym e));
         more = λ r h. h;
-        refused = λ r h. let f = i.refused r h in (f.0, f.1, ⊎_elim (λ a. inl a) (λ q. ⊎_elim (λ mine. absurd (some-ne-none r (sym mine ∙ none'))) (λ other. inr (inr other)) (still_owed x w p r in'.0 q)) f.2);
+        refused = λ r h. let f = i.refused r h in (
+          f.0,
+          f.1,
+          ⊎_elim (λ a. inl a)
+              (λ q. ⊎_elim (λ mine. absurd (some-ne-none r (sym mine ∙ none'))) (λ other. inr (inr other)) (still_owed x w p r in'.0 q)) f.2,
+        );
         done = λ out t l e own. let d = done t l e own in omega arith;
       })
 
@@ -236,26 +276,32 @@ module _ (table : Table) (o target : ℕ) (x0 : World) where
           owner = on.owner;
           place = on.place;
           after = omega arith;
-          history = ap (λ (q : Place). extend table q l.history) on.place ∙ (ap (λ (g : History). extend table a.place g) on.history ∙ (extend_more table a.place (position l.history) a.history after ∙ ap (λ (n : ℕ). extend_to table a.place n a.history) (sym long)));
+          history = ap (λ (q : Place). extend table q l.history) on.place
+              ∙ (ap (λ (g : History). extend table a.place g) on.history
+              ∙ (extend_more table a.place (position l.history) a.history after ∙ ap (λ (n : ℕ). extend_to table a.place n a.history) (sym long)));
         },
         k.1,
       ))
       (omega arith)
-      (λ v u e own out. let same = same_there x.workers w p u may.0.0 (subst (λ (n : ℕ). At x.workers n u) (sym own ∙ may.2) e) in true_false (sym out ∙ (ap (λ (z : Worker). z.left) (sym same) ∙ may.0.1)))
+      (λ v u e own out. let same = same_there x.workers w p u may.0.0 (subst (λ (n : ℕ). At x.workers n u) (sym own ∙ may.2) e) in true_false
+      (sym out ∙ (ap (λ (z : Worker). z.left) (sym same) ∙ may.0.1)))
 
   -- an extended list, one image shorter
   shorter : (place : Place) (to : ℕ) (h : History) → position h < to → drop_last (extend_to table place to h) ≡ extend_to table place (to - 1) h
   shorter place to h less =
       let e : to - 1 + 1 ≡ to = omega arith in
-      ap drop_last (ap (λ (n : ℕ). extend_to table place n h) (sym e) ∙ sym (extend_more table place (to - 1) h (omega arith))) ∙ drop_extend table place (extend_to table place (to - 1) h)
+      ap drop_last (ap (λ (n : ℕ). extend_to table place n h) (sym e) ∙ sym (extend_more table place (to - 1) h (omega arith)))
+      ∙ drop_extend table place (extend_to table place (to - 1) h)
 
   went_home : (x : World) (t : ℕ) (l : Lane) → I x → At x.lanes t l → x.fence < position l.history → I (with_history x t l (drop_last l.history))
   went_home x t l i at above =
       let floor = i.floor in
       moved x t l (drop_last l.history) i at
       (λ a k. let on = k.0 in let is = k.1 in
-      let e : drop_last l.history ≡ extend_to table a.place (position l.history - 1) a.history = ap drop_last on.history ∙ shorter a.place (position l.history) a.history (omega arith) in
-      let long : position (drop_last l.history) ≡ position l.history - 1 = ap position e ∙ position_extend_to table a.place (position l.history - 1) a.history (omega arith) in
+      let e : drop_last l.history ≡ extend_to table a.place (position l.history - 1) a.history = ap drop_last on.history
+      ∙ shorter a.place (position l.history) a.history (omega arith) in
+      let long : position (drop_last l.history) ≡ position l.history - 1 = ap position e
+      ∙ position_extend_to table a.place (position l.history - 1) a.history (omega arith) in
       (record { owner = on.owner; place = on.place; after = omega arith; history = e ∙ ap (λ (n : ℕ). extend_to table a.place n a.history) (sym long) }, k.1))
       (let long = position_drop l.history in omega arith)
       (λ w p e own out. let long = position_drop l.history in omega arith)
@@ -302,7 +348,8 @@ module _ (table : Table) (o target : ℕ) (x0 : World) where
   went_zip (x ∷ xs) [] a = absurd a
   went_zip (x ∷ xs) (y ∷ ys) a = (a.0.0, went_zip xs ys a.1)
 
-  ended : (y : World) → I y → AllLeft y → NoneAbove y → ((t : ℕ) (l : Lane) → At y.lanes t l → position l.history ≡ y.fence) × (y.fence ≡ least_or target y.refused)
+  ended : (y : World) → I y → AllLeft y → NoneAbove y → ((t : ℕ) (l : Lane) → At y.lanes t l → position l.history ≡ y.fence)
+      × (y.fence ≡ least_or target y.refused)
   ended y i gone none_above = (
     (λ t l e. let p = i.owners t l e in let low = i.done t l l.owner p.0 e p.1 refl (gone l.owner p.0 p.1) in let high = none_above t l e in omega arith),
     least_is y.refused target y.fence i.fence

@@ -1,28 +1,37 @@
 -- How lanes go back, and how a run ends.
-use Rattle.std.proofs.Common.{◌≡◌, ℕ, ◌+◌, ◌-◌, ◌<◌, ◌≤◌, inl, inr, ⊎_elim, List, [], ◌∷◌, ◌++◌, length, take, drop, set, get_or, sym, ap, ◌∙◌, subst, arith, All}
-use Rattle.std.specs.Prelude.{Option, Some}
+use Rattle.std.proofs.Common.{◌≡◌, ℕ, ◌+◌, ◌-◌, ◌<◌, ◌≤◌, inl, inr, ⊎_elim, List, [], ◌∷◌, ◌++◌, length, take, drop, set, get_or, sym, ap, ◌∙◌, subst, arith}
+use Rattle.std.proofs.Common.{All}
+use Rattle.std.specs.Prelude.{Option, Some, Result, Ok, Err, MatchResult}
 use Rattle.std.specs.List.{AllZip}
 use Rattle.std.proofs.lemmas.List.{take_more, take_more_set, take_all, drop_more}
 use Rattle.std.proofs.lemmas.List.Elements.{AllZip-push, All-head, All-tail, All-cons, All-nil}
+use Rattle.std.proofs.lemmas.Bool.{cases_lt}
+use Rattle.fd_tile.specs.declared.place.Place.{Place}
 use Rattle.fd_events.specs.Table.{Table}
-use Rattle.fd_owner.specs.History.{History, position, first_frames, drop_last}
-use Rattle.fd_owner.proofs.Histories.{drop_first, position_first, first_all, first_first, first_extend_to}
+use Rattle.fd_owner.specs.History.{History, position, extend_by, extend_to, first_frames, drop_last}
+use Rattle.fd_owner.proofs.Histories.{drop_first, position_first, position_extend_to, extend_none, first_all, first_first, first_extend_to}
 use Rattle.fd_crew.specs.declared.fence.View.{View}
+use Rattle.fd_crew.specs.declared.crew.Outcome.{Outcome}
 use Rattle.fd_crew.specs.declared.crew.Outcome.TheVariants.{Reached, Stopped}
 use Rattle.fd_owner.specs.Shown.{Shown, gone_back, gone_back_to}
-use Rattle.fd_crew.specs.Lanes.{RefusedAt, IsQuiet, Drawn, AnyZip, Worked, GoneTo, RefusedNoLower, EndsAs}
+use Rattle.fd_crew.specs.Lanes.{RefusedAt, IsQuiet, Drawn, AnyZip, Worked, GoneTo, StandsOn, CameTo, RefusedNoLower, EndsAs, EndsApart}
 
-with_history : (s : Shown) (h k : History) → h ≡ k → (let a : Shown = record { place = s.place; history = h; refusals = s.refusals; refused_at = s.refused_at } in a) ≡ record { place = s.place; history = k; refusals = s.refusals; refused_at = s.refused_at }
+with_history : (s : Shown) (h k : History) → h ≡ k → (let a : Shown =
+    record { place = s.place; history = h; refusals = s.refusals; refused_at = s.refused_at } in a) ≡ record
+    { place = s.place; history = k; refusals = s.refusals; refused_at = s.refused_at }
 with_history s h k e = λ i. record { place = s.place; history = e i; refusals = s.refusals; refused_at = s.refused_at }
 
 pub back_none : (old : Shown) → old ≡ gone_back_to (position old.history) old
-back_none old = with_history old old.history (first_frames (position old.history) old.history) (sym (first_all (position old.history) old.history (omega arith)))
+back_none old = with_history old old.history (first_frames (position old.history) old.history)
+    (sym (first_all (position old.history) old.history (omega arith)))
 
-pub back_more : (old now next : Shown) → now ≡ gone_back_to (position now.history) old → position now.history ≤ position old.history → next ≡ gone_back now → (position next.history ≡ position now.history - 1) × (next ≡ gone_back_to (position next.history) old)
+pub back_more : (old now next : Shown) → now ≡ gone_back_to (position now.history) old → position now.history ≤ position old.history → next ≡ gone_back now
+    → (position next.history ≡ position now.history - 1) × (next ≡ gone_back_to (position next.history) old)
 back_more old now next is le goes =
     let k : ℕ = position now.history in
     let a : next ≡ gone_back (gone_back_to k old) = goes ∙ ap gone_back is in
-    let b : gone_back (gone_back_to k old) ≡ gone_back_to (k - 1) old = with_history old (drop_last (first_frames k old.history)) (first_frames (k - 1) old.history) (drop_first k old.history le) in
+    let b : gone_back (gone_back_to k old) ≡ gone_back_to (k - 1) old =
+    with_history old (drop_last (first_frames k old.history)) (first_frames (k - 1) old.history) (drop_first k old.history le) in
     let at : position next.history ≡ k - 1 = ap (λ (s : Shown). position s.history) (a ∙ b) ∙ position_first (k - 1) old.history (omega arith) in
     (at, (a ∙ b) ∙ ap (λ (n : ℕ). gone_back_to n old) (sym at))
 
@@ -32,33 +41,45 @@ pub back_on : (old between new : Shown) → between ≡ gone_back_to (position b
 back_on old between new first second le =
     let n : ℕ = position new.history in
     let k : ℕ = position between.history in
-    second ∙ ap (gone_back_to n) first ∙ with_history old (first_frames n (first_frames k old.history)) (first_frames n old.history) (first_first n k old.history le)
+    second ∙ ap (gone_back_to n) first ∙ with_history old (first_frames n (first_frames k old.history)) (first_frames n old.history)
+    (first_first n k old.history le)
 
 -- what stands at i in two lists that go on alike from i
-pub alike_at : {L : Type 0} (old now : List L) (i : ℕ) (x : L) → i < length old → length now ≡ length old → x ≡ get_or now i x → drop i now ≡ drop i old → x ≡ get_or old i x
+pub alike_at : {L : Type 0} (old now : List L) (i : ℕ) (x : L) → i < length old → length now ≡ length old → x ≡ get_or now i x → drop i now ≡ drop i old
+    → x ≡ get_or old i x
 alike_at old now i x in' long is rest =
     let a = drop_more now i x (omega arith) in
     let b = drop_more old i x in' in
     let both : get_or now i x ∷ drop (i + 1) now ≡ get_or old i x ∷ drop (i + 1) old = sym a ∙ (rest ∙ b) in cc
 
 module _ {L : Type 0} (R : L → L → Type 0) where
-  pub zip_next : (old now : List L) (i : ℕ) (x y : L) → i < length old → length now ≡ length old → x ≡ get_or old i x → AllZip R (take i old) (take i now) → R x y → AllZip R (take (i + 1) old) (take (i + 1) (set now i y))
+  pub zip_next : (old now : List L) (i : ℕ) (x y : L) → i < length old → length now ≡ length old → x ≡ get_or old i x → AllZip R (take i old) (take i now)
+      → R x y → AllZip R (take (i + 1) old) (take (i + 1) (set now i y))
   zip_next old now i x y in' long is all here =
       let e : take (i + 1) old ≡ take i old ++ x ∷ [] = take_more old i x in' ∙ ap (λ (z : L). take i old ++ z ∷ []) (sym is) in
       let f : take (i + 1) (set now i y) ≡ take i now ++ y ∷ [] = take_more_set now i y (omega arith) in
-      subst (λ (xs : List L). AllZip R xs (take (i + 1) (set now i y))) (sym e) (subst (λ (ys : List L). AllZip R (take i old ++ x ∷ []) ys) (sym f) (AllZip-push R (take i old) (take i now) x y all here))
+      subst (λ (xs : List L). AllZip R xs (take (i + 1) (set now i y))) (sym e)
+      (subst (λ (ys : List L). AllZip R (take i old ++ x ∷ []) ys) (sym f) (AllZip-push R (take i old) (take i now) x y all here))
 
   pub zip_whole : (old now : List L) (i : ℕ) → length old ≤ i → length now ≡ length old → AllZip R (take i old) (take i now) → AllZip R old now
   zip_whole old now i le long all =
       subst (λ (xs : List L). AllZip R xs now) (take_all i old le) (subst (λ (ys : List L). AllZip R (take i old) ys) (take_all i now (omega arith)) all)
 
-  zip_through : (B C : L → L → Type 0) (P : L → Type 0) → ((x y z : L) → P x → R x y → B y z → C x z) → (xs ys zs : List L) → All P xs → AllZip R xs ys → AllZip B ys zs → AllZip C xs zs
+  zip_through : (B C : L → L → Type 0) (P : L → Type 0) → ((x y z : L) → P x → R x y → B y z → C x z) → (xs ys zs : List L) → All P xs → AllZip R xs ys
+      → AllZip B ys zs → AllZip C xs zs
   zip_through B C P f [] [] [] p a b = tt
   zip_through B C P f [] [] (z ∷ zs) p a b = absurd b
   zip_through B C P f [] (y ∷ ys) zs p a b = absurd a
   zip_through B C P f (x ∷ xs) [] zs p a b = absurd a
   zip_through B C P f (x ∷ xs) (y ∷ ys) [] p a b = absurd b
   zip_through B C P f (x ∷ xs) (y ∷ ys) (z ∷ zs) p a b = (f x y z (All-head P x xs p) a.0 b.0, zip_through B C P f xs ys zs (All-tail P x xs p) a.1 b.1)
+
+  -- what follows for each pair
+  zip_with : (C : L → L → Type 0) (P : L → Type 0) → ((x y : L) → P x → R x y → C x y) → (xs ys : List L) → All P xs → AllZip R xs ys → AllZip C xs ys
+  zip_with C P f [] [] p a = tt
+  zip_with C P f [] (y ∷ ys) p a = absurd a
+  zip_with C P f (x ∷ xs) [] p a = absurd a
+  zip_with C P f (x ∷ xs) (y ∷ ys) p a = (f x y (All-head P x xs p) a.0, zip_with C P f xs ys (All-tail P x xs p) a.1)
 
   any_through : (B C : L → L → Type 0) → ((x y z : L) → R x y → B y z → C x z) → (xs ys zs : List L) → AnyZip R xs ys → AllZip B ys zs → AnyZip C xs zs
   any_through B C f [] ys zs a b = absurd a
@@ -74,26 +95,68 @@ module _ {L : Type 0} (R : L → L → Type 0) where
   all_second P f (x ∷ xs) (y ∷ ys) a = All-cons P y ys (f x y a.0) (all_second P f xs ys a.1)
 
   -- a fact that follows from one item of the first list
-  any_first : (P : L → Type 0) (Q : Type 0) → ((x y : L) → P x → R x y → Q) → (xs ys : List L) → All P xs → AnyZip R xs ys → Q
+  pub any_first : (P : L → Type 0) (Q : Type 0) → ((x y : L) → P x → R x y → Q) → (xs ys : List L) → All P xs → AnyZip R xs ys → Q
   any_first P Q f [] ys p a = absurd a
   any_first P Q f (x ∷ xs) [] p a = absurd a
   any_first P Q f (x ∷ xs) (y ∷ ys) p a = ⊎_elim (λ h. f x y (All-head P x xs p) h) (λ t. any_first P Q f xs ys (All-tail P x xs p) t) a
 
--- one lane that was drawn on and then went back
-gone : (table : Table) (target seen low at : ℕ) (x y z : Shown) → Drawn table target seen low x y → at ≤ seen → position x.history ≤ at → z ≡ gone_back_to at y → GoneTo table at x z
-gone table target seen low at x y z d under after back =
+-- the first frames of a history that goes on further, or that is longer
+first_frames_on : (table : Table) (place : Place) (at end : ℕ) (h : History) → at ≤ end
+    → first_frames at (extend_to table place end h) ≡ first_frames at (extend_to table place at h)
+first_frames_on table place at end h le =
+    elim (cases_lt at (position h)) [
+      | inl below ↦
+          let from : ℕ = position h in
+          let none : at - from ≡ 0 = omega (arith, below) in
+          elim (cases_lt end from) [
+            | inl short ↦ let none' : end - from ≡ 0 = omega (arith, short) in ap (λ (n : ℕ). first_frames at (extend_by table place n h)) (none' ∙ sym none)
+            | inr long ↦
+                sym (first_first at from (extend_to table place end h) (omega (arith, below)))
+                ∙ ap (first_frames at) (first_extend_to table place from end h (omega arith) long ∙ extend_none table place h)
+                ∙ ap (λ (n : ℕ). first_frames at (extend_by table place n h)) (sym none)
+          ]
+      | inr above ↦ first_extend_to table place at end h above le
+          ∙ sym (first_all at (extend_to table place at h) (omega (arith, position_extend_to table place at h above)))
+    ]
+
+-- one lane that was drawn on, and stays
+stays : (table : Table) (target seen low : ℕ) (x y : Shown) → Drawn table target seen low x y → target ≤ seen → StandsOn table target x y
+stays table target seen low x y d under =
     let reached = d.reached in
+    let after = d.after in
+    let on : ℕ → History = λ n. extend_to table x.place n x.history in
+    record {
+      place = d.place;
+      history = ⊎_elim
+          (λ below. let there : position y.history ≡ target = omega (arith, below, reached, under) in d.history ∙ ap on there)
+          (λ same.
+          let above : target ≤ position x.history = omega (arith, reached, under, ap position same) in
+          let none : target - position x.history ≡ 0 = omega (arith, above) in
+          same ∙ ap (λ (n : ℕ). extend_by table x.place n x.history) (sym none)) d.within;
+    }
+
+-- one that then went back
+gone : (table : Table) (target seen low at : ℕ) (x y z : Shown) → Drawn table target seen low x y → at ≤ seen → z ≡ gone_back_to at y → CameTo table at x z
+gone table target seen low at x y z d under back =
+    let reached = d.reached in
+    let after = d.after in
+    let end : ℕ = position y.history in
+    let from : ℕ = position x.history in
     record {
       place = ap (λ (s : Shown). s.place) back ∙ d.place;
-      history = ap (λ (s : Shown). s.history) back ∙ (ap (λ (h : History). first_frames at h) d.history ∙ first_extend_to table x.place at (position y.history) x.history after (omega arith));
-      after = after;
+      history = ap (λ (s : Shown). s.history) back ∙ ap (first_frames at) d.history
+          ∙ first_frames_on table x.place at end x.history (omega (arith, reached, under));
     }
 
 quiet_back : (at : ℕ) (x y z : Shown) → IsQuiet x y → z ≡ gone_back_to at y → IsQuiet x z
-quiet_back at x y z q back = record { refusals = ap (λ (s : Shown). s.refusals) back ∙ q.refusals; refused_at = ap (λ (s : Shown). s.refused_at) back ∙ q.refused_at }
+quiet_back at x y z q back = record {
+  refusals = ap (λ (s : Shown). s.refusals) back ∙ q.refusals;
+  refused_at = ap (λ (s : Shown). s.refused_at) back
+      ∙ q.refused_at;
+}
 
-quiet : (table : Table) (target seen low at : ℕ) (x y z : Shown) → Drawn table target seen low x y → low ≡ target → z ≡ gone_back_to at y → IsQuiet x z
-quiet table target seen low at x y z d is back = ⊎_elim (λ q. quiet_back at x y z q back) (λ t. let a = t.2 in let b = t.3 in absurd (omega arith)) d.refusals
+quiet : (table : Table) (target seen low : ℕ) (x y : Shown) → Drawn table target seen low x y → low ≡ target → IsQuiet x y
+quiet table target seen low x y d is = ⊎_elim (λ q. q) (λ t. let a = t.2 in let b = t.3 in absurd (omega arith)) d.refusals
 
 refused_back_to : (r at : ℕ) (x y z : Shown) → RefusedAt r x y → z ≡ gone_back_to at y → RefusedAt r x z
 refused_back_to r at x y z a back =
@@ -120,6 +183,16 @@ refused_back low at x y z r is back =
       after = omega arith;
     }
 
+-- one that came to a position above which it did not stand
+pub came_further : (table : Table) (at : ℕ) (x z : Shown) → position x.history ≤ at → CameTo table at x z → GoneTo table at x z
+came_further table at x z after came =
+    record {
+      place = came.place;
+      history = came.history ∙ first_all at (extend_to table x.place at x.history)
+          (omega (arith, position_extend_to table x.place at x.history after));
+      after = after;
+    }
+
 module _ {L : Type 0} (shown : L → Shown) (fits : L → Table → Type 0) (table : Table) (target : ℕ) where
   abbrev Done : View → L → L → Type 0
   Done v x y = Drawn table target v.seen v.low (shown x) (shown y) × fits y table
@@ -127,35 +200,66 @@ module _ {L : Type 0} (shown : L → Shown) (fits : L → Table → Type 0) (tab
   abbrev Back : ℕ → L → L → Type 0
   Back at x y = shown y ≡ gone_back_to at (shown x)
 
-  pub above_all : (v w : View) (at : ℕ) (old mid : List L) → Worked shown fits table target v w old mid → at ≤ w.seen → All (λ l. at ≤ position (shown l).history) mid
-  above_all v w at old mid worked under = all_second (Done w) (λ l. at ≤ position (shown l).history) (λ x y d. let r = d.0.reached in omega arith) old mid worked.lanes
+  pub above_all : (v w : View) (at : ℕ) (old mid : List L) → Worked shown fits table target v w old mid → at ≤ w.seen
+      → All (λ l. at ≤ position (shown l).history) mid
+  above_all v w at old mid worked under = all_second (Done w) (λ l. at ≤ position (shown l).history) (λ x y d. let r = d.0.reached in omega arith) old mid
+      worked.lanes
 
-  pub fits_all : (v w : View) (old mid new : List L) → Worked shown fits table target v w old mid → AllZip (λ x y. (t : Table) → fits x t → fits y t) mid new → All (λ l. fits l table) new
+  pub fits_worked : (v w : View) (old mid : List L) → Worked shown fits table target v w old mid → All (λ l. fits l table) mid
+  fits_worked v w old mid worked = all_second (Done w) (λ l. fits l table) (λ x y d. d.1) old mid worked.lanes
+
+  pub fits_all : (v w : View) (old mid new : List L) → Worked shown fits table target v w old mid → AllZip (λ x y. (t : Table) → fits x t → fits y t) mid new
+      → All (λ l. fits l table) new
   fits_all v w old mid new worked back = all_second (λ x z. fits z table) (λ l. fits l table) (λ x z f. f) old new
-      (zip_through (Done w) (λ x y. (t : Table) → fits x t → fits y t) (λ x z. fits z table) (λ x. Unit {0}) (λ x y z u d f. f table d.1) old mid new (λ k d in'. tt) worked.lanes back)
+      (zip_through (Done w) (λ x y. (t : Table) → fits x t → fits y t) (λ x z. fits z table) (λ x. Unit {0}) (λ x y z u d f. f table d.1) old mid new
+      (λ k d in'. tt) worked.lanes back)
 
-  module _ (o at : ℕ) (v w : View) (old mid new : List L) (together : All (λ l. position (shown l).history ≡ o) old) (within : o ≤ target) (open' : v.low ≡ target) (is : at ≡ w.low) (under : at ≤ w.seen)
-      (worked : Worked shown fits table target v w old mid) (back : AllZip (Back at) mid new) where
-    opening_below : o ≤ at
-    opening_below = ⊎_elim (λ e. omega arith)
-        (λ any. let h : o ≤ w.low = any_first (λ x y. RefusedAt w.low (shown x) (shown y)) (λ l. position (shown l).history ≡ o) (o ≤ w.low) (λ x y p r. let a = r.after in omega arith) old mid together any in omega arith)
-        worked.low
-
-    pub ends_reached : at ≡ target → EndsAs shown table target old new Reached
+  module _ (at : ℕ) (v w : View) (old mid : List L) (open' : v.low ≡ target) (is : at ≡ w.low) (under : at ≤ w.seen)
+      (worked : Worked shown fits table target v w old mid) where
+    pub ends_reached : at ≡ target → EndsApart shown table target old mid Reached
     ends_reached there =
-        let low = opening_below in
-        zip_through (Done w) (Back at) (λ x z. GoneTo table target (shown x) (shown z) × IsQuiet (shown x) (shown z)) (λ l. position (shown l).history ≡ o)
-        (λ x y z p d b. (subst (λ (n : ℕ). GoneTo table n (shown x) (shown z)) there (gone table target w.seen w.low at (shown x) (shown y) (shown z) d.0 under (omega arith) b), quiet table target w.seen w.low at (shown x) (shown y) (shown z) d.0 (sym is ∙ there) b))
-        old mid new together worked.lanes back
+        zip_with (Done w) (λ x y. StandsOn table target (shown x) (shown y) × IsQuiet (shown x) (shown y)) (λ x. Unit {0})
+        (λ x y u d. (
+          stays table target w.seen w.low (shown x) (shown y) d.0 (omega (arith, there, under)),
+          quiet table target w.seen w.low (shown x)
+              (shown y) d.0 (sym is ∙ there),
+        ))
+        old mid (λ k d in'. tt) worked.lanes
 
-    pub ends_stopped : ¬ (at ≡ target) → EndsAs shown table target old new (Stopped at)
-    ends_stopped not =
-        let low = opening_below in
+    pub ends_stopped : (new : List L) → AllZip (Back at) mid new → ¬ (at ≡ target) → EndsApart shown table target old new (Stopped at)
+    ends_stopped new back not =
         let lower = worked.lower in (
           omega arith,
-          zip_through (Done w) (Back at) (λ x z. GoneTo table at (shown x) (shown z) × RefusedNoLower at (shown x) (shown z)) (λ l. position (shown l).history ≡ o)
-              (λ x y z p d b. (gone table target w.seen w.low at (shown x) (shown y) (shown z) d.0 under (omega arith) b, no_lower table target w.seen w.low at (shown x) (shown y) (shown z) d.0 is b)) old mid new together worked.lanes back,
+          zip_through (Done w) (Back at) (λ x z. CameTo table at (shown x) (shown z) × RefusedNoLower at (shown x) (shown z)) (λ x. Unit {0})
+              (λ x y z u d b. (
+                gone table target w.seen w.low at (shown x) (shown y) (shown z) d.0 under b,
+                no_lower table target w.seen w.low at (shown x)
+                    (shown y) (shown z) d.0 is b,
+              )) old mid new (λ k d in'. tt) worked.lanes back,
           ⊎_elim (λ e. absurd (not (is ∙ (e ∙ open'))))
-              (λ any. any_through (λ x y. RefusedAt w.low (shown x) (shown y)) (Back at) (λ x z. RefusedAt at (shown x) (shown z)) (λ x y z r b. refused_back w.low at (shown x) (shown y) (shown z) r is b) old mid new any back)
+              (λ any. any_through (λ x y. RefusedAt w.low (shown x) (shown y)) (Back at) (λ x z. RefusedAt at (shown x) (shown z))
+              (λ x y z r b. refused_back w.low at (shown x) (shown y) (shown z) r is b) old mid new any back)
               worked.low,
         )
+
+  -- lanes that began together
+  module _ (o : ℕ) (old new : List L) (together : All (λ l. position (shown l).history ≡ o) old) (within : o ≤ target) where
+    pub ends_together : (outcome : Outcome) → EndsApart shown table target old new outcome → EndsAs shown table target old new outcome
+    ends_together Reached ended =
+        zip_with (λ x y. StandsOn table target (shown x) (shown y) × IsQuiet (shown x) (shown y))
+        (λ x y. GoneTo table target (shown x) (shown y) × IsQuiet (shown x) (shown y)) (λ l. position (shown l).history ≡ o)
+        (λ x y p e. (record { place = e.0.place; history = e.0.history; after = omega (arith, p, within) }, e.1)) old new together ended
+    ends_together (Stopped at) ended =
+        let low : o ≤ at = any_first (λ x y. RefusedAt at (shown x) (shown y)) (λ l. position (shown l).history ≡ o) (o ≤ at)
+        (λ x y p r. omega (arith, p, r.after)) old new together ended.2 in (
+          ended.0,
+          zip_with (λ x y. CameTo table at (shown x) (shown y) × RefusedNoLower at (shown x) (shown y))
+              (λ x y. GoneTo table at (shown x) (shown y) × RefusedNoLower at (shown x) (shown y)) (λ l. position (shown l).history ≡ o)
+              (λ x y p e. (came_further table at (shown x) (shown y) (omega (arith, p, low)) e.0, e.1)) old new together ended.1,
+          ended.2,
+        )
+
+    pub run_together : {E : Type 0} (r : Result Outcome E) → MatchResult r (λ outcome. EndsApart shown table target old new outcome) (λ _. new ≡ old)
+        → MatchResult r (λ outcome. EndsAs shown table target old new outcome) (λ _. new ≡ old)
+    run_together (Ok outcome) ended = ends_together outcome ended
+    run_together (Err e) ended = ended

@@ -20,7 +20,8 @@ least_le [] i v e = absurd (some-ne-none v (sym e))
 least_le (x ∷ xs) zero v e = let is : x.low ≡ v.low = ap (λ (u : View). u.low) (some-injective x v e) in omega arith
 least_le (x ∷ xs) (suc i) v e = omega (arith, least_le xs i v e)
 
-least_set : (l : List View) (i : ℕ) (v w : View) → get_elem? l i ≡ some v → (min (least_low (set l i w)) v.low ≡ min (least_low l) w.low) × (least_low (set l i w) ≤ w.low)
+least_set : (l : List View) (i : ℕ) (v w : View) → get_elem? l i ≡ some v → (min (least_low (set l i w)) v.low ≡ min (least_low l) w.low)
+    × (least_low (set l i w) ≤ w.low)
 least_set [] i v w e = absurd (some-ne-none v (sym e))
 least_set (x ∷ xs) zero v w e = let is : x.low ≡ v.low = ap (λ (u : View). u.low) (some-injective x v e) in (omega arith, omega arith)
 least_set (x ∷ xs) (suc i) v w e = let r = least_set xs i v w e in (omega arith, omega arith)
@@ -56,7 +57,8 @@ placed (x ∷ xs) zero v w e = refl
 placed (x ∷ xs) (suc i) v w e = placed xs i v w e
 
 -- a seat's view is replaced by one that may have lowered the word
-kept_step : (crew : Crew) (s : St) (id n : ℕ) (v w : View) → Kept crew s → get_elem? s.views id ≡ some v → w.low ≤ v.low → w.share ≡ v.share → n ≡ min (least_low s.views) w.low → IsSound n w
+kept_step : (crew : Crew) (s : St) (id n : ℕ) (v w : View) → Kept crew s → get_elem? s.views id ≡ some v → w.low ≤ v.low → w.share ≡ v.share
+    → n ≡ min (least_low s.views) w.low → IsSound n w
     → Kept crew (record { words = set s.words 0 n; homes = s.homes; views = set s.views id w })
 kept_step crew s id n v w k at low share is here =
     let r = least_set s.views id v w at in
@@ -73,7 +75,8 @@ kept_step crew s id n v w k at low share is here =
 word_is : (crew : Crew) (s : St) → Kept crew s → slice_index s.words 0 ≡ least_low s.views
 word_is crew s k = ap (λ (ws : List ℕ). slice_index ws 0) k.word
 
-pub looks : (crew : Crew) (slots id : ℕ) (me : Me (Unit {0}) View) → 0 < me.0.share → Allows (Kept crew) slots id me 0 (λ n. n) (Looks (step slots 0 0 0 none) me)
+pub looks : (crew : Crew) (slots id : ℕ) (me : Me (Unit {0}) View) → 0 < me.0.share
+    → Allows (Kept crew) slots id me 0 (λ n. n) (Looks (step slots 0 0 0 none) me)
 looks crew slots id me some_share s k _ at _ =
     let v : View = me.0 in
     let found : ℕ = slice_index s.words 0 in
@@ -88,7 +91,8 @@ looks crew slots id me some_share s k _ at _ =
       (refl, omega arith, refl),
     )
 
-pub lowers : (crew : Crew) (slots id to : ℕ) (me : Me (Unit {0}) View) → 0 < me.0.share → Allows (Kept crew) slots id me 0 (λ n. min n to) (Lowers (step slots 0 to 0 none) me)
+pub lowers : (crew : Crew) (slots id to : ℕ) (me : Me (Unit {0}) View) → 0 < me.0.share
+    → Allows (Kept crew) slots id me 0 (λ n. min n to) (Lowers (step slots 0 to 0 none) me)
 lowers crew slots id to me some_share s k _ at _ =
     let v : View = me.0 in
     let found : ℕ = slice_index s.words 0 in
@@ -120,7 +124,8 @@ splits crew id v two s k at =
       shares = omega arith;
       sound = subst (λ (x : ℕ). EachSound x (set s.views id f ++ b ∷ [])) same
           (sound_snoc (set s.views id f) (least_low s.views) b
-          (sound_set s.views (least_low s.views) (least_low s.views) id f (omega arith) k.sound (record { above = above; spent = λ none_left. absurd (omega arith) }))
+          (sound_set s.views (least_low s.views) (least_low s.views) id f (omega arith) k.sound
+          (record { above = above; spent = λ none_left. absurd (omega arith) }))
           (record { above = above; spent = λ none_left. absurd (omega arith) }));
     }
 
@@ -147,15 +152,19 @@ joins crew id v other w some_share s k at apart at' =
       shares = omega arith;
       sound = subst (λ (x : ℕ). EachSound x (set one other spent_view)) same
           (sound_set one (least_low s.views) (least_low s.views) other spent_view (omega arith)
-          (sound_set s.views (least_low s.views) (least_low s.views) id b (omega arith) k.sound (record { above = omega arith; spent = λ none_left. absurd (omega arith) }))
+          (sound_set s.views (least_low s.views) (least_low s.views) id b (omega arith) k.sound
+          (record { above = omega arith; spent = λ none_left. absurd (omega arith) }))
           (record { above = omega arith; spent = λ _. refl }));
     }
 
-opened : (crew : Crew) → crew.target < 18446744073709551616 → 0 < crew.workers → (id : ℕ) (v : View) → get_elem? (view crew.target crew.target crew.workers ∷ []) id ≡ some v → IsSound (least_low (view crew.target crew.target crew.workers ∷ [])) v
-opened crew small some_share zero v at = subst (λ (u : View). IsSound (least_low (view crew.target crew.target crew.workers ∷ [])) u) (some-injective _ v at) (record { above = omega arith; spent = λ none_left. absurd (omega arith) })
+opened : (crew : Crew) → crew.target < 18446744073709551616 → 0 < crew.workers → (id : ℕ) (v : View)
+    → get_elem? (view crew.target crew.target crew.workers ∷ []) id ≡ some v → IsSound (least_low (view crew.target crew.target crew.workers ∷ [])) v
+opened crew small some_share zero v at = subst (λ (u : View). IsSound (least_low (view crew.target crew.target crew.workers ∷ [])) u) (some-injective _ v at)
+    (record { above = omega arith; spent = λ none_left. absurd (omega arith) })
 opened crew small some_share (suc id) v at = absurd (some-ne-none v (sym at))
 
-pub opens : (crew : Crew) → crew.target < 18446744073709551616 → 0 < crew.workers → Kept crew (opening {S = Unit {0}} (crew.target ∷ []) [] (view crew.target crew.target crew.workers))
+pub opens : (crew : Crew) → crew.target < 18446744073709551616 → 0 < crew.workers
+    → Kept crew (opening {S = Unit {0}} (crew.target ∷ []) [] (view crew.target crew.target crew.workers))
 opens crew small some_share = record {
   word = ap (λ (x : ℕ). x ∷ []) (omega arith);
   shares = omega arith;
@@ -174,7 +183,8 @@ share_le [] i v e = absurd (some-ne-none v (sym e))
 share_le (x ∷ xs) zero v e = let is : x.share ≡ v.share = ap (λ (u : View). u.share) (some-injective x v e) in omega arith
 share_le (x ∷ xs) (suc i) v e = omega (arith, share_le xs i v e)
 
-pub own_low : (l : List View) (n id : ℕ) (v : View) → EachSound n l → get_elem? l id ≡ some v → all_shares l ≡ v.share → v.low < 18446744073709551616 → least_low l ≡ v.low
+pub own_low : (l : List View) (n id : ℕ) (v : View) → EachSound n l → get_elem? l id ≡ some v → all_shares l ≡ v.share → v.low < 18446744073709551616
+    → least_low l ≡ v.low
 own_low [] n id v all at whole small = absurd (some-ne-none v (sym at))
 own_low (x ∷ xs) n zero v all at whole small =
     let same = some-injective x v at in
@@ -186,7 +196,8 @@ own_low (x ∷ xs) n (suc id) v all at whole small =
     let is : x.low ≡ 18446744073709551615 = ap (λ (u : View). u.low) ((all 0 x refl).spent (omega arith)) in
     let r = own_low xs n id v (λ i u here. all (suc i) u here) at (omega arith) small in omega arith
 
-pub closes : (crew : Crew) (id : ℕ) (v : View) (ws : List ℕ) (xs : List (Unit {0})) (word : ℕ) → Final (Seen (Kept crew) id v) ws xs → v.share ≡ crew.workers → v.low < 18446744073709551616 → get_elem? ws 0 ≡ some word
+pub closes : (crew : Crew) (id : ℕ) (v : View) (ws : List ℕ) (xs : List (Unit {0})) (word : ℕ) → Final (Seen (Kept crew) id v) ws xs → v.share ≡ crew.workers
+    → v.low < 18446744073709551616 → get_elem? ws 0 ≡ some word
     → (word ≡ v.low) × (word ≤ v.seen)
 closes crew id v ws xs word final whole small at =
     let s = final.0 in

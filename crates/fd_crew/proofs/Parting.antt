@@ -16,6 +16,7 @@ even_share_is lanes workers count some =
 pub even_share_within : (lanes workers count : ℕ) → 0 < workers → count ≤ workers → lanes / workers * count + lanes % workers * count / workers ≤ lanes
 even_share_within lanes workers count some few =
     let value = even_share_is lanes workers count some in
-    let up : count * lanes / workers ≤ workers * lanes / workers = le-div (count * lanes / workers) (workers * lanes) workers some (omega (arith, div-mul-le_self (count * lanes) workers, mul-le-mul_right lanes few)) in
+    let up : count * lanes / workers ≤ workers * lanes / workers =
+    le-div (count * lanes / workers) (workers * lanes) workers some (omega (arith, div-mul-le_self (count * lanes) workers, mul-le-mul_right lanes few)) in
     let all : workers * lanes / workers ≡ lanes = mul-div_right lanes some in
     omega arith

@@ -8,4 +8,10 @@ empty_frame = record { image = []; kept = [] }
 
 abbrev pub shown_fake : ℕ → ℕ → Option ℕ → Shown
 shown_fake at count refused_at =
-    record { place = record { left = 0; top = 0; width = 0; height = 0 }; history = record { opening = []; frames = replicate at empty_frame }; refusals = count; refused_at = refused_at }
+    record {
+      place = record { left = 0; top = 0; width = 0; height = 0 };
+      history = record { opening = []; frames = replicate at empty_frame };
+      refusals =
+          count;
+      refused_at = refused_at;
+    }

@@ -59,7 +59,8 @@ Looks step before found after = (after.0 ≡ view found before.0.low before.0.sh
 
 -- a lowering to step.first sees the new word, which is the lesser of this and the old one
 abbrev pub Lowers : Step (Unit {0}) → Me (Unit {0}) View → ℕ → Me (Unit {0}) View → Type 0
-Lowers step before found after = (after.0 ≡ view (min found step.first) (min before.0.low step.first) before.0.share) × (found ≤ before.0.seen) × (after.1 ≡ before.1)
+Lowers step before found after = (after.0 ≡ view (min found step.first) (min before.0.low step.first) before.0.share) × (found ≤ before.0.seen)
+    × (after.1 ≡ before.1)
 
 -- ---- a worker
 

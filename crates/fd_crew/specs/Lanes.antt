@@ -2,7 +2,7 @@
 use Rattle.std.specs.Prelude.{◌≡◌, ℕ, ◌<◌, ◌≤◌, ◌⊎◌, List, [], ◌∷◌, Some}
 use Rattle.std.specs.List.{AllZip}
 use Rattle.fd_events.specs.Table.{Table}
-use Rattle.fd_owner.specs.History.{position, extend_to}
+use Rattle.fd_owner.specs.History.{position, extend_to, first_frames}
 use Rattle.fd_owner.specs.Shown.{Shown}
 use Rattle.fd_crew.specs.declared.fence.View.{View}
 use Rattle.fd_crew.specs.declared.crew.Outcome.{Outcome}
@@ -15,6 +15,16 @@ pub record GoneTo (table : Table) (to : ℕ) (old new : Shown) : Type 0 where
   pub place : new.place ≡ old.place
   pub history : new.history ≡ extend_to table old.place to old.history
   pub after : position old.history ≤ to
+
+-- the same, where the lane may have stood above it: then it stays
+pub record StandsOn (table : Table) (to : ℕ) (old new : Shown) : Type 0 where
+  pub place : new.place ≡ old.place
+  pub history : new.history ≡ extend_to table old.place to old.history
+
+-- the lane has come to this position, through next events or back from above it
+pub record CameTo (table : Table) (to : ℕ) (old new : Shown) : Type 0 where
+  pub place : new.place ≡ old.place
+  pub history : new.history ≡ first_frames to (extend_to table old.place to old.history)
 
 -- nothing was refused
 pub record IsQuiet (old new : Shown) : Type 0 where
@@ -52,27 +62,32 @@ opening_position (lane ∷ lanes) = position lane.history
 abbrev pub EndsAs : {L : Type 0} → (L → Shown) → Table → ℕ → List L → List L → Outcome → Type 0
 EndsAs shown table target old new Reached = AllZip (λ x y. GoneTo table target (shown x) (shown y) × IsQuiet (shown x) (shown y)) old new
 EndsAs shown table target old new (Stopped at) =
-    (at < target) × AllZip (λ x y. GoneTo table at (shown x) (shown y) × RefusedNoLower at (shown x) (shown y)) old new × AnyZip (λ x y. RefusedAt at (shown x) (shown y)) old new
+    (at < target) × AllZip (λ x y. GoneTo table at (shown x) (shown y) × RefusedNoLower at (shown x) (shown y)) old new
+    × AnyZip (λ x y. RefusedAt at (shown x) (shown y)) old new
+
+-- the same of lanes that begin apart: those that stand above the target stay there, or come down to where one refused
+abbrev pub EndsApart : {L : Type 0} → (L → Shown) → Table → ℕ → List L → List L → Outcome → Type 0
+EndsApart shown table target old new Reached = AllZip (λ x y. StandsOn table target (shown x) (shown y) × IsQuiet (shown x) (shown y)) old new
+EndsApart shown table target old new (Stopped at) =
+    (at < target) × AllZip (λ x y. CameTo table at (shown x) (shown y) × RefusedNoLower at (shown x) (shown y)) old new
+    × AnyZip (λ x y. RefusedAt at (shown x) (shown y)) old new
 
 -- ---- a worker
 
--- a lane that can go on to the target
-pub record CanRun {L : Type 0} (shown : L → Shown) (fits : L → Table → Type 0) (table : Table) (target : ℕ) (lane : L) : Type 0 where
-  pub within : position (shown lane).history ≤ target
-  pub fits_table : fits lane table
-
--- how a worker leaves a lane: it went on through the next events, at least to what the worker saw last, and refused nothing, or once, no lower than the worker lowered the fence
+-- how a worker leaves a lane: it went on through the next events, at least to what the worker saw last, or stood above the target; and it refused nothing, or
+-- once, no lower than the worker lowered the fence
 pub record Drawn (table : Table) (target seen low : ℕ) (old new : Shown) : Type 0 where
   pub place : new.place ≡ old.place
   pub history : new.history ≡ extend_to table old.place (position new.history) old.history
   pub after : position old.history ≤ position new.history
-  pub within : position new.history ≤ target
+  pub within : (position new.history ≤ target) ⊎ (new.history ≡ old.history)
   pub reached : seen ≤ position new.history
   pub refusals : IsQuiet old new ⊎ ((at : ℕ) × RefusedAt at old new × (low ≤ at) × (at < target))
 
 -- what a worker hands on, or neighbouring workers together: each of their lanes, and that the fence was lowered by a refusal alone
-pub record Worked {L : Type 0} (shown : L → Shown) (fits : L → Table → Type 0) (table : Table) (target : ℕ) (before after : View) (old new : List L) : Type 0 where
-  pub lanes : AllZip (λ x y. Drawn table target after.seen after.low (shown x) (shown y) × fits y table) old new
-  pub low : (after.low ≡ before.low) ⊎ AnyZip (λ x y. RefusedAt after.low (shown x) (shown y)) old new
-  pub lower : (after.low ≤ before.low) × (after.seen ≤ before.seen)
-  pub share : after.share ≡ before.share
+pub record Worked {L : Type 0} (shown : L → Shown) (fits : L → Table → Type 0) (table : Table) (target : ℕ) (before after : View) (old new : List L) : Type 0
+  where
+    pub lanes : AllZip (λ x y. Drawn table target after.seen after.low (shown x) (shown y) × fits y table) old new
+    pub low : (after.low ≡ before.low) ⊎ AnyZip (λ x y. RefusedAt after.low (shown x) (shown y)) old new
+    pub lower : (after.low ≤ before.low) × (after.seen ≤ before.seen)
+    pub share : after.share ≡ before.share

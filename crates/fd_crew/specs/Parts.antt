@@ -18,4 +18,5 @@ upper_lanes lower upper lanes = drop (upper.first_lane - lower.first_lane) lanes
 -- how many of a part's lanes its lower half of workers owns: those before the lane at which the first of the others is to begin, or as many as even
 -- shares give it
 abbrev pub owned_below : Part → ℕ → ℕ
-owned_below part lanes = option_map_or (λ first. min (first - part.first_lane) lanes) (slice_get part.firsts.now (part.first_worker + part.workers / 2)) (part.workers / 2 * lanes / part.workers)
+owned_below part lanes = option_map_or (λ first. min (first - part.first_lane) lanes) (slice_get part.firsts.now (part.first_worker + part.workers / 2))
+    (part.workers / 2 * lanes / part.workers)

@@ -62,7 +62,13 @@ abbrev pub with_worker : World → ℕ → Worker → World
 with_worker x w p = record { lanes = x.lanes; workers = slice_set x.workers w p; fence = x.fence; refused = x.refused }
 
 abbrev pub with_history : World → ℕ → Lane → History → World
-with_history x t l h = record { lanes = slice_set x.lanes t (record { owner = l.owner; place = l.place; history = h }); workers = x.workers; fence = x.fence; refused = x.refused }
+with_history x t l h = record {
+  lanes = slice_set x.lanes t (record { owner = l.owner; place = l.place; history = h });
+  workers = x.workers;
+  fence =
+      x.fence;
+  refused = x.refused;
+}
 
 -- one allowed action, from the world x to the world y
 abbrev pub Acts : Table → World → Action → World → Type 0
@@ -70,12 +76,25 @@ Acts table x (look w) y = (p : Worker) × IsIn x w p × (y ≡ with_worker x w (
 Acts table x (draw w t) y = (p : Worker) × (l : Lane) × MayDraw x w t p l × (y ≡ with_history x t l (extend table l.place l.history))
 Acts table x (refuse w t) y =
     (p : Worker) × (l : Lane) × MayDraw x w t p l
-    × (y ≡ record { lanes = x.lanes; workers = slice_set x.workers w (record { seen = p.seen; owed = some (position l.history); left = false }); fence = x.fence; refused = position l.history ∷ x.refused })
+    × (y ≡ record {
+      lanes = x.lanes;
+      workers = slice_set x.workers w (record { seen = p.seen; owed = some (position l.history); left = false });
+      fence =
+          x.fence;
+      refused = position l.history ∷ x.refused;
+    })
 Acts table x (lower w) y =
     (p : Worker) × (at : ℕ) × IsIn x w p × (p.owed ≡ some at)
-    × (y ≡ record { lanes = x.lanes; workers = slice_set x.workers w (record { seen = min x.fence at; owed = none; left = false }); fence = min x.fence at; refused = x.refused })
+    × (y ≡ record {
+      lanes = x.lanes;
+      workers = slice_set x.workers w (record { seen = min x.fence at; owed = none; left = false });
+      fence =
+          min x.fence at;
+      refused = x.refused;
+    })
 Acts table x (leave w) y = (p : Worker) × MayLeave x w p × (y ≡ with_worker x w (record { seen = p.seen; owed = none; left = true }))
-Acts table x (home t) y = (l : Lane) × AllLeft x × (get_elem? x.lanes t ≡ some l) × (x.fence < position l.history) × (y ≡ with_history x t l (drop_last l.history))
+Acts table x (home t) y = (l : Lane) × AllLeft x × (get_elem? x.lanes t ≡ some l) × (x.fence < position l.history)
+    × (y ≡ with_history x t l (drop_last l.history))
 
 -- one allowed action after the other
 abbrev pub Runs : Table → World → List Action → World → Type 0

@@ -1,8 +1,8 @@
 //! The crew: workers in threads of their own, each with lanes of its own, and all of them under one fence.
 //!
 //! A run forward goes in three steps. The fence is raised at the target; nothing else is allocated here, and no lane has moved yet. The workers take
-//! their lanes forward, each as far as the fence lets it (`draw_lane`). When the last one has come back the fence is taken away, and each lane that
-//! ran on past it goes back (`run_back`).
+//! their lanes forward, each as far as the fence lets it (`draw_lane`). When the last one has come back the fence is taken away, and where it was lowered
+//! each lane that stands above it goes back (`run_back`).
 ghost use Rattle.std.specs.Prelude.{◌≡◌, ◌<◌, ◌≤◌, ◌^◌, ◌+◌, ◌⊎◌, length, map, All, MatchResult};
 ghost use Rattle.std.specs.List.{AllZip};
 ghost use Rattle.fd_events.specs.Table.{Table};
@@ -12,7 +12,7 @@ ghost use Rattle.fd_owner.specs.Shown.{gone_back_to};
 ghost use Rattle.fd_crew.specs.Fence.{CanWork};
 ghost use Rattle.fd_crew.specs.Seats.{crew_of, target_of};
 ghost use Rattle.fd_crew.specs.Parts.{IsPart, lower_lanes, upper_lanes};
-ghost use Rattle.fd_crew.specs.Lanes.{CanRun, Drawn, RefusedAt, Worked, EndsAs, opening_position};
+ghost use Rattle.fd_crew.specs.Lanes.{Drawn, RefusedAt, Worked, EndsAs, EndsApart, opening_position};
 
 use crate::fence::{Fence, Post};
 use crate::lane::{Gate, Lane};
@@ -30,43 +30,49 @@ pub enum Outcome {
     Stopped { at: u32 },
 }
 
+/// What all workers of a run share.
+#[derive(Clone, Copy)]
+struct Course<'a, G: Gate> {
+    fence: &'a Fence,
+    gate: &'a G,
+    table: &'a EventTable,
+}
+
 /// Takes one lane forward until it stands at the fence or above it. Events that leave its image as it is are gone through at once, up to the next one
 /// that may draw. Where it refuses a step, it lowers the fence to where it stands, and ends.
 /// No lock, and no wait for another worker: one load of the fence before each such run of events with the step after it, and at most one atomic minimum.
 fn draw_lane<L: Lane, G: Gate, S: Post>(
-    fence: &Fence,
-    gate: &G,
-    table: &EventTable,
+    course: &Course<'_, G>,
     number: usize,
     seat: &mut S,
     lane: &mut L,
 )
-    requires seat { S.stands fence.now seat.old }
-    requires can { CanWork (crew_of fence.now) (length table.now.events) (S.view seat.old) }
-    requires lane { CanRun L.shown L.fits table.now (target_of fence.now) lane.old }
-    ensures seat { S.stands fence.now seat.new }
+    requires seat { S.stands course.now.fence.now seat.old }
+    requires can { CanWork (crew_of course.now.fence.now) (length course.now.table.now.events) (S.view seat.old) }
+    requires fits { L.fits lane.old course.now.table.now }
+    ensures seat { S.stands course.now.fence.now seat.new }
     ensures share { (S.view seat.new).share ≡ (S.view seat.old).share }
     ensures lower { ((S.view seat.new).low ≤ (S.view seat.old).low) × ((S.view seat.new).seen ≤ (S.view seat.old).seen) }
     ensures low { ((S.view seat.new).low ≡ (S.view seat.old).low) ⊎ RefusedAt (S.view seat.new).low (L.shown lane.old) (L.shown lane.new) }
-    ensures lane { Drawn table.now (target_of fence.now) (S.view seat.new).seen (S.view seat.new).low (L.shown lane.old) (L.shown lane.new) }
-    ensures fits { L.fits lane.new table.now }
+    ensures lane { Drawn course.now.table.now (target_of course.now.fence.now) (S.view seat.new).seen (S.view seat.new).low (L.shown lane.old) (L.shown lane.new) }
+    ensures fits { L.fits lane.new course.now.table.now }
 {
     loop {
-        let limit = seat.look(fence);
+        let limit = seat.look(course.fence);
         let position = lane.position();
         if u64::from(position) >= limit {
             return;
         }
-        let near = lane.next_near(table, limit as u32);
-        gate.pass_each(number, position, near);
-        lane.pass_to(table, near);
+        let near = lane.next_near(course.table, limit as u32);
+        course.gate.pass_each(number, position, near);
+        lane.pass_to(course.table, near);
         let at = lane.position();
         if u64::from(at) >= limit {
             return;
         }
-        gate.pass(number, at + 1);
-        if lane.forward(table).is_err() {
-            seat.lower(fence, u64::from(at));
+        course.gate.pass(number, at + 1);
+        if lane.forward(course.table).is_err() {
+            seat.lower(course.fence, u64::from(at));
             return;
         }
     }
@@ -74,22 +80,20 @@ fn draw_lane<L: Lane, G: Gate, S: Post>(
 
 /// One worker: takes its lanes forward, one after the other.
 fn draw_lanes<L: Lane, G: Gate, S: Post>(
-    fence: &Fence,
-    gate: &G,
-    table: &EventTable,
+    course: &Course<'_, G>,
     first: usize,
     seat: &mut S,
     lanes: &mut [L],
 )
-    requires seat { S.stands fence.now seat.old }
-    requires can { CanWork (crew_of fence.now) (length table.now.events) (S.view seat.old) }
+    requires seat { S.stands course.now.fence.now seat.old }
+    requires can { CanWork (crew_of course.now.fence.now) (length course.now.table.now.events) (S.view seat.old) }
     requires room { first + length lanes.old < 2 ^ 64 }
-    requires lanes { All (CanRun L.shown L.fits table.now (target_of fence.now)) lanes.old }
-    ensures seat { S.stands fence.now seat.new }
-    ensures worked { Worked L.shown L.fits table.now (target_of fence.now) (S.view seat.old) (S.view seat.new) lanes.old lanes.new }
+    requires fits { All (λ l. L.fits l course.now.table.now) lanes.old }
+    ensures seat { S.stands course.now.fence.now seat.new }
+    ensures worked { Worked L.shown L.fits course.now.table.now (target_of course.now.fence.now) (S.view seat.old) (S.view seat.new) lanes.old lanes.new }
 {
     for (index, lane) in lanes.iter_mut().enumerate() {
-        draw_lane(fence, gate, table, first + index, seat, lane);
+        draw_lane(course, first + index, seat, lane);
     }
 }
 
@@ -99,51 +103,48 @@ fn draw_lanes<L: Lane, G: Gate, S: Post>(
 #[cycle(range)]
 fn run_both<R: Threads + Sync, L: Lane, G: Gate, S: Post>(
     rt: &R,
-    fence: &Fence,
-    gate: &G,
-    table: &EventTable,
-    lower: &Part<'_>,
-    upper: &Part<'_>,
+    course: &Course<'_, G>,
+    halves: &(Part<'_>, Part<'_>),
     seat: &mut S,
     other: &mut S,
     lanes: &mut [L],
 )
-    requires seats { S.stands fence.now seat.old × S.stands fence.now other.old }
-    requires can { CanWork (crew_of fence.now) (length table.now.events) (S.view seat.old) × CanWork (crew_of fence.now) (length table.now.events) (S.view other.old) }
-    requires workers { ((S.view seat.old).share ≡ lower.now.workers) × ((S.view other.old).share ≡ upper.now.workers) }
-    requires parts { IsPart lower.now × IsPart upper.now }
-    requires owned { (lower.now.first_lane ≤ upper.now.first_lane) × (upper.now.first_lane ≤ lower.now.first_lane + length lanes.old) }
-    requires room { lower.now.first_lane + length lanes.old < 2 ^ 64 }
-    requires lanes { All (CanRun L.shown L.fits table.now (target_of fence.now)) lanes.old }
-    ensures seats { S.stands fence.now seat.new × S.stands fence.now other.new }
-    ensures lower { Worked L.shown L.fits table.now (target_of fence.now) (S.view seat.old) (S.view seat.new) (lower_lanes lower.now upper.now lanes.old) (lower_lanes lower.now upper.now lanes.new) }
-    ensures upper { Worked L.shown L.fits table.now (target_of fence.now) (S.view other.old) (S.view other.new) (upper_lanes lower.now upper.now lanes.old) (upper_lanes lower.now upper.now lanes.new) }
+    requires seats { S.stands course.now.fence.now seat.old × S.stands course.now.fence.now other.old }
+    requires can { CanWork (crew_of course.now.fence.now) (length course.now.table.now.events) (S.view seat.old) × CanWork (crew_of course.now.fence.now) (length course.now.table.now.events) (S.view other.old) }
+    requires workers { ((S.view seat.old).share ≡ halves.now.0.workers) × ((S.view other.old).share ≡ halves.now.1.workers) }
+    requires parts { IsPart halves.now.0 × IsPart halves.now.1 }
+    requires owned { (halves.now.0.first_lane ≤ halves.now.1.first_lane) × (halves.now.1.first_lane ≤ halves.now.0.first_lane + length lanes.old) }
+    requires room { halves.now.0.first_lane + length lanes.old < 2 ^ 64 }
+    requires fits { All (λ l. L.fits l course.now.table.now) lanes.old }
+    ensures seats { S.stands course.now.fence.now seat.new × S.stands course.now.fence.now other.new }
+    ensures lower { Worked L.shown L.fits course.now.table.now (target_of course.now.fence.now) (S.view seat.old) (S.view seat.new) (lower_lanes halves.now.0 halves.now.1 lanes.old) (lower_lanes halves.now.0 halves.now.1 lanes.new) }
+    ensures upper { Worked L.shown L.fits course.now.table.now (target_of course.now.fence.now) (S.view other.old) (S.view other.new) (upper_lanes halves.now.0 halves.now.1 lanes.old) (upper_lanes halves.now.0 halves.now.1 lanes.new) }
 {
-    let (front, back) = lanes.split_at_mut(upper.first_lane - lower.first_lane);
+    let (front, back) = lanes.split_at_mut(halves.1.first_lane - halves.0.first_lane);
     join_mut(
         rt,
         &mut ||
             requires threads { IsSync R.row × IsSend L.row × IsSync G.row × IsSend S.row }
-            requires seat { S.stands fence.now seat.now }
-            requires can { CanWork (crew_of fence.now) (length table.now.events) (S.view seat.now) }
-            requires workers { (S.view seat.now).share ≡ lower.now.workers }
-            requires part { IsPart lower.now }
-            requires room { lower.now.first_lane + length front.now < 2 ^ 64 }
-            requires lanes { All (CanRun L.shown L.fits table.now (target_of fence.now)) front.now }
-            ensures seat { S.stands fence.entry.now seat.exit.now }
-            ensures worked { Worked L.shown L.fits table.entry.now (target_of fence.entry.now) (S.view seat.entry.now) (S.view seat.exit.now) front.entry.now front.exit.now }
-        { run_range(rt, fence, gate, table, lower, seat, front) },
+            requires seat { S.stands course.now.fence.now seat.now }
+            requires can { CanWork (crew_of course.now.fence.now) (length course.now.table.now.events) (S.view seat.now) }
+            requires workers { (S.view seat.now).share ≡ halves.now.0.workers }
+            requires part { IsPart halves.now.0 }
+            requires room { halves.now.0.first_lane + length front.now < 2 ^ 64 }
+            requires fits { All (λ l. L.fits l course.now.table.now) front.now }
+            ensures seat { S.stands course.entry.now.fence.now seat.exit.now }
+            ensures worked { Worked L.shown L.fits course.entry.now.table.now (target_of course.entry.now.fence.now) (S.view seat.entry.now) (S.view seat.exit.now) front.entry.now front.exit.now }
+        { run_range(rt, course, &halves.0, seat, front) },
         &mut ||
             requires threads { IsSync R.row × IsSend L.row × IsSync G.row × IsSend S.row }
-            requires seat { S.stands fence.now other.now }
-            requires can { CanWork (crew_of fence.now) (length table.now.events) (S.view other.now) }
-            requires workers { (S.view other.now).share ≡ upper.now.workers }
-            requires part { IsPart upper.now }
-            requires room { upper.now.first_lane + length back.now < 2 ^ 64 }
-            requires lanes { All (CanRun L.shown L.fits table.now (target_of fence.now)) back.now }
-            ensures seat { S.stands fence.entry.now other.exit.now }
-            ensures worked { Worked L.shown L.fits table.entry.now (target_of fence.entry.now) (S.view other.entry.now) (S.view other.exit.now) back.entry.now back.exit.now }
-        { run_range(rt, fence, gate, table, upper, other, back) },
+            requires seat { S.stands course.now.fence.now other.now }
+            requires can { CanWork (crew_of course.now.fence.now) (length course.now.table.now.events) (S.view other.now) }
+            requires workers { (S.view other.now).share ≡ halves.now.1.workers }
+            requires part { IsPart halves.now.1 }
+            requires room { halves.now.1.first_lane + length back.now < 2 ^ 64 }
+            requires fits { All (λ l. L.fits l course.now.table.now) back.now }
+            ensures seat { S.stands course.entry.now.fence.now other.exit.now }
+            ensures worked { Worked L.shown L.fits course.entry.now.table.now (target_of course.entry.now.fence.now) (S.view other.entry.now) (S.view other.exit.now) back.entry.now back.exit.now }
+        { run_range(rt, course, &halves.1, other, back) },
     );
 }
 
@@ -151,32 +152,28 @@ fn run_both<R: Threads + Sync, L: Lane, G: Gate, S: Post>(
 #[cycle(range)]
 fn run_range<R: Threads + Sync, L: Lane, G: Gate, S: Post>(
     rt: &R,
-    fence: &Fence,
-    gate: &G,
-    table: &EventTable,
+    course: &Course<'_, G>,
     part: &Part<'_>,
     seat: &mut S,
     lanes: &mut [L],
 )
-    requires seat { S.stands fence.now seat.old }
-    requires can { CanWork (crew_of fence.now) (length table.now.events) (S.view seat.old) }
+    requires seat { S.stands course.now.fence.now seat.old }
+    requires can { CanWork (crew_of course.now.fence.now) (length course.now.table.now.events) (S.view seat.old) }
     requires workers { (S.view seat.old).share ≡ part.now.workers }
     requires part { IsPart part.now }
     requires room { part.now.first_lane + length lanes.old < 2 ^ 64 }
-    requires lanes { All (CanRun L.shown L.fits table.now (target_of fence.now)) lanes.old }
-    ensures seat { S.stands fence.now seat.new }
-    ensures worked { Worked L.shown L.fits table.now (target_of fence.now) (S.view seat.old) (S.view seat.new) lanes.old lanes.new }
+    requires fits { All (λ l. L.fits l course.now.table.now) lanes.old }
+    ensures seat { S.stands course.now.fence.now seat.new }
+    ensures worked { Worked L.shown L.fits course.now.table.now (target_of course.now.fence.now) (S.view seat.old) (S.view seat.new) lanes.old lanes.new }
 {
     if part.workers < 2 || lanes.len() < 2 {
-        draw_lanes(fence, gate, table, part.first_lane, seat, lanes);
+        draw_lanes(course, part.first_lane, seat, lanes);
         return;
     }
-    let (lower, upper) = part.halves(lanes.len());
-    let mut other = seat.split(fence);
-    run_both(
-        rt, fence, gate, table, &lower, &upper, seat, &mut other, lanes,
-    );
-    seat.join(fence, other);
+    let halves = part.halves(lanes.len());
+    let mut other = seat.split(course.fence);
+    run_both(rt, course, &halves, seat, &mut other, lanes);
+    seat.join(course.fence, other);
 }
 
 /// Takes one lane back over its last event and what can be passed with it, to this position at most.
@@ -194,7 +191,7 @@ fn step_back<L: Lane>(lane: &mut L, to: u32)
 }
 
 /// Takes one lane back to a position.
-fn take_back<L: Lane>(lane: &mut L, to: u32)
+pub fn take_back<L: Lane>(lane: &mut L, to: u32)
     requires { to ≤ position (L.shown lane.old).history }
     ensures moved { L.shown lane.new ≡ gone_back_to to (L.shown lane.old) }
     ensures fits { (table : Table) → L.fits lane.old table → L.fits lane.new table }
@@ -215,9 +212,10 @@ pub fn run_back<L: Lane>(lanes: &mut [L], to: u32)
     }
 }
 
-/// Takes all lanes, which stand at one position, forward to the target, each worker those from the lane of its own number in `firsts` up to the next
-/// worker's first one. Where `firsts` has no lane for a worker, or one that lies among another worker's, the lanes are shared out by the workers that are left.
-/// Where a lane refuses, all lanes end at the least position at which one refused. An `Err` says that there was no memory for the fence; then no lane has moved.
+/// Takes all lanes forward to the target, each worker those from the lane of its own number in `firsts` up to the next worker's first one. Where `firsts`
+/// has no lane for a worker, or one that lies among another worker's, the lanes are shared out by the workers that are left. A lane that stands above the
+/// target stays there. Where a lane refuses, all lanes end at the least position at which one refused, those above it too. An `Err` says that there was no
+/// memory for the fence; then no lane has moved.
 ///
 /// So it ends for every number of workers, however the lanes are shared out, and every schedule. Which lanes refuse may differ from run to run, as memory may.
 /// The bound is `Threads` without `Wait`: nothing waits but the join of a thread, so the call returns if the lanes and the gate do.
@@ -231,26 +229,29 @@ pub fn run_shared<R: Threads + Sync, L: Lane, G: Gate>(
     firsts: &[usize],
     gate: &G,
 ) -> Result<Outcome, AllocError>
-    requires together { All (λ l. position (L.shown l).history ≡ opening_position (map L.shown lanes.old)) lanes.old }
-    requires target { (opening_position (map L.shown lanes.old) ≤ target) × (target ≤ length table.now.events) }
+    requires target { target ≤ length table.now.events }
     requires workers { (1 ≤ workers) × (workers ≤ 64) }
     requires fits { All (λ l. L.fits l table.now) lanes.old }
-    ensures ended { MatchResult result (λ outcome. EndsAs L.shown table.now target lanes.old lanes.new outcome) (λ _. lanes.new ≡ lanes.old) }
+    ensures ended { MatchResult result (λ outcome. EndsApart L.shown table.now target lanes.old lanes.new outcome) (λ _. lanes.new ≡ lanes.old) }
     ensures fits { All (λ l. L.fits l table.now) lanes.new }
 {
     let (fence, mut seat) = Fence::raise(alloc, target, workers)?;
     let part = Part::whole(workers, firsts);
-    run_range(rt, &fence, gate, table, &part, &mut seat, lanes);
+    let course = Course {
+        fence: &fence,
+        gate,
+        table,
+    };
+    run_range(rt, &course, &part, &mut seat, lanes);
     let at = fence.close(seat) as u32;
+    if at == target {
+        return Ok(Outcome::Reached);
+    }
     run_back(lanes, at);
-    Ok(if at == target {
-        Outcome::Reached
-    } else {
-        Outcome::Stopped { at }
-    })
+    Ok(Outcome::Stopped { at })
 }
 
-/// The same with the lanes shared out evenly: each worker owns as many as any other, or one more.
+/// The same of lanes that all stand at one position, shared out evenly: each worker owns as many as any other, or one more.
 pub fn run_forward<R: Threads + Sync, L: Lane, G: Gate>(
     rt: &R,
     alloc: Global,

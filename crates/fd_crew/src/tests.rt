@@ -2,7 +2,7 @@
 ghost use Rattle.std.specs.Prelude.{◌≡◌, ◌≤◌, length, IfOk};
 ghost use Rattle.fd_owner.specs.History.{position};
 
-use crate::{Free, Gate, Lane, Outcome, run_back, run_forward, run_shared};
+use crate::{Free, Gate, Lane, Outcome, run_back, run_forward, run_shared, take_back};
 use fd_blend::Colour;
 use fd_events::{Event, EventTable, Label};
 use fd_owner::{Owner, Refused};
@@ -340,6 +340,23 @@ fn all_go<R: Threads + Sync + Abort>(
     let outcome = run_shared(rt, alloc, &mut lanes, table, 9, 3, firsts, &Free)?;
     assert!(rt; outcome == Outcome::Stopped { at: 3 });
     assert!(rt; lanes.iter().all(|lane| lane.position == 3));
+    Ok(())
+}
+
+/// Of three lanes one stands above the target. There it stays, until another one refuses below it.
+#[test]
+fn lanes_may_begin_apart(rt: HostRuntime) -> Result<(), Fail> {
+    let table = markers(rt.alloc(), 9)?;
+    let mut lanes = [Fake::new(None), Fake::new(Some(6)), Fake::new(None)];
+    lanes[2].position = 7;
+    let outcome = run_shared(&rt, rt.alloc(), &mut lanes, &table, 3, 2, &[], &Free)?;
+    assert!(rt; outcome == Outcome::Reached);
+    assert!(rt; lanes[0].position == 3 && lanes[1].position == 3 && lanes[2].position == 7);
+    let outcome = run_shared(&rt, rt.alloc(), &mut lanes, &table, 9, 2, &[], &Free)?;
+    assert!(rt; outcome == Outcome::Stopped { at: 5 });
+    assert!(rt; lanes.iter().all(|lane| lane.position == 5));
+    take_back(&mut lanes[0], 2);
+    assert!(rt; lanes[0].position == 2 && lanes[1].position == 5);
     Ok(())
 }
 

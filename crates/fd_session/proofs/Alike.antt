@@ -10,15 +10,18 @@ use Rattle.fd_owner.proofs.Histories.{extend_none}
 use Rattle.fd_owner.proofs.Drawn.{position_drawn, drawn_more}
 
 module _ (old new : Table) (place : Place) (to : ℕ)
-    (same : (k x y : ℕ) (before : Pixel) → k < to → Holds place x y → (pixel_past old k x y before ≡ pixel_past new k x y before) × (kept_past old k x y before ≡ kept_past new k x y before)) where
+    (same : (k x y : ℕ) (before : Pixel) → k < to → Holds place x y → (pixel_past old k x y before ≡ pixel_past new k x y before)
+    × (kept_past old k x y before ≡ kept_past new k x y before)) where
   frame_same : (k : ℕ) (image : List (List Pixel)) → k < to → frame_after old place k image ≡ frame_after new place k image
   unfolding frame_after
   frame_same k image below =
       let frame : List (List Pixel) → List (List (List Pixel)) → Frame = λ rows kept. record { image = rows; kept = kept } in
       let pixel : Table → ℕ → ℕ → Pixel = λ table x y. pixel_past table k x y (pixel_in place image x y) in
       let kept : Table → ℕ → ℕ → List Pixel = λ table x y. kept_past table k x y (pixel_in place image x y) in
-      ap (λ (rows : List (List Pixel)). frame rows (over_place place (kept old))) (over_place_same place (pixel old) (pixel new) (λ x y held. (same k x y (pixel_in place image x y) below held).0))
-      ∙ ap (frame (over_place place (pixel new))) (over_place_same place (kept old) (kept new) (λ x y held. (same k x y (pixel_in place image x y) below held).1))
+      ap (λ (rows : List (List Pixel)). frame rows (over_place place (kept old)))
+      (over_place_same place (pixel old) (pixel new) (λ x y held. (same k x y (pixel_in place image x y) below held).0))
+      ∙ ap (frame (over_place place (pixel new))) (over_place_same place (kept old) (kept new)
+      (λ x y held. (same k x y (pixel_in place image x y) below held).1))
 
   extend_same : (h : History) → position h < to → extend old place h ≡ extend new place h
   unfolding extend

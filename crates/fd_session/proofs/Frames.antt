@@ -1,5 +1,7 @@
 -- The histories that a table's events give, and what the moves of all owners leave of them.
-use Rattle.std.proofs.Common.{◌≡◌, ℕ, zero, suc, ◌+◌, ◌-◌, ◌*◌, ◌/◌, ◌<◌, ◌≤◌, List, [], ◌∷◌, ◌++◌, length, map, get_or, refl, sym, ap, ◌∙◌, subst, arith, All}
+use Rattle.std.proofs.Common.{◌≡◌, ℕ, zero, suc, ◌+◌, ◌-◌, ◌*◌, ◌/◌, ◌<◌, ◌≤◌, List, [], ◌∷◌, ◌++◌, length, map, get_or, refl, sym, ap, ◌∙◌, subst, arith}
+use Rattle.std.proofs.Common.{inl, inr, All}
+use Rattle.std.proofs.lemmas.Bool.{cases_lt}
 use Rattle.std.specs.List.{AllZip, range_with_len}
 use Rattle.std.proofs.lemmas.List.{length-map, get_or-map, map_push}
 use Rattle.std.proofs.lemmas.List.FromFn.{length-map-range_with_len, get_or-map-range_with_len, map-range_with_len_more}
@@ -20,13 +22,15 @@ use Rattle.fd_owner.proofs.Pictures.{map_mapped, row_in-over_place}
 use Rattle.fd_owner.proofs.Histories.{extend_none, first_extend_to}
 use Rattle.std.proofs.Common.{take, drop}
 use Rattle.fd_session.specs.Machine.{State, at_position, Jumps}
-use Rattle.std.proofs.lemmas.List.{append-nil, drop_all, take_all, length-drop}
+use Rattle.std.proofs.lemmas.List.{append-nil, drop_all, take_all, take_more, length-drop}
 use Rattle.std.specs.Prelude.{Result, Ok, Err, MatchResult, None}
 use Rattle.fd_crew.specs.declared.crew.Outcome.{Outcome}
 use Rattle.fd_crew.specs.declared.crew.Outcome.TheVariants.{Reached, Stopped}
-use Rattle.fd_crew.specs.Lanes.{opening_position, GoneTo, IsQuiet, RefusedNoLower, EndsAs}
-use Rattle.fd_session.specs.Held.{StandsAt, places_of, first_places, HoldsFrame, size_of}
-use Rattle.fd_session.specs.Moves.{IsLeftAt, IsFresh, IsFreshOwner, GoesOn, jump_answer}
+use Rattle.fd_crew.specs.Lanes.{opening_position, GoneTo, StandsOn, CameTo, RefusedAt, IsQuiet, RefusedNoLower, EndsApart}
+use Rattle.fd_crew.proofs.Ending.{any_first, came_further}
+use Rattle.fd_session.specs.Held.{StandsAt, places_of, first_places, size_of, HoldsAll, IsLeft, HoldsFrame, IsLeftAt}
+use Rattle.fd_session.specs.Drawing.{ShowsAt}
+use Rattle.fd_session.specs.Moves.{IsFresh, IsFreshOwner, StandsFrom, IsLeftFrom, GoesOn, left_position, StopsBetween, jump_answer}
 
 -- ---- one place
 
@@ -46,7 +50,8 @@ row_part f left width x row is from to =
     ∙ ap (drop (x - left)) is
     ∙ drop_range f left width (x - left) x (left + width - x) (omega (arith, from)) (omega (arith, from, to))
 
-extend_by_more : (table : Table) (place : Place) (more count : ℕ) (h : History) → extend_by table place more (extend_by table place count h) ≡ extend_by table place (more + count) h
+extend_by_more : (table : Table) (place : Place) (more count : ℕ) (h : History)
+    → extend_by table place more (extend_by table place count h) ≡ extend_by table place (more + count) h
 extend_by_more table place zero count h = let e : zero + count ≡ count = omega arith in ap (λ n. extend_by table place n h) (sym e)
 extend_by_more table place (suc more) count h =
     let e : suc more + count ≡ suc (more + count) = omega arith in
@@ -66,7 +71,8 @@ at_less table place k to le = first_extend_to table place to k (fresh_history pl
 pub position_stands : (table : Table) (k : ℕ) (o : Shown) → StandsAt table k o → position o.history ≡ k
 position_stands table k o at = ap position at.history ∙ position_drawn table o.place k
 
-pub all_together : (table : Table) (owners : List Shown) → All (StandsAt table (opening_position owners)) owners → All (λ o. position o.history ≡ opening_position owners) owners
+pub all_together : (table : Table) (owners : List Shown) → All (StandsAt table (opening_position owners)) owners
+    → All (λ o. position o.history ≡ opening_position owners) owners
 all_together table owners at k d below = position_stands table (opening_position owners) (get_or owners k d) (at k d below)
 
 stands_further : (table : Table) (k to : ℕ) (o p : Shown) → StandsAt table k o → GoneTo table to o p → StandsAt table to p
@@ -87,51 +93,114 @@ stands_less table k to o p le at gone =
       inside = subst (λ (q : Place). IsInside q table) (sym placed) at.inside;
     }
 
+-- ---- one owner that stands from a position on
+no_further : (table : Table) (place : Place) (to : ℕ) (h : History) → to ≤ position h → extend_to table place to h ≡ h
+no_further table place to h le = let none : to - position h ≡ 0 = omega (arith, le) in ap (λ (n : ℕ). extend_by table place n h) none
+
+from_stands : (table : Table) (low : ℕ) (o : Shown) → StandsFrom table low o → StandsAt table (position o.history) o
+from_stands table low o from = record { history = from.history; inside = from.inside }
+
+pub stands_from : (table : Table) (low k : ℕ) (o : Shown) → low ≤ k → StandsAt table k o → StandsFrom table low o
+stands_from table low k o le at =
+    let there : position o.history ≡ k = position_stands table k o at in
+    record { history = at.history ∙ ap (drawn_history table o.place) (sym there); inside = at.inside; above = omega (arith, there, le) }
+
+-- it went on, or stays
+from_on : (table : Table) (low to : ℕ) (o p : Shown) → StandsFrom table low o → StandsOn table to o p → StandsFrom table to p
+from_on table low to o p from on =
+    elim (cases_lt to (position o.history)) [
+      | inl below ↦
+          let same : p.history ≡ o.history = on.history ∙ no_further table o.place to o.history (omega (arith, below)) in
+          stands_from table to (position o.history) p (omega (arith, below)) (record {
+            history = same ∙ from.history ∙ ap (λ (q : Place). drawn_history table q (position o.history)) (sym on.place);
+            inside = subst (λ (q : Place). IsInside q table) (sym on.place) from.inside;
+          })
+      | inr above ↦ stands_from table to to p (omega arith) (stands_further table (position o.history) to o p (from_stands table low o from)
+          (record { place = on.place; history = on.history; after = above }))
+    ]
+
+-- it came to a position
+from_came : (table : Table) (low to : ℕ) (o p : Shown) → StandsFrom table low o → CameTo table to o p → StandsFrom table to p
+from_came table low to o p from came =
+    elim (cases_lt to (position o.history)) [
+      | inl below ↦
+          let drawn : History = drawn_history table o.place (position o.history) in
+          stands_from table to to p (omega arith) (record {
+            history = came.history ∙ ap (first_frames to) (no_further table o.place to o.history (omega (arith, below)) ∙ from.history)
+                ∙ at_less table o.place (position o.history) to (omega (arith, below))
+                ∙ ap (λ (q : Place). drawn_history table q to) (sym came.place);
+            inside = subst (λ (q : Place). IsInside q table) (sym came.place) from.inside;
+          })
+      | inr above ↦ stands_from table to to p (omega arith) (stands_further table (position o.history) to o p (from_stands table low o from)
+          (came_further table to o p above came))
+    ]
+
+-- it goes back to that position
+from_back : (table : Table) (low : ℕ) (o p : Shown) → StandsFrom table low o → p ≡ gone_back_to low o → (p.place ≡ o.place) × StandsAt table low p
+from_back table low o p from gone = (
+  ap (λ (s : Shown). s.place) gone,
+  stands_less table (position o.history) low o p from.above
+      (from_stands table low o from) gone,
+)
+
 -- ---- all owners
-pub opening_same : (owners : List Shown) → opening_position (map (λ o. o) owners) ≡ opening_position owners
-opening_same [] = refl
-opening_same (o ∷ owners) = refl
 
--- a relation of owners that moves one of them to a position moves all
-module _ (R : Shown → Shown → Type 0) (table : Table) (k to : ℕ) (step : (o p : Shown) → StandsAt table k o → R o p → (p.place ≡ o.place) × StandsAt table to p) where
-  pub left_at : (old new : List Shown) → All (StandsAt table k) old → AllZip R old new → IsLeftAt table to old new
-  left_at [] [] at moved = record { places = refl; stand = All-nil (StandsAt table to) }
-  left_at [] (p ∷ new) at moved = absurd moved
-  left_at (o ∷ old) [] at moved = absurd moved
-  left_at (o ∷ old) (p ∷ new) at moved =
-      let here = step o p (All-head (StandsAt table k) o old at) moved.0 in
-      let rest = left_at old new (All-tail (StandsAt table k) o old at) moved.1 in
-      record {
-        places = ap (λ (q : Place). q ∷ places_of new) here.0 ∙ ap (λ (l : List Place). o.place ∷ l) rest.places;
-        stand = All-cons (StandsAt table to) p new here.1 rest.stand;
-      }
+-- a relation that moves each owner moves all
+module _ (P Q : Shown → Type 0) (R : Shown → Shown → Type 0) (step : (o p : Shown) → P o → R o p → (p.place ≡ o.place) × Q p) where
+  pub all_moved : (old new : List Shown) → All P old → AllZip R old new → (places_of new ≡ places_of old) × All Q new
+  all_moved [] [] at gone = (refl, All-nil Q)
+  all_moved [] (p ∷ new) at gone = absurd gone
+  all_moved (o ∷ old) [] at gone = absurd gone
+  all_moved (o ∷ old) (p ∷ new) at gone =
+      let here = step o p (All-head P o old at) gone.0 in
+      let rest = all_moved old new (All-tail P o old at) gone.1 in
+      (ap (λ (q : Place). q ∷ places_of new) here.0 ∙ ap (λ (l : List Place). o.place ∷ l) rest.0, All-cons Q p new here.1 rest.1)
 
-pub left_further : (S : Shown → Shown → Type 0) (table : Table) (k to : ℕ) (old new : List Shown) → All (StandsAt table k) old → AllZip (λ o p. GoneTo table to o p × S o p) old new → IsLeftAt table to old new
-left_further S table k to old new at moved =
-    left_at (λ o p. GoneTo table to o p × S o p) table k to (λ o p stood gone. (gone.0.place, stands_further table k to o p stood gone.0)) old new at moved
-
-pub left_less : (table : Table) (k to : ℕ) (old new : List Shown) → to ≤ k → All (StandsAt table k) old → AllZip (λ o p. p ≡ gone_back_to to o) old new → IsLeftAt table to old new
+pub left_less : (table : Table) (k to : ℕ) (old new : List Shown) → to ≤ k → All (StandsAt table k) old → AllZip (λ o p. p ≡ gone_back_to to o) old new
+    → IsLeftAt table to old new
 left_less table k to old new le at moved =
-    left_at (λ o p. p ≡ gone_back_to to o) table k to (λ o p stood gone. (ap (λ (s : Shown). s.place) gone, stands_less table k to o p le stood gone)) old new at moved
+    let all = all_moved (StandsAt table k) (StandsAt table to) (λ o p. p ≡ gone_back_to to o)
+    (λ o p stood gone. (ap (λ (s : Shown). s.place) gone, stands_less table k to o p le stood gone)) old new at moved in
+    record { places = all.0; stand = all.1 }
 
--- the least position of a crew that moved is no less than where it opened
-pub opening_moved : (S : Shown → Shown → Type 0) (table : Table) (to : ℕ) (old new : List Shown) → AllZip (λ o p. GoneTo table to o p × S o p) old new → opening_position old ≤ to
-opening_moved S table to [] new moved = omega arith
-opening_moved S table to (o ∷ old) [] moved = absurd moved
-opening_moved S table to (o ∷ old) (p ∷ new) moved = moved.0.0.after
+pub all_from : (table : Table) (k : ℕ) (owners : List Shown) → All (StandsAt table k) owners → All (StandsFrom table k) owners
+all_from table k owners at n d below = stands_from table k k (get_or owners n d) (omega arith) (at n d below)
 
--- where all stand is where the first stands
-pub opening_stands : (table : Table) (k : ℕ) (owners : List Shown) → 0 < length owners → All (StandsAt table k) owners → opening_position owners ≡ k
-opening_stands table k [] some at = absurd (omega arith)
-opening_stands table k (o ∷ owners) some at = position_stands table k o (All-head (StandsAt table k) o owners at)
+-- one owner more stands no lower
+pub all_more : (owners : List Shown) (i : ℕ) (o : Shown) (was low : ℕ) → i < length owners → o ≡ get_or owners i o → low ≤ was → low ≤ position o.history
+    → All (λ (p : Shown). was ≤ position p.history) (take i owners) → All (λ (p : Shown). low ≤ position p.history) (take (i + 1) owners)
+all_more owners i o was low below is less here all =
+    let P : Shown → Type 0 = λ p. low ≤ position p.history in
+    subst (All P) (sym (take_more owners i o below))
+    (All-push P (take i owners) (get_or owners i o) (λ n d within. omega (arith, less, all n d within)) (subst P is here))
+
+pub all_from_lowest : (table : Table) (low lowest : ℕ) (owners : List Shown) → All (StandsFrom table low) owners
+    → All (λ (o : Shown). lowest ≤ position o.history) owners → All (StandsFrom table lowest) owners
+all_from_lowest table low lowest owners from above n d below =
+    let stands = from n d below in
+    record { history = stands.history; inside = stands.inside; above = above n d below }
+
+-- the owners that none is left lower than a position go back to it
+pub left_down : (table : Table) (low : ℕ) (old between new : List Shown) → IsLeftFrom table low old between
+    → AllZip (λ o p. p ≡ gone_back_to low o) between new → IsLeftAt table low old new
+left_down table low old between new from gone =
+    let all = all_moved (StandsFrom table low) (StandsAt table low) (λ o p. p ≡ gone_back_to low o) (from_back table low) between new from.stand gone in
+    record { places = all.0 ∙ from.places; stand = all.1 }
 
 -- how a run of the crew ends
-pub run_ends : {E : Type 0} (table : Table) (to : ℕ) (old new : List Shown) (r : Result Outcome E) → All (StandsAt table (opening_position old)) old
-    → MatchResult r (λ outcome. EndsAs (λ o. o) table to old new outcome) (λ _. new ≡ old) → MatchResult r (λ outcome. GoesOn table to old new outcome) (λ _. new ≡ old)
-run_ends table to old new (Ok Reached) at ended = left_further IsQuiet table (opening_position old) to old new at ended
-run_ends table to old new (Ok (Stopped stop)) at ended =
-    (opening_moved (RefusedNoLower stop) table stop old new ended.1, ended.0, left_further (RefusedNoLower stop) table (opening_position old) stop old new at ended.1)
-run_ends table to old new (Err e) at ended = ended
+pub run_goes : {E : Type 0} (table : Table) (from to : ℕ) (old new : List Shown) (r : Result Outcome E) → All (StandsFrom table from) old
+    → MatchResult r (λ outcome. EndsApart (λ o. o) table to old new outcome) (λ _. new ≡ old)
+    → MatchResult r (λ outcome. GoesOn table from to old new outcome) (λ _. new ≡ old)
+run_goes table from to old new (Ok Reached) at ended =
+    let all = all_moved (StandsFrom table from) (StandsFrom table to) (λ o p. StandsOn table to o p × IsQuiet o p)
+    (λ o p s e. (e.0.place, from_on table from to o p s e.0)) old new at ended in
+    record { places = all.0; stand = all.1 }
+run_goes table from to old new (Ok (Stopped stop)) at ended =
+    let low : from ≤ stop = any_first (RefusedAt stop) (StandsFrom table from) (from ≤ stop) (λ o p s r. omega (arith, s.above, r.after)) old new at ended.2 in
+    let all = all_moved (StandsFrom table from) (StandsFrom table stop) (λ o p. CameTo table stop o p × RefusedNoLower stop o p)
+    (λ o p s e. (e.0.place, from_came table from stop o p s e.0)) old new at ended.1 in
+    (low, ended.0, record { places = all.0; stand = all.1 })
+run_goes table from to old new (Err e) at ended = ended
 
 -- ---- fresh owners
 pixels_painted : (p : Place) (f : ℕ → ℕ → Pixel) → pixels_of (painted p f) ≡ over_place p f
@@ -174,8 +243,74 @@ opening_fresh : (table : Table) (owners : List Shown) → All (StandsAt table 0)
 opening_fresh table [] at = refl
 opening_fresh table (o ∷ owners) at = position_stands table 0 o (All-head (StandsAt table 0) o owners at)
 
+-- ---- an owner for each tile
+pub count_placed : (size : TargetSize) (owners : List Shown) → places_of owners ≡ first_places size (tile_count size) → length owners ≡ tile_count size
+count_placed size owners places = sym (length-map owners (λ (o : Shown). o.place)) ∙ ap length places
+    ∙ length-map-range_with_len (place_of size) 0 (tile_count size)
+
+some_tiles : (a b : ℕ) → 1 ≤ a → 1 ≤ b → 0 < (a + 31) / 32 * ((b + 31) / 32)
+some_tiles a b wide high =
+    let across : 1 ≤ (a + 31) / 32 = omega arith in
+    let down : 1 ≤ (b + 31) / 32 = omega arith in
+    grind arith
+
+module _ (At : Table → ℕ → Shown → Type 0) (at_position : (table : Table) (k : ℕ) (o : Shown) → At table k o → position o.history ≡ k) where
+  -- where all stand is where the first stands
+  pub opening_at : (table : Table) (k : ℕ) (owners : List Shown) → 0 < length owners → All (At table k) owners → opening_position owners ≡ k
+  opening_at table k [] some at = absurd (omega arith)
+  opening_at table k (o ∷ owners) some at = at_position table k o (All-head (At table k) o owners at)
+
+  module _ (table : Table) (size : TargetSize) (owners : List Shown) (workers : ℕ) (held : HoldsAll At table size owners workers) where
+    some_held : 0 < length owners
+    some_held =
+        let wide : 1 ≤ size.width = omega (arith, held.valid.min_width, ap (λ (s : TargetSize). s.width) held.sized) in
+        let high : 1 ≤ size.height = omega (arith, held.valid.min_height, ap (λ (s : TargetSize). s.height) held.sized) in
+        omega (arith, count_placed size owners held.places, some_tiles size.width size.height wide high)
+
+    -- the owners that were lent, and left at a position of a table on the same target
+    module _ (after : Table) (valid : IsTable after) (sized : size ≡ size_of after) (n k : ℕ) (new : List Shown) (all : n ≡ length owners)
+        (le : k ≤ length after.events) (left : IsLeft At after k owners new) where
+      same_count : length new ≡ length owners
+      same_count = sym (length-map new (λ (o : Shown). o.place)) ∙ ap length left.places ∙ length-map owners (λ (o : Shown). o.place)
+
+      given_back : take n (new ++ drop (length new) owners) ≡ new
+      given_back =
+          ap (λ (l : List Shown). take n (new ++ l)) (drop_all (length new) owners (omega (arith, same_count)))
+          ∙ ap (λ (l : List Shown). take n l) (append-nil new) ∙ take_all n new (omega (arith, same_count, all))
+
+      opening_left : opening_position new ≡ k
+      opening_left = opening_at after k new (omega (arith, same_count, some_held)) left.stand
+
+      pub position_left : opening_position (take n (new ++ drop (length new) owners)) ≡ k
+      position_left = ap opening_position given_back ∙ opening_left
+
+      pub held_left : HoldsAll At after size (take n (new ++ drop (length new) owners)) workers
+      held_left = record {
+        valid = valid;
+        sized = sized;
+        places = ap places_of given_back ∙ left.places ∙ held.places;
+        stand = subst (λ (l : List Shown). All (At after (opening_position l)) l) (sym given_back)
+            (subst (λ (j : ℕ). All (At after j) new) (sym opening_left) left.stand);
+        reached = omega (arith, position_left, le);
+        crewed = held.crewed;
+      }
+
+-- the owner of tile n
+module _ (size : TargetSize) (owners : List Shown) (places : places_of owners ≡ first_places size (tile_count size)) (n : ℕ) (o : Shown)
+    (within : n < tile_count size) (is : o ≡ get_or owners n o) where
+  pub owner_placed : o.place ≡ place_of size n
+  owner_placed =
+      ap (λ (s : Shown). s.place) is
+      ∙ sym (get_or-map (λ (s : Shown). s.place) owners n o (place_of size n) (omega (arith, count_placed size owners places, within)))
+      ∙ ap (λ (l : List Place). get_or l n (place_of size n)) places
+      ∙ get_or-map-range_with_len (place_of size) 0 (tile_count size) n n (place_of size n) within (omega arith)
+
+  pub owner_at : (P : Shown → Type 0) → All P owners → P o
+  owner_at P each = subst P (sym is) (All-get_or P owners n o (omega (arith, count_placed size owners places, within)) each)
+
 -- ---- what a session holds
-pub held_start : (table : Table) (size : TargetSize) (owners : List Shown) (workers : ℕ) → IsTable table → size ≡ size_of table → IsFresh size (tile_count size) owners → (1 ≤ workers) × (workers ≤ 64)
+pub held_start : (table : Table) (size : TargetSize) (owners : List Shown) (workers : ℕ) → IsTable table → size ≡ size_of table
+    → IsFresh size (tile_count size) owners → (1 ≤ workers) × (workers ≤ 64)
     → (opening_position owners ≡ 0) × HoldsFrame table size owners workers
 held_start table size owners workers valid sized fresh crewed =
     let stand : All (StandsAt table 0) owners = fresh_stands table owners (subst (λ (s : TargetSize). All (IsFreshOwner s) owners) sized fresh.fresh) in
@@ -191,66 +326,16 @@ held_start table size owners workers valid sized fresh crewed =
       },
     )
 
-pub some_tiles : (a b : ℕ) → 1 ≤ a → 1 ≤ b → 0 < (a + 31) / 32 * ((b + 31) / 32)
-some_tiles a b wide high =
-    let across : 1 ≤ (a + 31) / 32 = omega arith in
-    let down : 1 ≤ (b + 31) / 32 = omega arith in
-    grind arith
-
-module _ (table : Table) (size : TargetSize) (owners : List Shown) (workers : ℕ) (held : HoldsFrame table size owners workers) where
-  pub count_held : length owners ≡ tile_count size
-  count_held =
-      sym (length-map owners (λ (o : Shown). o.place)) ∙ ap length held.places ∙ length-map-range_with_len (place_of size) 0 (tile_count size)
-
-  pub some_held : 0 < length owners
-  some_held =
-      let wide : 1 ≤ size.width = omega (arith, held.valid.min_width, ap (λ (s : TargetSize). s.width) held.sized) in
-      let high : 1 ≤ size.height = omega (arith, held.valid.min_height, ap (λ (s : TargetSize). s.height) held.sized) in
-      omega (arith, count_held, some_tiles size.width size.height wide high)
-
-  -- the owners that were lent and left at a position
-  module _ (n k : ℕ) (new : List Shown) (all : n ≡ length owners) (le : k ≤ length table.events) (left : IsLeftAt table k owners new) where
-    same_count : length new ≡ length owners
-    same_count = sym (length-map new (λ (o : Shown). o.place)) ∙ ap length left.places ∙ length-map owners (λ (o : Shown). o.place)
-
-    given_back : take n (new ++ drop (length new) owners) ≡ new
-    given_back =
-        ap (λ (l : List Shown). take n (new ++ l)) (drop_all (length new) owners (omega (arith, same_count)))
-        ∙ ap (λ (l : List Shown). take n l) (append-nil new) ∙ take_all n new (omega (arith, same_count))
-
-    pub position_left : opening_position (take n (new ++ drop (length new) owners)) ≡ k
-    position_left = ap opening_position given_back ∙ opening_stands table k new (omega (arith, same_count, some_held)) left.stand
-
-    pub held_left : HoldsFrame table size (take n (new ++ drop (length new) owners)) workers
-    held_left = record {
-      valid = held.valid;
-      sized = held.sized;
-      places = ap places_of given_back ∙ left.places ∙ held.places;
-      stand = subst (λ (l : List Shown). All (StandsAt table (opening_position l)) l) (sym given_back)
-          (subst (λ (j : ℕ). All (StandsAt table j) new) (sym (opening_stands table k new (omega (arith, same_count, some_held)) left.stand)) left.stand);
-      reached = omega (arith, position_left);
-      crewed = held.crewed;
-    }
-
-  -- the owner of tile n
-  module _ (n : ℕ) (o : Shown) (within : n < tile_count size) (is : o ≡ get_or owners n o) where
-    pub owner_placed : o.place ≡ place_of size n
-    owner_placed =
-        ap (λ (s : Shown). s.place) is
-        ∙ sym (get_or-map (λ (s : Shown). s.place) owners n o (place_of size n) (omega (arith, count_held)))
-        ∙ ap (λ (l : List Place). get_or l n (place_of size n)) held.places
-        ∙ get_or-map-range_with_len (place_of size) 0 (tile_count size) n n (place_of size n) within (omega arith)
-
-    pub owner_stands : StandsAt table (opening_position owners) o
-    owner_stands =
-        let k : ℕ = opening_position owners in
-        subst (λ (s : Shown). StandsAt table k s) (sym is) (All-get_or (StandsAt table k) owners n o (omega (arith, count_held)) held.stand)
-
 -- ---- what an owner shows
-module _ (table : Table) (k : ℕ) (o : Shown) (x y : ℕ) (stands : StandsAt table k o) (holds : Holds o.place x y) where
+
+-- one that stands at a position shows it
+pub shows_stands : (table : Table) (k : ℕ) (o : Shown) → StandsAt table k o → ShowsAt table k o
+shows_stands table k o at = record { position = position_stands table k o at; image = ap last_image at.history; inside = at.inside }
+
+module _ (table : Table) (k : ℕ) (o : Shown) (x y : ℕ) (shows : ShowsAt table k o) (holds : Holds o.place x y) where
   pub owner_shows : pixel_in o.place (last_image o.history) x y ≡ pixel_at table k x y
   owner_shows =
-      ap (λ (h : History). pixel_in o.place (last_image h) x y) stands.history
+      ap (λ (rows : List (List Pixel)). pixel_in o.place rows x y) shows.image
       ∙ pixel_drawn table o.place k x y holds
 
   -- a row of its tile, and the part of it from column x on
@@ -258,39 +343,33 @@ module _ (table : Table) (k : ℕ) (o : Shown) (x y : ℕ) (stands : StandsAt ta
     row_shows : row ≡ map (λ column. colour_at table k column y) (range_with_len o.place.left o.place.width)
     row_shows =
         read
-        ∙ ap (λ (h : History). map (λ (q : Pixel). q.0) (row_in o.place (last_image h) y)) stands.history
-        ∙ ap (λ (rows : List (List Pixel)). map (λ (q : Pixel). q.0) (row_in o.place rows y)) (last_drawn table o.place k)
+        ∙ ap (λ (rows : List (List Pixel)). map (λ (q : Pixel). q.0) (row_in o.place rows y)) (shows.image ∙ last_drawn table o.place k)
         ∙ ap (map (λ (q : Pixel). q.0)) (row_in-over_place o.place (λ a b. pixel_at table k a b) y (HasRow-from_Holds o.place x y holds))
         ∙ map_mapped (λ column. pixel_at table k column y) (λ (q : Pixel). q.0) (range_with_len o.place.left o.place.width)
 
     pub part_within : x - left ≤ length row
     part_within =
-        let long : length row ≡ o.place.width = ap length row_shows ∙ length-map-range_with_len (λ column. colour_at table k column y) o.place.left o.place.width in
+        let long : length row ≡ o.place.width = ap length row_shows
+        ∙ length-map-range_with_len (λ column. colour_at table k column y) o.place.left o.place.width in
         omega (arith, long, from, holds.from_left, holds.to_right)
 
-    pub part_shows : take (length row - (x - left)) (drop (x - left) row) ≡ map (λ column. colour_at table k column y) (range_with_len x (o.place.left + o.place.width - x))
+    pub part_shows : take (length row - (x - left)) (drop (x - left) row) ≡ map (λ column. colour_at table k column y)
+        (range_with_len x (o.place.left + o.place.width - x))
     part_shows = rw from (row_part (λ column. colour_at table k column y) o.place.left o.place.width x row row_shows holds.from_left holds.to_right)
 
--- where a run left the owners
-abbrev pub left_position : {E : Type 0} → ℕ → ℕ → Result Outcome E → ℕ
-left_position from to (Ok Reached) = to
-left_position from to (Ok (Stopped at)) = at
-left_position from to (Err e) = from
+-- ---- what is answered to a jump
+pub left_within : {E : Type 0} (from to : ℕ) (r : Result Outcome E) → StopsBetween from to r → left_position from to r ≤ to
+left_within from to (Ok Reached) between = omega arith
+left_within from to (Ok (Stopped at)) between = omega (arith, between.1)
+left_within from to (Err e) between = between
 
-pub run_left : {E : Type 0} (table : Table) (to : ℕ) (old new : List Shown) (r : Result Outcome E) → All (StandsAt table (opening_position old)) old
-    → MatchResult r (λ outcome. GoesOn table to old new outcome) (λ _. new ≡ old) → IsLeftAt table (left_position (opening_position old) to r) old new
-run_left table to old new (Ok Reached) at went = went
-run_left table to old new (Ok (Stopped stop)) at went = went.2
-run_left table to old new (Err e) at went = record { places = ap places_of went; stand = subst (λ (l : List Shown). All (StandsAt table (opening_position old)) l) (sym went) at }
+pub left_after : {E : Type 0} (from to : ℕ) (r : Result Outcome E) → StopsBetween from to r → from ≤ left_position from to r
+left_after from to (Ok Reached) between = between
+left_after from to (Ok (Stopped at)) between = between.0
+left_after from to (Err e) between = omega arith
 
-pub run_within : {E : Type 0} (table : Table) (from to n : ℕ) (old new : List Shown) (r : Result Outcome E) → from ≤ to → to ≤ n
-    → MatchResult r (λ outcome. GoesOn table to old new outcome) (λ _. new ≡ old) → left_position from to r ≤ n
-run_within table from to n old new (Ok Reached) le in' went = in'
-run_within table from to n old new (Ok (Stopped stop)) le in' went = omega (arith, went.1)
-run_within table from to n old new (Err e) le in' went = omega arith
-
-pub run_jumps : {E : Type 0} (table : Table) (to : ℕ) (owners new : List Shown) (r : Result Outcome E) (old : State) → old.position ≡ opening_position owners → old.position < to → to ≤ length old.table.events
-    → MatchResult r (λ outcome. GoesOn table to owners new outcome) (λ _. new ≡ owners) → Jumps old to (jump_answer to r) (at_position old (left_position (opening_position owners) to r))
-run_jumps table to owners new (Ok Reached) old is below in' went = (in', refl, refl)
-run_jumps table to owners new (Ok (Stopped stop)) old is below in' went = (in', omega (arith, went.0), went.1, refl)
-run_jumps table to owners new (Err e) old is below in' went = ((below, in'), ap (at_position old) (sym is))
+pub run_jumps : {E : Type 0} (to : ℕ) (r : Result Outcome E) (old : State) → old.position < to → to ≤ length old.table.events
+    → StopsBetween old.position to r → Jumps old to (jump_answer to r) (at_position old (left_position old.position to r))
+run_jumps to (Ok Reached) old below within between = (within, refl, refl)
+run_jumps to (Ok (Stopped stop)) old below within between = (within, between.0, between.1, refl)
+run_jumps to (Err e) old below within between = ((below, within), refl)

@@ -116,13 +116,16 @@ same_depth a b is =
     ∙ ap (make b.enable b.write) (same_true functions (search rules) a.func b.func all.2)
 
 abbrev eq_state : Pipeline → Pipeline → Bool
-eq_state a b = eq_raster a.raster b.raster && (eq_rect a.scissor b.scissor && (eq_blend a.blend b.blend && (eq_colour a.factor b.factor && eq_depth a.depth b.depth)))
+eq_state a b = eq_raster a.raster b.raster && (eq_rect a.scissor b.scissor &&
+    (eq_blend a.blend b.blend && (eq_colour a.factor b.factor && eq_depth a.depth b.depth)))
 
 same_state : (a b : Pipeline) → eq_state a b ≡ true → a ≡ b
 same_state a b is =
-    let first = and_parts (eq_raster a.raster b.raster) (eq_rect a.scissor b.scissor && (eq_blend a.blend b.blend && (eq_colour a.factor b.factor && eq_depth a.depth b.depth))) is in
+    let first = and_parts (eq_raster a.raster b.raster) (eq_rect a.scissor b.scissor &&
+    (eq_blend a.blend b.blend && (eq_colour a.factor b.factor && eq_depth a.depth b.depth))) is in
     let all = four (eq_rect a.scissor b.scissor) (eq_blend a.blend b.blend) (eq_colour a.factor b.factor) (eq_depth a.depth b.depth) first.1 in
-    let make : Raster → Rect → Blending → Colour → Depth → Pipeline = λ raster scissor blend factor depth. record { raster = raster; scissor = scissor; blend = blend; factor = factor; depth = depth } in
+    let make : Raster → Rect → Blending → Colour → Depth → Pipeline =
+    λ raster scissor blend factor depth. record { raster = raster; scissor = scissor; blend = blend; factor = factor; depth = depth } in
     ap (λ (v : Raster). make v a.scissor a.blend a.factor a.depth) (same_raster a.raster b.raster first.0)
     ∙ ap (λ (v : Rect). make b.raster v a.blend a.factor a.depth) (same_rect a.scissor b.scissor all.0)
     ∙ ap (λ (v : Blending). make b.raster b.scissor v a.factor a.depth) (same_blend a.blend b.blend all.1)

@@ -9,4 +9,5 @@ BackUndoesStep = (old mid new : State) (at to : ℕ) → Steps old (Moved at) mi
 
 -- So does switching an event over and back.
 abbrev pub SwitchUndoesSwitch : Type 0
-SwitchUndoesSwitch = (old mid new : State) (number at to : ℕ) (on : Bool) → Switches old number on (Moved at) mid → Switches mid number (not on) (Moved to) new → new ≡ old
+SwitchUndoesSwitch = (old mid new : State) (number at to : ℕ) (on : Bool) → Switches old number on (Moved at) mid
+    → Switches mid number (not on) (Moved to) new → new ≡ old

@@ -4,7 +4,6 @@ ghost use Rattle.std.specs.Prelude.{◌<◌, ◌≤◌, length};
 use arrayvec::ArrayVec;
 use fd_cover::Bounds;
 use fd_events::{Draw, Event, EventTable, GROUP_LEN};
-use fd_owner::Owner;
 use fd_tile::TILE_SIDE;
 
 /// The work of writing a pixel and keeping what it was, in nanoseconds. This and what follows is what `make bench` has measured.
@@ -22,64 +21,42 @@ const TRIANGLE_WORK: usize = 450;
 /// The work of passing over a triangle that lies beside the tile, in nanoseconds.
 const PASSED_WORK: usize = 60;
 
-/// The most rows of tiles that an area may have: those of a target of 16,384 rows of pixels.
+/// The most rows of tiles that there are: those of a target of 16,384 rows of pixels.
 const MOST_ROWS: usize = 512;
 
-/// The number in an area of the tile at which each worker begins, or of none where that does not matter.
+/// The number of the tile at which each worker begins, or of none where that does not matter.
 pub(crate) type Firsts = ArrayVec<usize, 64>;
 
-/// Tiles that are moved together, row by row, and a box round them.
+/// The tiles of a target on which a move draws, and a box round what it draws.
 #[derive(Clone, Copy, Debug)]
 pub(crate) struct Area {
     pub tiles: usize,
-    /// The tiles of a row, of which so many are missing before the first tile.
+    /// The tiles of a row of the whole target.
     pub columns: usize,
-    pub missing: usize,
     pub bounds: Bounds,
 }
 
 impl Area {
-    /// The tiles of these owners, which follow one another row by row on a target of this width.
-    pub(crate) fn of(owners: &[Owner], width: u32) -> Area {
-        let (Some(first), Some(last)) = (owners.first(), owners.last()) else {
-            return Area::in_one_row(0, Bounds::empty());
+    /// The whole target.
+    pub(crate) fn of(table: &EventTable) -> Area {
+        let whole = Bounds {
+            left: 0,
+            top: 0,
+            right: table.width(),
+            bottom: table.height(),
         };
-        let (first, last) = (first.place(), last.place());
-        let bounds = Bounds {
-            left: first.left,
-            top: first.top,
-            right: last.left.saturating_add(last.width),
-            bottom: last.top.saturating_add(last.height),
-        };
-        if first.top == last.top {
-            return Area::in_one_row(owners.len(), bounds);
-        }
-        Area {
-            tiles: owners.len(),
-            columns: width.div_ceil(TILE_SIDE) as usize,
-            missing: (first.left / TILE_SIDE) as usize,
-            bounds: Bounds {
-                left: 0,
-                right: width,
-                ..bounds
-            },
-        }
+        Area::round(table, whole)
     }
 
-    /// So many tiles side by side.
-    pub(crate) fn in_one_row(tiles: usize, bounds: Bounds) -> Area {
+    /// Where a box lies.
+    pub(crate) fn round(table: &EventTable, bounds: Bounds) -> Area {
+        let across = tiles_between(bounds.left, bounds.right);
+        let down = tiles_between(bounds.top, bounds.bottom);
         Area {
-            tiles,
-            columns: tiles,
-            missing: 0,
+            tiles: across * down,
+            columns: tiles_between(0, table.width()),
             bounds,
         }
-    }
-
-    /// How many rows of tiles it has.
-    fn rows(&self) -> usize {
-        let pixels = self.bounds.bottom.saturating_sub(self.bounds.top);
-        pixels.div_ceil(TILE_SIDE) as usize
     }
 
     /// What it has in common with a box.
@@ -91,6 +68,13 @@ impl Area {
             bottom: self.bounds.bottom.min(bounds.bottom),
         }
     }
+}
+
+/// How many tiles lie between two edges, the first and the last of them perhaps in part.
+fn tiles_between(first: u32, past: u32) -> usize
+    ensures { result ≤ 134217728 }
+{
+    past.div_ceil(TILE_SIDE).saturating_sub(first / TILE_SIDE) as usize
 }
 
 /// How many pixels a box holds.
@@ -134,9 +118,8 @@ impl<'a> Estimate<'a> {
     /// Adds work that lies in a box, as much in each row of tiles.
     fn add(&mut self, reached: &Bounds, work: usize) {
         self.work = self.work.saturating_add(work);
-        let top = self.area.bounds.top;
-        let first = (reached.top.saturating_sub(top) / TILE_SIDE) as usize;
-        let past = reached.bottom.saturating_sub(top).div_ceil(TILE_SIDE) as usize;
+        let first = (reached.top / TILE_SIDE) as usize;
+        let past = reached.bottom.div_ceil(TILE_SIDE) as usize;
         let each = work / past.saturating_sub(first).max(1);
         for row in self.rows.get_mut(first..past).unwrap_or_default() {
             *row = row.saturating_add(each);
@@ -189,22 +172,30 @@ impl<'a> Estimate<'a> {
         }
     }
 
-    /// The tile in whose work there is as much as this before it.
+    /// The tile of the target in whose work there is as much as this before it.
     fn tile_behind(&self, work: usize) -> usize {
-        let alike = self.alike / self.area.rows().max(1);
+        let Area {
+            columns,
+            bounds,
+            ..
+        } = *self.area;
+        let across = tiles_between(bounds.left, bounds.right);
+        let alike = self.alike / tiles_between(bounds.top, bounds.bottom).max(1);
+        let (first, past) = (bounds.top / TILE_SIDE, bounds.bottom.div_ceil(TILE_SIDE));
         let mut left = work;
-        for (row, own) in self.rows.iter().take(self.area.rows()).enumerate() {
-            let here = own.saturating_add(alike);
+        for (row, own) in self.rows.iter().take(past as usize).enumerate() {
+            let shared = if row < first as usize { 0 } else { alike };
+            let here = own.saturating_add(shared);
             if left < here {
-                let tile = row.saturating_mul(self.area.columns);
-                let column = left.saturating_mul(self.area.columns) / here;
-                return tile
-                    .saturating_add(column)
-                    .saturating_sub(self.area.missing);
+                let column = left.saturating_mul(across) / here;
+                return row
+                    .saturating_mul(columns)
+                    .saturating_add((bounds.left / TILE_SIDE) as usize)
+                    .saturating_add(column);
             }
             left -= here;
         }
-        self.area.tiles
+        columns.saturating_mul(past as usize)
     }
 
     /// Where so many workers begin, each of whom has then about as much work as any other.

@@ -12,6 +12,7 @@ pub mod laws;
 mod moves;
 mod picture;
 mod redraw;
+mod rows;
 mod session;
 mod shows;
 mod switch;

@@ -1,11 +1,11 @@
 //! Moves of all owners of a frame from one position to another.
-ghost use Rattle.std.specs.Prelude.{◌≡◌, ◌<◌, ◌≤◌, length, All, IfOk, MatchResult};
+ghost use Rattle.std.specs.Prelude.{◌≡◌, ℕ, ◌<◌, ◌≤◌, length, All, IfOk, MatchResult};
 ghost use Rattle.fd_tile.specs.Grid.{tile_count};
 ghost use Rattle.fd_events.specs.Table.{Table};
 ghost use Rattle.fd_owner.specs.History.{position};
 ghost use Rattle.fd_crew.specs.Lanes.{opening_position};
-ghost use Rattle.fd_session.specs.Held.{StandsAt};
-ghost use Rattle.fd_session.specs.Moves.{IsFresh, GoesOn, IsLeftAt};
+ghost use Rattle.fd_session.specs.Held.{StandsAt, IsLeftAt};
+ghost use Rattle.fd_session.specs.Moves.{IsFresh, StandsFrom, GoesOn, left_position, StopsBetween};
 
 use crate::estimate::Area;
 use crate::worth::{MOVE_WORK, Slice, next_slice};
@@ -26,6 +26,19 @@ pub(crate) fn common_position(owners: &[Owner]) -> u32
     }
 }
 
+/// The lowest position at which one of the owners stands, or this one where none stands lower.
+pub(crate) fn lowest_position(owners: &[Owner], most: u32) -> u32
+    ensures all { All (λ owner. result ≤ position owner.history) owners.now }
+    ensures high { result ≤ most }
+    ensures low { (low : ℕ) → low ≤ most → All (λ owner. low ≤ position owner.history) owners.now → low ≤ result }
+{
+    let mut lowest = most;
+    for owner in owners {
+        lowest = lowest.min(owner.position());
+    }
+    lowest
+}
+
 /// An owner for each tile of the grid, at position 0.
 pub(crate) fn fresh_owners(alloc: Global, grid: &Grid) -> Result<Vec<Owner>, AllocError>
     ensures { IfOk result (λ owners. IsFresh grid.now (tile_count grid.now) owners.items) }
@@ -38,10 +51,10 @@ pub(crate) fn fresh_owners(alloc: Global, grid: &Grid) -> Result<Vec<Owner>, All
     Ok(owners)
 }
 
-/// How a move forward is handed to the crew.
+/// How a move forward is cut for the crew.
 #[derive(Clone, Copy, PartialEq, Eq, Debug)]
 pub(crate) enum Pace {
-    /// All at once, by all these workers, among whom the tiles are shared out evenly.
+    /// All at once, by all workers, among whom the tiles are shared out evenly.
     Whole,
     /// Slice by slice, each by as many workers as it is worth; where memory runs out, the rest event by event. All that was done stays.
     Slices,
@@ -49,26 +62,46 @@ pub(crate) enum Pace {
     Events,
 }
 
-impl Pace {
-    /// The next events of a move from one position to another.
-    fn next(self, table: &EventTable, from: u32, to: u32, area: &Area, workers: u32) -> Slice
-        requires ahead { from < to }
-        requires within { to ≤ length table.now.events }
-        requires some { 1 ≤ workers }
-        ensures on { from < result.end }
-        ensures within { result.end ≤ to }
+/// How a move forward is handed to the crew.
+#[derive(Clone, Copy)]
+pub(crate) struct Drive {
+    pub pace: Pace,
+    /// The most that a slice starts.
+    pub workers: u32,
+    pub alloc: Global,
+}
+
+/// A move forward, from the lowest position at which an owner stands to another one.
+#[derive(Clone, Copy)]
+pub(crate) struct Way {
+    pub from: u32,
+    pub to: u32,
+    /// Where it draws.
+    pub area: Area,
+}
+
+impl Drive {
+    /// The next events of a move that has come to a position.
+    fn next(&self, table: &EventTable, at: u32, way: &Way) -> Slice
+        requires ahead { at < way.now.to }
+        requires within { way.now.to ≤ length table.now.events }
+        requires some { 1 ≤ self.now.workers }
+        ensures from { result.from ≡ at }
+        ensures on { at < result.end }
+        ensures within { result.end ≤ way.now.to }
         ensures some { 1 ≤ result.workers }
-        ensures most { result.workers ≤ workers }
+        ensures most { result.workers ≤ self.now.workers }
     {
-        match self {
-            Pace::Whole => Slice::even(to, workers),
-            Pace::Slices => next_slice(table, from, to, area, workers, MOVE_WORK),
-            Pace::Events => Slice::even(from + 1, 1),
+        let to = way.to;
+        match self.pace {
+            Pace::Whole => Slice::even(at, to, self.workers),
+            Pace::Slices => next_slice(table, at, to, &way.area, self.workers, MOVE_WORK),
+            Pace::Events => Slice::even(at, at + 1, 1),
         }
     }
 }
 
-/// Takes all owners on over a slice, or to the position before the first event that one of them refuses.
+/// Takes owners on over a slice, or all to the position before the first event that one of them refuses. Those that stand above the slice stay there.
 fn run_on<R: Threads + Sync, G: Gate>(
     rt: &R,
     alloc: Global,
@@ -77,38 +110,34 @@ fn run_on<R: Threads + Sync, G: Gate>(
     slice: &Slice,
     gate: &G,
 ) -> Result<Outcome, AllocError>
-    requires stand { All (StandsAt table.now (opening_position owners.old)) owners.old }
-    requires target { (opening_position owners.old ≤ slice.now.end) × (slice.now.end ≤ length table.now.events) }
+    requires stand { All (StandsFrom table.now slice.now.from) owners.old }
+    requires target { slice.now.end ≤ length table.now.events }
     requires workers { (1 ≤ slice.now.workers) × (slice.now.workers ≤ 64) }
-    ensures { MatchResult result (λ outcome. GoesOn table.now slice.now.end owners.old owners.new outcome) (λ _. owners.new ≡ owners.old) }
+    ensures { MatchResult result (λ outcome. GoesOn table.now slice.now.from slice.now.end owners.old owners.new outcome) (λ _. owners.new ≡ owners.old) }
 {
     let (end, workers) = (slice.end, slice.workers);
     run_shared(rt, alloc, owners, table, end, workers, &slice.firsts, gate)
 }
 
-/// Takes all owners on to a position at some pace, or to the one before the first event that one of them refuses. It is refused itself only
-/// where no owner has moved.
+/// Takes owners on to a position at some pace, or to the one before the first event that one of them refuses. It is refused itself only where no owner
+/// has moved.
 fn go_at_pace<R: Threads + Sync, G: Gate>(
     rt: &R,
-    alloc: Global,
     owners: &mut [Owner],
     table: &EventTable,
-    to: u32,
-    workers: u32,
-    pace: Pace,
+    way: &Way,
+    drive: &Drive,
     gate: &G,
 ) -> Result<Outcome, AllocError>
-    requires stand { All (StandsAt table.now (opening_position owners.old)) owners.old }
-    requires target { (opening_position owners.old ≤ to) × (to ≤ length table.now.events) }
-    requires workers { (1 ≤ workers) × (workers ≤ 64) }
-    ensures { MatchResult result (λ outcome. GoesOn table.now to owners.old owners.new outcome) (λ _. owners.new ≡ owners.old) }
+    requires stand { All (StandsFrom table.now way.now.from) owners.old }
+    requires target { (way.now.from ≤ way.now.to) × (way.now.to ≤ length table.now.events) }
+    requires workers { (1 ≤ drive.now.workers) × (drive.now.workers ≤ 64) }
+    ensures { MatchResult result (λ outcome. GoesOn table.now way.now.from way.now.to owners.old owners.new outcome) (λ _. owners.new ≡ owners.old) }
 {
-    let area = Area::of(owners, table.width());
-    let from = common_position(owners);
-    let mut at = from;
-    while at < to {
-        let slice = pace.next(table, at, to, &area, workers);
-        let run = run_on(rt, alloc, owners, table, &slice, gate);
+    let mut at = way.from;
+    while at < way.to {
+        let slice = drive.next(table, at, way);
+        let run = run_on(rt, drive.alloc, owners, table, &slice, gate);
         match run {
             Ok(outcome) => {
                 if let Outcome::Stopped { .. } = outcome {
@@ -116,7 +145,7 @@ fn go_at_pace<R: Threads + Sync, G: Gate>(
                 }
             }
             Err(refused) => {
-                if at == from {
+                if at == way.from {
                     return Err(refused);
                 }
                 return Ok(Outcome::Stopped { at });
@@ -128,32 +157,67 @@ fn go_at_pace<R: Threads + Sync, G: Gate>(
 }
 
 /// The same. Where memory runs out one worker goes on event by event: each thread wants memory of its own, and so does a tile that runs ahead.
-pub(crate) fn go_on<R: Threads + Sync, G: Gate>(
+fn go_on<R: Threads + Sync, G: Gate>(
     rt: &R,
-    alloc: Global,
     owners: &mut [Owner],
     table: &EventTable,
-    to: u32,
-    workers: u32,
-    pace: Pace,
+    way: &Way,
+    drive: &Drive,
     gate: &G,
 ) -> Result<Outcome, AllocError>
-    requires stand { All (StandsAt table.now (opening_position owners.old)) owners.old }
-    requires target { (opening_position owners.old ≤ to) × (to ≤ length table.now.events) }
-    requires workers { (1 ≤ workers) × (workers ≤ 64) }
-    ensures { MatchResult result (λ outcome. GoesOn table.now to owners.old owners.new outcome) (λ _. owners.new ≡ owners.old) }
+    requires stand { All (StandsFrom table.now way.now.from) owners.old }
+    requires target { (way.now.from ≤ way.now.to) × (way.now.to ≤ length table.now.events) }
+    requires workers { (1 ≤ drive.now.workers) × (drive.now.workers ≤ 64) }
+    ensures { MatchResult result (λ outcome. GoesOn table.now way.now.from way.now.to owners.old owners.new outcome) (λ _. owners.new ≡ owners.old) }
 {
-    let outcome = go_at_pace(rt, alloc, owners, table, to, workers, pace, gate)?;
+    let outcome = go_at_pace(rt, owners, table, way, drive, gate)?;
     let Outcome::Stopped { at } = outcome else {
         return Ok(outcome);
     };
-    let area = Area::of(owners, table.width());
-    let slice = pace.next(table, at, to, &area, workers);
-    if pace == Pace::Whole || (slice.workers == 1 && slice.end == at + 1) {
+    let slice = drive.next(table, at, way);
+    if drive.pace == Pace::Whole || (slice.workers == 1 && slice.end == at + 1) {
         return Ok(outcome);
     }
-    let further = go_at_pace(rt, alloc, owners, table, to, 1, Pace::Events, gate);
+    let rest = Way { from: at, ..*way };
+    let alone = Drive {
+        pace: Pace::Events,
+        workers: 1,
+        alloc: drive.alloc,
+    };
+    let further = go_at_pace(rt, owners, table, &rest, &alone, gate);
     Ok(further.unwrap_or(Outcome::Stopped { at }))
+}
+
+/// The position to which a run forward from one position to another brought the owners.
+pub(crate) fn left_by(from: u32, to: u32, run: &Result<Outcome, AllocError>) -> u32
+    ensures { result ≡ left_position from to run.now }
+{
+    match run {
+        Ok(Outcome::Reached) => to,
+        Ok(Outcome::Stopped { at }) => *at,
+        Err(_) => from,
+    }
+}
+
+/// Takes owners forward to a position, or to the one before the first event that one of them refuses, and all to that one position: those that stand
+/// above it go back. An `Err` says that none has gone forward.
+pub(crate) fn go_forward<R: Threads + Sync, G: Gate>(
+    rt: &R,
+    owners: &mut [Owner],
+    table: &EventTable,
+    way: &Way,
+    drive: &Drive,
+    gate: &G,
+) -> Result<Outcome, AllocError>
+    requires stand { All (StandsFrom table.now way.now.from) owners.old }
+    requires target { (way.now.from ≤ way.now.to) × (way.now.to ≤ length table.now.events) }
+    requires workers { (1 ≤ drive.now.workers) × (drive.now.workers ≤ 64) }
+    ensures between { StopsBetween way.now.from way.now.to result }
+    ensures left { IsLeftAt table.now (left_position way.now.from way.now.to result) owners.old owners.new }
+{
+    let run = go_on(rt, owners, table, way, drive, gate);
+    run_back(owners, left_by(way.from, way.to, &run));
+    run
 }
 
 /// Takes all owners back to a position.

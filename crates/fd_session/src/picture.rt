@@ -3,11 +3,13 @@ ghost use Rattle.std.specs.Prelude.{◌≡◌, ℕ, ◌<◌, ◌≤◌, ◌+◌,
 ghost use Rattle.std.specs.List.{range_with_len};
 ghost use Rattle.fd_owner.specs.Shown.{forgotten};
 ghost use Rattle.fd_crew.specs.Lanes.{opening_position};
-ghost use Rattle.fd_session.specs.Drawing.{ShowsAt, DrawsOn};
+ghost use Rattle.fd_session.specs.Drawing.{ShowsAlone, IsDrawnAt};
+ghost use Rattle.fd_session.specs.Moves.{left_position, StopsBetween};
 
 use crate::answer::{Answer, SessionFault};
 use crate::estimate::Area;
 use crate::moves::{common_position, fresh_owners};
+use crate::rows::row_from;
 use crate::session::answer_to_jump;
 use crate::worth::{PICTURE_WORK, Slice, next_slice};
 use fd_blend::Colour;
@@ -95,7 +97,7 @@ impl Picture {
         if self.position() > from {
             return answer;
         }
-        self.draw(rt, &Slice::even(from + 1, 1))
+        self.draw(rt, &Slice::even(from, from + 1, 1))
     }
 
     /// Draws a part of the way to a position, and gives the answer to the jump there where it has ended; else there is more to go. It stops where an event
@@ -111,7 +113,7 @@ impl Picture {
         if from == to {
             return Some(Answer::Moved { at: to });
         }
-        let area = Area::of(&self.owners, self.table.width());
+        let area = Area::of(&self.table);
         let slice = next_slice(&self.table, from, to, &area, self.workers, PICTURE_WORK);
         let answer = self.draw_some(rt, &slice);
         let at = self.position();
@@ -145,9 +147,7 @@ impl Picture {
         ensures short { length result.now ≤ 32 }
         ensures colours { result.now ≡ map (λ column. colour_at self.now.table self.now.position column y) (range_with_len x (length result.now)) }
     {
-        let number = self.grid.tile_of(x, y);
-        let left = self.grid.place(number).left;
-        &self.owners[number].row(y)[(x - left) as usize..]
+        row_from(&self.table, &self.grid, &self.owners, x, y)
     }
 }
 
@@ -159,10 +159,11 @@ fn draw_on<R: Threads + Sync>(
     table: &EventTable,
     slice: &Slice,
 ) -> Result<Outcome, AllocError>
-    requires shown { All (ShowsAt table.now (opening_position owners.old)) owners.old }
+    requires shown { All (ShowsAlone table.now (opening_position owners.old)) owners.old }
     requires target { (opening_position owners.old ≤ slice.now.end) × (slice.now.end ≤ length table.now.events) }
     requires workers { (1 ≤ slice.now.workers) × (slice.now.workers ≤ 64) }
-    ensures { DrawsOn table.now slice.now.end owners.old owners.new result }
+    ensures between { StopsBetween (opening_position owners.old) slice.now.end result }
+    ensures drawn { IsDrawnAt table.now (left_position (opening_position owners.old) slice.now.end result) owners.old owners.new }
 {
     let (end, workers) = (slice.end, slice.workers);
     let run = run_shared(rt, alloc, owners, table, end, workers, &slice.firsts, &Free);

@@ -5,8 +5,9 @@ ghost use Rattle.fd_session.specs.Moves.{jump_answer};
 
 use crate::answer::{Answer, SessionFault};
 use crate::estimate::Area;
-use crate::moves::{Pace, common_position, fresh_owners, go_back, go_on};
+use crate::moves::{Drive, Pace, Way, common_position, fresh_owners, go_back, go_forward};
 use crate::redraw::go_again;
+use crate::rows::row_from;
 use crate::worth::{MOVE_WORK, next_slice};
 use fd_blend::Colour;
 use fd_crew::{Free, Gate, Outcome};
@@ -71,35 +72,34 @@ impl Session {
         }
     }
 
-    /// Jumps to a position, forward at this pace by at most so many workers.
-    fn jump<R: Threads + Sync, G: Gate>(
-        &mut self,
-        rt: &R,
-        to: u32,
-        workers: u32,
-        pace: Pace,
-        gate: &G,
-    ) -> Answer
-        requires { (1 ≤ workers) × (workers ≤ 64) }
+    /// How a move forward at this pace is handed to the crew.
+    fn drive(&self, pace: Pace) -> Drive
+        ensures some { 1 ≤ result.workers }
+        ensures most { result.workers ≤ 64 }
+    {
+        Drive {
+            pace,
+            workers: self.workers,
+            alloc: self.alloc,
+        }
+    }
+
+    /// Jumps to a position, forward at this pace.
+    fn jump<R: Threads + Sync, G: Gate>(&mut self, rt: &R, to: u32, pace: Pace, gate: &G) -> Answer
         ensures { Jumps self.old to result self.new }
     {
         if to > self.table.len() {
             return Answer::Refused(SessionFault::NoSuchPosition);
         }
-        if to <= common_position(&self.owners) {
+        let from = common_position(&self.owners);
+        if to <= from {
             go_back(&mut self.owners, to);
             return Answer::Moved { at: to };
         }
-        let run = go_on(
-            rt,
-            self.alloc,
-            &mut self.owners,
-            &self.table,
-            to,
-            workers,
-            pace,
-            gate,
-        );
+        let drive = self.drive(pace);
+        let area = Area::of(&self.table);
+        let way = Way { from, to, area };
+        let run = go_forward(rt, &mut self.owners, &self.table, &way, &drive, gate);
         answer_to_jump(to, run)
     }
 
@@ -118,7 +118,7 @@ impl Session {
     pub fn goto<R: Threads + Sync>(&mut self, rt: &R, to: u32) -> Answer
         ensures { Jumps self.old to result self.new }
     {
-        self.jump(rt, to, self.workers, Pace::Slices, &Free)
+        self.jump(rt, to, Pace::Slices, &Free)
     }
 
     /// The end of the next slice of a jump. A jump back, or to no position, has one slice.
@@ -129,7 +129,7 @@ impl Session {
         if to <= from || to > self.table.len() {
             return to;
         }
-        let area = Area::of(&self.owners, self.table.width());
+        let area = Area::of(&self.table);
         next_slice(&self.table, from, to, &area, self.workers, MOVE_WORK).end
     }
 
@@ -151,7 +151,7 @@ impl Session {
     pub fn goto_gated<R: Threads + Sync, G: Gate>(&mut self, rt: &R, to: u32, gate: &G) -> Answer
         ensures { Jumps self.old to result self.new }
     {
-        self.jump(rt, to, self.workers, Pace::Whole, gate)
+        self.jump(rt, to, Pace::Whole, gate)
     }
 
     /// Why an event can't be switched on or off.
@@ -177,15 +177,8 @@ impl Session {
             self.table.set_on(number, on);
             return Answer::Moved { at: position };
         }
-        let at = go_again(
-            rt,
-            self.alloc,
-            &mut self.owners,
-            &mut self.table,
-            number,
-            on,
-            self.workers,
-        );
+        let drive = self.drive(Pace::Slices);
+        let at = go_again(rt, &mut self.owners, &mut self.table, number, on, &drive);
         answer_to_switch(position, at)
     }
 
@@ -276,9 +269,7 @@ impl Session {
         ensures short { length result.now ≤ 32 }
         ensures colours { result.now ≡ map (λ column. colour_at self.now.table self.now.position column y) (range_with_len x (length result.now)) }
     {
-        let number = self.grid.tile_of(x, y);
-        let left = self.grid.place(number).left;
-        &self.owners[number].row(y)[(x - left) as usize..]
+        row_from(&self.table, &self.grid, &self.owners, x, y)
     }
 
     ghost use Rattle.std.specs.Prelude.{◌*◌};

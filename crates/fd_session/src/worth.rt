@@ -2,10 +2,7 @@
 ghost use Rattle.std.specs.Prelude.{◌≡◌, ◌<◌, ◌≤◌, length};
 
 use crate::estimate::{Area, Estimate, Firsts};
-use crate::switch::Switch;
-use fd_cover::Bounds;
 use fd_events::EventTable;
-use fd_tile::TILE_SIDE;
 
 /// The work that a worker must have to be worth its thread, in nanoseconds: a thread takes 30 to 50 microseconds to start.
 const WORKER_WORK: usize = 130_000;
@@ -30,18 +27,21 @@ const TILE_SLICE: u32 = 4096;
 /// The next events of a move, how many workers they are worth, and at which tile each of these begins.
 #[derive(Drop)]
 pub(crate) struct Slice {
+    pub from: u32,
     pub end: u32,
     pub workers: u32,
     pub firsts: Firsts,
 }
 
 impl Slice {
-    /// All events up to a position, with the tiles shared out evenly among so many workers.
-    pub(crate) fn even(end: u32, workers: u32) -> Slice
+    /// All events from one position to another, with the tiles shared out evenly among so many workers.
+    pub(crate) fn even(from: u32, end: u32, workers: u32) -> Slice
+        ensures from { result.from ≡ from }
         ensures end { result.end ≡ end }
         ensures workers { result.workers ≡ workers }
     {
         Slice {
+            from,
             end,
             workers,
             firsts: Firsts::new(),
@@ -63,13 +63,14 @@ pub(crate) fn next_slice(
     requires ahead { from < to }
     requires within { to ≤ length table.now.events }
     requires some { 1 ≤ workers }
+    ensures from { result.from ≡ from }
     ensures on { from < result.end }
     ensures within { result.end ≤ to }
     ensures some { 1 ≤ result.workers }
     ensures most { result.workers ≤ workers }
 {
     if area.tiles < 2 {
-        return Slice::even(to.min(from.saturating_add(TILE_SLICE)), 1);
+        return Slice::even(from, to.min(from.saturating_add(TILE_SLICE)), 1);
     }
     // a worker that has no tile is worth nothing
     let useful = area.tiles.clamp(1, workers as usize);
@@ -85,50 +86,12 @@ pub(crate) fn next_slice(
         if end == to || estimate.work() >= enough {
             let workers = (estimate.work() / WORKER_WORK).clamp(1, useful) as u32;
             return Slice {
+                from,
                 end,
                 workers,
                 firsts: estimate.firsts(workers),
             };
         }
-    }
-}
-
-/// How many tiles are drawn anew together where an event is switched: a row of them where that is quicker by those workers
-/// that the reached tiles of a row are worth than all tiles are by all workers, or else all.
-pub(crate) fn tiles_together(
-    table: &EventTable,
-    switch: &Switch,
-    tiles: usize,
-    workers: u32,
-) -> usize
-    requires first { 1 ≤ switch.now.number }
-    requires last { switch.now.number ≤ switch.now.position }
-    requires within { switch.now.position ≤ length table.now.events }
-    requires some { 1 ≤ workers }
-    ensures some { 1 ≤ result }
-{
-    let reach = switch.reach;
-    let columns = table.width().div_ceil(TILE_SIDE);
-    let reached = reach
-        .right
-        .div_ceil(TILE_SIDE)
-        .saturating_sub(reach.left / TILE_SIDE);
-    if reach.is_empty() || reached >= columns {
-        return tiles.max(1);
-    }
-    let top = (reach.top / 2).saturating_add(reach.bottom / 2) / TILE_SIDE * TILE_SIDE;
-    let bounds = Bounds {
-        top,
-        bottom: top.saturating_add(TILE_SIDE),
-        ..reach
-    };
-    let row = Area::in_one_row(reached as usize, bounds);
-    let (from, to) = (switch.number - 1, switch.position);
-    let worth = next_slice(table, from, to, &row, workers, MOVE_WORK).workers;
-    if u64::from(reached) * u64::from(workers) < u64::from(columns) * u64::from(worth) {
-        columns as usize
-    } else {
-        tiles.max(1)
     }
 }
 

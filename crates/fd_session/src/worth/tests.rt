@@ -18,8 +18,8 @@ fn table(alloc: Global, first: Event, second: Event) -> Result<EventTable, Fail>
     Ok(EventTable::start(alloc, 2, 1024, 512, events)?)
 }
 
-/// So many tiles, with a box round the whole target, of whose first row some are missing.
-fn area_of(tiles: usize, missing: usize) -> Area {
+/// So many tiles, with a box round the whole target.
+fn area_of(tiles: usize) -> Area {
     let bounds = Bounds {
         left: 0,
         top: 0,
@@ -29,7 +29,6 @@ fn area_of(tiles: usize, missing: usize) -> Area {
     Area {
         tiles,
         columns: 32,
-        missing,
         bounds,
     }
 }
@@ -40,7 +39,7 @@ fn slice_of(table: &EventTable, from: u32, to: u32, tiles: usize, workers: u32) 
     requires within { to ≤ length table.now.events }
     requires some { 1 ≤ workers }
 {
-    next_slice(table, from, to, &area_of(tiles, 0), workers, MOVE_WORK)
+    next_slice(table, from, to, &area_of(tiles), workers, MOVE_WORK)
 }
 
 #[test]
@@ -138,13 +137,27 @@ fn workers_begin_where_the_work_is(rt: HostRuntime) -> Result<(), Fail> {
         &[(corners, [colour(1, 2, 3, 4); 3]); 2],
     )?;
     let table = table(alloc, clear, upper)?;
-    let all = area_of(512, 0);
+    let all = area_of(512);
     let slice = next_slice(&table, 0, 1, &all, 4, MOVE_WORK);
     assert!(rt; slice.firsts.as_slice() == [0, 128, 256, 384].as_slice());
     let slice = next_slice(&table, 1, 2, &all, 4, MOVE_WORK);
     assert!(rt; slice.firsts.as_slice() == [0, 32, 64, 96].as_slice());
-    let later = area_of(500, 12);
-    let slice = next_slice(&table, 0, 1, &later, 4, MOVE_WORK);
-    assert!(rt; slice.firsts.as_slice() == [0, 116, 244, 372].as_slice());
+    Ok(())
+}
+
+/// In a box of four rows of 16 tiles the clear takes 65,568 ns a row, which is worth two workers: they begin in its first and its third row, at its left edge.
+#[test]
+fn workers_begin_inside_the_box(rt: HostRuntime) -> Result<(), Fail> {
+    let alloc = rt.alloc();
+    let clear = Event::Clear(colour(1, 2, 3, 4));
+    let table = table(alloc, clear, Event::Clear(colour(1, 2, 3, 4)))?;
+    let bounds = Bounds {
+        left: 256,
+        top: 128,
+        right: 768,
+        bottom: 256,
+    };
+    let slice = next_slice(&table, 0, 1, &Area::round(&table, bounds), 4, MOVE_WORK);
+    assert!(rt; slice.firsts.as_slice() == [136, 200].as_slice());
     Ok(())
 }

@@ -4,7 +4,9 @@ use Rattle.fd_crew.proofs.crew.draw_lanes.Given as goal
 
 abbrev pub invariant-loop-index : goal.invariant-loop-index
 invariant-loop-index g l = record {
-  seat : g.S.Post.stands l.fence l.seat;
-  worked : Worked g.L.Lane.shown g.L.Lane.fits l.table l.fence.table.shared.key.target (g.S.Post.view l.initial.seat) (g.S.Post.view l.seat) (take l.index l.initial.lanes) (take l.index l.lanes);
+  seat : g.S.Post.stands l.course.fence.now l.seat;
+  worked : Worked g.L.Lane.shown g.L.Lane.fits l.course.table.now l.course.fence.now.table.shared.key.target (g.S.Post.view l.initial.seat)
+      (g.S.Post.view l.seat)
+      (take l.index l.initial.lanes) (take l.index l.lanes);
   rest : drop l.index l.lanes ≡ drop l.index l.initial.lanes;
 }

@@ -10,18 +10,22 @@ pub take_back-requires-after_bounds : goal.take_back-requires-after_bounds
 take_back-requires-after_bounds g c κs within =
     let L : Type 0 = g.row.L.Denot in
     let x : L = get_or c.loop-lane.lanes c.loop-lane.lane-index c.lane-item.result in
-    let is = alike_at c.args.lanes.now c.loop-lane.lanes c.loop-lane.lane-index x c.loop-lane-test.true c.loop-lane.auto.lanes (ap (λ (d : L). get_or c.loop-lane.lanes c.loop-lane.lane-index d) c.lane-item.is) c.loop-lane.invariant.rest in
+    let is = alike_at c.args.lanes.now c.loop-lane.lanes c.loop-lane.lane-index x c.loop-lane-test.true c.loop-lane.auto.lanes
+    (ap (λ (d : L). get_or c.loop-lane.lanes c.loop-lane.lane-index d) c.lane-item.is) c.loop-lane.invariant.rest in
     subst (λ (z : L). c.args.to ≤ position (g.L.Lane.shown z).history) (sym is) (c.requires c.loop-lane.lane-index x c.loop-lane-test.true)
 
 pub loop-lane-preserved : goal.loop-lane-preserved
 loop-lane-preserved g c =
     let L : Type 0 = g.row.L.Denot in
     let x : L = get_or c.loop-lane.lanes c.loop-lane.lane-index c.lane-item.result in
-    let is = alike_at c.args.lanes.now c.loop-lane.lanes c.loop-lane.lane-index x c.loop-lane-test.true c.loop-lane.auto.lanes (ap (λ (d : L). get_or c.loop-lane.lanes c.loop-lane.lane-index d) c.lane-item.is) c.loop-lane.invariant.rest in
+    let is = alike_at c.args.lanes.now c.loop-lane.lanes c.loop-lane.lane-index x c.loop-lane-test.true c.loop-lane.auto.lanes
+    (ap (λ (d : L). get_or c.loop-lane.lanes c.loop-lane.lane-index d) c.lane-item.is) c.loop-lane.invariant.rest in
     record {
-      moved = zip_next (λ (x : L) (y : L). g.L.Lane.shown y ≡ gone_back_to c.args.to (g.L.Lane.shown x)) c.args.lanes.now c.loop-lane.lanes c.loop-lane.lane-index x c.take_back.new.lane c.loop-lane-test.true c.loop-lane.auto.lanes is
+      moved = zip_next (λ (x : L) (y : L). g.L.Lane.shown y ≡ gone_back_to c.args.to (g.L.Lane.shown x)) c.args.lanes.now c.loop-lane.lanes
+          c.loop-lane.lane-index x c.take_back.new.lane c.loop-lane-test.true c.loop-lane.auto.lanes is
           c.loop-lane.invariant.moved c.take_back.ensures.moved;
-      fits = zip_next (λ (x : L) (y : L). (table : Table) → g.L.Lane.fits x table → g.L.Lane.fits y table) c.args.lanes.now c.loop-lane.lanes c.loop-lane.lane-index x c.take_back.new.lane c.loop-lane-test.true c.loop-lane.auto.lanes is
+      fits = zip_next (λ (x : L) (y : L). (table : Table) → g.L.Lane.fits x table → g.L.Lane.fits y table) c.args.lanes.now c.loop-lane.lanes
+          c.loop-lane.lane-index x c.take_back.new.lane c.loop-lane-test.true c.loop-lane.auto.lanes is
           c.loop-lane.invariant.fits c.take_back.ensures.fits;
       rest = rest_after c.args.lanes.now c.loop-lane.lanes c.loop-lane.lane-index c.take_back.new.lane c.loop-lane.invariant.rest;
     }
@@ -30,6 +34,8 @@ pub returns : goal.returns
 returns g c =
     let L : Type 0 = g.row.L.Denot in
     record {
-      moved = zip_whole (λ (x : L) (y : L). g.L.Lane.shown y ≡ gone_back_to c.args.to (g.L.Lane.shown x)) c.args.lanes.now c.loop-lane.lanes c.loop-lane.lane-index (omega arith) c.loop-lane.auto.lanes c.loop-lane.invariant.moved;
-      fits = zip_whole (λ (x : L) (y : L). (table : Table) → g.L.Lane.fits x table → g.L.Lane.fits y table) c.args.lanes.now c.loop-lane.lanes c.loop-lane.lane-index (omega arith) c.loop-lane.auto.lanes c.loop-lane.invariant.fits;
+      moved = zip_whole (λ (x : L) (y : L). g.L.Lane.shown y ≡ gone_back_to c.args.to (g.L.Lane.shown x)) c.args.lanes.now c.loop-lane.lanes
+          c.loop-lane.lane-index (omega arith) c.loop-lane.auto.lanes c.loop-lane.invariant.moved;
+      fits = zip_whole (λ (x : L) (y : L). (table : Table) → g.L.Lane.fits x table → g.L.Lane.fits y table) c.args.lanes.now c.loop-lane.lanes
+          c.loop-lane.lane-index (omega arith) c.loop-lane.auto.lanes c.loop-lane.invariant.fits;
     }

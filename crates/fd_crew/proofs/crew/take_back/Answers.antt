@@ -13,7 +13,8 @@ loop-lane-smaller g c = omega (arith, c.step_back.ensures.less)
 pub loop-lane-preserved : goal.loop-lane-preserved
 loop-lane-preserved g c =
     record {
-      moved = back_on (g.L.Lane.shown c.args.lane.now) (g.L.Lane.shown c.loop-lane.lane) (g.L.Lane.shown c.step_back.new.lane) c.loop-lane.invariant.moved c.step_back.ensures.moved (omega (arith, c.step_back.ensures.less));
+      moved = back_on (g.L.Lane.shown c.args.lane.now) (g.L.Lane.shown c.loop-lane.lane) (g.L.Lane.shown c.step_back.new.lane) c.loop-lane.invariant.moved
+          c.step_back.ensures.moved (omega (arith, c.step_back.ensures.less));
       above = c.step_back.ensures.least;
       below = omega (arith, c.loop-lane.invariant.below, c.step_back.ensures.less);
       fits = λ table h. c.step_back.ensures.fits table (c.loop-lane.invariant.fits table h);

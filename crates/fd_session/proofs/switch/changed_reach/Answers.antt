@@ -26,7 +26,8 @@ loop-at-preserved-then-is_on c =
       to = omega (arith, c.loop-at-test.true);
       followed = λ was is.
           subst (λ (s : Pipeline). IsFollowed table c.args.number was (c.loop-at.at + 1) s c.join-reach.result) (sym c.state_past-state.ensures)
-          (follow_on table c.args.number was c.loop-at.at c.loop-at.state c.loop-at.reach c.reach_by_state.result c.join-reach.result c.event-event.result.now c.requires.first c.loop-at.invariant.from on
+          (follow_on table c.args.number was c.loop-at.at c.loop-at.state c.loop-at.reach c.reach_by_state.result c.join-reach.result c.event-event.result.now
+          c.requires.first c.loop-at.invariant.from on
           c.event-event.ensures (c.reach_by_state.ensures table.width table.height written) c.join-reach.ensures.both (c.loop-at.invariant.followed was is));
     }
 
@@ -37,12 +38,14 @@ loop-at-preserved c =
     record {
       from = omega (arith, c.loop-at.invariant.from);
       to = omega (arith, c.loop-at-test.true);
-      followed = λ was is. follow_off table c.args.number was c.loop-at.at c.loop-at.state c.loop-at.reach c.requires.first c.loop-at.invariant.from off (c.loop-at.invariant.followed was is);
+      followed = λ was is. follow_off table c.args.number was c.loop-at.at c.loop-at.state c.loop-at.reach c.requires.first c.loop-at.invariant.from off
+          (c.loop-at.invariant.followed was is);
     }
 
 pub returns-else-ne : goal.returns-else-ne
 returns-else-ne c =
     let back : c.loop-at.at + 1 - 1 ≡ c.loop-at.at = omega arith in
-    let same : c.loop-at.state ≡ c.state_before.result.now = same_unless c.loop-at.state c.state_before.result.now (sym c.ne.ensures ∙ c.if-ne.false) in λ was is.
+    let same : c.loop-at.state ≡ c.state_before.result.now =
+    same_unless c.loop-at.state c.state_before.result.now (sym c.ne.ensures ∙ c.if-ne.false) in λ was is.
     followed c.args.table.now c.args.number was c.loop-at.at c.args.to c.loop-at.state c.loop-at.reach c.requires.first c.loop-at.invariant.from
     (same ∙ c.state_before.ensures ∙ ap (λ (k : ℕ). state_at c.args.table.now k) back) (c.loop-at.invariant.followed was is)

@@ -7,7 +7,8 @@ use Rattle.fd_session.proofs.picture.Picture.start.Goals as goal
 pub invariant_of-result : goal.invariant_of-result
 invariant_of-result c =
     picture_start c.args.table c.unwrap-grid.result c.in-Ok.owners.items c.args.workers
-    (held_start c.args.table c.unwrap-grid.result c.in-Ok.owners.items c.args.workers c.width.ensures.table (search rules) c.in-Ok.ensures c.requires).1 c.in-Ok.ensures
+    (held_start c.args.table c.unwrap-grid.result c.in-Ok.owners.items c.args.workers c.width.ensures.table (search rules) c.in-Ok.ensures c.requires).1
+    c.in-Ok.ensures
 
 pub returns-in-Ok-clause-ok : goal.returns-in-Ok-clause-ok
 returns-in-Ok-clause-ok c =

@@ -1,0 +1,33 @@
+use Rattle.std.proofs.Common.{ap, sym, subst, get_or, arith}
+use Rattle.fd_owner.specs.Shown.{Shown}
+use Rattle.fd_crew.proofs.Working.{rest_after}
+use Rattle.fd_crew.proofs.Ending.{alike_at, zip_next, zip_whole}
+use Rattle.fd_session.specs.Held.{StandsAt}
+use Rattle.fd_session.specs.Redraw.{IsTakenBefore}
+use Rattle.fd_session.specs.Switch.{unswitched}
+use Rattle.fd_session.proofs.redraw.take_all_before.Goals as goal
+
+pub take_before-requires-clause-stood : goal.take_before-requires-clause-stood
+take_before-requires-clause-stood c =
+    let owners = c.loop-owner.owners in
+    let o : Shown = get_or owners c.loop-owner.owner-index c.owner-item.result in
+    let is = alike_at c.args.owners.now owners c.loop-owner.owner-index o c.loop-owner-test.true c.loop-owner.auto.owners
+    (ap (λ (d : Shown). get_or owners c.loop-owner.owner-index d) c.owner-item.is) c.loop-owner.invariant.rest in
+    subst (StandsAt (unswitched c.args.table.now c.args.switch.now) c.args.switch.now.position) (sym is)
+    (c.requires.stood c.loop-owner.owner-index o c.loop-owner-test.true)
+
+pub loop-owner-preserved : goal.loop-owner-preserved
+loop-owner-preserved c =
+    let owners = c.loop-owner.owners in
+    let o : Shown = get_or owners c.loop-owner.owner-index c.owner-item.result in
+    let is = alike_at c.args.owners.now owners c.loop-owner.owner-index o c.loop-owner-test.true c.loop-owner.auto.owners
+    (ap (λ (d : Shown). get_or owners c.loop-owner.owner-index d) c.owner-item.is) c.loop-owner.invariant.rest in
+    record {
+      taken = zip_next (IsTakenBefore c.args.table.now c.args.switch.now) c.args.owners.now owners c.loop-owner.owner-index o c.take_before.new.owner
+          c.loop-owner-test.true c.loop-owner.auto.owners is c.loop-owner.invariant.taken c.take_before.ensures;
+      rest = rest_after c.args.owners.now owners c.loop-owner.owner-index c.take_before.new.owner c.loop-owner.invariant.rest;
+    }
+
+pub returns : goal.returns
+returns c = zip_whole (IsTakenBefore c.args.table.now c.args.switch.now) c.args.owners.now c.loop-owner.owners c.loop-owner.owner-index (omega arith)
+    c.loop-owner.auto.owners c.loop-owner.invariant.taken

@@ -1,0 +1,21 @@
+use Rattle.std.proofs.Common.{arith}
+use Rattle.fd_session.proofs.Frames.{position_stands}
+use Rattle.fd_session.proofs.Redrawing.{taken_spared, taken_back}
+use Rattle.fd_session.specs.Switch.{unswitched}
+use Rattle.fd_session.proofs.redraw.take_before.Goals as goal
+
+pub returns-then-spares : goal.returns-then-spares
+returns-then-spares c = taken_spared c.args.table.now c.args.switch.now c.args.owner.now c.requires.number.1 (c.spares.ensures c.if-spares.true)
+    c.requires.stood
+
+pub take_back-requires-after_bounds : goal.take_back-requires-after_bounds
+take_back-requires-after_bounds c = omega (
+  arith,
+  c.requires.number.1,
+  position_stands (unswitched c.args.table.now c.args.switch.now)
+      c.args.switch.now.position c.args.owner.now c.requires.stood,
+)
+
+pub returns : goal.returns
+returns c = taken_back c.args.table.now c.args.switch.now c.args.owner.now c.take_back.new.lane c.requires.number.0 c.requires.number.1 c.requires.stood
+    c.take_back.ensures.moved
