@@ -1,5 +1,6 @@
 -- What one byte of input does, at each way out.
-use Rattle.std.proofs.Common.{◌≡◌, ◌≢◌, ℕ, ◌+◌, ◌<◌, ◌≤◌, List, [], ◌∷◌, ◌++◌, ◌⊎◌, length, take, Option, Bool, true, false, Result, Ok, Err, refl, sym, ap, ◌∙◌, arith, subst, append_assoc, append-nil, length-append, inl, inr}
+use Rattle.std.proofs.Common.{◌≡◌, ◌≢◌, ℕ, ◌+◌, ◌<◌, ◌≤◌, List, [], ◌∷◌, ◌++◌, ◌⊎◌, length, take, Option, Bool, true, false, Result, Ok, Err, refl, sym, ap}
+use Rattle.std.proofs.Common.{◌∙◌, arith, subst, append_assoc, append-nil, length-append, inl, inr}
 use Rattle.std.proofs.lemmas.List.{length-take, take-append-le}
 use Rattle.std.proofs.lemmas.Bool.Decides.{nat_tests}
 use Rattle.std.specs.Prelude.{◌==◌, ◌||◌, ◌&&◌}
@@ -22,11 +23,13 @@ use Rattle.fd_cli.proofs.Servings.{answered_byte, answered_line}
 use Rattle.fd_pam.proofs.Transfers.{puts_all}
 
 -- nothing more was written
-same_text : (table : Table) (input text : List ℕ) (lines : List (List ℕ)) (rest : List ℕ) (state : State) → Answered table input text lines rest state → Answered table input (text ++ []) lines rest state
+same_text : (table : Table) (input text : List ℕ) (lines : List (List ℕ)) (rest : List ℕ) (state : State) → Answered table input text lines rest state
+    → Answered table input (text ++ []) lines rest state
 same_text table input text lines rest state answered = subst (λ t. Answered table input t lines rest state) (sym (append-nil text)) answered
 
 -- a byte past a bound
-pub advance_past : (old : Progress) (held : Option (List ℕ)) (byte : ℕ) → (268435456 ≤ old.bytes) ⊎ (1000000 ≤ old.lines) → Advances old old held held (byte ∷ []) (Err TooMuch)
+pub advance_past : (old : Progress) (held : Option (List ℕ)) (byte : ℕ) → (268435456 ≤ old.bytes) ⊎ (1000000 ≤ old.lines)
+    → Advances old old held held (byte ∷ []) (Err TooMuch)
 advance_past old held byte past =
     record {
       written = [];
@@ -49,7 +52,8 @@ advance_past old held byte past =
 
 -- a byte that is no line feed
 pub advance_byte : (old new : Progress) (held : Option (List ℕ)) (byte : ℕ) → byte ≢ 10 → old.bytes < 268435456 → old.lines < 1000000
-    → new.session ≡ old.session → new.line.items ≡ take 258 (old.line.items ++ byte ∷ []) → new.lines ≡ old.lines → new.bytes ≡ old.bytes + 1 → new.sent ≡ old.sent
+    → new.session ≡ old.session → new.line.items ≡ take 258 (old.line.items ++ byte ∷ []) → new.lines ≡ old.lines → new.bytes ≡ old.bytes + 1
+    → new.sent ≡ old.sent
     → Advances old new held held (byte ∷ []) (Ok tt)
 advance_byte old new held byte other bytes count session line lines one_more sent =
     record {
@@ -69,10 +73,12 @@ advance_byte old new held byte other bytes count session line lines one_more sen
     }
 
 -- the command of the line that the buffer holds the front of
-command_of_line : (table : Table) (input text : List ℕ) (progress : Progress) (h : IsServing table input text progress) → command_of progress.line.items ≡ command_of h.rest
+command_of_line : (table : Table) (input text : List ℕ) (progress : Progress) (h : IsServing table input text progress)
+    → command_of progress.line.items ≡ command_of h.rest
 command_of_line table input text progress h = ap command_of h.line ∙ command_front h.rest
 
-abbrev breaks_off : (old new : Progress) (before after : Option (List ℕ)) (replies : Replies old.session (command_of old.line.items) new.session before after old.sent new.sent false)
+abbrev breaks_off : (old new : Progress) (before after : Option (List ℕ))
+    (replies : Replies old.session (command_of old.line.items) new.session before after old.sent new.sent false)
     → (table : Table) (input text : List ℕ) → IsServing table input text old → BreaksOff table input (text ++ replies.puts.taken) new.sent
 breaks_off old new before after replies table input text h =
     record {
@@ -225,7 +231,8 @@ stops_more table taken written more TooMuch h =
 stops_more table taken written more Memory h = h
 
 -- bytes behind those at which a run stops
-pub advance_stopped : (a b : Progress) (held_a held_b : Option (List ℕ)) (xs more : List ℕ) (ending : Ending) → Advances a b held_a held_b xs (Err ending) → Advances a b held_a held_b (xs ++ more) (Err ending)
+pub advance_stopped : (a b : Progress) (held_a held_b : Option (List ℕ)) (xs more : List ℕ) (ending : Ending) → Advances a b held_a held_b xs (Err ending)
+    → Advances a b held_a held_b (xs ++ more) (Err ending)
 advance_stopped a b held_a held_b xs more ending p =
     record {
       written = p.written;
@@ -301,7 +308,8 @@ finish_fault old new before after some replies =
     }
 
 -- the start of a run
-pub serving_start : (table : Table) (p : Progress) → p.session ≡ opening table → p.line.items ≡ [] → p.lines ≡ 0 → p.bytes ≡ 0 → p.sent ≡ 0 → IsServing table [] [] p
+pub serving_start : (table : Table) (p : Progress) → p.session ≡ opening table → p.line.items ≡ [] → p.lines ≡ 0 → p.bytes ≡ 0 → p.sent ≡ 0
+    → IsServing table [] [] p
 serving_start table p session line lines bytes sent =
     record {
       lines = [];
@@ -321,7 +329,8 @@ serving_start table p session line lines bytes sent =
     }
 
 -- what ends a run in the middle of its input ends it
-pub serves_stop : (table : Table) (taken written : List ℕ) (ending : Ending) (ended : Bool) → Stops table taken written ending → Serves table taken written ending ended
+pub serves_stop : (table : Table) (taken written : List ℕ) (ending : Ending) (ended : Bool) → Stops table taken written ending
+    → Serves table taken written ending ended
 serves_stop table taken written Done ended h = inl h
 serves_stop table taken written (Capture fault) ended h = absurd h
 serves_stop table taken written NoSuchPosition ended h = absurd h
@@ -350,7 +359,8 @@ end_reached old new n size is none room =
     is ∙ ap (λ k. old || ((k == 0) && ltb 0 size)) none ∙ ap (λ b. old || b) (lt-ltb 0 size room) ∙ or_right old true refl
 
 -- what ends a run in the middle of its input is no fault of the reader
-pub reader_kept : (table : Table) (taken written : List ℕ) (ending : Ending) (old new : ℕ) → Stops table taken written ending → new ≡ old → CountsReader ending old new
+pub reader_kept : (table : Table) (taken written : List ℕ) (ending : Ending) (old new : ℕ) → Stops table taken written ending → new ≡ old
+    → CountsReader ending old new
 reader_kept table taken written Done old new h e = e
 reader_kept table taken written (Capture fault) old new h e = absurd h
 reader_kept table taken written NoSuchPosition old new h e = absurd h

@@ -1,5 +1,6 @@
 -- The transcript is a run in which no reply tells of a want of memory.
-use Rattle.std.proofs.Common.{◌≡◌, ℕ, zero, suc, ◌+◌, ◌-◌, ◌<◌, ◌≤◌, List, [], ◌∷◌, length, Option, Some, None, Bool, true, false, cond, eqb, Result, Ok, Err, refl, ap, arith, inl, inr}
+use Rattle.std.proofs.Common.{◌≡◌, ℕ, zero, suc, ◌+◌, ◌-◌, ◌<◌, ◌≤◌, List, [], ◌∷◌, length, Option, Some, None, Bool, true, false, cond, eqb, Result, Ok, Err}
+use Rattle.std.proofs.Common.{refl, ap, arith, inl, inr}
 use Rattle.std.specs.Prelude.{◌&&◌, nat_lt, nat_le, slice_index}
 use Rattle.std.proofs.lemmas.Bool.Decides.{nat_tests}
 use Rattle.fd_events.specs.Table.{Table, flag_at, with_flag}
@@ -47,7 +48,8 @@ bad state Unknown within = ((refl, refl), free _ 100 refl refl refl, within)
 bad state Arguments within = ((refl, refl), free _ 100 refl refl refl, within)
 bad state TooLong within = ((refl, refl), free _ 100 refl refl refl, within)
 
-step : (state : State) → Within state → (b : Bool) → nat_lt state.position (length state.table.events) ≡ b → Allowed state (Ok Step) (cond b (moved_to state (state.position + 1)) (refusal_reply state AtEnd))
+step : (state : State) → Within state → (b : Bool) → nat_lt state.position (length state.table.events) ≡ b
+    → Allowed state (Ok Step) (cond b (moved_to state (state.position + 1)) (refusal_reply state AtEnd))
 step state within true is =
     let before : state.position < length state.table.events = grind (arith, nat_tests) in
     ((Moved (state.position + 1), (before, refl, refl), refl), free _ 32 refl refl refl, omega (arith, before))
@@ -55,7 +57,8 @@ step state within false is =
     let last : state.position ≡ length state.table.events = grind (arith, nat_tests) in
     ((Refused AtEnd, (last, refl), refl), free_refusal _ 49 refl refl refl, within)
 
-back : (state : State) → Within state → (b : Bool) → nat_lt 0 state.position ≡ b → Allowed state (Ok Back) (cond b (moved_to state (state.position - 1)) (refusal_reply state AtStart))
+back : (state : State) → Within state → (b : Bool) → nat_lt 0 state.position ≡ b
+    → Allowed state (Ok Back) (cond b (moved_to state (state.position - 1)) (refusal_reply state AtStart))
 back state within true is =
     let some : 0 < state.position = grind (arith, nat_tests) in
     ((Ok (state.position - 1), (some, omega (arith, some), refl), refl), free _ 32 refl refl refl, omega (arith, within))
@@ -63,7 +66,8 @@ back state within false is =
     let none : state.position ≡ 0 = grind (arith, nat_tests) in
     ((Err AtStart, (none, refl, refl), refl), free_refusal _ 50 refl refl refl, within)
 
-jump : (state : State) (to : ℕ) → Within state → (b : Bool) → nat_le to (length state.table.events) ≡ b → Allowed state (Ok (Goto to)) (cond b (moved_to state to) (refusal_reply state NoSuchPosition))
+jump : (state : State) (to : ℕ) → Within state → (b : Bool) → nat_le to (length state.table.events) ≡ b
+    → Allowed state (Ok (Goto to)) (cond b (moved_to state to) (refusal_reply state NoSuchPosition))
 jump state to within true is =
     let there : to ≤ length state.table.events = grind (arith, nat_tests) in
     ((Moved to, (there, refl, refl), refl), free _ 32 refl refl refl, there)
@@ -75,13 +79,15 @@ same_events : (table : Table) (number : ℕ) (on : Bool) → length (with_flag t
 same_events table zero on = refl
 same_events table (suc n) on = refl
 
-switch_on : (state : State) (number : ℕ) → Within state → (flag : Option Bool) → flag_at state.table number ≡ flag → Allowed state (Ok (On number)) (switched state number true flag)
+switch_on : (state : State) (number : ℕ) → Within state → (flag : Option Bool) → flag_at state.table number ≡ flag
+    → Allowed state (Ok (On number)) (switched state number true flag)
 switch_on state number within None is = ((Refused NoSuchEvent, (is, refl), refl), free_refusal _ 52 refl refl refl, within)
 switch_on state number within (Some true) is = ((Refused AlreadySo, (is, refl), refl), free_refusal _ 53 refl refl refl, within)
 switch_on state number within (Some false) is =
     ((Moved state.position, (is, refl, refl), refl), free _ 32 refl refl refl, omega (arith, within, same_events state.table number true))
 
-switch_off : (state : State) (number : ℕ) → Within state → (flag : Option Bool) → flag_at state.table number ≡ flag → Allowed state (Ok (Off number)) (switched state number false flag)
+switch_off : (state : State) (number : ℕ) → Within state → (flag : Option Bool) → flag_at state.table number ≡ flag
+    → Allowed state (Ok (Off number)) (switched state number false flag)
 switch_off state number within None is = ((Refused NoSuchEvent, (is, refl), refl), free_refusal _ 52 refl refl refl, within)
 switch_off state number within (Some false) is = ((Refused AlreadySo, (is, refl), refl), free_refusal _ 53 refl refl refl, within)
 switch_off state number within (Some true) is =
@@ -102,10 +108,18 @@ outside a b c d is h k = grind (arith, nat_tests)
 
 pixel : (state : State) (x y : ℕ) → Within state → (b : Bool) → has_pixel state x y ≡ b
     → Allowed state (Ok (Pixel x y))
-    (cond b (pixel_line state.table.version (Ok (colour_at state.table state.position x y)) (Ok (stored_at state.table state.position x y)), state) (refusal_reply state NoSuchPixel))
+    (cond b (pixel_line state.table.version (Ok (colour_at state.table state.position x y)) (Ok (stored_at state.table state.position x y)), state)
+    (refusal_reply state NoSuchPixel))
 pixel state x y within true is =
     let there = inside x state.table.width y state.table.height is in (
-      (Ok (colour_at state.table state.position x y), Ok (stored_at state.table state.position x y), (there.0, there.1, refl), (there.0, there.1, refl), refl, refl),
+      (
+        Ok (colour_at state.table state.position x y),
+        Ok (stored_at state.table state.position x y),
+        (there.0, there.1, refl),
+        (there.0, there.1, refl),
+        refl,
+        refl,
+      ),
       free _ 120 refl refl refl,
       within,
     )
@@ -114,7 +128,8 @@ pixel state x y within false is =
     ((Err NoSuchPixel, Err NoSuchPixel, (refl, none), (refl, none), refl, refl), free_refusal _ 54 refl refl refl, within)
 
 history : (state : State) (x y : ℕ) → Within state → (b : Bool) → has_pixel state x y ≡ b
-    → Allowed state (Ok (History x y)) (cond b (entry_list state.table.version (history_at state.table state.position x y), state) (refusal_reply state NoSuchPixel))
+    → Allowed state (Ok (History x y)) (cond b (entry_list state.table.version (history_at state.table state.position x y), state)
+    (refusal_reply state NoSuchPixel))
 history state x y within true is =
     let there = inside x state.table.width y state.table.height is in
     ((Ok (history_at state.table state.position x y), (there.0, there.1, refl), refl, refl), free _ 115 refl refl refl, within)

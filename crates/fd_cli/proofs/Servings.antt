@@ -8,7 +8,9 @@ use Rattle.fd_cli.specs.Run.{Answers}
 use Rattle.fd_cli.specs.Serving.{Answered}
 use Rattle.fd_cli.proofs.LineLemmas.{all_push, cut_byte, cut_line, run_push}
 
-pub answered_byte : (table : Table) (input text : List ℕ) (lines : List (List ℕ)) (rest : List ℕ) (state : State) (byte : ℕ) → Answered table input text lines rest state → byte ≢ 10 → length input < 268435456 → length lines < 1000000 → Answered table (input ++ byte ∷ []) text lines (rest ++ byte ∷ []) state
+pub answered_byte : (table : Table) (input text : List ℕ) (lines : List (List ℕ)) (rest : List ℕ) (state : State) (byte : ℕ)
+    → Answered table input text lines rest state → byte ≢ 10 → length input < 268435456 → length lines < 1000000
+    → Answered table (input ++ byte ∷ []) text lines (rest ++ byte ∷ []) state
 answered_byte table input text lines rest state byte answered other bytes count =
     record {
       cut = cut_byte input lines rest byte answered.cut other;
@@ -19,7 +21,9 @@ answered_byte table input text lines rest state byte answered other bytes count 
       run = answered.run;
     }
 
-pub answered_line : (table : Table) (input text : List ℕ) (lines : List (List ℕ)) (rest : List ℕ) (state : State) (reply : List ℕ) (new : State) → Answered table input text lines rest state → Answers state (command_of rest) reply new → command_of rest ≢ Ok Quit → length input < 268435456 → length lines < 1000000 → Answered table (input ++ 10 ∷ []) (text ++ reply) (lines ++ rest ∷ []) [] new
+pub answered_line : (table : Table) (input text : List ℕ) (lines : List (List ℕ)) (rest : List ℕ) (state : State) (reply : List ℕ) (new : State)
+    → Answered table input text lines rest state → Answers state (command_of rest) reply new → command_of rest ≢ Ok Quit → length input < 268435456
+    → length lines < 1000000 → Answered table (input ++ 10 ∷ []) (text ++ reply) (lines ++ rest ∷ []) [] new
 answered_line table input text lines rest state reply new answered answers other bytes count =
     record {
       cut = cut_line input lines rest answered.cut;

@@ -27,7 +27,13 @@ length-number_line word n fits short =
 
 pub header_short : (width height : ℕ) → width ≤ most_pixels → height ≤ most_pixels → length (header width height) ≤ 200
 header_short width height w h =
-    omega (arith, length-header width height, length-decimal-le 20 width (omega arith) (omega arith) (omega arith), length-decimal-le 20 height (omega arith) (omega arith) (omega arith))
+    omega (
+      arith,
+      length-header width height,
+      length-decimal-le 20 width (omega arith) (omega arith) (omega arith),
+      length-decimal-le 20 height (omega arith)
+          (omega arith) (omega arith),
+    )
 
 -- the first line of the reply
 abbrev pub show_line : State → List ℕ
@@ -37,7 +43,12 @@ line_short : (state : State) → state.table.width ≤ most_pixels → state.tab
 line_short state width height =
     let w = state.table.width in
     let h = state.table.height in
-    let fits : pam_len w h < 2 ^ 64 = omega (arith, header_short w h width height, mul-le-mul {n₁ = w} {m₁ = h} {n₂ = most_pixels} {m₂ = most_pixels} width height) in
+    let fits : pam_len w h < 2 ^ 64 = omega (
+      arith,
+      header_short w h width height,
+      mul-le-mul {n₁ = w} {m₁ = h} {n₂ = most_pixels} {m₂ = most_pixels} width
+          height,
+    ) in
     length-number_line (codes "pam") (pam_len w h) fits (omega arith)
 
 -- each part of the reply is short

@@ -1,5 +1,6 @@
 -- Every run writes the transcript, up to the first reply that tells of a want of memory.
-use Rattle.std.proofs.Common.{◌≡◌, ℕ, ◌+◌, ◌-◌, ◌<◌, ◌≤◌, List, [], ◌∷◌, ◌++◌, length, Some, None, Bool, true, false, cond, Result, Ok, Err, refl, sym, ap, ◌∙◌, arith, subst, codes, inl, inr, ◌⊎◌, append_assoc}
+use Rattle.std.proofs.Common.{◌≡◌, ℕ, ◌+◌, ◌-◌, ◌<◌, ◌≤◌, List, [], ◌∷◌, ◌++◌, length, Some, None, Bool, true, false, cond, Result, Ok, Err, refl, sym, ap}
+use Rattle.std.proofs.Common.{◌∙◌, arith, subst, codes, inl, inr, ◌⊎◌, append_assoc}
 use Rattle.std.specs.Prelude.{not, ◌&&◌, nat_lt, nat_le}
 use Rattle.std.proofs.lemmas.Bool.Decides.{nat_tests}
 use Rattle.fd_blend.specs.declared.channel.Colour.{Colour}
@@ -49,13 +50,16 @@ at_most a b h = grind (arith, nat_tests)
 above : (a b : ℕ) → b < a → nat_le a b ≡ false
 above a b h = grind (arith, nat_tests)
 
-moved : (old : State) (text : List ℕ) (new : State) (at to : ℕ) → text ≡ number_line (codes "at") at → new ≡ at_position old at → at ≡ to → Is text new (moved_to old to)
+moved : (old : State) (text : List ℕ) (new : State) (at to : ℕ) → text ≡ number_line (codes "at") at → new ≡ at_position old at → at ≡ to
+    → Is text new (moved_to old to)
 moved old text new at to is lands e = pair text _ new _ (is ∙ ap (number_line (codes "at")) e) (lands ∙ ap (at_position old) e)
 
-step_or : (old : State) (answer : Answer) (text : List ℕ) (new : State) → Steps old answer new → text ≡ answer_line answer → OrMemory text new (replied old (Ok Step))
+step_or : (old : State) (answer : Answer) (text : List ℕ) (new : State) → Steps old answer new → text ≡ answer_line answer
+    → OrMemory text new (replied old (Ok Step))
 step_or old (Moved at) text new h is = inr (yes _ _ _ (text, new) (less _ _ h.0) (moved old text new at (old.position + 1) is h.2 h.1))
 step_or old (Stopped at) text new h is = inl (inl (at, is))
-step_or old (Refused AtEnd) text new h is = inr (no _ _ _ (text, new) (not_less old.position (length old.table.events) (omega (arith, h.0))) (pair text _ new _ is h.1))
+step_or old (Refused AtEnd) text new h is = inr (no _ _ _ (text, new) (not_less old.position (length old.table.events) (omega (arith, h.0)))
+    (pair text _ new _ is h.1))
 step_or old (Refused AtStart) text new h is = absurd h.0
 step_or old (Refused NoSuchPosition) text new h is = absurd h.0
 step_or old (Refused NoSuchEvent) text new h is = absurd h.0
@@ -63,11 +67,13 @@ step_or old (Refused AlreadySo) text new h is = absurd h.0
 step_or old (Refused NoSuchPixel) text new h is = absurd h.0
 step_or old (Refused Memory) text new h is = inl (inr is)
 
-back_or : (old : State) (outcome : Result ℕ SessionFault) (text : List ℕ) (new : State) → GoesBack old outcome new → text ≡ back_line outcome → Is text new (replied old (Ok Back))
+back_or : (old : State) (outcome : Result ℕ SessionFault) (text : List ℕ) (new : State) → GoesBack old outcome new → text ≡ back_line outcome
+    → Is text new (replied old (Ok Back))
 back_or old (Ok at) text new h is = yes _ _ _ (text, new) (less _ _ h.0) (moved old text new at (old.position - 1) is h.2 (omega (arith, h.1)))
 back_or old (Err fault) text new h is = no _ _ _ (text, new) (not_less 0 old.position (omega (arith, h.0))) (pair text _ new _ (is ∙ ap refusal_line h.1) h.2)
 
-jump_or : (old : State) (to : ℕ) (answer : Answer) (text : List ℕ) (new : State) → Jumps old to answer new → text ≡ answer_line answer → OrMemory text new (replied old (Ok (Goto to)))
+jump_or : (old : State) (to : ℕ) (answer : Answer) (text : List ℕ) (new : State) → Jumps old to answer new → text ≡ answer_line answer
+    → OrMemory text new (replied old (Ok (Goto to)))
 jump_or old to (Moved at) text new h is = inr (yes _ _ _ (text, new) (at_most _ _ h.0) (moved old text new at to is h.2 h.1))
 jump_or old to (Stopped at) text new h is = inl (inl (at, is))
 jump_or old to (Refused NoSuchPosition) text new h is = inr (no _ _ _ (text, new) (above _ _ h.0) (pair text _ new _ is h.1))
@@ -78,7 +84,8 @@ jump_or old to (Refused AlreadySo) text new h is = absurd h.0
 jump_or old to (Refused NoSuchPixel) text new h is = absurd h.0
 jump_or old to (Refused Memory) text new h is = inl (inr is)
 
-switched_anew : (old : State) (number : ℕ) (on : Bool) → switched old number on (Some (not on)) ≡ (number_line (codes "at") old.position, with_flag_at old number on old.position)
+switched_anew : (old : State) (number : ℕ) (on : Bool) → switched old number on
+    (Some (not on)) ≡ (number_line (codes "at") old.position, with_flag_at old number on old.position)
 switched_anew old number true = refl
 switched_anew old number false = refl
 
@@ -90,15 +97,18 @@ switched_none : (old : State) (number : ℕ) (on : Bool) → switched old number
 switched_none old number true = refl
 switched_none old number false = refl
 
-switch_or : (old : State) (number : ℕ) (on : Bool) (answer : Answer) (text : List ℕ) (new : State) → Switches old number on answer new → text ≡ answer_line answer
+switch_or : (old : State) (number : ℕ) (on : Bool) (answer : Answer) (text : List ℕ) (new : State) → Switches old number on answer new
+    → text ≡ answer_line answer
     → OrMemory text new (switched old number on (flag_at old.table number))
 switch_or old number on (Moved at) text new h is =
     inr
     (pair text _ new _ (is ∙ ap (number_line (codes "at")) h.1) (h.2 ∙ ap (with_flag_at old number on) h.1)
     ∙ sym (switched_anew old number on) ∙ ap (switched old number on) (sym h.0))
 switch_or old number on (Stopped at) text new h is = inl (inl (at, is))
-switch_or old number on (Refused NoSuchEvent) text new h is = inr (pair text _ new _ is h.1 ∙ sym (switched_none old number on) ∙ ap (switched old number on) (sym h.0))
-switch_or old number on (Refused AlreadySo) text new h is = inr (pair text _ new _ is h.1 ∙ sym (switched_again old number on) ∙ ap (switched old number on) (sym h.0))
+switch_or old number on (Refused NoSuchEvent) text new h is =
+    inr (pair text _ new _ is h.1 ∙ sym (switched_none old number on) ∙ ap (switched old number on) (sym h.0))
+switch_or old number on (Refused AlreadySo) text new h is =
+    inr (pair text _ new _ is h.1 ∙ sym (switched_again old number on) ∙ ap (switched old number on) (sym h.0))
 switch_or old number on (Refused AtEnd) text new h is = absurd h.0
 switch_or old number on (Refused AtStart) text new h is = absurd h.0
 switch_or old number on (Refused NoSuchPosition) text new h is = absurd h.0
@@ -120,21 +130,26 @@ outside x y w h none = by_tests (nat_lt x w) (nat_lt y h) refl refl
 shown : (old : State) (x y : ℕ) (text : List ℕ) (r : Reply) → x < old.table.width → y < old.table.height → r ≡ (text, old) → r ≡ at_pixel old x y text
 shown old x y text r a b e = yes _ _ _ r (inside x y _ _ a b) e
 
-hidden : (old : State) (x y : ℕ) (text : List ℕ) (r : Reply) → (x < old.table.width → y < old.table.height → ⊥) → r ≡ refusal_reply old NoSuchPixel → r ≡ at_pixel old x y text
+hidden : (old : State) (x y : ℕ) (text : List ℕ) (r : Reply) → (x < old.table.width → y < old.table.height → ⊥) → r ≡ refusal_reply old NoSuchPixel
+    → r ≡ at_pixel old x y text
 hidden old x y text r none e = no _ _ _ r (outside x y _ _ none) e
 
 pixel_or : (old : State) (x y : ℕ) (colour : Result Colour SessionFault) (depth : Result ℕ SessionFault) (text : List ℕ) (new : State)
-    → ShowsPixel old x y colour → ShowsDepth old x y depth → text ≡ pixel_line old.table.version colour depth → new ≡ old → Is text new (replied old (Ok (Pixel x y)))
+    → ShowsPixel old x y colour → ShowsDepth old x y depth → text ≡ pixel_line old.table.version colour depth → new ≡ old
+    → Is text new (replied old (Ok (Pixel x y)))
 pixel_or old x y (Ok colour) (Ok depth) text new h e is same =
     shown old x y _ (text, new) h.0 h.1
     (pair text _ new old
-    (is ∙ ap (λ c. pixel_line old.table.version (Ok c) (Ok depth)) h.2 ∙ ap (λ d. pixel_line old.table.version (Ok (colour_at old.table old.position x y)) (Ok d)) e.2) same)
+    (is ∙ ap (λ c. pixel_line old.table.version (Ok c) (Ok depth)) h.2
+    ∙ ap (λ d. pixel_line old.table.version (Ok (colour_at old.table old.position x y)) (Ok d)) e.2) same)
 pixel_or old x y (Ok colour) (Err fault) text new h e is same = hidden old x y _ (text, new) e.1 (pair text _ new old (is ∙ ap refusal_line e.0) same)
 pixel_or old x y (Err fault) depth text new h e is same = hidden old x y _ (text, new) h.1 (pair text _ new old (is ∙ ap refusal_line h.0) same)
 
-history_or : (old : State) (x y : ℕ) (outcome : Result (List Entry) SessionFault) (text : List ℕ) (new : State) → ShowsHistory old x y outcome → text ≡ history_text old.table.version outcome → new ≡ old
+history_or : (old : State) (x y : ℕ) (outcome : Result (List Entry) SessionFault) (text : List ℕ) (new : State) → ShowsHistory old x y outcome
+    → text ≡ history_text old.table.version outcome → new ≡ old
     → OrMemory text new (replied old (Ok (History x y)))
-history_or old x y (Ok entries) text new h is same = inr (shown old x y _ (text, new) h.0 h.1 (pair text _ new old (is ∙ ap (entry_list old.table.version) h.2) same))
+history_or old x y (Ok entries) text new h is same = inr
+    (shown old x y _ (text, new) h.0 h.1 (pair text _ new old (is ∙ ap (entry_list old.table.version) h.2) same))
 history_or old x y (Err NoSuchPixel) text new h is same = inr (hidden old x y _ (text, new) h (pair text _ new old is same))
 history_or old x y (Err Memory) text new h is same = inl (inr is)
 history_or old x y (Err AtEnd) text new h is same = absurd h
@@ -143,11 +158,13 @@ history_or old x y (Err NoSuchPosition) text new h is same = absurd h
 history_or old x y (Err NoSuchEvent) text new h is same = absurd h
 history_or old x y (Err AlreadySo) text new h is same = absurd h
 
-show_or : (old : State) (text : List ℕ) (new : State) → (text ≡ show_text old) ⊎ (text ≡ refusal_line Memory) → new ≡ old → OrMemory text new (replied old (Ok Show))
+show_or : (old : State) (text : List ℕ) (new : State) → (text ≡ show_text old) ⊎ (text ≡ refusal_line Memory) → new ≡ old
+    → OrMemory text new (replied old (Ok Show))
 show_or old text new (inl is) same = inr (pair text _ new old is same)
 show_or old text new (inr is) same = inl (inr is)
 
-pub answer_or : (old : State) (command : Result Command CommandFault) (text : List ℕ) (new : State) → Answers old command text new → OrMemory text new (replied old command)
+pub answer_or : (old : State) (command : Result Command CommandFault) (text : List ℕ) (new : State) → Answers old command text new
+    → OrMemory text new (replied old command)
 answer_or old (Err fault) text new h = inr (pair text _ new old h.0 h.1)
 answer_or old (Ok Step) text new h = step_or old h.0 text new h.1 h.2
 answer_or old (Ok Back) text new h = inr (back_or old h.0 text new h.1 h.2)
@@ -162,7 +179,8 @@ answer_or old (Ok Show) text new h = show_or old text new h.0 h.1
 answer_or old (Ok Quit) text new h = inr (pair text _ new old h.0 h.1)
 
 -- one line more
-one_more : (old : State) (line : List ℕ) (lines : List (List ℕ)) (first others text : List ℕ) (mid : State) → Is first mid (replied old (command_of line)) → text ≡ first ++ others
+one_more : (old : State) (line : List ℕ) (lines : List (List ℕ)) (first others text : List ℕ) (mid : State) → Is first mid (replied old (command_of line))
+    → text ≡ first ++ others
     → WritesUpToMemory (replied old (command_of line)).1 lines others → WritesUpToMemory old (line ∷ lines) text
 one_more old line lines first others text mid same whole (inl is) =
     inl (whole ∙ ap (λ (xs : List ℕ). xs ++ others) (ap (λ (r : Reply). r.0) same) ∙ ap (λ (xs : List ℕ). (replied old (command_of line)).0 ++ xs) is)
@@ -179,8 +197,10 @@ one_more old line lines first others text mid same whole (inr b) =
           ∙ sym (append_assoc (replied old (command_of line)).0 (transcript (replied old (command_of line)).1 b.earlier) (b.reply ++ b.more));
     })
 
-by_answer : (old : State) (line : List ℕ) (lines : List (List ℕ)) (text : List ℕ) (new : State) (first : List ℕ) (mid : State) (others : List ℕ) → Run mid lines others new → text ≡ first ++ others
-    → ((s : State) → Run s lines others new → WritesUpToMemory s lines others) → OrMemory first mid (replied old (command_of line)) → WritesUpToMemory old (line ∷ lines) text
+by_answer : (old : State) (line : List ℕ) (lines : List (List ℕ)) (text : List ℕ) (new : State) (first : List ℕ) (mid : State) (others : List ℕ)
+    → Run mid lines others new → text ≡ first ++ others
+    → ((s : State) → Run s lines others new → WritesUpToMemory s lines others) → OrMemory first mid (replied old (command_of line))
+    → WritesUpToMemory old (line ∷ lines) text
 by_answer old line lines text new first mid others run whole later (inl names) =
     inr (record { earlier = []; line = line; later = lines; reply = first; more = others; cut = refl; names = names; wrote = whole })
 by_answer old line lines text new first mid others run whole later (inr same) =

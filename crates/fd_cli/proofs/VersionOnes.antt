@@ -1,5 +1,6 @@
 -- A run on a capture of version 1 writes what version 1 says.
-use Rattle.std.proofs.Common.{◌≡◌, ℕ, zero, suc, ◌+◌, List, [], ◌∷◌, ◌++◌, map, length, Bool, true, false, Result, Ok, Err, inl, inr, refl, sym, ap, ◌∙◌, subst, codes}
+use Rattle.std.proofs.Common.{◌≡◌, ℕ, zero, suc, ◌+◌, List, [], ◌∷◌, ◌++◌, map, length, Bool, true, false, Result, Ok, Err, inl, inr, refl, sym, ap, ◌∙◌}
+use Rattle.std.proofs.Common.{subst, codes}
 use Rattle.std.specs.List.{flat_map}
 use Rattle.std.proofs.lemmas.List.{length-map}
 use Rattle.std.proofs.lemmas.List.Elements.{All-head, All-tail}
@@ -27,7 +28,8 @@ use Rattle.fd_cli.specs.declared.command.CommandFault.{CommandFault}
 use Rattle.fd_cli.specs.Line.{command_of}
 use Rattle.fd_cli.specs.Run.{Answers, Run}
 use Rattle.fd_cli.specs.Show.{show_text}
-use Rattle.fd_cli.specs.Text.{pixel_line, state_line, state_text, event_words, event_line, event_lines, event_list, events_head, entry_line, entry_list, history_text, number_line}
+use Rattle.fd_cli.specs.Text.{pixel_line, state_line, state_text, event_words, event_line, event_lines, event_list, events_head, entry_line, entry_list}
+use Rattle.fd_cli.specs.Text.{history_text, number_line}
 use Rattle.fd_cli.specs.VersionOne as one
 
 -- a state of version 1
@@ -42,7 +44,8 @@ same_table old new is first = subst IsFirst (sym is) first
 moved : (old new : State) (at : ℕ) → new ≡ at_position old at → IsFirst old → IsFirst new
 moved old new at is first = subst IsFirst (sym is) first
 
-with_flag_first : (t : Table) (number : ℕ) (on : Bool) → (t.version ≡ 1) × ArePlain t.events → ((with_flag t number on).version ≡ 1) × ArePlain (with_flag t number on).events
+with_flag_first : (t : Table) (number : ℕ) (on : Bool) → (t.version ≡ 1) × ArePlain t.events → ((with_flag t number on).version ≡ 1)
+    × ArePlain (with_flag t number on).events
 with_flag_first t zero on first = first
 with_flag_first t (suc n) on first = first
 
@@ -95,7 +98,8 @@ module _ (state : State) (first : IsFirst state) where
   pixel_to x y (Err fault) depth shows deep = (shows, refl)
 
   pixel_from : (x y : ℕ) (colour : Result Colour SessionFault) → one.ShowsPixel state x y colour
-      → (depth : Result ℕ SessionFault) × ShowsPixel state x y colour × ShowsDepth state x y depth × (pixel_line state.table.version colour depth ≡ one.pixel_line colour)
+      → (depth : Result ℕ SessionFault) × ShowsPixel state x y colour × ShowsDepth state x y depth
+      × (pixel_line state.table.version colour depth ≡ one.pixel_line colour)
   pixel_from x y (Ok c) shows = (
     Ok (stored_at state.table state.position x y),
     (shows.0, shows.1, shows.2 ∙ sym (colours_same state.table state.position x y first.1)),
@@ -116,7 +120,8 @@ module _ (state : State) (first : IsFirst state) where
 
   show_same : show_text state ≡ one.show_text state
   show_same =
-      ap (λ colours. number_line (codes "pam") (pam_len state.table.width state.table.height) ++ (header state.table.width state.table.height ++ flat_map tuple colours))
+      ap (λ colours. number_line (codes "pam") (pam_len state.table.width state.table.height) ++
+      (header state.table.width state.table.height ++ flat_map tuple colours))
       (images_same state.table state.position first.1)
 
 words_same : (e : Event) → is_of_depth e ≡ false → event_words e ≡ one.event_words e
@@ -182,7 +187,8 @@ module _ (state : State) (first : IsFirst state) where
 
 -- ---- the same answers
 
-answers_to : (command : Result Command CommandFault) (old new : State) (text : List ℕ) → IsFirst old → Answers old command text new → one.Answers old command text new
+answers_to : (command : Result Command CommandFault) (old new : State) (text : List ℕ) → IsFirst old → Answers old command text new
+    → one.Answers old command text new
 answers_to (Err fault) old new text first h = h
 answers_to (Ok Step) old new text first h = h
 answers_to (Ok Back) old new text first h = h
@@ -197,7 +203,8 @@ answers_to (Ok Show) old new text first (inl is, same) = (inl (is ∙ show_same 
 answers_to (Ok Show) old new text first (inr is, same) = (inr is, same)
 answers_to (Ok Quit) old new text first h = h
 
-answers_from : (command : Result Command CommandFault) (old new : State) (text : List ℕ) → IsFirst old → one.Answers old command text new → Answers old command text new
+answers_from : (command : Result Command CommandFault) (old new : State) (text : List ℕ) → IsFirst old → one.Answers old command text new
+    → Answers old command text new
 answers_from (Err fault) old new text first h = h
 answers_from (Ok Step) old new text first h = h
 answers_from (Ok Back) old new text first h = h

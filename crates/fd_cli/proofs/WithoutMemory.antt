@@ -9,8 +9,10 @@ use Rattle.fd_cli.proofs.Transcripts.{OrMemory, answer_or}
 abbrev IsTranscript : State → List (List ℕ) → List ℕ → State → Type 0
 IsTranscript old lines text new = (text ≡ transcript old lines) × (new ≡ left_by old lines)
 
-by_answer : (old : State) (line : List ℕ) (lines : List (List ℕ)) (text first others : List ℕ) (mid new : State) → text ≡ first ++ others → (NamesMemory first → ⊥) → RunWithoutMemory mid lines others new
-    → ((s : State) → RunWithoutMemory s lines others new → IsTranscript s lines others new) → OrMemory first mid (replied old (command_of line)) → IsTranscript old (line ∷ lines) text new
+by_answer : (old : State) (line : List ℕ) (lines : List (List ℕ)) (text first others : List ℕ) (mid new : State) → text ≡ first ++ others
+    → (NamesMemory first → ⊥) → RunWithoutMemory mid lines others new
+    → ((s : State) → RunWithoutMemory s lines others new → IsTranscript s lines others new) → OrMemory first mid (replied old (command_of line))
+    → IsTranscript old (line ∷ lines) text new
 by_answer old line lines text first others mid new whole free run later (inl names) = absurd (free names)
 by_answer old line lines text first others mid new whole free run later (inr same) =
     let to : mid ≡ (replied old (command_of line)).1 = ap (λ (r : Reply). r.1) same in

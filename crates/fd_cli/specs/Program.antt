@@ -34,8 +34,10 @@ abbrev pub shown : Option (List ℕ) → ℕ → DeviceShown
 shown bytes failures = record { bytes = bytes; failures = failures }
 
 -- From bytes to bytes: some of the input was taken and some output written, as the request has it; a reader or a writer failed only where the ending says so;
--- all that was written was passed on unless the writer failed; the errors were told the ending's line, or a front of it where that device failed; and the status is the ending's.
-pub record Performs (request : Request) (capture : List ℕ) (input_old input_new output_old output_new errors_old errors_new : DeviceShown) (flushed_old flushed_new ended : Bool) (status : ℕ) : Type 0 where
+-- all that was written was passed on unless the writer failed; the errors were told the ending's line, or a front of it where that device failed; and the
+-- status is the ending's.
+pub record Performs (request : Request) (capture : List ℕ) (input_old input_new output_old output_new errors_old errors_new : DeviceShown)
+    (flushed_old flushed_new ended : Bool) (status : ℕ) : Type 0 where
   pub ending : Ending
   pub taken : List ℕ
   pub written : List ℕ

@@ -129,7 +129,8 @@ ServesCapture capture taken written TooMuch ended = ServesTable capture taken wr
 ServesCapture capture taken written Memory ended = (taken ≡ []) × (written ≡ [])
 
 -- One line was answered, and the writer took the reply, or a front of it where it failed.
-pub record Replies (old : State) (command : Result Command CommandFault) (new : State) (held_old held_new : Option (List ℕ)) (sent_old sent_new : ℕ) (ok : Bool) : Type 0 where
+pub record Replies (old : State) (command : Result Command CommandFault) (new : State) (held_old held_new : Option (List ℕ)) (sent_old sent_new : ℕ)
+    (ok : Bool) : Type 0 where
   pub reply : List ℕ
   pub answers : Answers old command reply new
   pub puts : Puts held_old held_new sent_old sent_new reply ok

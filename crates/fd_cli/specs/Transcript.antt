@@ -1,5 +1,6 @@
 -- Promised. What a run writes where memory is there: a function of the state that it begins in, and of the lines.
-use Rattle.std.specs.Prelude.{◌≡◌, ℕ, ◌+◌, ◌-◌, ◌≤◌, List, [], ◌∷◌, ◌++◌, length, Bool, true, false, ◌&&◌, nat_lt, nat_le, Option, Some, None, Result, Ok, Err, codes, ◌⊎◌, if◌then◌else◌}
+use Rattle.std.specs.Prelude.{◌≡◌, ℕ, ◌+◌, ◌-◌, ◌≤◌, List, [], ◌∷◌, ◌++◌, length, Bool, true, false, ◌&&◌, nat_lt, nat_le, Option, Some, None, Result, Ok}
+use Rattle.std.specs.Prelude.{Err, codes, ◌⊎◌, if◌then◌else◌}
 use Rattle.fd_events.specs.Table.{flag_at}
 use Rattle.fd_events.specs.Image.{colour_at, stored_at}
 use Rattle.fd_history.specs.History.{history_at}
@@ -44,7 +45,8 @@ replied state (Ok Back) = if nat_lt 0 state.position then moved_to state (state.
 replied state (Ok (Goto to)) = if nat_le to (length state.table.events) then moved_to state to else refusal_reply state NoSuchPosition
 replied state (Ok (On number)) = switched state number true (flag_at state.table number)
 replied state (Ok (Off number)) = switched state number false (flag_at state.table number)
-replied state (Ok (Pixel x y)) = at_pixel state x y (pixel_line state.table.version (Ok (colour_at state.table state.position x y)) (Ok (stored_at state.table state.position x y)))
+replied state (Ok (Pixel x y)) = at_pixel state x y (pixel_line state.table.version (Ok (colour_at state.table state.position x y))
+    (Ok (stored_at state.table state.position x y)))
 replied state (Ok (History x y)) = at_pixel state x y (entry_list state.table.version (history_at state.table state.position x y))
 replied state (Ok ShowState) = (state_text state, state)
 replied state (Ok Events) = (events_text state, state)
@@ -82,7 +84,8 @@ WritesTranscript = (state : State) (lines : List (List ℕ)) (text : List ℕ) (
 -- The transcript is a run, in which no reply tells of a want of memory, from each state that a session has.
 abbrev pub TranscriptRuns : Type 0
 TranscriptRuns =
-    (state : State) (lines : List (List ℕ)) → state.position ≤ length state.table.events → RunWithoutMemory state lines (transcript state lines) (left_by state lines)
+    (state : State) (lines : List (List ℕ)) → state.position ≤ length state.table.events
+    → RunWithoutMemory state lines (transcript state lines) (left_by state lines)
 
 -- A run in which no reply tells of one is a run, writes the whole transcript, and leaves the state that the transcript leaves. So memory alone is left open.
 abbrev pub WithoutMemoryWritesAll : Type 0

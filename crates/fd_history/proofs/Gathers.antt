@@ -1,5 +1,6 @@
 -- What is gathered of a pixel from the triangles of a draw.
-use Rattle.std.proofs.Common.{◌≡◌, ◌≢◌, ℕ, zero, suc, ◌+◌, ◌<◌, Bool, true, false, not, IsTrue, List, [], ◌∷◌, ◌++◌, length, drop, slice_get, Option, Some, None, IfSome, option_map, refl, sym, ap, ◌∙◌, arith, append_assoc, append-nil, if◌then◌else◌, ◌≤◌}
+use Rattle.std.proofs.Common.{◌≡◌, ◌≢◌, ℕ, zero, suc, ◌+◌, ◌<◌, Bool, true, false, not, IsTrue, List, [], ◌∷◌, ◌++◌, length, drop, slice_get, Option, Some}
+use Rattle.std.proofs.Common.{None, IfSome, option_map, refl, sym, ap, ◌∙◌, arith, append_assoc, append-nil, if◌then◌else◌, ◌≤◌}
 use Rattle.fd_cover.specs.declared.shading.Interp.{Interp}
 use Rattle.fd_cover.specs.declared.triangle.Tri.{Tri}
 use Rattle.fd_cover.specs.declared.depth.Depth.{Depth}
@@ -25,7 +26,8 @@ passes_test true verdict hit = refl
 passes_test false verdict hit = absurd (hit refl)
 
 -- a triangle that is not missed covers the pixel
-pub covered_unless_missed : (t : Tri) (depths : List ℕ) (raster : Raster) (rect : Rect) (depth : Depth) (stored x y : ℕ) → verdict_at t depths raster rect depth stored x y ≢ Missed → IsTrue (covers t x y)
+pub covered_unless_missed : (t : Tri) (depths : List ℕ) (raster : Raster) (rect : Rect) (depth : Depth) (stored x y : ℕ)
+    → verdict_at t depths raster rect depth stored x y ≢ Missed → IsTrue (covers t x y)
 unfolding verdict_at
 covered_unless_missed t depths raster rect depth stored x y hit = passes_test (covers t x y) _ hit
 
@@ -61,7 +63,8 @@ same_pixel event number zero (t ∷ ts) interp s old new within is = (ap (λ (g 
 same_pixel event number (suc i) (t ∷ ts) interp s old new within is = same_pixel event number i ts interp s old new (omega arith) is
 
 -- ---- triangles that miss the pixel
-past_missed : (event number : ℕ) (t : Triangle) (interp : Interp) (s : Pipeline) (g : Gathering) → verdict_of t s g.x g.y g.depth ≡ Missed → g ≡ past_triangle event number t interp s g
+past_missed : (event number : ℕ) (t : Triangle) (interp : Interp) (s : Pipeline) (g : Gathering) → verdict_of t s g.x g.y g.depth ≡ Missed
+    → g ≡ past_triangle event number t interp s g
 past_missed event number t interp s g missed = rw missed (sym (gone_nowhere g))
 
 outside : (found : Option Triangle) (corners : Tri) (box : Bounds) (event number : ℕ) (interp : Interp) (s : Pipeline) (g : Gathering)
@@ -89,7 +92,8 @@ outside_triangles [] box event number interp s x y before holds out = refl
 outside_triangles (t ∷ ts) box event number interp s x y before holds out =
     let after = pixel_after_triangle t interp s x y before in
     ap (λ es. es ++ entries_of_triangles event (number + 1) ts interp s x y after)
-    (missed_enters (verdict_of t s x y before.1) (entry_of_triangle event number t interp s x y before) (missed_outside t.corners t.depths s.raster s.scissor s.depth before.1 box x y (holds 0 t refl) out))
+    (missed_enters (verdict_of t s x y before.1) (entry_of_triangle event number t interp s x y before)
+    (missed_outside t.corners t.depths s.raster s.scissor s.depth before.1 box x y (holds 0 t refl) out))
     ∙ outside_triangles ts box event (number + 1) interp s x y after (λ i u at. holds (suc i) u at) out
 
 -- ---- triangles that cover nothing of a window with the pixel
@@ -98,9 +102,11 @@ unfolding verdict_at
 missed_uncovered t s x y stored uncovered = rw uncovered
 
 module _ (ts : List Triangle) (window : Bounds) (event : ℕ) (interp : Interp) (s : Pipeline) (g : Gathering) (within : IsTrue (is_within window g.x g.y)) where
-  missed_at : (i : ℕ) → (found : Option Triangle) → slice_get ts i ≡ found → CoverNone window ts i (i + 1) → IfSome found (λ t. g ≡ past_triangle event i t interp s g)
+  missed_at : (i : ℕ) → (found : Option Triangle) → slice_get ts i ≡ found → CoverNone window ts i (i + 1)
+      → IfSome found (λ t. g ≡ past_triangle event i t interp s g)
   missed_at i None is none = tt
-  missed_at i (Some t) is none = past_missed event i t interp s g (missed_uncovered t s g.x g.y g.depth (none i t (omega arith) (omega arith) is g.x g.y within))
+  missed_at i (Some t) is none = past_missed event i t interp s g
+      (missed_uncovered t s g.x g.y g.depth (none i t (omega arith) (omega arith) is g.x g.y within))
 
   -- they lead nowhere
   pub passed_over : (i count : ℕ) → i + count ≤ length ts → CoverNone window ts i (i + count)

@@ -18,7 +18,8 @@ use Rattle.fd_history.specs.Chain.{drawn_over, KeptIsDrawnOver}
 pub drawn_over-append : (first second : List Entry) → drawn_over (first ++ second) ≡ drawn_over first ++ drawn_over second
 drawn_over-append first second =
     ap (map (λ (entry : Entry). (entry.before, entry.depth_before))) (filter-append (λ (entry : Entry). is_drawn_by entry.verdict) first second)
-    ∙ map-append (λ (entry : Entry). (entry.before, entry.depth_before)) (filter (λ entry. is_drawn_by entry.verdict) first) (filter (λ entry. is_drawn_by entry.verdict) second)
+    ∙ map-append (λ (entry : Entry). (entry.before, entry.depth_before)) (filter (λ entry. is_drawn_by entry.verdict) first)
+    (filter (λ entry. is_drawn_by entry.verdict) second)
 
 -- one triangle, whatever its verdict
 one_kept : (v : Verdict) (event number : ℕ) (source before after : Pixel)
@@ -35,11 +36,13 @@ triangles_kept : (event number : ℕ) (ts : List Triangle) (interp : Interp) (s 
 triangles_kept event number [] interp s x y before = refl
 triangles_kept event number (t ∷ ts) interp s x y before =
     let after = pixel_after_triangle t interp s x y before in
-    ap (λ cs. cs ++ kept_by_triangles ts interp s x y after) (one_kept (verdict_of t s x y before.1) event number (source_of t interp x y, depth_of t x y) before after)
+    ap (λ cs. cs ++ kept_by_triangles ts interp s x y after)
+    (one_kept (verdict_of t s x y before.1) event number (source_of t interp x y, depth_of t x y) before after)
     ∙ ap (λ cs. drawn_over (entries_of_triangle event number t interp s x y before) ++ cs) (triangles_kept event (number + 1) ts interp s x y after)
     ∙ sym (drawn_over-append (entries_of_triangle event number t interp s x y before) (entries_of_triangles event (number + 1) ts interp s x y after))
 
-event_kept : (number : ℕ) (event : Option Event) (s : Pipeline) (x y : ℕ) (before : Pixel) → kept_by_event event s x y before ≡ drawn_over (entries_of_event number event s x y before)
+event_kept : (number : ℕ) (event : Option Event) (s : Pipeline) (x y : ℕ) (before : Pixel)
+    → kept_by_event event s x y before ≡ drawn_over (entries_of_event number event s x y before)
 event_kept number None s x y before = refl
 event_kept number (Some (Clear colour)) s x y before = refl
 event_kept number (Some (Draw draw)) s x y before = triangles_kept number 0 (triangles_of draw) draw.interp s x y before

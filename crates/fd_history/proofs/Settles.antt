@@ -1,5 +1,6 @@
 -- Gathered entries that get their colours are the history's.
-use Rattle.std.proofs.Common.{◌≡◌, ◌≢◌, ℕ, zero, suc, ◌+◌, ◌<◌, Bool, true, false, List, [], ◌∷◌, ◌++◌, length, drop, Option, Some, None, refl, sym, ap, ◌∙◌, arith, if◌then◌else◌, map, filter, length-append, append-nil, ◌-◌, ◌≤◌}
+use Rattle.std.proofs.Common.{◌≡◌, ◌≢◌, ℕ, zero, suc, ◌+◌, ◌<◌, Bool, true, false, List, [], ◌∷◌, ◌++◌, length, drop, Option, Some, None, refl, sym, ap, ◌∙◌}
+use Rattle.std.proofs.Common.{arith, if◌then◌else◌, map, filter, length-append, append-nil, ◌-◌, ◌≤◌}
 use Rattle.std.specs.Prelude.{unwrap_or}
 use Rattle.std.proofs.Common.{take}
 use Rattle.std.proofs.lemmas.List.{map-append, drop_all, take_all}
@@ -12,11 +13,13 @@ use Rattle.fd_events.specs.declared.event.Event.{Event}
 use Rattle.fd_events.specs.declared.event.Event.TheVariants.{Clear, SetRaster, SetScissor, SetBlend, SetFactor, SetDepth, DepthClear, Draw, Marker}
 use Rattle.fd_events.specs.declared.pipeline.Pipeline.{Pipeline}
 use Rattle.fd_events.specs.Draw.{Triangle, triangles_of}
-use Rattle.fd_events.specs.Image.{Pixel, fresh_pixel, verdict_of, pixel_drawn, pixel_after_triangle, pixel_after_triangles, pixel_after_event, pixel_at, stored_at, source_of, depth_of, is_drawn, is_drawn_by, kept_after}
+use Rattle.fd_events.specs.Image.{Pixel, fresh_pixel, verdict_of, pixel_drawn, pixel_after_triangle, pixel_after_triangles, pixel_after_event, pixel_at}
+use Rattle.fd_events.specs.Image.{stored_at, source_of, depth_of, is_drawn, is_drawn_by, kept_after}
 use Rattle.fd_events.specs.Table.{Table, active_event, state_at, event_at, flag_at}
 use Rattle.fd_history.specs.declared.entry.Entry.{Entry}
 use Rattle.fd_history.specs.History.{entry_of, is_missed, entries_of_triangle, entries_of_triangles, entries_of_event, history_at}
-use Rattle.fd_history.specs.Gathered.{Gathering, gone_on, depth_after_triangle, depth_after_triangles, depth_after_event, gathered_of_triangle, gathered_of_triangles, gathered_of, gathered_of_event, past_number, EntersNothing}
+use Rattle.fd_history.specs.Gathered.{Gathering, gone_on, depth_after_triangle, depth_after_triangles, depth_after_event, gathered_of_triangle}
+use Rattle.fd_history.specs.Gathered.{gathered_of_triangles, gathered_of, gathered_of_event, past_number, EntersNothing}
 use Rattle.fd_history.specs.Settled.{gathered_at, overwritten, overwritten_past, drawn_count, first, behind, entry_between, settled}
 use Rattle.fd_history.specs.Chain.{Leads, drawn_over}
 use Rattle.fd_history.proofs.Chains.{event_leads, history_leads}
@@ -28,15 +31,18 @@ part_of_one : (b : Bool) (p q : Pixel) → (if b then p else q).1 ≡ (if b then
 part_of_one true p q = refl
 part_of_one false p q = refl
 
-depth_triangle : (t : Triangle) (interp : Interp) (s : Pipeline) (x y : ℕ) (before : Pixel) → (pixel_after_triangle t interp s x y before).1 ≡ depth_after_triangle t s x y before.1
+depth_triangle : (t : Triangle) (interp : Interp) (s : Pipeline) (x y : ℕ) (before : Pixel)
+    → (pixel_after_triangle t interp s x y before).1 ≡ depth_after_triangle t s x y before.1
 depth_triangle t interp s x y before = part_of_one (is_drawn t s x y before.1) (pixel_drawn t interp s x y before) before
 
-depth_triangles : (ts : List Triangle) (interp : Interp) (s : Pipeline) (x y : ℕ) (before : Pixel) → (pixel_after_triangles ts interp s x y before).1 ≡ depth_after_triangles ts s x y before.1
+depth_triangles : (ts : List Triangle) (interp : Interp) (s : Pipeline) (x y : ℕ) (before : Pixel)
+    → (pixel_after_triangles ts interp s x y before).1 ≡ depth_after_triangles ts s x y before.1
 depth_triangles [] interp s x y before = refl
 depth_triangles (t ∷ ts) interp s x y before =
     depth_triangles ts interp s x y (pixel_after_triangle t interp s x y before) ∙ ap (depth_after_triangles ts s x y) (depth_triangle t interp s x y before)
 
-pub depth_event : (event : Option Event) (s : Pipeline) (x y : ℕ) (before : Pixel) → (pixel_after_event event s x y before).1 ≡ depth_after_event event s x y before.1
+pub depth_event : (event : Option Event) (s : Pipeline) (x y : ℕ) (before : Pixel)
+    → (pixel_after_event event s x y before).1 ≡ depth_after_event event s x y before.1
 depth_event None s x y before = refl
 depth_event (Some (Clear colour)) s x y before = refl
 depth_event (Some (DepthClear depth)) s x y before = refl
@@ -57,8 +63,10 @@ blank_one : (v : Verdict) (event number : ℕ) (source before after : Pixel) (la
     ≡ (if is_missed v then [] else entry_of event (Some number) v source (source.0, before.1) (source.0, last) ∷ [])
 blank_one Missed event number source before after last is = refl
 blank_one Culled event number source before after last is = ap (λ d. entry_of event (Some number) Culled source (source.0, before.1) (source.0, d) ∷ []) is
-blank_one Scissored event number source before after last is = ap (λ d. entry_of event (Some number) Scissored source (source.0, before.1) (source.0, d) ∷ []) is
-blank_one DepthFailed event number source before after last is = ap (λ d. entry_of event (Some number) DepthFailed source (source.0, before.1) (source.0, d) ∷ []) is
+blank_one Scissored event number source before after last is =
+    ap (λ d. entry_of event (Some number) Scissored source (source.0, before.1) (source.0, d) ∷ []) is
+blank_one DepthFailed event number source before after last is =
+    ap (λ d. entry_of event (Some number) DepthFailed source (source.0, before.1) (source.0, d) ∷ []) is
 blank_one Drawn event number source before after last is = ap (λ d. entry_of event (Some number) Drawn source (source.0, before.1) (source.0, d) ∷ []) is
 
 blank_triangles : (event number : ℕ) (ts : List Triangle) (interp : Interp) (s : Pipeline) (x y : ℕ) (before : Pixel)
@@ -95,11 +103,13 @@ blank_history t (suc k) x y =
     ∙ ap (λ es. gathered_at t k x y ++ es) (blank_event (suc k) (active_event t (suc k)) (state_at t k) x y (pixel_at t k x y))
 
 -- what no entry enters is not gathered, and nothing is kept of it
-gathers_nothing : (number : ℕ) (event : Option Event) (s : Pipeline) (x y : ℕ) (before : Pixel) → entries_of_event number event s x y before ≡ [] → gathered_of_event number event s x y before.1 ≡ []
+gathers_nothing : (number : ℕ) (event : Option Event) (s : Pipeline) (x y : ℕ) (before : Pixel) → entries_of_event number event s x y before ≡ []
+    → gathered_of_event number event s x y before.1 ≡ []
 gathers_nothing number event s x y before none = sym (blank_event number event s x y before) ∙ ap (map blank) none
 
 -- nor does it change the depth
-keeps_depth : (number : ℕ) (event : Option Event) (s : Pipeline) (x y : ℕ) (before : Pixel) → entries_of_event number event s x y before ≡ [] → depth_after_event event s x y before.1 ≡ before.1
+keeps_depth : (number : ℕ) (event : Option Event) (s : Pipeline) (x y : ℕ) (before : Pixel) → entries_of_event number event s x y before ≡ []
+    → depth_after_event event s x y before.1 ≡ before.1
 keeps_depth number event s x y before none =
     let leads : Leads before (entries_of_event number event s x y before) (pixel_after_event event s x y before) = event_leads number event s x y before in
     let same : before ≡ pixel_after_event event s x y before = rw none at leads in
@@ -109,10 +119,12 @@ keeps_nothing : (t : Table) (k x y : ℕ) → entries_of_event (suc k) (active_e
 keeps_nothing t k x y none = kept_is_drawn_over t k x y ∙ ap drawn_over none
 
 -- ---- what a pixel went through
-drawn_over-cons : (e : Entry) (es : List Entry) → drawn_over (e ∷ es) ≡ (if is_drawn_by e.verdict then (e.before, e.depth_before) ∷ drawn_over es else drawn_over es)
+drawn_over-cons : (e : Entry) (es : List Entry) → drawn_over
+    (e ∷ es) ≡ (if is_drawn_by e.verdict then (e.before, e.depth_before) ∷ drawn_over es else drawn_over es)
 drawn_over-cons e es = by_test (is_drawn_by e.verdict)
   where
-    by_test : (b : Bool) → map (λ (entry : Entry). (entry.before, entry.depth_before)) (if b then e ∷ filter (λ entry. is_drawn_by entry.verdict) es else filter (λ entry. is_drawn_by entry.verdict) es)
+    by_test : (b : Bool) → map (λ (entry : Entry). (entry.before, entry.depth_before))
+        (if b then e ∷ filter (λ entry. is_drawn_by entry.verdict) es else filter (λ entry. is_drawn_by entry.verdict) es)
         ≡ (if b then (e.before, e.depth_before) ∷ drawn_over es else drawn_over es)
     by_test true = refl
     by_test false = refl
@@ -130,7 +142,8 @@ behind_one : (b : Bool) (c : Pixel) (cs : List Pixel) (last : Pixel) → behind 
 behind_one true c cs last = refl
 behind_one false c cs last = refl
 
-first_one : (b : Bool) (c a : Pixel) (cs : List Pixel) (last : Pixel) → (b ≡ false → first (cs ++ last ∷ []) ≡ c) → first ((if b then c ∷ cs else cs) ++ last ∷ []) ≡ c
+first_one : (b : Bool) (c a : Pixel) (cs : List Pixel) (last : Pixel) → (b ≡ false → first (cs ++ last ∷ []) ≡ c)
+    → first ((if b then c ∷ cs else cs) ++ last ∷ []) ≡ c
 first_one true c a cs last rest = refl
 first_one false c a cs last rest = rest refl
 
@@ -142,7 +155,8 @@ leads_first : (a last : Pixel) (es : List Entry) → Leads a es last → first (
 leads_first a last [] leads = sym leads
 leads_first a last (e ∷ es) leads =
     ap (λ cs. first (cs ++ last ∷ [])) (drawn_over-cons e es)
-    ∙ first_one (is_drawn_by e.verdict) (e.before, e.depth_before) a (drawn_over es) last (λ undrawn. leads_first (e.after, e.depth_after) last es leads.2 ∙ leads.1 (not_drawn e.verdict undrawn))
+    ∙ first_one (is_drawn_by e.verdict) (e.before, e.depth_before) a (drawn_over es) last
+    (λ undrawn. leads_first (e.after, e.depth_after) last es leads.2 ∙ leads.1 (not_drawn e.verdict undrawn))
     ∙ leads.0
 
 settles : (a last : Pixel) (es : List Entry) → Leads a es last → settled (map blank es) (drawn_over es ++ last ∷ []) ≡ es
@@ -150,10 +164,13 @@ settles a last [] leads = refl
 settles a last (e ∷ es) leads =
     let pixels = drawn_over (e ∷ es) ++ last ∷ [] in
     let left : behind (is_drawn_by e.verdict) pixels ≡ drawn_over es ++ last ∷ [] =
-    ap (λ cs. behind (is_drawn_by e.verdict) (cs ++ last ∷ [])) (drawn_over-cons e es) ∙ behind_one (is_drawn_by e.verdict) (e.before, e.depth_before) (drawn_over es) last in
+    ap (λ cs. behind (is_drawn_by e.verdict) (cs ++ last ∷ [])) (drawn_over-cons e es)
+    ∙ behind_one (is_drawn_by e.verdict) (e.before, e.depth_before) (drawn_over es) last in
     let before : first pixels ≡ (e.before, e.depth_before) = leads_first a last (e ∷ es) leads ∙ sym leads.0 in
-    let after : first (behind (is_drawn_by e.verdict) pixels) ≡ (e.after, e.depth_after) = ap first left ∙ leads_first (e.after, e.depth_after) last es leads.2 in
-    ap (λ (p : Pixel). entry_between e p.0 (first (behind (is_drawn_by e.verdict) pixels)).0 ∷ settled (map blank es) (behind (is_drawn_by e.verdict) pixels)) before
+    let after : first (behind (is_drawn_by e.verdict) pixels) ≡ (e.after, e.depth_after) = ap first left
+    ∙ leads_first (e.after, e.depth_after) last es leads.2 in
+    ap (λ (p : Pixel). entry_between e p.0 (first (behind (is_drawn_by e.verdict) pixels)).0 ∷ settled (map blank es) (behind (is_drawn_by e.verdict) pixels))
+    before
     ∙ ap (λ (p : Pixel). entry_between e e.before p.0 ∷ settled (map blank es) (behind (is_drawn_by e.verdict) pixels)) after
     ∙ ap (λ cs. e ∷ settled (map blank es) cs) left
     ∙ ap (λ fs. e ∷ fs) (settles (e.after, e.depth_after) last es leads.2)
@@ -187,7 +204,8 @@ active_is : (t : Table) (number : ℕ) (event : Event) → event_at t number ≡
 active_is t number event found on =
     ap (λ f. if unwrap_or f false then event_at t number else None) on ∙ found
 
-module _ (t : Table) (number x y : ℕ) (event : Event) (least : 1 ≤ number) (found : event_at t number ≡ Some event) (on : flag_at t number ≡ Some true) (nothing : EntersNothing event x y) where
+module _ (t : Table) (number x y : ℕ) (event : Event) (least : 1 ≤ number) (found : event_at t number ≡ Some event) (on : flag_at t number ≡ Some true)
+    (nothing : EntersNothing event x y) where
   no_entries : (s : Pipeline) (before : Pixel) → entries_of_event number (active_event t number) s x y before ≡ []
   no_entries s before = ap (λ e. entries_of_event number e s x y before) (active_is t number event found on) ∙ nothing number s before
 
@@ -198,28 +216,32 @@ module _ (t : Table) (number x y : ℕ) (event : Event) (least : 1 ≤ number) (
       let none : entries_of_event number (active_event t number) s g.x g.y before ≡ [] = rw (column, row) (no_entries s before) in
       sym (gone_nowhere g)
       ∙ ap (λ d. gone_on g d []) (sym (keeps_depth number (active_event t number) s g.x g.y before none))
-      ∙ ap (gone_on g (depth_after_event (active_event t number) s g.x g.y g.depth)) (sym (gathers_nothing number (active_event t number) s g.x g.y before none))
+      ∙ ap (gone_on g (depth_after_event (active_event t number) s g.x g.y g.depth))
+      (sym (gathers_nothing number (active_event t number) s g.x g.y before none))
 
   pub overwrites_nothing : (pixels : List Pixel) → pixels ≡ overwritten_past t (number - 1) x y pixels
   overwrites_nothing pixels =
       let again : suc (number - 1) ≡ number = omega (arith, least) in
       sym (append-nil pixels)
       ∙ ap (λ cs. pixels ++ cs) (sym (keeps_nothing t (number - 1) x y
-      (ap (λ n. entries_of_event n (active_event t n) (state_at t (number - 1)) x y (pixel_at t (number - 1) x y)) again ∙ no_entries (state_at t (number - 1)) (pixel_at t (number - 1) x y))))
+      (ap (λ n. entries_of_event n (active_event t n) (state_at t (number - 1)) x y (pixel_at t (number - 1) x y)) again
+      ∙ no_entries (state_at t (number - 1)) (pixel_at t (number - 1) x y))))
 
 -- ---- the entries that were lent to be settled
 length-settled : (es : List Entry) (pixels : List Pixel) → length (settled es pixels) ≡ length es
 length-settled [] pixels = refl
 length-settled (e ∷ es) pixels = ap (λ n. suc n) (length-settled es (behind (is_drawn_by e.verdict) pixels))
 
-pub given_back : (n : ℕ) (old new : List Entry) (pixels : List Pixel) → n ≡ length old → new ≡ settled old pixels → take n (new ++ drop (length new) old) ≡ settled old pixels
+pub given_back : (n : ℕ) (old new : List Entry) (pixels : List Pixel) → n ≡ length old → new ≡ settled old pixels
+    → take n (new ++ drop (length new) old) ≡ settled old pixels
 given_back n old new pixels all is =
     let same : length new ≡ length old = ap length is ∙ length-settled old pixels in
     ap (λ l. take n (new ++ l)) (drop_all (length new) old (omega (arith, same)))
     ∙ ap (take n) (append-nil new) ∙ take_all n new (omega (arith, same, all)) ∙ is
 
 -- as many entries of an event were drawn as pixels are kept of it
-pub count_kept : (t : Table) (k x y : ℕ) → drawn_count (gathered_of_event (suc k) (active_event t (suc k)) (state_at t k) x y (stored_at t k x y)) ≡ length (kept_after t k x y)
+pub count_kept : (t : Table) (k x y : ℕ) → drawn_count (gathered_of_event (suc k) (active_event t (suc k)) (state_at t k) x y (stored_at t k x y)) ≡ length
+    (kept_after t k x y)
 count_kept t k x y =
     let entries = entries_of_event (suc k) (active_event t (suc k)) (state_at t k) x y (pixel_at t k x y) in
     ap drawn_count (sym (blank_event (suc k) (active_event t (suc k)) (state_at t k) x y (pixel_at t k x y)))
@@ -240,7 +262,8 @@ gathering_at t k x y = record { x = x; y = y; depth = stored_at t k x y; entries
 
 one_event : (t : Table) (k x y : ℕ) → past_number (suc k) (active_event t (suc k)) (state_at t k) (gathering_at t k x y) ≡ gathering_at t (suc k) x y
 one_event t k x y =
-    ap (λ d. record { x = x; y = y; depth = d; entries = gathered_at t (suc k) x y }) (sym (depth_event (active_event t (suc k)) (state_at t k) x y (pixel_at t k x y)))
+    ap (λ d. record { x = x; y = y; depth = d; entries = gathered_at t (suc k) x y })
+    (sym (depth_event (active_event t (suc k)) (state_at t k) x y (pixel_at t k x y)))
 
 pub next_event : (t : Table) (k number x y : ℕ) (old new : Gathering) → number ≡ k + 1 → old ≡ gathering_at t k x y
     → new ≡ past_number number (active_event t number) (state_at t (number - 1)) old → new ≡ gathering_at t (k + 1) x y
@@ -255,7 +278,8 @@ next_event t k number x y old new at begins is =
     ∙ one_event t k x y
     ∙ ap (λ n. gathering_at t n x y) next
 
-pub next_kept : (t : Table) (k number x y : ℕ) (old new : List Pixel) → number ≡ k + 1 → old ≡ overwritten t k x y → new ≡ overwritten_past t (number - 1) x y old → new ≡ overwritten t (k + 1) x y
+pub next_kept : (t : Table) (k number x y : ℕ) (old new : List Pixel) → number ≡ k + 1 → old ≡ overwritten t k x y
+    → new ≡ overwritten_past t (number - 1) x y old → new ≡ overwritten t (k + 1) x y
 next_kept t k number x y old new at begins is =
     let before : number - 1 ≡ k = omega (arith, at) in
     let next : suc k ≡ k + 1 = omega arith in

@@ -38,7 +38,8 @@ depth_after_event (Some event) s x y depth = depth_after event s x y depth
 -- a triangle of this number in its draw
 abbrev pub gathered_entry : ℕ → ℕ → Triangle → Interp → Pipeline → ℕ → ℕ → ℕ → Entry
 gathered_entry event number t interp s x y depth =
-    entry_of event (Some number) (verdict_of t s x y depth) (source_of t interp x y, depth_of t x y) (source_of t interp x y, depth) (source_of t interp x y, depth_after_triangle t s x y depth)
+    entry_of event (Some number) (verdict_of t s x y depth) (source_of t interp x y, depth_of t x y) (source_of t interp x y, depth)
+    (source_of t interp x y, depth_after_triangle t s x y depth)
 
 abbrev pub gathered_of_triangle : ℕ → ℕ → Triangle → Interp → Pipeline → ℕ → ℕ → ℕ → List Entry
 gathered_of_triangle event number t interp s x y depth =
@@ -81,7 +82,8 @@ past_triangle event number t interp s g = gone_on g (depth_after_triangle t s g.
 
 -- these triangles on
 abbrev pub past_triangles : ℕ → ℕ → List Triangle → Interp → Pipeline → Gathering → Gathering
-past_triangles event number ts interp s g = gone_on g (depth_after_triangles ts s g.x g.y g.depth) (gathered_of_triangles event number ts interp s g.x g.y g.depth)
+past_triangles event number ts interp s g = gone_on g (depth_after_triangles ts s g.x g.y g.depth)
+    (gathered_of_triangles event number ts interp s g.x g.y g.depth)
 
 -- one event on
 abbrev pub past_event : ℕ → Event → Pipeline → Gathering → Gathering

@@ -49,4 +49,5 @@ entry_between e before after = record {
 -- The pixel has the first colour at first, and each entry that was drawn leads to the next one.
 abbrev pub settled : List Entry → List Pixel → List Entry
 settled [] pixels = []
-settled (e ∷ es) pixels = entry_between e (first pixels).0 (first (behind (is_drawn_by e.verdict) pixels)).0 ∷ settled es (behind (is_drawn_by e.verdict) pixels)
+settled (e ∷ es) pixels = entry_between e (first pixels).0 (first (behind (is_drawn_by e.verdict) pixels)).0 ∷ settled es
+    (behind (is_drawn_by e.verdict) pixels)

@@ -1,5 +1,6 @@
 -- The lengths of an image's bytes, and how they are sent, a part of a row at a time.
-use Rattle.std.proofs.Common.{◌≡◌, ℕ, ◌+◌, ◌*◌, ◌<◌, ◌≤◌, List, [], ◌∷◌, ◌++◌, length, take, drop, Option, Bool, true, false, Result, Ok, Err, OnErr, sym, ap, ◌∙◌, arith, subst, append_assoc, length-append, take-append-drop, codes, map}
+use Rattle.std.proofs.Common.{◌≡◌, ℕ, ◌+◌, ◌*◌, ◌<◌, ◌≤◌, List, [], ◌∷◌, ◌++◌, length, take, drop, Option, Bool, true, false, Result, Ok, Err, OnErr, sym, ap}
+use Rattle.std.proofs.Common.{◌∙◌, arith, subst, append_assoc, length-append, take-append-drop, codes, map}
 use Rattle.std.specs.Prelude.{decimal}
 use Rattle.std.specs.List.{flat_map, range_with_len}
 use Rattle.std.specs.Io.KnownBytes.{Appends}
@@ -27,7 +28,12 @@ pub length-body : (state : State) → length (tuples state) ≡ 4 * (state.table
 length-body state = length-tuples (image_at state.table state.position) ∙ ap (λ n. 4 * n) (length-image_at state.table state.position)
 
 pub body_short : (state : State) → state.table.width ≤ most_pixels → state.table.height ≤ most_pixels → length (tuples state) ≤ most_tuple_bytes
-body_short state width height = omega (arith, length-body state, mul-le-mul {n₁ = state.table.height} {m₁ = state.table.width} {n₂ = most_pixels} {m₂ = most_pixels} height width)
+body_short state width height = omega (
+  arith,
+  length-body state,
+  mul-le-mul {n₁ = state.table.height} {m₁ = state.table.width} {n₂ = most_pixels}
+      {m₂ = most_pixels} height width,
+)
 
 -- what was sent and what waits is at most the body
 pub so_far_short : (state : State) (k : ℕ) (text chunk : List ℕ) → state.table.width ≤ most_pixels → state.table.height ≤ most_pixels
@@ -63,12 +69,14 @@ pub still_so_far : (text gone left chunk all : List ℕ) → chunk ≡ gone ++ l
 still_so_far text gone left chunk all parts so_far = append_assoc text gone left ∙ ap (λ xs. text ++ xs) (sym parts) ∙ so_far
 
 -- a failure among the bytes of the body
-pub body_broken : (state : State) (a b c : Option (List ℕ)) (m n k : ℕ) (text chunk : List ℕ) (i : ℕ) → Appends a b text → n ≡ m + length text → Puts b c n k chunk false
+pub body_broken : (state : State) (a b c : Option (List ℕ)) (m n k : ℕ) (text chunk : List ℕ) (i : ℕ) → Appends a b text → n ≡ m + length text
+    → Puts b c n k chunk false
     → text ++ chunk ≡ flat_map tuple (take i (image_at state.table state.position)) → Puts a c m k (tuples state) false
 body_broken state a b c m n k text chunk i appended counted puts so_far =
     let image = image_at state.table state.position in
     subst (λ t. Puts a c m k t false)
-    (ap (λ xs. xs ++ flat_map tuple (drop i image)) so_far ∙ sym (flat_map-append tuple (take i image) (drop i image)) ∙ ap (flat_map tuple) (take-append-drop i image))
+    (ap (λ xs. xs ++ flat_map tuple (drop i image)) so_far ∙ sym (flat_map-append tuple (take i image) (drop i image))
+    ∙ ap (flat_map tuple) (take-append-drop i image))
     (puts_broken a c m k (text ++ chunk) (flat_map tuple (drop i image))
     (puts_then a b c m n k text chunk false (puts_whole a b m n text appended counted true) puts))
 
@@ -81,12 +89,14 @@ body_cut state m n k text chunk i counted cut so_far =
 
 -- the same of a call's result
 pub cut_after : {X Y : Type 0} (result : Result X Y) (m n k : ℕ) (text chunk : List ℕ) (state : State) (i : ℕ) → n ≡ m + length text
-    → text ++ chunk ≡ flat_map tuple (take i (image_at state.table state.position)) → OnErr result (k < n + length chunk) → OnErr result (k < m + length (tuples state))
+    → text ++ chunk ≡ flat_map tuple (take i (image_at state.table state.position)) → OnErr result (k < n + length chunk)
+    → OnErr result (k < m + length (tuples state))
 cut_after (Ok x) m n k text chunk state i counted so_far cut = cut
 cut_after (Err e) m n k text chunk state i counted so_far cut = body_cut state m n k text chunk i counted cut so_far
 
 -- the last bytes of the body
-pub body_last : (state : State) (a b c : Option (List ℕ)) (m n k : ℕ) (text chunk : List ℕ) (ok : Bool) → Appends a b text → n ≡ m + length text → Puts b c n k chunk ok
+pub body_last : (state : State) (a b c : Option (List ℕ)) (m n k : ℕ) (text chunk : List ℕ) (ok : Bool) → Appends a b text → n ≡ m + length text
+    → Puts b c n k chunk ok
     → text ++ chunk ≡ tuples state → Puts a c m k (tuples state) ok
 body_last state a b c m n k text chunk ok appended counted puts all =
     subst (λ t. Puts a c m k t ok) all (puts_then a b c m n k text chunk ok (puts_whole a b m n text appended counted true) puts)
@@ -101,14 +111,16 @@ unfolding header
 length-header width height =
     omega (
       arith,
-      length-append (((codes "P7\nWIDTH " ++ decimal width) ++ codes "\nHEIGHT ") ++ decimal height) (codes "\nDEPTH 4\nMAXVAL 255\nTUPLTYPE RGB_ALPHA\nENDHDR\n"),
+      length-append (((codes "P7\nWIDTH " ++ decimal width) ++ codes "\nHEIGHT ") ++ decimal height)
+          (codes "\nDEPTH 4\nMAXVAL 255\nTUPLTYPE RGB_ALPHA\nENDHDR\n"),
       length-append ((codes "P7\nWIDTH " ++ decimal width) ++ codes "\nHEIGHT ") (decimal height),
       length-append (codes "P7\nWIDTH " ++ decimal width) (codes "\nHEIGHT "),
       length-append (codes "P7\nWIDTH ") (decimal width),
     )
 
 -- all rows are the whole image
-pub rows_all : (state : State) (y : ℕ) → y ≡ state.table.height → flat_map tuple (take (y * state.table.width) (image_at state.table state.position)) ≡ tuples state
+pub rows_all : (state : State) (y : ℕ) → y ≡ state.table.height
+    → flat_map tuple (take (y * state.table.width) (image_at state.table state.position)) ≡ tuples state
 rows_all state y all =
     let image = image_at state.table state.position in
     let size : y * state.table.width ≡ length image = ap (λ n. n * state.table.width) all ∙ sym (length-image_at state.table state.position) in

@@ -1,5 +1,6 @@
 -- What was put, one text after another.
-use Rattle.std.proofs.Common.{◌≡◌, ℕ, ◌+◌, ◌<◌, ◌≤◌, List, [], ◌++◌, length, take, drop, Option, Bool, true, false, refl, sym, ap, ◌∙◌, arith, subst, append_assoc, length-append, append-nil, take-append-drop}
+use Rattle.std.proofs.Common.{◌≡◌, ℕ, ◌+◌, ◌<◌, ◌≤◌, List, [], ◌++◌, length, take, drop, Option, Bool, true, false, refl, sym, ap, ◌∙◌, arith, subst}
+use Rattle.std.proofs.Common.{append_assoc, length-append, append-nil, take-append-drop}
 use Rattle.std.proofs.lemmas.Bool.{false≢true}
 use Rattle.std.proofs.lemmas.List.{length-take}
 use Rattle.std.proofs.KnownBytes.{Appends-trans, Appends-kept}
@@ -12,7 +13,8 @@ puts_whole old new m n text appended counted ok =
     record { taken = text; left = []; whole = sym (append-nil text); appended = appended; counted = counted; all = λ e. refl }
 
 -- a front of a text that was put before a failure
-pub puts_front : (old mid new : Option (List ℕ)) (m n : ℕ) (text : List ℕ) (k : ℕ) → k ≤ length text → Appends old mid (take k text) → n ≡ m + k → Keeps mid new → Puts old new m n text false
+pub puts_front : (old mid new : Option (List ℕ)) (m n : ℕ) (text : List ℕ) (k : ℕ) → k ≤ length text → Appends old mid (take k text) → n ≡ m + k
+    → Keeps mid new → Puts old new m n text false
 puts_front old mid new m n text k within appended counted kept =
     let size = length-take k text in
     record {
@@ -25,7 +27,8 @@ puts_front old mid new m n text k within appended counted kept =
     }
 
 -- one text after another
-pub puts_then : (a b c : Option (List ℕ)) (m n k : ℕ) (first second : List ℕ) (ok : Bool) → Puts a b m n first true → Puts b c n k second ok → Puts a c m k (first ++ second) ok
+pub puts_then : (a b c : Option (List ℕ)) (m n k : ℕ) (first second : List ℕ) (ok : Bool) → Puts a b m n first true → Puts b c n k second ok
+    → Puts a c m k (first ++ second) ok
 puts_then a b c m n k first second ok p q =
     let none : p.left ≡ [] = p.all refl in
     let is : first ≡ p.taken = p.whole ∙ ap (λ xs. p.taken ++ xs) none ∙ append-nil p.taken in
@@ -56,7 +59,8 @@ puts_all a b m n text p =
     let is : p.taken ≡ text = sym (p.whole ∙ ap (λ xs. p.taken ++ xs) (p.all refl) ∙ append-nil p.taken) in
     (subst (Appends a b) is p.appended, p.counted ∙ ap (λ xs. m + length xs) is)
 
-pub puts_from_front : (a b : Option (List ℕ)) (m sent : ℕ) (text : List ℕ) → sent < length text → Appends a b (take sent text) → Puts a b m (m + sent) text false
+pub puts_from_front : (a b : Option (List ℕ)) (m sent : ℕ) (text : List ℕ) → sent < length text → Appends a b (take sent text)
+    → Puts a b m (m + sent) text false
 puts_from_front a b m sent text within appended =
     let size : length (take sent text) ≡ sent = omega (arith, length-take sent text) in
     record {

@@ -25,7 +25,8 @@ returns-in_err-gather-2-clause-puts g c =
     let next = lines_next table.events table.flags i c.event.result.now c.is_on.result c.event.ensures c.is_on.ensures in
     let p = err_from_is_err_and c.from_residual-in_err-gather-2.result c.from_residual-in_err-gather-2.ensures.1 in
     rw p.1
-    (waits_broken _ (g.W.Sink.contents c.loop-index.sink) _ _ c.loop-index.sent _ inv.front this (event_lines (i + 1 + 1) (drop (i + 1) table.events) (drop (i + 1) table.flags)) _ c.loop-index.chunk.items
+    (waits_broken _ (g.W.Sink.contents c.loop-index.sink) _ _ c.loop-index.sent _ inv.front this
+    (event_lines (i + 1 + 1) (drop (i + 1) table.events) (drop (i + 1) table.flags)) _ c.loop-index.chunk.items
     inv.waits (rw line at c.in_err-gather-2.ensures.gathers) (ap (λ xs. inv.front ++ xs) (sym next) ∙ inv.all))
 
 pub loop-index-preserved : goal.loop-index-preserved
@@ -39,7 +40,8 @@ loop-index-preserved g c =
     let size : length this ≤ 256 = omega (arith, c.as_slice-in-loop-index.ensures.fits, ap length line) in
     record {
       front = inv.front ++ this;
-      waits = waits_then _ (g.W.Sink.contents c.loop-index.sink) _ _ c.loop-index.sent _ inv.front this c.loop-index.chunk.items _ inv.waits (rw line at c.in_ok-gather-2.ensures.gathers);
+      waits = waits_then _ (g.W.Sink.contents c.loop-index.sink) _ _ c.loop-index.sent _ inv.front this c.loop-index.chunk.items _ inv.waits
+          (rw line at c.in_ok-gather-2.ensures.gathers);
       all = append_assoc inv.front this _ ∙ ap (λ xs. inv.front ++ xs) (sym next) ∙ inv.all;
       few = omega (arith, inv.few, size, length-append inv.front this);
       failures = c.in_ok-gather-2.ensures.failures ∙ inv.failures;
@@ -54,4 +56,5 @@ returns-clause-puts g c =
     let none = lines_end (i + 1) table.events table.flags i past in
     let all = sym (append-nil inv.front) ∙ ap (λ xs. inv.front ++ xs) (sym none) ∙ inv.all in
     rw (← all)
-    (waits_sent _ (g.W.Sink.contents c.loop-index.sink) _ _ c.loop-index.sent _ inv.front c.loop-index.chunk.items _ inv.waits (rw c.as_slice-2.ensures.value at c.send.ensures.puts))
+    (waits_sent _ (g.W.Sink.contents c.loop-index.sink) _ _ c.loop-index.sent _ inv.front c.loop-index.chunk.items _ inv.waits
+    (rw c.as_slice-2.ensures.value at c.send.ensures.puts))

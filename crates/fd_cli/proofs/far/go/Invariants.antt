@@ -6,7 +6,8 @@ abbrev pub invariant-loop-sink : goal.invariant-loop-sink
 invariant-loop-sink g l =
     record {
       state : l.session ≡ at_position l.fn.session l.session.position;
-      on : (l.session ≡ l.fn.session) ⊎ ((l.fn.session.position < l.session.position) × (l.session.position < l.to) × (l.to ≤ length l.fn.session.table.events));
+      on : (l.session ≡ l.fn.session) ⊎ ((l.fn.session.position < l.session.position) × (l.session.position < l.to)
+          × (l.to ≤ length l.fn.session.table.events));
       from : l.from ≡ l.fn.session.position;
       to : l.to ≡ l.fn.to;
       bytes : g.W.Sink.contents l.sink ≡ g.W.Sink.contents l.fn.sink;

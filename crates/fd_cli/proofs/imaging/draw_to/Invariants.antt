@@ -7,7 +7,8 @@ invariant-loop-sink g l =
     record {
       state : l.picture ≡ at_position l.fn.picture l.picture.position;
       ahead : l.picture.position ≤ l.to;
-      on : (l.picture ≡ l.fn.picture) ⊎ ((l.fn.picture.position < l.picture.position) × (l.picture.position < l.to) × (l.to ≤ length l.fn.picture.table.events));
+      on : (l.picture ≡ l.fn.picture) ⊎ ((l.fn.picture.position < l.picture.position) × (l.picture.position < l.to)
+          × (l.to ≤ length l.fn.picture.table.events));
       from : l.from ≡ l.fn.picture.position;
       to : l.to ≡ l.fn.to;
       bytes : g.W.Sink.contents l.sink ≡ g.W.Sink.contents l.fn.sink;

@@ -21,5 +21,9 @@ returns-in-Err-clause-writes g c =
     c.pam_len-sent.ensures
     ∙ ap (λ n. pam_len n c.height.result) (c.width.ensures.value ∙ ap (λ (t : Table). t.width) c.table-table.ensures)
     ∙ ap (pam_len state.table.width) (c.height.ensures.value ∙ ap (λ (t : Table). t.height) c.table-table.ensures)
-    ∙ sym (length-pam state) in
-    (pam state, Appends-kept (contents c.args.sink.now) (contents c.write.new.sink) (contents c.flush.new.self) (pam state) c.in-Ok.ensures.bytes c.in-Err.ensures.bytes, ([], append-nil (pam state), count))
+    ∙ sym (length-pam state) in (
+      pam state,
+      Appends-kept (contents c.args.sink.now) (contents c.write.new.sink) (contents c.flush.new.self) (pam state) c.in-Ok.ensures.bytes
+          c.in-Err.ensures.bytes,
+      ([], append-nil (pam state), count),
+    )

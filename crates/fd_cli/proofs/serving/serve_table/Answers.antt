@@ -31,15 +31,24 @@ returns-then-count-eq0-clause-serves g c =
     ap (λ k. inv.input ++ take k c.fill.new.buffer) c.if-count-eq0.true ∙ append-nil inv.input in
     let size = c.fill.auto.buffer in
     let least = c.min-room.ensures in
-    let room : 0 < length c.fill.new.buffer = omega (arith, size, least, length-take c.min-room.result c.loop-count.buffer, inv.serving.byte_count, inv.serving.answered.bytes) in
-    let ended : g.R.Source.has_ended c.fill.new.self ≡ true = end_reached (g.R.Source.has_ended c.loop-count.source) _ c.in-Ok-fill.count (length c.fill.new.buffer) filled.2 c.if-count-eq0.true room in (
+    let room : 0 < length c.fill.new.buffer = omega (
+      arith,
+      size,
+      least,
+      length-take c.min-room.result c.loop-count.buffer,
+      inv.serving.byte_count,
+      inv.serving.answered.bytes,
+    ) in
+    let ended : g.R.Source.has_ended c.fill.new.self ≡ true =
+    end_reached (g.R.Source.has_ended c.loop-count.source) _ c.in-Ok-fill.count (length c.fill.new.buffer) filled.2 c.if-count-eq0.true room in (
       inv.input ++ take c.in-Ok-fill.count c.fill.new.buffer,
       inv.text ++ finish.written,
       Consumes-trans (remaining c.args.source.now) (remaining c.loop-count.source) (remaining c.fill.new.self) inv.input _ inv.consumed filled.1,
       Appends-trans (contents c.args.sink.now) (contents c.loop-count.sink) (contents c.finish.new.sink) inv.text finish.written inv.appended finish.appended,
       rw nothing (omega (arith, inv.serving.answered.bytes)),
       subst (λ i. Serves c.args.table i (inv.text ++ finish.written) c.finish.result (g.R.Source.has_ended c.fill.new.self)) (sym nothing)
-          (subst (λ b. Serves c.args.table inv.input (inv.text ++ finish.written) c.finish.result b) (sym ended) (finish.after c.args.table inv.input inv.text inv.serving)),
+          (subst (λ b. Serves c.args.table inv.input (inv.text ++ finish.written) c.finish.result b) (sym ended)
+          (finish.after c.args.table inv.input inv.text inv.serving)),
     )
 
 pub returns-in-Err-clause-serves : goal.returns-in-Err-clause-serves
@@ -85,9 +94,17 @@ loop-count-smaller g c =
     let a = c.in_default-take_bytes.ensures.advances in
     let filled = c.in-Ok-fill.ensures.bytes in
     let chunk = front_of c.in-Ok-fill.count c.fill.new.buffer (drop c.min-room.result c.loop-count.buffer) filled.0 in
-    let next = subst (λ i. IsServing c.args.table i (inv.text ++ a.written) c.take_bytes.new.self) (ap (λ xs. inv.input ++ xs) chunk) (a.after c.args.table inv.input inv.text inv.serving) in
+    let next = subst (λ i. IsServing c.args.table i (inv.text ++ a.written) c.take_bytes.new.self) (ap (λ xs. inv.input ++ xs) chunk)
+    (a.after c.args.table inv.input inv.text inv.serving) in
     let some : 0 < c.in-Ok-fill.count = omega (arith, c.if-count-eq0.false) in
-    omega (arith, next.byte_count, next.answered.bytes, inv.serving.byte_count, length-append inv.input (take c.in-Ok-fill.count c.fill.new.buffer), length-take-le c.in-Ok-fill.count c.fill.new.buffer filled.0)
+    omega (
+      arith,
+      next.byte_count,
+      next.answered.bytes,
+      inv.serving.byte_count,
+      length-append inv.input (take c.in-Ok-fill.count c.fill.new.buffer),
+      length-take-le c.in-Ok-fill.count c.fill.new.buffer filled.0,
+    )
 
 pub loop-count-preserved : goal.loop-count-preserved
 loop-count-preserved g c =
@@ -101,8 +118,10 @@ loop-count-preserved g c =
       input = inv.input ++ take c.in-Ok-fill.count c.fill.new.buffer;
       text = inv.text ++ a.written;
       consumed = Consumes-trans (remaining c.args.source.now) (remaining c.loop-count.source) (remaining c.fill.new.self) inv.input _ inv.consumed filled.1;
-      appended = Appends-trans (contents c.args.sink.now) (contents c.loop-count.sink) (contents c.take_bytes.new.sink) inv.text a.written inv.appended a.appended;
-      serving = subst (λ i. IsServing c.args.table i (inv.text ++ a.written) c.take_bytes.new.self) (ap (λ xs. inv.input ++ xs) chunk) (a.after c.args.table inv.input inv.text inv.serving);
+      appended = Appends-trans (contents c.args.sink.now) (contents c.loop-count.sink) (contents c.take_bytes.new.sink) inv.text a.written inv.appended
+          a.appended;
+      serving = subst (λ i. IsServing c.args.table i (inv.text ++ a.written) c.take_bytes.new.self) (ap (λ xs. inv.input ++ xs) chunk)
+          (a.after c.args.table inv.input inv.text inv.serving);
       room = c.in_default-take_bytes.ensures.room;
       read = c.in-Ok-fill.ensures.failures ∙ inv.read;
       write = c.in_default-take_bytes.ensures.ok ∙ inv.write;

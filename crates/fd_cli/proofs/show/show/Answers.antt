@@ -25,7 +25,8 @@ returns-in_err-send-2-clause-puts g c =
     let text = c.as_bytes.ensures.value ∙ c.as_str.ensures.value ∙ c.in-Ok.ensures in
     let p = err_from_is_err_and c.from_residual-in_err-send-2.result c.from_residual-in_err-send-2.ensures.1 in
     rw p.1
-    (shows_header c.args.session.now _ (g.W.Sink.contents c.send-2.new.sink) _ _ c.send-2.new.sent _ c.length_line-line.ensures.narrow c.length_line-line.ensures.low
+    (shows_header c.args.session.now _ (g.W.Sink.contents c.send-2.new.sink) _ _ c.send-2.new.sent _ c.length_line-line.ensures.narrow
+    c.length_line-line.ensures.low
     (rw line at c.in_ok-send.ensures.puts) (rw text at c.in_err-send-2.ensures.puts))
 
 pub send_body-requires : goal.send_body-requires

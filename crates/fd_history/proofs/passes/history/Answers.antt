@@ -39,7 +39,8 @@ settle-requires c =
     let t = c.args.table.now in
     let at : c.loop-passed.passed ≡ k = omega (arith, c.loop-passed-test.false, c.position-passed-end.ensures, c.loop-passed.auto.passed-end) in
     let entries : c.deref_mut.result.now ≡ gathered_at t k c.args.x c.args.y =
-    c.deref_mut.ensures.value ∙ ap (λ (g : Gathering). g.entries) (c.gather-2.view_is ∙ c.loop-passed.invariant.gathered) ∙ ap (λ n. gathered_at t n c.args.x c.args.y) at in
+    c.deref_mut.ensures.value ∙ ap (λ (g : Gathering). g.entries) (c.gather-2.view_is ∙ c.loop-passed.invariant.gathered)
+    ∙ ap (λ n. gathered_at t n c.args.x c.args.y) at in
     let pixels : c.deref.result.now ≡ overwritten t k c.args.x c.args.y ++ (c.pixel.result, c.depth.result) ∷ [] =
     c.deref.ensures.value ∙ c.in_ok-push.ensures.items
     ∙ ap (λ l. l ++ (c.pixel.result, c.depth.result) ∷ []) (c.loop-passed.invariant.kept ∙ ap (λ n. overwritten t n c.args.x c.args.y) at) in
@@ -58,7 +59,8 @@ returns-clause-exact c =
     let image : pixel_in owner.place (last_image owner.history) x y ≡ pixel_at t k x y =
     ap (λ (h : History). pixel_in owner.place (last_image h) x y) c.requires.follows ∙ pixel_drawn t owner.place k x y c.requires.pixel in
     let shown : (c.pixel.result, c.depth.result) ≡ pixel_at t k x y =
-    ap (λ a. (a, c.depth.result)) (c.pixel.ensures ∙ ap (λ (p : Pixel). p.0) image) ∙ ap (λ a. ((pixel_at t k x y).0, a)) (c.depth.ensures ∙ ap (λ (p : Pixel). p.1) image) in
+    ap (λ a. (a, c.depth.result)) (c.pixel.ensures ∙ ap (λ (p : Pixel). p.0) image)
+    ∙ ap (λ a. ((pixel_at t k x y).0, a)) (c.depth.ensures ∙ ap (λ (p : Pixel). p.1) image) in
     let pixels : c.deref.result.now ≡ overwritten t k x y ++ pixel_at t k x y ∷ [] =
     c.deref.ensures.value ∙ c.in_ok-push.ensures.items
     ∙ ap (λ l. l ++ (c.pixel.result, c.depth.result) ∷ []) (c.loop-passed.invariant.kept ∙ ap (λ n. overwritten t n x y) at)

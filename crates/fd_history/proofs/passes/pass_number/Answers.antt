@@ -13,14 +13,16 @@ use Rattle.fd_history.proofs.passes.pass_number.Goals as goal
 pub returns-then-not-may_reach-clause-entries : goal.returns-then-not-may_reach-clause-entries
 returns-then-not-may_reach-clause-entries c =
     let on : flag_at c.args.table.now c.args.number ≡ Some true = c.is_on.ensures ∙ ap (λ b. Some b) c.if-not-is_on.false in
-    passes_by c.args.table.now c.args.number c.gather.inside.x c.gather.inside.y c.event-event.result.now c.requires.first c.event-event.ensures on (c.may_reach.ensures c.if-not-may_reach.true)
+    passes_by c.args.table.now c.args.number c.gather.inside.x c.gather.inside.y c.event-event.result.now c.requires.first c.event-event.ensures on
+    (c.may_reach.ensures c.if-not-may_reach.true)
     c.args.gather.now (sym (ap (λ (g : Gathering). g.x) c.gather.view_is)) (sym (ap (λ (g : Gathering). g.y) c.gather.view_is))
 
 pub returns-then-not-may_reach-clause-kept : goal.returns-then-not-may_reach-clause-kept
 returns-then-not-may_reach-clause-kept c =
     let on : flag_at c.args.table.now c.args.number ≡ Some true = c.is_on.ensures ∙ ap (λ b. Some b) c.if-not-is_on.false in
     rw (← c.gather.view_is)
-    (overwrites_nothing c.args.table.now c.args.number c.gather.inside.x c.gather.inside.y c.event-event.result.now c.requires.first c.event-event.ensures on (c.may_reach.ensures c.if-not-may_reach.true)
+    (overwrites_nothing c.args.table.now c.args.number c.gather.inside.x c.gather.inside.y c.event-event.result.now c.requires.first c.event-event.ensures on
+    (c.may_reach.ensures c.if-not-may_reach.true)
     c.args.kept.now.items)
 
 pub returns-clause-kept : goal.returns-clause-kept
@@ -57,7 +59,8 @@ returns-clause-kept c =
     ∙ ap (λ s. drawn_count (gathered_of c.args.number event s x y depth)) c.state_before.ensures
     ∙ ap (λ d. drawn_count (gathered_of c.args.number event (state_at table (c.args.number - 1)) x y d)) c.requires.depth
     ∙ count_event table c.args.number x y event c.requires.first c.event-event.ensures on in
-    let all : take c.count_drawn-drawn.result (pixels_kept owner.place owner.history c.args.number c.gather-2.inside.x c.gather-2.inside.y) ≡ kept_after table (c.args.number - 1) x y =
+    let all : take c.count_drawn-drawn.result (pixels_kept owner.place owner.history c.args.number c.gather-2.inside.x c.gather-2.inside.y) ≡ kept_after table
+    (c.args.number - 1) x y =
     ap (take c.count_drawn-drawn.result) kept
     ∙ take_all c.count_drawn-drawn.result (kept_after table (c.args.number - 1) x y) (omega (arith, drawn)) in
     subst (λ (l : List Pixel). OnOk c.add_kept.result (c.add_kept.new.kept.items ≡ c.args.kept.now.items ++ l)) all c.add_kept.ensures

@@ -15,7 +15,8 @@ pixels_painted p =
     (λ x y held. ap (λ (c : Colour). (c, (pixel_of (painted p (λ _ _. fresh_pixel)) x y).1)) (value_in-over_place p (λ _ _. fresh_pixel.0) x y fresh held)
     ∙ ap (λ (d : ℕ). (fresh_pixel.0, d)) (value_in-over_place p (λ _ _. fresh_pixel.1) x y 65535 held))
 
-opened : (place : Place) (tile : TileImage) → tile ≡ painted place (λ _ _. fresh_pixel) → (let h : History = record { opening = pixels_of tile; frames = [] } in h) ≡ fresh_history tile.place
+opened : (place : Place) (tile : TileImage) → tile ≡ painted place (λ _ _. fresh_pixel)
+    → (let h : History = record { opening = pixels_of tile; frames = [] } in h) ≡ fresh_history tile.place
 opened place tile is =
     ap (λ (t : TileImage). let h : History = record { opening = pixels_of t; frames = [] } in h) is
     ∙ ap (λ (rows : List (List Pixel)). let h : History = record { opening = rows; frames = [] } in h) (pixels_painted place)

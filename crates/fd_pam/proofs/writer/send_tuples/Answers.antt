@@ -23,7 +23,8 @@ returns-in_err-make_room-clause-puts g c =
     let p = err_from_is_err_and c.from_residual.result c.from_residual.ensures.1 in
     let inv = c.loop-x.invariant in
     rw p.1
-    (body_broken (g.F.Shows.state c.args.frame.now) _ (g.W.Sink.contents c.loop-x.sink) _ _ c.loop-x.sent _ inv.text c.loop-x.chunk.items (c.loop-y.y * (g.F.Shows.state c.args.frame.now).table.width + c.loop-x.x)
+    (body_broken (g.F.Shows.state c.args.frame.now) _ (g.W.Sink.contents c.loop-x.sink) _ _ c.loop-x.sent _ inv.text c.loop-x.chunk.items
+    (c.loop-y.y * (g.F.Shows.state c.args.frame.now).table.width + c.loop-x.x)
     inv.appended inv.counted c.in_err-make_room.ensures.err inv.so_far)
 
 pub returns-in_err-make_room-clause-cut : goal.returns-in_err-make_room-clause-cut
@@ -31,7 +32,8 @@ returns-in_err-make_room-clause-cut g c =
     let p = err_from_is_err_and c.from_residual.result c.from_residual.ensures.1 in
     let inv = c.loop-x.invariant in
     rw p.1
-    (body_cut (g.F.Shows.state c.args.frame.now) _ c.loop-x.sent _ inv.text c.loop-x.chunk.items (c.loop-y.y * (g.F.Shows.state c.args.frame.now).table.width + c.loop-x.x)
+    (body_cut (g.F.Shows.state c.args.frame.now) _ c.loop-x.sent _ inv.text c.loop-x.chunk.items
+    (c.loop-y.y * (g.F.Shows.state c.args.frame.now).table.width + c.loop-x.x)
     inv.counted c.in_err-make_room.ensures.cut inv.so_far)
 
 pub loop-x-preserved : goal.loop-x-preserved
@@ -55,7 +57,14 @@ loop-x-preserved g c =
           ∙ body_more state x y piece (inv.text ++ gone.0) c.make_room.new.chunk.items c.row_from-piece.ensures.inside row c.row_from-piece.ensures.colours
           (still_so_far inv.text gone.0 c.make_room.new.chunk.items c.loop-x.chunk.items _ gone.1 inv.so_far);
       within = omega (arith, width, c.row_from-piece.ensures.inside);
-      short = omega (arith, gone.2, c.row_from-piece.ensures.short, ap length added, length-append c.make_room.new.chunk.items (flat_map tuple piece), length-tuples piece);
+      short = omega (
+        arith,
+        gone.2,
+        c.row_from-piece.ensures.short,
+        ap length added,
+        length-append c.make_room.new.chunk.items (flat_map tuple piece),
+        length-tuples piece,
+      );
       failures = c.in_ok-make_room.ensures.failures ∙ inv.failures;
     }
 
@@ -83,4 +92,5 @@ returns-clause-cut g c =
     let state = g.F.Shows.state c.args.frame.now in
     let inv = c.loop-y.invariant in
     let cut = rw c.as_slice.ensures.value at c.send.ensures.cut in
-    cut_after c.send.result _ c.loop-y.sent _ inv.text c.loop-y.chunk.items (g.F.Shows.state c.args.frame.now) (c.loop-y.y * state.table.width) inv.counted inv.so_far cut
+    cut_after c.send.result _ c.loop-y.sent _ inv.text c.loop-y.chunk.items (g.F.Shows.state c.args.frame.now) (c.loop-y.y * state.table.width) inv.counted
+    inv.so_far cut

@@ -13,7 +13,8 @@ invariant-loop-y g l =
       text : List ℕ;
       appended : Appends (g.W.Sink.contents l.fn.sink) (g.W.Sink.contents l.sink) text;
       counted : l.sent ≡ l.fn.sent + length text;
-      so_far : text ++ l.chunk.items ≡ flat_map tuple (take (l.y * (g.F.Shows.state l.frame).table.width) (image_at (g.F.Shows.state l.frame).table (g.F.Shows.state l.frame).position));
+      so_far : text ++ l.chunk.items ≡ flat_map tuple (take (l.y * (g.F.Shows.state l.frame).table.width)
+          (image_at (g.F.Shows.state l.frame).table (g.F.Shows.state l.frame).position));
       short : length l.chunk.items ≤ CHUNK_LEN;
       failures : g.W.Sink.failure_count l.sink ≡ g.W.Sink.failure_count l.fn.sink;
     }
@@ -25,7 +26,8 @@ invariant-loop-x g l =
       text : List ℕ;
       appended : Appends (g.W.Sink.contents l.fn.sink) (g.W.Sink.contents l.sink) text;
       counted : l.sent ≡ l.fn.sent + length text;
-      so_far : text ++ l.chunk.items ≡ flat_map tuple (take (l.y * (g.F.Shows.state l.frame).table.width + l.x) (image_at (g.F.Shows.state l.frame).table (g.F.Shows.state l.frame).position));
+      so_far : text ++ l.chunk.items ≡ flat_map tuple (take (l.y * (g.F.Shows.state l.frame).table.width + l.x)
+          (image_at (g.F.Shows.state l.frame).table (g.F.Shows.state l.frame).position));
       within : l.x ≤ l.width;
       short : length l.chunk.items ≤ CHUNK_LEN;
       failures : g.W.Sink.failure_count l.sink ≡ g.W.Sink.failure_count l.fn.sink;

@@ -17,16 +17,19 @@ returns-in_err-take_byte-clause-advances g c =
     let p = err_from_is_err_and c.from_residual.result c.from_residual.ensures.1 in
     let whole = ap (λ xs. xs ++ drop (i + 1) bytes) (sym (take_more bytes i 0 (omega arith))) ∙ take-append-drop (i + 1) bytes in
     rw (p.1, p.2)
-    (subst (λ xs. Advances c.args.self.now c.take_byte.new.self (contents c.args.sink.now) (contents c.take_byte.new.sink) xs (Err c.in_err-take_byte.field-0.0)) whole
+    (subst (λ xs. Advances c.args.self.now c.take_byte.new.self (contents c.args.sink.now) (contents c.take_byte.new.sink) xs
+    (Err c.in_err-take_byte.field-0.0)) whole
     (advance_stopped _ _ _ _ (take i bytes ++ get_or bytes i 0 ∷ []) (drop (i + 1) bytes) _
-    (advance_then _ c.loop-byte.self _ _ (contents c.loop-byte.sink) _ _ _ (Err c.in_err-take_byte.field-0.0) c.loop-byte.invariant.advances c.in_err-take_byte.ensures.advances)))
+    (advance_then _ c.loop-byte.self _ _ (contents c.loop-byte.sink) _ _ _ (Err c.in_err-take_byte.field-0.0) c.loop-byte.invariant.advances
+    c.in_err-take_byte.ensures.advances)))
 
 pub loop-byte-preserved : goal.loop-byte-preserved
 loop-byte-preserved g c =
     record {
       advances =
           rw (take_more c.args.bytes.now c.loop-byte.byte-index 0 (omega arith))
-          (advance_then _ c.loop-byte.self _ _ (g.W.Sink.contents c.loop-byte.sink) _ _ _ (Ok tt) c.loop-byte.invariant.advances c.in_ok-take_byte.ensures.advances);
+          (advance_then _ c.loop-byte.self _ _ (g.W.Sink.contents c.loop-byte.sink) _ _ _ (Ok tt) c.loop-byte.invariant.advances
+          c.in_ok-take_byte.ensures.advances);
       room = c.in_ok-take_byte.ensures.room;
       failures = c.in_ok-take_byte.ensures.ok ∙ c.loop-byte.invariant.failures;
       flushed = λ was. c.in_ok-take_byte.ensures.passed_on (c.loop-byte.invariant.flushed was);
