@@ -14,7 +14,7 @@ SAMPLE := examples/house.json
 PREFIX ?= /usr/local
 HOME_OF := $(DESTDIR)$(PREFIX)
 
-.PHONY: all bench demo install page program release test take-frames test-blame test-fdb test-frames test-page test-viewer try uninstall view wrong-viewers
+.PHONY: all bench demo install page program release test take-frames test-blame test-fdb test-frames test-page test-viewer try uninstall view wrong-pages wrong-viewers
 
 all: demo
 
@@ -48,9 +48,6 @@ page: program
 release: page
 	tools/release
 
-# seconds that a page may take to show something; a wrong version is given fewer
-test-page test-viewer wrong-viewers: export PATIENCE := 60
-
 test-page: $(PROGRAM)
 	tools/test_page.py
 
@@ -62,7 +59,7 @@ test-blame: $(PROGRAM)
 test-fdb: $(PROGRAM)
 	tools/test_client.py
 	tools/test_fdb.py
-	tools/fdb_mutations.py client moves breakpoints scripts
+	tools/fdb_mutations.py
 
 test-frames: $(PROGRAM)
 	tools/test_captures.py
@@ -83,7 +80,10 @@ test-viewer: $(PROGRAM)
 	tools/test_viewer.py
 
 wrong-viewers: $(PROGRAM)
-	tools/viewer_mutations.py door server blame explain mesh
+	tools/viewer_mutations.py
+
+wrong-pages: $(PROGRAM)
+	tools/page_mutations.py
 # ----
 
 bench: program

@@ -1,20 +1,10 @@
 #!/usr/bin/env python3
 """bench_mutations: wrong versions of what the benches draw and of how they measure, each of which test_benches.py must see.
 
-    tools/bench_mutations.py [WORD ..]
-
-Each is a copy of a file of benches/ with one text exchanged, and the test that has to fail on it, and to pass on the file as it is. With words, only those
-whose name has one of them are tried.
+Each is a copy of a file of benches/ with one text exchanged, and the test that has to fail on it, and to pass on the file as it is.
 """
-import pathlib
-import shutil
-import subprocess
-import sys
-import tempfile
+from wrong_versions import Version, try_all
 
-from wrong_versions import all_seen, exchanged
-
-TOP = pathlib.Path(__file__).resolve().parent.parent
 TOWN, TURNS, BENCH, FEW, CAPTURES, MEASURE, TABLE = "town.py", "turns.py", "bench.py", "few_tiles.py", "captures.py", "measure.py", "table.py"
 MUTATIONS = [   # name, file, text, what stands there instead, test
     ("town: by a chance of its own", TOWN, "random.Random(seed)", "random.Random()", "Towns.test_the_same_words_write_the_same_bytes"),
@@ -60,30 +50,5 @@ MUTATIONS = [   # name, file, text, what stands there instead, test
 ]
 
 
-def fails(name, test, change=None):
-    """Whether a test fails, with a text of a file of benches/ exchanged or with none."""
-    with tempfile.TemporaryDirectory() as folder:
-        copy = pathlib.Path(folder)
-        shutil.copytree(TOP / "benches", copy / "benches", ignore=shutil.ignore_patterns("__pycache__"))
-        (copy / "tools").mkdir()
-        for tool in ("test_benches.py", "reference.py"):
-            shutil.copy(TOP / "tools" / tool, copy / "tools")
-        if change:
-            (copy / "benches" / name).write_text(exchanged((TOP / "benches" / name).read_text(), *change))
-        words = [sys.executable, copy / "tools/test_benches.py", "-f", test]
-        return subprocess.run(words, stdin=subprocess.DEVNULL, capture_output=True, timeout=300, check=False).returncode != 0
-
-
-def main():
-    if sys.argv[1:] in (["--help"], ["-h"]):
-        print(__doc__.rstrip())
-        return
-    wanted = [mutation for mutation in MUTATIONS if not sys.argv[1:] or any(word in mutation[0] for word in sys.argv[1:])]
-    for test in sorted({test for *_, test in wanted}):
-        if fails("", test):
-            sys.exit(f"bench_mutations: {test} fails on what stands there")
-    all_seen("bench_mutations", {name: lambda file=file, test=test, change=(old, new): fails(file, test, change) for name, file, old, new, test in wanted})
-
-
 if __name__ == "__main__":
-    main()
+    try_all(__doc__, [Version(name, f"benches/{file}", old, new, "test_benches.py", test) for name, file, old, new, test in MUTATIONS])

@@ -1,21 +1,11 @@
 #!/usr/bin/env python3
-"""blame_mutations: plants wrong versions of framedbg-blame and of framedbg-night, one at a time, in a copy, and expects the tests to fail on each.
+"""blame_mutations: wrong versions of framedbg-blame and of framedbg-night, each of which the tests must see.
 
-    tools/blame_mutations.py [NAME ..]
-
-Each is a file, a text in it that stands there once, what stands there in the wrong version, and the test that sees it. A name picks those that begin so.
+Each is a copy with one text exchanged, and the test that has to fail on it, and to pass on what is there. Those of Slurm want it.
 """
-import os
-import pathlib
-import shutil
-import subprocess
-import sys
-import tempfile
-
-import passed_over
 import slurm_testing
+from wrong_versions import Version, try_all
 
-TOOLS = pathlib.Path(__file__).resolve().parent
 PARTS, KINDS, RUNS, NIGHT, PAGES = "test_blame_parts.py", "test_blame_kinds.py", "test_blame_runs.py", "test_night.py", "test_blame_documents.py"
 POINTS = "test_blame_points.py"
 
@@ -140,39 +130,7 @@ MUTATIONS = [
 ]
 
 
-def seen(mutation):
-    """Whether the test fails on the wrong version."""
-    name, file, old, new, script, test = mutation
-    with tempfile.TemporaryDirectory() as folder:
-        room = pathlib.Path(folder) / "tools"
-        room.mkdir()
-        for tool in ("framedbg-blame", "framedbg-night"):
-            shutil.copy(TOOLS / tool, room)
-        for part in ("blaming", "nights", "explaining", "framedbg_client"):
-            shutil.copytree(TOOLS / part, room / part, ignore=shutil.ignore_patterns("__pycache__"))
-        path = room / file if "/" in file else room / "blaming" / file
-        text = path.read_text()
-        if text.count(old) != 1:
-            sys.exit(f"blame_mutations: {name}: its text stands {text.count(old)} times in {file}")
-        path.write_text(text.replace(old, new))
-        run = subprocess.run([sys.executable, TOOLS / script, "-f", test], env={**os.environ, "BLAME": str(room)}, capture_output=True, text=True, check=False)
-        return "seen" if run.returncode else "MISSED"
-
-
-def main():
-    wanted = [mutation for mutation in MUTATIONS if not sys.argv[1:] or any(mutation[0].startswith(word) for word in sys.argv[1:])]
-    if not wanted:
-        sys.exit("blame_mutations: none begins so")
-    if slurm_testing.missing() and any(mutation[0].startswith("slurm: ") for mutation in wanted):
-        passed_over.note("blame_mutations, those of Slurm", slurm_testing.missing())
-        wanted = [mutation for mutation in wanted if not mutation[0].startswith("slurm: ")]
-    missed = 0
-    for mutation in wanted:
-        verdict = seen(mutation)
-        missed += verdict == "MISSED"
-        print(f"{mutation[0]}: {verdict}", flush=True)
-    sys.exit(f"{missed} wrong versions were missed" if missed else 0)
-
-
 if __name__ == "__main__":
-    main()
+    missing = slurm_testing.missing() or ""
+    try_all(__doc__, [Version(name, f"tools/{file}" if "/" in file else f"tools/blaming/{file}", *more, missing if name.startswith("slurm: ") else "")
+                      for name, file, *more in MUTATIONS], {"BLAME_SECONDS": "40"})

@@ -11,18 +11,16 @@ import tempfile
 import types
 import unittest
 
+import reference
+from blaming import command_line, report, running, telling_json
+
 TOOLS = pathlib.Path(__file__).resolve().parent
 ROOT = TOOLS.parent
 EXAMPLES = ROOT / "examples"
 HUNTS = EXAMPLES / "hunts"
 PROGRAM = os.path.abspath(os.environ.get("FRAMEDBG", ROOT / "crates/framedbg/out/framedbg"))
-FOLDER = pathlib.Path(os.environ.get("BLAME", TOOLS))       # of a wrong version, where one is tried
-SECONDS = 40.0 if "BLAME" in os.environ else 600.0       # for a search: a wrong version may have to go on to the end
+SECONDS = float(os.environ.get("BLAME_SECONDS", "600"))      # for a search: a wrong version, which may go on to its end, is given fewer
 NAMES = ("lantern", "balloons", "island", "fish", "planet", "lighthouse", "vase", "doughnut", "chain")
-
-sys.path.insert(0, str(FOLDER))
-import reference                                            # noqa: E402
-from blaming import command_line, report, running, telling_json   # noqa: E402
 
 
 def vertex(x, y, color, z=0):
@@ -116,7 +114,7 @@ def told(*words):
 
 def launched(*words, **how):
     """What framedbg-blame did as a program of its own: (status, standard output, standard error)."""
-    ran = subprocess.run([sys.executable, FOLDER / "framedbg-blame", *map(str, words)], capture_output=True, timeout=120, check=False, **how)
+    ran = subprocess.run([sys.executable, TOOLS / "framedbg-blame", *map(str, words)], capture_output=True, timeout=120, check=False, **how)
     return ran.returncode, ran.stdout.decode(), ran.stderr.decode()
 
 

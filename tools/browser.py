@@ -10,7 +10,7 @@ import time
 import urllib.error
 import urllib.request
 
-PATIENCE = float(os.environ.get("PATIENCE", 10))    # seconds that a page may take until it shows what it is to show
+PATIENCE = float(os.environ.get("PATIENCE", 60))    # seconds that a page may take until it shows what it is to show; a wrong version is given fewer
 
 KEYS = {"Home": "\ue011", "End": "\ue010", "Left": "\ue012", "Up": "\ue013", "Right": "\ue014", "Down": "\ue015", "Enter": "\ue007", "Escape": "\ue00c"}
 
@@ -38,18 +38,13 @@ def free_port():
 
 class Browser:
     def __init__(self, width=1440, height=960):
-        port = free_port()
-        self.driver = subprocess.Popen(["chromedriver", f"--port={port}"], stdout=subprocess.DEVNULL, stderr=subprocess.DEVNULL)
+        self.driver = subprocess.Popen(["chromedriver", "--port=0"], stdout=subprocess.PIPE, stderr=subprocess.DEVNULL, text=True)
+        port = next((line.strip(". \n").rpartition(" ")[2] for line in self.driver.stdout if "started successfully" in line), None)     # its own, whoever starts one meanwhile
         self.address = f"http://127.0.0.1:{port}/session"
         words = ["--headless=new", "--disable-gpu", "--hide-scrollbars", f"--window-size={width},{height}"]
         options = {"binary": shutil.which("chromium"), "args": words + ["--no-sandbox"] * (os.geteuid() == 0)}
         capabilities = {"capabilities": {"alwaysMatch": {"goog:chromeOptions": options, "goog:loggingPrefs": {"browser": "ALL"}}}}
-        for _ in range(100):
-            try:
-                self.address += "/" + self.call("", capabilities)["sessionId"]
-                break
-            except (urllib.error.URLError, ConnectionError):
-                time.sleep(0.1)
+        self.address += "/" + self.call("", capabilities)["sessionId"]
 
     def call(self, path, body=None, method=None):
         data = None if body is None else json.dumps(body).encode()
@@ -132,7 +127,7 @@ class Browser:
             self.call("", method="DELETE")
         finally:
             self.driver.terminate()
-            self.driver.wait()
+            self.driver.communicate()
 
 
 class Firefox(Browser):

@@ -1,18 +1,10 @@
 #!/usr/bin/env python3
-"""fdb_mutations: plants wrong versions of fdb and of its client, one at a time, in a copy, and expects the tests to fail on each.
+"""fdb_mutations: wrong versions of fdb and of its client, each of which the tests must see.
 
-    tools/fdb_mutations.py [NAME ..]
-
-Each is a file, a text in it that stands there once, what stands there in the wrong version, and the test that sees it. A name picks those that begin so.
+Each is a copy with one text exchanged, and the test that has to fail on it, and to pass on what is there.
 """
-import os
-import pathlib
-import shutil
-import subprocess
-import sys
-import tempfile
+from wrong_versions import Version, try_all
 
-TOOLS = pathlib.Path(__file__).resolve().parent
 CLIENT, FDB = "test_client.py", "test_fdb.py"
 
 MUTATIONS = [
@@ -118,35 +110,5 @@ MUTATIONS = [
 ]
 
 
-def seen(mutation):
-    """Whether the test fails on the wrong version."""
-    name, file, old, new, script, test = mutation
-    with tempfile.TemporaryDirectory() as folder:
-        room = pathlib.Path(folder) / "tools"
-        room.mkdir()
-        shutil.copy(TOOLS / "fdb", room)
-        for part in ("debugger", "framedbg_client"):
-            shutil.copytree(TOOLS / part, room / part, ignore=shutil.ignore_patterns("__pycache__"))
-        path = room / file
-        text = path.read_text()
-        if text.count(old) != 1:
-            sys.exit(f"fdb_mutations: {name}: its text stands {text.count(old)} times in {file}")
-        path.write_text(text.replace(old, new))
-        run = subprocess.run([sys.executable, TOOLS / script, "-f", test], env={**os.environ, "FDB": str(room), "FDB_PATIENCE": "10"}, capture_output=True, text=True, check=False)
-        return "seen" if run.returncode else "MISSED"
-
-
-def main():
-    wanted = [mutation for mutation in MUTATIONS if not sys.argv[1:] or any(mutation[0].startswith(word) for word in sys.argv[1:])]
-    if not wanted:
-        sys.exit("fdb_mutations: none begins so")
-    missed = 0
-    for mutation in wanted:
-        verdict = seen(mutation)
-        missed += verdict == "MISSED"
-        print(f"{mutation[0]}: {verdict}", flush=True)
-    sys.exit(f"{missed} wrong versions were missed" if missed else 0)
-
-
 if __name__ == "__main__":
-    main()
+    try_all(__doc__, [Version(name, f"tools/{file}", *more) for name, file, *more in MUTATIONS], {"FDB_PATIENCE": "10"})

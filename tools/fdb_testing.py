@@ -16,13 +16,15 @@ import termios
 import time
 from unittest import mock
 
+import debugger.batch
+from debugger import command_line
+
 TOOLS = pathlib.Path(__file__).resolve().parent
 ROOT = TOOLS.parent
 EXAMPLES = ROOT / "examples"
 HUNTS = EXAMPLES / "hunts"
 PROGRAM = os.path.abspath(os.environ.get("FRAMEDBG", ROOT / "crates/framedbg/out/framedbg"))
-FOLDER = pathlib.Path(os.environ.get("FDB", TOOLS))          # of a wrong version, where one is tried
-FDB = FOLDER / "fdb"
+FDB = TOOLS / "fdb"
 PATIENCE = int(os.environ.get("FDB_PATIENCE", "60"))       # seconds for what must come
 ESCAPES = re.compile(r"\x1b\[[0-9;?]*[A-Za-z]|\x01|\x02")
 PROMPT_SHOWN = re.compile(r"(?:\x1b\[1m\(\d+/\d+\) \x1b\[0m|(?<!m)\(\d+/\d+\) )$")
@@ -65,10 +67,6 @@ for line in sys.stdin:
     sys.stdout.write(reply)
     sys.stdout.flush()
 """
-
-sys.path.insert(0, str(FOLDER))
-import debugger.batch   # noqa: E402
-from debugger import command_line   # noqa: E402
 
 
 def stand_in(folder):

@@ -1,21 +1,17 @@
 """What the tests of real frames stand on: a frame whose pictures tools/reference.py draws, in the place of one that RenderDoc replays."""
-import os
 import pathlib
-import sys
 from dataclasses import dataclass, field
 from types import SimpleNamespace
 
+import reference
+from real_frames import sources, states
+from real_frames.gather import Gatherer, Wanted
+from real_frames.losses import Losses
+from real_frames.painter import Detail
+from real_frames.viewport import Viewport
+from real_frames.writer import Writer
+
 TOOLS = pathlib.Path(__file__).resolve().parent
-sys.path.insert(0, os.environ.get("FRAMES", str(TOOLS)))        # a wrong version of the converter, where one is tried
-
-import reference   # noqa: E402
-from real_frames import sources, states   # noqa: E402
-from real_frames.gather import Gatherer, Wanted   # noqa: E402
-from real_frames.losses import Losses   # noqa: E402
-from real_frames.painter import Detail   # noqa: E402
-from real_frames.viewport import Viewport   # noqa: E402
-from real_frames.writer import Writer   # noqa: E402
-
 TARGET, OTHER = 7, 8
 WIDTH, HEIGHT = 24, 16
 OVER = ("SrcAlpha", "InvSrcAlpha", "Add"), ("One", "InvSrcAlpha", "Add")

@@ -1,25 +1,14 @@
 #!/usr/bin/env python3
 """gate_mutations: wrong versions of what runs the checks, each of which its tests must see.
 
-    tools/gate_mutations.py [WORD ..]
-
-Each is a copy of a tool with one text exchanged, and the test that has to fail on it, and to pass on the tool as it is. With words, only those whose name
-has one of them are tried.
+Each is a copy of a tool with one text exchanged, and the test that has to fail on it, and to pass on the tool as it is.
 """
-import os
-import pathlib
-import shutil
-import subprocess
-import sys
-import tempfile
+from wrong_versions import Version, try_all
 
-from wrong_versions import all_seen, exchanged
-
-TOOLS = pathlib.Path(__file__).resolve().parent
 NOTE, RUN, PREPARE, GATE, PROSE, SENTENCES = "passed_over.py", "run_tests", "prepare_machine", "check_gate", "prose.py", "check_sentences"
+LOOP, COPIES = "wrong_versions.py", "wrong_copies.py"
 TESTS = {NOTE: "test_passed_over.py", RUN: "test_run_tests.py", PREPARE: "test_prepare_machine.py", GATE: "test_check_gate.py", PROSE: "test_check_sentences.py",
-         SENTENCES: "test_check_sentences.py"}
-OTHERS = (*TESTS, *TESTS.values(), "machine_packages.txt", "wrong_versions.py")
+         SENTENCES: "test_check_sentences.py", LOOP: "test_wrong_versions.py", COPIES: "test_wrong_versions.py"}
 MUTATIONS = [   # name, tool, text, what stands there instead, test
     ("noted: with CI=true it goes on", NOTE, '        sys.exit(f"passed over, which', '        print(f"passed over, which', "PassedOver.test_it_fails_where_nobody_looks"),
     ("noted: any CI is a gate", NOTE, 'os.environ.get("CI") == "true"', '"CI" in os.environ', "PassedOver.test_it_fails_where_nobody_looks"),
@@ -55,6 +44,42 @@ MUTATIONS = [   # name, tool, text, what stands there instead, test
     ("prose: names are sentences", PROSE, "bool(STOP.search(sentence))", "True", "Sentences.test_names_are_no_sentences"),
     ("sentences: a long page is no fault", SENTENCES, "sys.exit(bool(failed))", "sys.exit(0)", "Pages.test_the_mean"),
     ("sentences: a page that isn't there ends it badly", SENTENCES, "except (OSError, UnicodeDecodeError)", "except UnicodeDecodeError", "Pages.test_a_page_that_is_not_there"),
+    ("versions: a broken run is seen", COPIES, 'if status == 0 else "BROKEN"', 'if status == 0 else "seen"', "Lists.test_what_breaks_off_is_not_seen"),
+    ("versions: a class that can't begin is seen", COPIES, ' and not re.search(r"^ERROR: setUp(Class|Module) ", said, re.M)', "", "Lists.test_what_breaks_off_is_not_seen"),
+    ("versions: nobody knows what broke", LOOP, "{said if found == 'BROKEN' else ''}", "", "Lists.test_what_breaks_off_is_not_seen"),
+    ("versions: without an end", COPIES, "ran.wait(SECONDS)", "ran.wait()", "Lists.test_what_takes_too_long_is_not_seen"),
+    ("versions: what has no end is missed", COPIES, "            status = None", "            status = 0", "Lists.test_what_takes_too_long_is_not_seen"),
+    ("versions: the last is left out", LOOP, "version.tried(self.more), self.versions)", "version.tried(self.more), self.versions[:-1])", "Lists.test_all_are_seen"),
+    ("versions: the repository is changed", COPIES, "    path.unlink()\n", "", "Lists.test_all_are_seen"),
+    ("versions: a missed one is no fault", LOOP, 'if found in ("MISSED", "BROKEN")]', 'if found == "BROKEN"]', "Lists.test_one_is_missed"),
+    ("versions: a broken one is no fault", LOOP, 'if found in ("MISSED", "BROKEN")]', 'if found == "MISSED"]', "Lists.test_what_breaks_off_is_not_seen"),
+    ("versions: on what fails as it is", LOOP, "                self.as_it_is(pool)\n", "", "Lists.test_what_fails_as_it_is"),
+    ("versions: what is stale is tried", LOOP, "    if stale or given.list:", "    if given.list:", "Lists.test_what_is_stale_stops_it_at_once"),
+    ("versions: a text that stands twice", LOOP, "* (count != 1)", "* (count == 0)", "Lists.test_what_is_stale_stops_it_at_once"),
+    ("versions: a test that isn't there", LOOP, "* (not is_there)", "* 0", "Lists.test_what_is_stale_stops_it_at_once"),
+    ("versions: all are listed as good", LOOP, 'f"{version.name}: {fault or \'can be tried\'}"', 'f"{version.name}: can be tried"', "Lists.test_what_is_stale_stops_it_at_once"),
+    ("versions: all words name all", LOOP, "any(word in version.name for word in given.words)", "True", "Lists.test_words"),
+    ("versions: none is all", LOOP, "    if not wanted.versions:", "    if False:", "Lists.test_words"),
+    ("versions: none at once", LOOP, "    if int(word) < 1:", "    if int(word) < 0:", "Lists.test_words"),
+    ("versions: one after another", LOOP, "ThreadPoolExecutor(at_once)", "ThreadPoolExecutor(1)", "Lists.test_several_at_once"),
+    ("versions: always several", LOOP, "ThreadPoolExecutor(at_once)", "ThreadPoolExecutor(4)", "Lists.test_several_at_once"),
+    ("versions: as they end", LOOP, "pool.map(lambda version: version.tried(self.more), self.versions)",
+     "[ended.result() for ended in concurrent.futures.as_completed([pool.submit(version.tried, self.more) for version in self.versions])]", "Lists.test_in_the_order_of_the_list"),
+    ("versions: what is missing is tried", LOOP, "        if self.missing:", "        if False:", "Lists.test_what_is_not_there_is_passed_over"),
+    ("versions: nobody hears what is missing", LOOP, "        self.pass_over(version.missing for version in self.versions if version.missing)\n", "", "Lists.test_what_is_not_there_is_passed_over"),
+    ("versions: nobody hears what was skipped", LOOP, 'self.pass_over("their tests', 'str("their tests', "Lists.test_what_is_not_there_is_passed_over"),
+    ("versions: what is skipped is missed", COPIES, '"skipped" if "skipped=" in said else', "", "Lists.test_what_is_not_there_is_passed_over"),
+    ("versions: tests hear of CI", COPIES, ' if name != "CI"} | more', "} | more", "Lists.test_what_a_test_meets"),
+    ("versions: no haste", LOOP, "version.tried(self.more)", "version.tried({})", "Lists.test_what_a_test_meets"),
+    ("versions: haste as it is", LOOP, "wrong_copies.tried(one[0][0], one[1], {})", "wrong_copies.tried(one[0][0], one[1], self.more)", "Lists.test_what_a_test_meets"),
+    ("versions: what was passed over is passed on", COPIES, ', TOP / ".git", passed_over.NOTED)', ', TOP / ".git")', "Lists.test_what_a_test_meets"),
+    ("versions: a copy has the history", COPIES, 'TOP / ".git", ', "", "Lists.test_what_a_test_meets"),
+    ("versions: compiled at any time", COPIES, "    os.utime(path, (0, 0))\n", "", "Lists.test_what_a_test_meets"),
+    ("versions: nothing may be run", COPIES, "    path.chmod(mode)\n", "", "Lists.test_what_a_test_meets"),
+    ("versions: somebody is left", COPIES, "        end(ran.pid)\n", "", "Lists.test_nobody_is_left"),
+    ("versions: runs go on when it is interrupted", LOOP, "                wrong_copies.end_all()\n", "", "Lists.test_interrupted"),
+    ("versions: all are tried before one that fails as it is", LOOP, "(found, said) in zip(classes, pool.map(lambda one: wrong_copies.tried(one[0][0], one[1], {}), classes.items())):",
+     "(found, said) in zip(classes, list(pool.map(lambda one: wrong_copies.tried(one[0][0], one[1], {}), classes.items()))):", "Lists.test_what_fails_as_it_is"),
     ("prepared: half installed is there", PREPARE, "s/ installed$//p", "s/ .*$//p", "PreparesMachine.test_half_installed_is_missing"),
     ("prepared: by anybody", PREPARE, '"$(id -u)" != 0', '"$(id -u)" = -', "PreparesMachine.test_nothing_is_installed_unasked"),
     ("prepared: for ever", PREPARE, 'timeout --kill-after=10 "$seconds" apt-get', "apt-get", "PreparesMachine.test_it_does_not_hang"),
@@ -65,31 +90,5 @@ MUTATIONS = [   # name, tool, text, what stands there instead, test
 ]
 
 
-def fails(tool, test, change=None):
-    """Whether a test of a tool fails, with a text of the tool exchanged or with none."""
-    with tempfile.TemporaryDirectory() as folder:
-        tools = pathlib.Path(folder) / "tools"
-        tools.mkdir()
-        for name in OTHERS:
-            shutil.copy(TOOLS / name, tools)
-        if change:
-            (tools / tool).write_text(exchanged((TOOLS / tool).read_text(), *change))
-        environment = {name: value for name, value in os.environ.items() if name != "CI"}
-        words = [sys.executable, tools / TESTS[tool], "-f", test]
-        ran = subprocess.run(words, env=environment, stdin=subprocess.DEVNULL, capture_output=True, timeout=300, check=False)
-        return ran.returncode != 0
-
-
-def main():
-    if sys.argv[1:] in (["--help"], ["-h"]):
-        print(__doc__.rstrip())
-        return
-    wanted = [mutation for mutation in MUTATIONS if not sys.argv[1:] or any(word in mutation[0] for word in sys.argv[1:])]
-    for tool, test in sorted({(tool, test) for _, tool, _, _, test in wanted}):
-        if fails(tool, test):
-            sys.exit(f"gate_mutations: {test} fails on {tool} as it is")
-    all_seen("gate_mutations", {name: lambda tool=tool, test=test, change=(old, new): fails(tool, test, change) for name, tool, old, new, test in wanted})
-
-
 if __name__ == "__main__":
-    main()
+    try_all(__doc__, [Version(name, f"tools/{tool}", old, new, TESTS[tool], test) for name, tool, old, new, test in MUTATIONS])

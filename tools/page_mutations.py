@@ -1,23 +1,12 @@
 #!/usr/bin/env python3
 """page_mutations: wrong versions of the page alone, each of which its tests must see.
 
-    tools/page_mutations.py [WORD ..]
-    tools/page_mutations.py --list         names them, and says which text doesn't stand once in its file, or which test there isn't
-
-Each is a copy of the viewer and the page with one text exchanged, and the test that has to fail on it (and to pass on the page as it is). With words,
-only those whose name has one of them are tried. They want Chromium, and the page made once (make page).
+Each is a copy of the viewer and the page with one text exchanged, and the test that has to fail on it, and to pass on the page as it is. They want Chromium,
+and the page made once (make page).
 """
-import os
-import pathlib
-import shutil
-import subprocess
-import sys
-import tempfile
-
 import browser
-from wrong_versions import exchanged, listed, verdict
+from wrong_versions import TOP, Version, try_all
 
-TOOLS = pathlib.Path(__file__).resolve().parent
 SESSIONS, CHANCE, WORKERS, MEMORY, LARGE = "test_sessions", "test_runs_by_chance", "test_more_workers_than_threads", "test_without_memory", "test_large_blocks_of_memory"
 SERVER, ANOTHER, INSIDE, REFUSED, ENDS = "test_answers_as_the_server_does", "test_another_capture", "test_a_capture_inside", "test_a_refused_capture", "test_it_ends_and_starts_again"
 STOPPED = "test_a_move_without_end_is_stopped"
@@ -79,7 +68,7 @@ MUTATIONS = [   # name, file, text, what stands there instead, test
     ("search: suspects cut too early", "page/search.js", "BATCHES = [0, 3, 8, 24]", "BATCHES = [0, 3]", HUNTS),
     ("search: told without being drawn", "page/search.js", "this.counted(this.differing(parts))", "[0, Array(NAMED + 1).fill(0)]", HUNTS),
     ("search: the window is all", "page/search.js", "const parts = await this.drawn(change.events, whole, run => this.picture(run));", "const parts = there ? [] : null;", HUNTS),
-    ("search: what helps is dropped", "page/search.js", ".count >= this.wrongThere) return;", ".count >= this.wrongThere - 1) return;", KINDS),
+    ("search: what helps is dropped", "page/search.js", ".count >= this.wrongThere) return;", ".count >= this.wrongThere - 1) return;", "BlamedInChromium.test_one_pixel"),
     ("search: another picture is mended", "page/search.js", "const mended = this.best && await this.drawn(this.best.events,", "const mended = this.best && await this.drawn(events,", HUNTS),
     ("search: the last that was found", "page/search.js", "if (!this.best || order(found, this.best) < 0) this.best = found;", "this.best = found;", HUNTS),
     ("search: a stop that isn't heard", "page/search.js", "    for (const run of this.runs) run.end(new Stopped());\n", "", STOP),
@@ -94,7 +83,7 @@ MUTATIONS = [   # name, file, text, what stands there instead, test
     ("changes: one place too far", "page/changes.js", "const moved = ({ events }, number, to) => inserted(events.toSpliced(number - 1, 1), to,", "const moved = ({ events }, number, to) => inserted(events.toSpliced(number - 1, 1), to + 1,", HUNTS),
     ("changes: blending that stays off", "page/changes.js", "{ [part]: was.with(2, name), enable: true }", "{ [part]: was.with(2, name), enable: false }", KINDS),
     ("worked out: the factor of the frame", "page/worked.js", 'factor = capture.setter(event, "factor") === number ? colour : ', "factor = ", KINDS),
-    ("worked out: clears as they were", "page/worked.js", "event === number ? named(colour) : source", "source", KINDS),
+    ("worked out: clears as they were", "page/worked.js", "event === number ? named(colour) : source", "source", "BlamedInChromium.test_a_clear_below_glass"),
     ("capture: the first that set a state", "page/capture.js", "this.events.findLastIndex(({ kind }, i)", "this.events.findIndex(({ kind }, i)", HUNTS),
     ("capture: a scissor that stays where it was", "page/capture.js", "edge - (i % 2 ? top : left)", "edge", "BlamedInChromium.test_a_window"),
     ("capture: triangles that end on the window's edge", "page/capture.js", "Math.min(...x) <= right", "Math.min(...x) <= right - 12", "BlamedInChromium.test_a_window"),
@@ -106,38 +95,7 @@ MUTATIONS = [   # name, file, text, what stands there instead, test
 ]
 
 
-def full(test):
-    """A test with the name of its class."""
-    return test if "." in test else f"InChromium.{test}"
-
-
-def seen(mutation):
-    """Whether the test fails on the wrong version."""
-    name, file, old, new, test = mutation
-    with tempfile.TemporaryDirectory() as folder:
-        for part in ("viewer", "page"):
-            shutil.copytree(TOOLS / part, pathlib.Path(folder) / part)
-        path = pathlib.Path(folder) / file
-        path.write_text(exchanged(path.read_text(), old, new))
-        words = [sys.executable, TOOLS / "test_page.py", "-f", full(test)]
-        run = subprocess.run(words, env={"EXAMPLES": TOOLS.parent / "examples", "FRAMEDBG": TOOLS.parent / "crates/framedbg/out/framedbg", **os.environ, "VIEWER": folder, "PATIENCE": "10"},
-                             capture_output=True, text=True, check=False)
-        return verdict(run)
-
-
-def main():
-    if sys.argv[1:] == ["--list"]:
-        sys.exit(listed("page_mutations", [(name, TOOLS / file, old, "test_page.py", full(test)) for name, file, old, _, test in MUTATIONS]))
-    if not browser.is_installed():
-        sys.exit(print("page_mutations: not tried, Chromium and chromedriver aren't installed"))
-    wanted = [m for m in MUTATIONS if not sys.argv[1:] or any(word in m[0] for word in sys.argv[1:])]
-    missed = 0
-    for mutation in wanted:
-        found = seen(mutation)
-        missed += found not in ("seen", "skipped")
-        print(f"{mutation[0]}: {found}", flush=True)
-    sys.exit(f"{missed} wrong versions were missed" if missed else 0)
-
-
 if __name__ == "__main__":
-    main()
+    missing = "Chromium and chromedriver aren't installed" if not browser.is_installed() else "" if (TOP / "out/page/stamp").exists() else "the page isn't made"
+    try_all(__doc__, [Version(name, f"tools/{file}", old, new, "test_page.py", test if "." in test else f"InChromium.{test}", missing)
+                      for name, file, old, new, test in MUTATIONS], {"PATIENCE": "10"})

@@ -1,21 +1,10 @@
 #!/usr/bin/env python3
-"""real_frames_mutations.py: whether the tests of real frames and of the emitters see wrong versions of what they test.
+"""real_frames_mutations: wrong versions of what makes captures of real frames, and of the emitters, each of which the tests must see.
 
-    tools/real_frames_mutations.py [WORD ..]
-
-Each is a copy with one text exchanged, and the test that has to fail on it. With words, only those whose name has one of them are tried.
+Each is a copy with one text exchanged, and the test that has to fail on it, and to pass on what is there.
 """
-import concurrent.futures
-import os
-import pathlib
-import shutil
-import subprocess
-import sys
-import tempfile
+from wrong_versions import Version, try_all
 
-TOOLS = pathlib.Path(__file__).resolve().parent
-TOP = TOOLS.parent
-PROCESSES = 2
 MUTATIONS = [   # name, file, text, what stands there instead, test
     ("strips: every triangle runs the same way through", "topology.py", "if i % 2 == 0 else (b, a, c)", "if True else (b, a, c)", "Topologies"),
     ("fans: round the corner before", "topology.py", "yield indices[0], indices[i], indices[i + 1]", "yield indices[i - 1], indices[i], indices[i + 1]", "Topologies"),
@@ -212,55 +201,8 @@ EMITTERS = [
 ]
 
 
-def changed(folder, file, old, new):
-    """Exchanges a text of a copy; says what is wrong where it doesn't stand there once."""
-    path = pathlib.Path(folder) / file
-    text = path.read_text()
-    path.write_text(text.replace(old, new))
-    return "" if text.count(old) == 1 else f"MISSED: its text stands {text.count(old)} times in {file}"
-
-
-def verdict(test, words, **environment):
-    run = subprocess.run([sys.executable, TOOLS / test, "-f", *words], env={**os.environ, "PYTHONDONTWRITEBYTECODE": "1", **environment}, capture_output=True, text=True)
-    return "skipped" if "skipped=" in run.stderr else "seen" if run.returncode else "MISSED"
-
-
-def seen(mutation):
-    """Whether the test fails on the wrong version."""
-    name, file, old, new, test = mutation
-    with tempfile.TemporaryDirectory() as folder:
-        if file.startswith(("share/", "tools/")):
-            shutil.copytree(TOP / "share", pathlib.Path(folder) / "share")
-            (pathlib.Path(folder) / "tools").mkdir()
-            for part in ("captures.py", "reference.py"):
-                shutil.copy(TOOLS / part, pathlib.Path(folder) / "tools")
-            return changed(folder, file, old, new) or verdict("test_captures.py", [f"Emitters.{test}"], EMITTERS=folder)
-        shutil.copytree(TOOLS / "real_frames", pathlib.Path(folder) / "real_frames", ignore=shutil.ignore_patterns("__pycache__"))
-        shutil.copy(TOOLS / "captures.py", folder)
-        if file.startswith("old_frames/"):
-            shutil.copytree(TOOLS / "old_frames", pathlib.Path(folder) / "old_frames", ignore=shutil.ignore_patterns("__pycache__"))
-            shutil.copy(TOOLS / "apitrace_to_capture", folder)
-            return changed(folder, file, old, new) or verdict("test_old_frames.py", [test], FRAMES=folder)
-        for tool in ("renderdoc_to_capture", "take_frame"):
-            shutil.copy(TOOLS / tool, folder)
-        return changed(folder, f"real_frames/{file}", old, new) or verdict("test_foreign_frames.py" if test == "Foreign" else "test_real_frames.py", [test], FRAMES=folder)
-
-
-def main():
-    if sys.argv[1:2] in (["--help"], ["-h"]):
-        print(__doc__)
-        return
-    wanted = [m for m in MUTATIONS + OLD + EMITTERS if not sys.argv[1:] or any(word in m[0] for word in sys.argv[1:])]
-    for unchanged in (("as it is", "topology.py", "i % 2 == 0", "i % 2 == 0", "Colours"), EMITTERS[0][:3] + EMITTERS[0][2:3] + EMITTERS[0][4:]):
-        if seen(unchanged) != "MISSED":
-            sys.exit(f"real_frames_mutations: the tests fail on a copy that is as it is: {unchanged[-1]}")
-    missed = 0
-    with concurrent.futures.ThreadPoolExecutor(PROCESSES) as pool:
-        for mutation, told in zip(wanted, pool.map(seen, wanted)):
-            missed += told.startswith("MISSED")
-            print(f"{mutation[0]}: {told}", flush=True)
-    sys.exit(f"{missed} wrong versions were missed" if missed else 0)
-
-
 if __name__ == "__main__":
-    main()
+    try_all(__doc__, [*(Version(name, f"tools/real_frames/{file}", old, new, "test_foreign_frames.py" if test == "Foreign" else "test_real_frames.py", test)
+                        for name, file, old, new, test in MUTATIONS),
+                      *(Version(name, f"tools/{file}", old, new, "test_old_frames.py", test) for name, file, old, new, test in OLD),
+                      *(Version(name, file, old, new, "test_captures.py", f"Emitters.{test}") for name, file, old, new, test in EMITTERS)])

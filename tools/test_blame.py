@@ -3,7 +3,7 @@
 
     tools/test_blame.py [TEST ..]
 
-FRAMEDBG names another program, BLAME another folder that framedbg-blame is taken from.
+FRAMEDBG names another program.
 """
 import passed_over
 from test_blame_documents import *  # noqa: F401, F403

@@ -11,7 +11,7 @@ import tempfile
 import unittest
 
 import slurm_testing
-from blame_testing import FOLDER, HUNTS, NAMES, PROGRAM, ROOT, Folder, hunt_picture, value_of
+from blame_testing import HUNTS, NAMES, PROGRAM, ROOT, TOOLS, Folder, hunt_picture, value_of
 
 from blaming import command_line
 from blaming.kinds import KINDS
@@ -32,7 +32,7 @@ class Replayed(unittest.TestCase):
     def setUp(self):
         self.room = pathlib.Path(self.enterContext(tempfile.TemporaryDirectory()))
         (self.room / "bin").mkdir()
-        for name, what in (("framedbg", PROGRAM), ("framedbg-blame", FOLDER / "framedbg-blame"), ("framedbg-night", FOLDER / "framedbg-night"), ("python3", sys.executable)):
+        for name, what in (("framedbg", PROGRAM), ("framedbg-blame", TOOLS / "framedbg-blame"), ("framedbg-night", TOOLS / "framedbg-night"), ("python3", sys.executable)):
             (self.room / "bin" / name).symlink_to(what)
         (self.room / "examples").symlink_to(ROOT / "examples")
         self.environment = {**os.environ, "PATH": f"{self.room / 'bin'}:{os.environ['PATH']}"}

@@ -11,7 +11,7 @@ import time
 import unittest
 from unittest import mock
 
-from blame_testing import FOLDER, HUNTS, NAMES, PROGRAM, Folder, blend, box, capture, clear, draw, hunt_picture, launched, pam, raster, reference, told, value_of
+from blame_testing import HUNTS, NAMES, PROGRAM, TOOLS, Folder, blend, box, capture, clear, draw, hunt_picture, launched, pam, raster, reference, told, value_of
 
 from blaming import trying
 from framedbg_client import read_pam
@@ -277,7 +277,7 @@ class Called(Folder):
         """While the program is at a changed capture, and says nothing."""
         program = pathlib.Path(self.written("program", SLOW % str(PROGRAM)))
         program.chmod(0o755)
-        words = [sys.executable, str(FOLDER / "framedbg-blame"), str(HUNTS / "doughnut.json"), self.written("wanted.pam", hunt_picture("doughnut")), "--program", str(program)]
+        words = [sys.executable, str(TOOLS / "framedbg-blame"), str(HUNTS / "doughnut.json"), self.written("wanted.pam", hunt_picture("doughnut")), "--program", str(program)]
         signal.signal(signal.SIGINT, signal.default_int_handler)        # what is ignored here would be there too
         for number in (signal.SIGINT, signal.SIGTERM):
             with self.subTest(number):
@@ -295,7 +295,7 @@ class Called(Folder):
 
     def test_progress_on_a_terminal(self):
         ours, theirs = pty.openpty()
-        words = [sys.executable, str(FOLDER / "framedbg-blame"), *self.files(), "--program", PROGRAM]
+        words = [sys.executable, str(TOOLS / "framedbg-blame"), *self.files(), "--program", PROGRAM]
         with subprocess.Popen(words, stdout=subprocess.PIPE, stderr=theirs) as run:
             os.close(theirs)
             out = run.communicate(timeout=60)[0]

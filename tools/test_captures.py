@@ -12,13 +12,10 @@ import sys
 import tempfile
 import unittest
 
-TOOLS = pathlib.Path(__file__).resolve().parent
-TOP = pathlib.Path(os.environ.get("EMITTERS", TOOLS.parent))         # wrong versions of the emitters, where some are tried
-sys.path.insert(0, str(TOP / "tools"))
-import captures   # noqa: E402
-import reference   # noqa: E402
-from captures import Capture, Fault, label, place   # noqa: E402
+import reference
+from captures import Capture, Fault, label, place
 
+TOP = pathlib.Path(__file__).resolve().parent.parent
 EXAMPLES = TOP / "share/emitting"
 COMPILERS = {"C99": ["cc", "-std=c99", "-x", "c"], "C++": ["c++", "-std=c++11", "-x", "c++"]}
 HOSTILE = r'''#include "framedbg_capture.h"

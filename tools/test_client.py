@@ -3,7 +3,7 @@
 
     tools/test_client.py [TEST ..]
 
-FRAMEDBG names another program, FDB another folder that the client is taken from.
+FRAMEDBG names another program.
 """
 import os
 import pathlib
@@ -17,7 +17,7 @@ import unittest
 import zlib
 from unittest import mock
 
-from fdb_testing import EXAMPLES, FOLDER, PROGRAM, ROOT, TOOLS, stand_in
+from fdb_testing import EXAMPLES, PROGRAM, ROOT, TOOLS, stand_in
 
 import framedbg_client
 from framedbg_client import (At, Bad, Bye, Client, Colour, Depths, DepthState, Ended, Entry, Event, Fault, Garbled, Pixel, Refusal, Refused, Reply, State, Stopped,
@@ -225,7 +225,7 @@ class Asked(unittest.TestCase):
                     path.write_text("#!/bin/sh\n")
                     path.chmod(0o755)
                     self.assertEqual(client_program.find_program(), str(path))
-        self.assertEqual(client_program.PLACES, (FOLDER.parent / "crates/framedbg/out/framedbg", FOLDER.parent.parent.parent / "bin/framedbg"))
+        self.assertEqual(client_program.PLACES, (TOOLS.parent / "crates/framedbg/out/framedbg", TOOLS.parent.parent.parent / "bin/framedbg"))
 
 
 class Page(unittest.TestCase):
@@ -240,7 +240,7 @@ class Page(unittest.TestCase):
             (room / "bin").mkdir()
             (room / "bin/framedbg").symlink_to(PROGRAM)
             shutil.copy(HOUSE, room)
-            environment = {**os.environ, "PATH": f"{room / 'bin'}:{os.environ['PATH']}", "PYTHONPATH": str(FOLDER)}
+            environment = {**os.environ, "PATH": f"{room / 'bin'}:{os.environ['PATH']}", "PYTHONPATH": str(TOOLS)}
             for kind, script, says in found:
                 words = [sys.executable, "-c", script] if kind == "python" else ["sh", "-eu", "-c", script]
                 ran = subprocess.run(words, cwd=room, env=environment, capture_output=True, text=True, timeout=60, check=False)

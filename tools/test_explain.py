@@ -4,7 +4,6 @@
     tools/test_explain.py [--seed N] [--cases N] [TEST ..]
 
 Captures are changed by chance, as values and as bytes: all are compared with tools/reference.py, and some with the program (FRAMEDBG names another).
-VIEWER names another folder that explain is taken from.
 """
 import copy
 import json
@@ -18,13 +17,10 @@ import tempfile
 import unittest
 
 import reference
+from explaining import json_text
+from explaining.verdict import explained
 
 TOOLS = pathlib.Path(__file__).resolve().parent
-TRIED = pathlib.Path(os.environ.get("VIEWER", TOOLS))
-sys.path.insert(0, str(TRIED))          # a wrong version, where one is tried
-from explaining import json_text            # noqa: E402
-from explaining.verdict import explained    # noqa: E402
-
 EXAMPLES = TOOLS.parent / "examples"
 PROGRAM = os.path.abspath(os.environ.get("FRAMEDBG", TOOLS.parent / "crates/framedbg/out/framedbg"))
 
@@ -107,7 +103,7 @@ def told_by_reference(data):
 
 def told_by_tool(file, memory=resource.RLIM_INFINITY, **environment):
     limit = lambda: resource.setrlimit(resource.RLIMIT_AS, (memory, memory))
-    return subprocess.run([sys.executable, TRIED / "explain", file], capture_output=True, timeout=60, preexec_fn=limit, env={**os.environ, **environment})
+    return subprocess.run([sys.executable, TOOLS / "explain", file], capture_output=True, timeout=60, preexec_fn=limit, env={**os.environ, **environment})
 
 
 class Explained(unittest.TestCase):

@@ -3,7 +3,7 @@
 
     tools/test_fdb.py [TEST ..]
 
-FRAMEDBG names another program, FDB another folder that fdb is taken from.
+FRAMEDBG names another program.
 """
 import unittest
 

@@ -18,7 +18,6 @@ from frames_testing import TOOLS
 
 from real_frames import module
 
-HERE = pathlib.Path(os.environ.get("FRAMES", TOOLS))
 MEMBERS = {"State": "rasterizer outputMerger", "Rasterizer": "state viewports scissors", "BlendState": "blendFactor blends",
            "RasterizerState": "frontCCW depthClip depthBias slopeScaledDepthBias depthBiasClamp fillMode cullMode",
            "DepthStencilState": "depthEnable depthWrites depthFunction stencilEnable"}      # of RenderDoc's types of Direct3D, as far as they are read
@@ -87,7 +86,7 @@ class Foreign(unittest.TestCase):
             (path / "frame.rdc").write_bytes(content)
             (path / "renderdoc.py").write_text(f"import sys\nsys.path.insert(0, {str(TOOLS)!r})\nfrom test_foreign_frames import stand_in\nglobals().update(vars(stand_in()))\n")
             environment = {"PATH": "/nowhere", "PYTHONPATH": folder, "PYTHONDONTWRITEBYTECODE": "1", "DISPLAY": display, "API": api, "SUPPORT": support, "REPLAY": replay}
-            told = subprocess.run([sys.executable, HERE / "renderdoc_to_capture", path / "frame.rdc"], env=environment, capture_output=True, text=True, timeout=60)
+            told = subprocess.run([sys.executable, TOOLS / "renderdoc_to_capture", path / "frame.rdc"], env=environment, capture_output=True, text=True, timeout=60)
             return told.returncode, told.stdout, told.stderr.replace(folder, "")
 
     def test_what_can_t_be_replayed_is_a_line(self):
@@ -138,7 +137,7 @@ class Foreign(unittest.TestCase):
     @staticmethod
     def take_frame():
         """The tool as a module."""
-        loader = importlib.machinery.SourceFileLoader("take_frame", str(HERE / "take_frame"))
+        loader = importlib.machinery.SourceFileLoader("take_frame", str(TOOLS / "take_frame"))
         take = importlib.util.module_from_spec(importlib.util.spec_from_loader("take_frame", loader))
         loader.exec_module(take)
         return take

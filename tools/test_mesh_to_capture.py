@@ -1,8 +1,5 @@
 #!/usr/bin/env python3
-"""test_mesh_to_capture: models in each format, whole, cut at every place and with wrong bytes; and each bug that may be planted.
-
-VIEWER names another folder that mesh_to_capture is taken from.
-"""
+"""test_mesh_to_capture: models in each format, whole, cut at every place and with wrong bytes; and each bug that may be planted."""
 import json
 import os
 import pathlib
@@ -15,14 +12,12 @@ import tempfile
 import unittest
 from unittest import mock
 
-TOOLS = pathlib.Path(__file__).resolve().parent
-TRIED = pathlib.Path(os.environ.get("VIEWER", TOOLS))
-sys.path.insert(0, str(TRIED))          # a wrong version, where one is tried
-from explaining.verdict import explained    # noqa: E402
-from meshes import gltf, model, obj, ply, text  # noqa: E402
-from meshes.frame import BUGS, Look, capture    # noqa: E402
-from meshes.model import Fault                  # noqa: E402
+from explaining.verdict import explained
+from meshes import gltf, model, obj, ply, text
+from meshes.frame import BUGS, Look, capture
+from meshes.model import Fault
 
+TOOLS = pathlib.Path(__file__).resolve().parent
 PROGRAM = os.path.abspath(os.environ.get("FRAMEDBG", TOOLS.parent / "crates/framedbg/out/framedbg"))
 
 # A cube, and a smaller one on top of it that is of glass
@@ -148,7 +143,7 @@ class Meshes(unittest.TestCase):
                  "g.glb": ("no glTF at all, but long", "a .glb begins with glTF"), "h.stl": ("", "none of .obj, .ply, .glb")}
         for name, (text, why) in cases.items():
             (folder / name).write_text(text)
-            run = subprocess.run([sys.executable, TRIED / "mesh_to_capture", folder / name], capture_output=True, text=True)
+            run = subprocess.run([sys.executable, TOOLS / "mesh_to_capture", folder / name], capture_output=True, text=True)
             self.assertEqual((run.returncode, run.stdout), (1, ""), name)
             self.assertIn(why, run.stderr)
         for changed, why in (({"extensionsRequired": ["KHR_draco_mesh_compression"]}, "needs the extension KHR_draco"),
@@ -161,7 +156,7 @@ class Meshes(unittest.TestCase):
     def converted(self, path, *words):
         """A run of the tool, with 2 GiB of memory, which ends within a minute."""
         limits = lambda: resource.setrlimit(resource.RLIMIT_AS, (2 << 30, 2 << 30))
-        return subprocess.run([sys.executable, TRIED / "mesh_to_capture", *words, path], capture_output=True, timeout=60, preexec_fn=limits)
+        return subprocess.run([sys.executable, TOOLS / "mesh_to_capture", *words, path], capture_output=True, timeout=60, preexec_fn=limits)
 
     def refused(self, path, why):
         run = self.converted(path)
@@ -260,7 +255,7 @@ class Meshes(unittest.TestCase):
         folder = pathlib.Path(self.folder.name)
         for path in self.files:
             for words in ([], ["--depth"], ["--smooth", "--by", "depth"]):
-                made = subprocess.run([sys.executable, TRIED / "mesh_to_capture", "--size", "64x48", *words, path], capture_output=True, check=True).stdout
+                made = subprocess.run([sys.executable, TOOLS / "mesh_to_capture", "--size", "64x48", *words, path], capture_output=True, check=True).stdout
                 (folder / "made.json").write_bytes(made)
                 samples = subprocess.run([PROGRAM, "image", folder / "made.json"], capture_output=True, check=True).stdout.partition(b"ENDHDR\n")[2]
                 pixels = [samples[i:i + 3] for i in range(0, len(samples), 4)]

@@ -3,7 +3,7 @@
 
     tools/test_night.py [TEST ..]
 
-FRAMEDBG names another program, BLAME another folder that framedbg-night is taken from.
+FRAMEDBG names another program.
 """
 import base64
 import html
@@ -22,7 +22,7 @@ import xml.etree.ElementTree
 
 import passed_over
 import slurm_testing
-from blame_testing import FOLDER, PROGRAM, blend, box, capture, clear, pam
+from blame_testing import PROGRAM, TOOLS, blend, box, capture, clear, pam
 
 from framedbg_client import read_pam
 
@@ -62,7 +62,7 @@ class Night(unittest.TestCase):
             (self.folder / f"{name}{picture}").write_bytes(data if picture == ".pam" else read_pam(data).png())
 
     def night(self, *words, **how):
-        ran = subprocess.run([sys.executable, FOLDER / "framedbg-night", self.folder, "--program", self.program, *map(str, words)], capture_output=True, text=True,
+        ran = subprocess.run([sys.executable, TOOLS / "framedbg-night", self.folder, "--program", self.program, *map(str, words)], capture_output=True, text=True,
                              env=self.environment, timeout=300, check=False, **how)
         return ran.returncode, ran.stdout.splitlines(), ran.stderr
 
@@ -170,14 +170,14 @@ class Here(Reports, Night):
     def test_words(self):
         for words in (("--processes", "0"), ("--tolerance", "x"), ("--seconds", "-1")):
             self.assertEqual(self.night(*words)[0], 2)
-        ran = subprocess.run([sys.executable, FOLDER / "framedbg-night", self.room / "nowhere"], capture_output=True, text=True, check=False)
+        ran = subprocess.run([sys.executable, TOOLS / "framedbg-night", self.room / "nowhere"], capture_output=True, text=True, check=False)
         self.assertEqual((ran.returncode, ran.stdout, ran.stderr.count("\n")), (2, "", 1))
 
     def test_interrupted(self):
         """What was done until then is kept, and the same command goes on."""
         for number in range(6):
             self.put(f"n{number}", WRONG)
-        words = [sys.executable, FOLDER / "framedbg-night", self.folder, "--program", self.program, "--processes", "1"]
+        words = [sys.executable, TOOLS / "framedbg-night", self.folder, "--program", self.program, "--processes", "1"]
         with subprocess.Popen(words, stdout=subprocess.PIPE, stderr=subprocess.PIPE, start_new_session=True) as run:
             while not (self.folder / "night/glass.json").exists() and run.poll() is None:
                 time.sleep(0.01)
@@ -191,7 +191,7 @@ class Here(Reports, Night):
 
     def test_the_bar(self):
         ours, theirs = pty.openpty()
-        words = [sys.executable, FOLDER / "framedbg-night", self.folder, "--program", self.program]
+        words = [sys.executable, TOOLS / "framedbg-night", self.folder, "--program", self.program]
         with subprocess.Popen(words, stdout=subprocess.PIPE, stderr=theirs) as run:
             os.close(theirs)
             out = run.communicate(timeout=60)[0]
@@ -240,7 +240,7 @@ class OnSlurm(Reports, Night):
     def test_several_arrays(self):
         """More captures than an array may have tasks: here it may have two."""
         words = [sys.executable, "-c", "import sys; sys.path.insert(0, sys.argv.pop(1)); from nights import command_line, night, slurm; slurm.MOST_TASKS = 2; sys.exit(night.run(command_line.words()))",
-                 FOLDER, self.folder, "--slurm", "--program", self.program]
+                 TOOLS, self.folder, "--slurm", "--program", self.program]
         ran = subprocess.run(words, capture_output=True, text=True, env=self.environment, timeout=300, check=False)
         self.assertEqual((ran.returncode, ran.stderr, ran.stdout.splitlines()[0]), (1, "", "3 captures: 1 alike, 2 differ, 0 failed, 0 without a picture; 3 done now"))
 

@@ -32,7 +32,7 @@ from real_frames.placing import placed
 WIDTH, HEIGHT = 40, 30
 FLOAT, SHORT, DOUBLE, UNSIGNED_BYTE = 0x1406, 0x1402, 0x140A, 0x1401
 CHANGED = """{ cat "$9"; echo "$4 $6:" $(cat "${2#--calls=@}"); } > "$8" """       # in the place of `apitrace sed`: a line more of what was exchanged, and in which calls
-TOOL = pathlib.Path(os.environ.get("FRAMES", TOOLS)) / "apitrace_to_capture"
+TOOL = TOOLS / "apitrace_to_capture"
 
 
 class Trace:

@@ -3,8 +3,8 @@
 
     tools/test_page.py [TEST ..]
 
-It makes the page, and wants Chromium and chromedriver; Firefox is tried too where it is installed. FRAMEDBG names another program, VIEWER another
-folder that the viewer and the page are taken from. With another kit than the one it was tried with, a page that can't be made is told and passed over.
+It makes the page, and wants Chromium and chromedriver; Firefox is tried too where it is installed. FRAMEDBG names another program. With another kit
+than the one it was tried with, a page that can't be made is told and passed over.
 """
 import base64
 import json
@@ -17,8 +17,10 @@ import time
 import unittest
 from unittest import mock
 
+import blame_testing
 import browser
 import passed_over
+import test_blame_kinds
 import test_viewer_answers
 import test_viewer_blame
 import test_viewer_maps
@@ -27,8 +29,6 @@ from viewer_testing import DEPTH, EXAMPLES, PROGRAM, TOOLS, capture_of, image, p
 from viewer import image as viewer_image
 from viewer.session import Session
 from page import kit, module, packing, runs
-import blame_testing            # after the wrong version of viewer and page, where one is tried
-import test_blame_kinds
 
 HOUSE, CHAIN = EXAMPLES / "house.json", EXAMPLES / "hunts/chain.json"
 FOLDER = tempfile.TemporaryDirectory()
@@ -372,6 +372,7 @@ class Alone(Opened):
         self.browser.open(saved.as_uri())
         self.at(9)
         self.reads("#capture", "the chain's <1> & \"2\".json")
+        self.comes(lambda: self.browser.run("return document.querySelectorAll('#event-list .event').length"), 9)        # and not those of another capture, at the same place
         again, _ = self.browser.within(SAVED)
         self.assertEqual(again, text)
 
@@ -537,6 +538,22 @@ class Blamed(Opened):
         found, is_wanted = self.found(blame_testing.pam(blame_testing.capture([blame_testing.clear(1, 2, 3, 9)], 2, 2)))
         self.assertEqual((found["differ"], found["changes"][0], is_wanted), (4, {"event": 1, "change": "clear 1 2 3 9 in place of 1 2 3 4", "differ": 0}, True))
 
+    def test_one_pixel(self):
+        """Of a frame that is large enough for a window round it, which is drawn first."""
+        self.show(HOUSE)
+        right = [blame_testing.clear(1, 2, 3, 4)]
+        self.put("pixel.json", blame_testing.capture([*right, blame_testing.box(50, 40, 51, 41, (200, 40, 30, 255))], 120, 90))
+        found, is_wanted = self.found(blame_testing.pam(blame_testing.capture(right, 120, 90)))
+        self.assertEqual((found["differ"], [(one["event"], one["differ"]) for one in found["changes"][:1]], is_wanted), (1, [(2, 0)], True))
+
+    def test_a_clear_below_glass(self):
+        """Its colour stands at no pixel as it is, and has to be worked out through what was blended over it."""
+        self.show(HOUSE)
+        glass = [blame_testing.blend(), blame_testing.box(0, 0, 24, 18, (220, 210, 90, 120))]
+        self.put("glass.json", blame_testing.capture([blame_testing.clear(90, 5, 77, 255), *glass]))
+        found, is_wanted = self.found(blame_testing.pam(blame_testing.capture([blame_testing.clear(10, 20, 30, 255), *glass])))
+        self.assertEqual(([(one["event"], one["change"][:6]) for one in found["changes"][:1]], is_wanted), ([(1, "clear ")], True))
+
     def test_what_hangs_together(self):
         """Cells of four by four pixels that touch, also at a corner, and not round the edge of the target."""
         self.plain()
@@ -565,7 +582,7 @@ class Blamed(Opened):
             self.show_chain(folder)
             for _ in range(2):
                 self.browser.click("#who")
-                self.browser.until(r"return /^Stop looking \(\d+ tried\)$/.test(document.getElementById('who').innerText)", seconds=120)
+                self.browser.until(r"return /^Stop looking \(\d+ tried\)$/.test(document.getElementById('who').innerText)", seconds=2 * browser.PATIENCE)
                 self.browser.click("#who")
                 self.reads("#who", "Who did it?")
                 self.assertTrue(self.browser.run("return document.getElementById('findings').hidden"))
@@ -593,7 +610,7 @@ class BlamedInChromium(Blamed, test_viewer_blame.WhoDidItInChromium):
 
 
 class BlamedInFirefox(Blamed, test_viewer_blame.WhoDidItInFirefox):
-    test_kinds_of_change = test_what_hangs_together = test_a_window = test_a_target_that_comes_in_parts = None
+    test_kinds_of_change = test_one_pixel = test_a_clear_below_glass = test_what_hangs_together = test_a_window = test_a_target_that_comes_in_parts = None
 
 
 # Of the viewer's tests, those that are tried in Firefox too

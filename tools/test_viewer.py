@@ -3,7 +3,7 @@
 
     tools/test_viewer.py [TEST ..]
 
-FRAMEDBG names another program, EXAMPLES another folder of examples, VIEWER another folder that the viewer is taken from.
+FRAMEDBG names another program, EXAMPLES another folder of examples.
 """
 import passed_over
 from test_viewer_answers import *   # noqa: F401, F403

@@ -250,16 +250,17 @@ class Answers(Hands):
             whole = {position: asked(PROGRAM, HOUSE, [f"goto {position}", "show"]).stdout[-few:] for position in range(14)}
             opaque = lambda data: [255 if i % 4 == 3 else v for i, v in enumerate(data)]
             pixels = "return [...document.getElementById('image').getContext('2d').getImageData(0, 0, 96, 64).data]"
+            shows = lambda position: self.browser.run(pixels) == opaque(whole[position])         # how they differ would take minutes to tell
             self.browser.press("Escape")
             for key, position in (("Left", 12), ("Left", 11), ("Left", 10), ("Right", 11), ("Right", 12), ("Home", 0), ("Right", 1), ("Right", 2), ("Right", 3), ("End", 13), ("Left", 12)):
                 self.browser.press(key)
                 self.at(position)
-                self.comes(lambda: self.browser.run(pixels), opaque(whole[position]))
+                self.comes(lambda: shows(position), True)
                 if position == 11:
                     self.browser.press("c")
-                    self.comes(lambda: self.browser.run(pixels) == opaque(whole[11]), False)
+                    self.comes(lambda: shows(11), False)
                     self.browser.press("a")
-                    self.comes(lambda: self.browser.run(pixels), opaque(whole[11]))
+                    self.comes(lambda: shows(11), True)
 
     def test_no_image_holds_another(self):
         """However many were shown: those that are gone can be given back."""
@@ -301,23 +302,24 @@ class Answers(Hands):
             self.open(viewer)
             self.at(13)
             self.browser.run(seen)
+            began = time.monotonic()
             self.browser.press("Escape", "f")                               # at the end: from the start
             self.comes(lambda: self.browser.run("return (window.seen ?? []).join(' ')"), " ".join(map(str, range(14))))
+            each = (time.monotonic() - began) / 14
             self.comes(lambda: self.browser.run("return document.getElementById('play').getAttribute('aria-pressed')"), "false")
             self.browser.press("Home")
             self.at(0)
             self.browser.run(ONCE)                                          # in the page, where no film is over before the key comes
             self.browser.press("f")
             self.browser.until("return window.pressed")
-            stood = self.comes_to_rest()
-            self.assertLess(stood, 13)
+            self.assertLess(self.comes_to_rest(each), 13)
 
-    def comes_to_rest(self):
-        """The position, once it stays for longer than a film's event lasts."""
+    def comes_to_rest(self, each):
+        """The position, once it stays for longer than some of a film's events last, each so many seconds here."""
         read = lambda: int(self.text("#position b"))
         position = read()
         for _ in range(20):
-            time.sleep(0.6)
+            time.sleep(0.6 + 3 * each)
             if read() == position:
                 return position
             position = read()

@@ -11,8 +11,14 @@ from viewer_testing import HOUSE, WINDOW, Viewer, file_of, image
 # Turns the wheel over the picture, at a place of the page
 TURN = """const [x, y, more] = arguments;
 document.getElementById("stage").dispatchEvent(new WheelEvent("wheel", { clientX: x, clientY: y, bubbles: true, cancelable: true, ...more }));"""
-# Presses PNG, and leaves the file that is given to the browser as text
-SAVE = """const [done] = arguments, create = URL.createObjectURL;
+# Presses PNG, and leaves the file that is given to the browser as text. The picture comes when the page has gone on
+SAVE = """const [done] = arguments, create = URL.createObjectURL, { toBlob } = HTMLCanvasElement.prototype;
+HTMLCanvasElement.prototype.toBlob = function (use) {
+  toBlob.call(this, blob => {
+    document.body.dispatchEvent(new KeyboardEvent("keydown", { key: "ArrowLeft", bubbles: true }));
+    new MutationObserver((_, watch) => { watch.disconnect(); use(blob); }).observe(document.getElementById("position"), { childList: true });
+  });
+};
 HTMLAnchorElement.prototype.click = function () { window.saved = this.download; };
 URL.createObjectURL = blob => {
   URL.createObjectURL = create;
@@ -122,6 +128,8 @@ class Looks(Hands):
         self.comes(lambda: round(self.zoom() / zoom, 1), 3.0)
         for there, was in zip(self.place_at(x, y), place):
             self.assertAlmostEqual(there, was, delta=0.5)
+        self.browser.press("Escape", "Left")
+        self.at(3)                                                          # a pick would come before this move
         self.assertTrue(self.browser.run("return document.getElementById('history').hidden"))
 
     # ---- The PNG
@@ -130,10 +138,13 @@ class Looks(Hands):
         """At its place, in the target's pixels, and with the colours that framedbg writes."""
         samples, _ = image(HOUSE)
         self.shows_house()
-        self.browser.press("Escape", "Left", "Right")
+        self.browser.press("Escape", "Left")
+        self.at(12)
+        self.browser.press("Right")
         self.at(13)
         name, text = self.browser.run_to_end(SAVE)
         self.assertEqual(name, "house_13.png")
+        self.at(12)
         with tempfile.TemporaryDirectory() as folder:
             saved = pathlib.Path(folder) / "saved.png"
             saved.write_bytes(base64.b64decode(text))
@@ -146,7 +157,8 @@ class Looks(Hands):
         opaque[3::4] = b"\xff" * (96 * 64)
         drawn = self.browser.run_to_end("const [text, done] = arguments, it = new Image(); it.onload = () => { const c = Object.assign(document.createElement('canvas'), { width: it.width, height: it.height }).getContext('2d');"
                                         "c.drawImage(it, 0, 0); done([...c.getImageData(0, 0, it.width, it.height).data]); }; it.src = `data:image/png;base64,${text}`", text)
-        self.assertEqual(drawn, list(opaque))
+        self.assertEqual([at for at, (one, two) in enumerate(zip(drawn, opaque)) if one != two][:8], [])        # a list of all would be compared for hours
+        self.assertEqual(len(drawn), len(opaque))
 
 
 if __name__ == "__main__":

@@ -24,7 +24,7 @@ from viewer.handover import Handover
 from viewer.session import Ended, Session, Stopped
 
 HOUSE = EXAMPLES / "house.json"
-VIEW = pathlib.Path(os.environ.get("VIEWER", str(TOOLS))) / "view"
+VIEW = TOOLS / "view"
 
 
 class Doors(unittest.TestCase):
@@ -580,7 +580,7 @@ class AddressForTheBrowser(unittest.TestCase):
         browser.write_text(f"#!{sys.executable}\n{script}")
         browser.chmod(0o755)
         environment = {**os.environ, "BROWSER": f"{browser} %s", "TMPDIR": str(folder), "TOLD": str(told)}
-        words = [sys.executable, pathlib.Path(os.environ.get("VIEWER", TOOLS)) / "view", "--program", program_of(HOLDING, folder), HOUSE]
+        words = [sys.executable, VIEW, "--program", program_of(HOLDING, folder), HOUSE]
         run = subprocess.Popen(words, stdout=subprocess.PIPE, stderr=subprocess.PIPE, env=environment, text=True)
         self.addCleanup(self.ended, run, told)
         return run, told

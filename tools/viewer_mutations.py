@@ -1,27 +1,15 @@
 #!/usr/bin/env python3
 """viewer_mutations: wrong versions of the viewer, of explain and of mesh_to_capture, each of which the tests must see.
 
-    tools/viewer_mutations.py [WORD ..]
-    tools/viewer_mutations.py --list       names them, and says which text doesn't stand once in its file, or which test there isn't
-
-Each is a copy of the tools with one text exchanged, and the test that has to fail on it (and to pass on the tools as they are). With words, only
-those whose name has one of them are tried. Those of the page want Chromium.
+Each is a copy of the tools with one text exchanged, and the test that has to fail on it, and to pass on the tools as they are. Those of the page want Chromium.
 """
-import os
-import pathlib
-import shutil
-import subprocess
-import sys
-import tempfile
-
 import browser
-from wrong_versions import exchanged, listed, verdict
+from wrong_versions import Version, try_all
 
-TOOLS = pathlib.Path(__file__).resolve().parent
-PARTS = ("view", "viewer", "blaming", "framedbg-blame", "framedbg_client", "explain", "explaining", "mesh_to_capture", "meshes")
+MISSING = "" if browser.is_installed() else "Chromium and chromedriver aren't installed"
 # By a name's first word: where its file lies, and the tests
-KINDS = {"door": ("viewer", "test_viewer.py"), "server": ("viewer", "test_viewer.py"), "page": ("viewer", "test_viewer.py"), "view": ("", "test_viewer.py"),
-         "blame": ("viewer", "test_viewer.py"), "explain": ("", "test_explain.py"), "mesh": ("", "test_mesh_to_capture.py")}
+KINDS = {"door": ("viewer/", "test_viewer.py"), "server": ("viewer/", "test_viewer.py"), "page": ("viewer/", "test_viewer.py"), "view": ("", "test_viewer.py"),
+         "blame": ("viewer/", "test_viewer.py"), "explain": ("", "test_explain.py"), "mesh": ("", "test_mesh_to_capture.py")}
 MUTATIONS = [   # name, file, text, what stands there instead, test
     ("door: any address", "server.py", '("127.0.0.1", port)', '("", port)', "Doors.test_loopback"),
     ("door: any host", "doors.py", 'if headers.get_all("Host", []) != [host]:', "if False:", "Doors.test_host"),
@@ -169,6 +157,7 @@ MUTATIONS = [   # name, file, text, what stands there instead, test
     ("page: zoom sideways", "page/touch.js", "event.shiftKey || Math.abs(dx) > Math.abs(dy)", "event.shiftKey", "Looks.test_the_wheel"),
     ("page: a PNG of another picture", "page/viewer.js", '$("image").toBlob(', '$("ticks").toBlob(', "Looks.test_the_png_is_the_picture"),
     ("page: a PNG of another place", "page/viewer.js", "_${frame.position}.png", "_${last() - 1}.png", "Looks.test_the_png_is_the_picture"),
+    ("page: a PNG of the place where the page is then", "page/viewer.js", "    link.click();\n", "    link.download = `house_${frame.position}.png`;\n    link.click();\n", "Looks.test_the_png_is_the_picture"),
     ("page: wide columns", "page/viewer.css", "var(--right, clamp(300px, 31vw, 520px))", "var(--right, clamp(300px, 41vw, 520px))", "Looks.test_on_a_small_screen"),
     ("page: columns on a phone", "page/viewer.css", "main { display: flex; flex-direction: column; }", "", "Looks.test_on_a_small_screen"),
     ("page: a head that runs out", "page/viewer.css", "header { flex-wrap: wrap; position: sticky;", "header { position: sticky;", "Looks.test_on_a_small_screen"),
@@ -242,40 +231,11 @@ MUTATIONS = [   # name, file, text, what stands there instead, test
 ]
 
 
-def seen(mutation):
-    """Whether the test fails on the wrong version."""
-    name, file, old, new, test = mutation
-    with tempfile.TemporaryDirectory() as folder:
-        for part in PARTS:
-            copy = shutil.copytree if (TOOLS / part).is_dir() else shutil.copy
-            copy(TOOLS / part, pathlib.Path(folder) / part)
-        below, tests = KINDS[name.partition(":")[0]]
-        path = pathlib.Path(folder) / below / file
-        path.write_text(exchanged(path.read_text(), old, new))
-        run = subprocess.run([sys.executable, TOOLS / tests, "-f", test], env={**os.environ, "VIEWER": folder, "PATIENCE": "10"}, capture_output=True, text=True)
-        return verdict(run)
-
-
-def list_them():
-    """Each with what is wrong with it, if anything is."""
-    kinds = {name: KINDS[name.partition(":")[0]] for name, *_ in MUTATIONS}
-    sys.exit(listed("viewer_mutations", [(name, TOOLS / kinds[name][0] / file, old, kinds[name][1], test) for name, file, old, _, test in MUTATIONS]))
-
-
-def main():
-    if sys.argv[1:] == ["--list"]:
-        list_them()
-    wanted = [m for m in MUTATIONS if not sys.argv[1:] or any(word in m[0] for word in sys.argv[1:])]
-    missed = 0
-    for mutation in wanted:
-        if mutation[0].startswith("page") and not browser.is_installed():
-            print(f"{mutation[0]}: not tried, Chromium and chromedriver aren't installed")
-            continue
-        found = seen(mutation)
-        missed += found not in ("seen", "skipped")
-        print(f"{mutation[0]}: {found}", flush=True)
-    sys.exit(f"{missed} wrong versions were missed" if missed else 0)
+def version(name, file, old, new, test):
+    kind = name.partition(":")[0]
+    folder, tests = KINDS[kind]
+    return Version(name, f"tools/{folder}{file}", old, new, tests, test, MISSING if kind == "page" else "")
 
 
 if __name__ == "__main__":
-    main()
+    try_all(__doc__, [version(*mutation) for mutation in MUTATIONS], {"PATIENCE": "10"})

@@ -5,17 +5,14 @@ import os
 import pathlib
 import struct
 import subprocess
-import sys
 import threading
 import zlib
 
+from viewer.capture import Capture
+from viewer.server import Server
+from viewer.session import Session
+
 TOOLS = pathlib.Path(__file__).resolve().parent
-sys.path.insert(0, os.environ.get("VIEWER", str(TOOLS)))        # a wrong version of the viewer, where one is tried
-
-from viewer.capture import Capture   # noqa: E402
-from viewer.server import Server     # noqa: E402
-from viewer.session import Session   # noqa: E402
-
 PROGRAM = os.path.abspath(os.environ.get("FRAMEDBG", TOOLS.parent / "crates/framedbg/out/framedbg"))
 EXAMPLES = pathlib.Path(os.environ.get("EXAMPLES", TOOLS.parent / "examples")).resolve()
 HOUSE = EXAMPLES / "house.json"

@@ -210,10 +210,10 @@ async function copy(text, what) {
 
 // What is shown, in the pixels of its part of the target
 function savePng() {
+  const link = document.createElement("a");
+  link.download = `${$("capture").textContent.replace(/\.json$/i, "")}_${frame.position}.png`;      // of the picture, which comes when the page may have gone on
   $("image").toBlob(blob => {
-    const link = document.createElement("a");
     link.href = URL.createObjectURL(blob);
-    link.download = `${$("capture").textContent.replace(/\.json$/i, "")}_${frame.position}.png`;
     link.click();
     setTimeout(() => URL.revokeObjectURL(link.href), 60_000);
   });
