@@ -2,6 +2,7 @@
 import base64
 import json
 import os
+import pathlib
 import shutil
 import socket
 import subprocess
@@ -30,21 +31,35 @@ def is_installed():
     return shutil.which("chromedriver") is not None and shutil.which("chromium") is not None
 
 
-def free_port():
-    with socket.socket() as probe:
-        probe.bind(("127.0.0.1", 0))
-        return probe.getsockname()[1]
-
-
 class Browser:
+    TRIES = 4       # a driver finds its port taken, or a busy machine is late
+
     def __init__(self, width=1440, height=960):
-        self.driver = subprocess.Popen(["chromedriver", "--port=0"], stdout=subprocess.PIPE, stderr=subprocess.DEVNULL, text=True)
-        port = next((line.strip(". \n").rpartition(" ")[2] for line in self.driver.stdout if "started successfully" in line), None)     # its own, whoever starts one meanwhile
+        for left in reversed(range(self.TRIES)):
+            try:
+                return self.begin(width, height)
+            except (AssertionError, OSError):
+                self.stop()
+                if not left:
+                    raise
+
+    def begin(self, width, height):
+        self.driver = subprocess.Popen(["chromedriver", "--port=0"], stdout=subprocess.PIPE, stderr=subprocess.STDOUT, text=True)
+        said = []
+        while not said or "started successfully" not in said[-1]:
+            said.append(self.driver.stdout.readline())
+            if not said[-1]:
+                raise AssertionError(f"chromedriver ended: {''.join(said)}")
+        port = said[-1].strip(". \n").rpartition(" ")[2]      # its own, whoever starts one meanwhile
         self.address = f"http://127.0.0.1:{port}/session"
         words = ["--headless=new", "--disable-gpu", "--hide-scrollbars", f"--window-size={width},{height}"]
         options = {"binary": shutil.which("chromium"), "args": words + ["--no-sandbox"] * (os.geteuid() == 0)}
         capabilities = {"capabilities": {"alwaysMatch": {"goog:chromeOptions": options, "goog:loggingPrefs": {"browser": "ALL"}}}}
         self.address += "/" + self.call("", capabilities)["sessionId"]
+
+    def stop(self):
+        self.driver.terminate()
+        self.driver.communicate()
 
     def call(self, path, body=None, method=None):
         data = None if body is None else json.dumps(body).encode()
@@ -126,8 +141,7 @@ class Browser:
         try:
             self.call("", method="DELETE")
         finally:
-            self.driver.terminate()
-            self.driver.communicate()
+            self.stop()
 
 
 class Firefox(Browser):
@@ -135,21 +149,30 @@ class Firefox(Browser):
     COMMANDS = {"/url": "Navigate", "/refresh": "Refresh", "/execute/sync": "ExecuteScript", "/execute/async": "ExecuteAsyncScript", "/actions": "PerformActions",
                 "/element": "FindElement", "/screenshot": "TakeScreenshot", "/window/rect": "SetWindowRect"}
 
-    def __init__(self, width=1440, height=960):
-        self.profile, port = tempfile.TemporaryDirectory(ignore_cleanup_errors=True), free_port()
+    def begin(self, width, height):
+        self.profile = tempfile.TemporaryDirectory(ignore_cleanup_errors=True)
         with open(f"{self.profile.name}/user.js", "w") as settings:
-            settings.write(f'user_pref("marionette.port", {port});\n')
+            settings.write('user_pref("marionette.port", 0);\n')
         words = [self.installed(), "--headless", "--marionette", "--no-remote", "--profile", self.profile.name]
         self.driver = subprocess.Popen(words, stdout=subprocess.DEVNULL, stderr=subprocess.DEVNULL, env={**os.environ, "MOZ_HEADLESS_WIDTH": str(width), "MOZ_HEADLESS_HEIGHT": str(height)})
-        for _ in range(300):
-            try:
-                self.line = socket.create_connection(("127.0.0.1", port), 60)
-                break
-            except ConnectionError:
-                time.sleep(0.1)
+        self.line = socket.create_connection(("127.0.0.1", self.port()), 60)
         self.stream = self.line.makefile("rwb")
         self.told()
         self.ask("NewSession", {"capabilities": {"alwaysMatch": {}}})
+
+    def port(self):
+        """The port that the browser has taken, as soon as it says so."""
+        said, end = pathlib.Path(self.profile.name, "MarionetteActivePort"), time.time() + 60
+        while time.time() < end and self.driver.poll() is None:
+            if said.exists() and said.read_text():
+                return int(said.read_text())
+            time.sleep(0.05)
+        raise AssertionError("Firefox doesn't start")
+
+    def stop(self):
+        self.driver.terminate()
+        self.driver.wait()
+        self.profile.cleanup()
 
     @staticmethod
     def installed():
@@ -180,6 +203,4 @@ class Firefox(Browser):
 
     def close(self):
         self.line.close()
-        self.driver.terminate()
-        self.driver.wait()
-        self.profile.cleanup()
+        self.stop()

@@ -6,9 +6,9 @@ Each is a copy of a tool with one text exchanged, and the test that has to fail 
 from wrong_versions import Version, try_all
 
 NOTE, RUN, PREPARE, GATE, PROSE, SENTENCES = "passed_over.py", "run_tests", "prepare_machine", "check_gate", "prose.py", "check_sentences"
-LOOP, COPIES = "wrong_versions.py", "wrong_copies.py"
+LOOP, COPIES, BROWSER = "wrong_versions.py", "wrong_copies.py", "browser.py"
 TESTS = {NOTE: "test_passed_over.py", RUN: "test_run_tests.py", PREPARE: "test_prepare_machine.py", GATE: "test_check_gate.py", PROSE: "test_check_sentences.py",
-         SENTENCES: "test_check_sentences.py", LOOP: "test_wrong_versions.py", COPIES: "test_wrong_versions.py"}
+         SENTENCES: "test_check_sentences.py", LOOP: "test_wrong_versions.py", COPIES: "test_wrong_versions.py", BROWSER: "test_browser.py"}
 MUTATIONS = [   # name, tool, text, what stands there instead, test
     ("noted: with CI=true it goes on", NOTE, '        sys.exit(f"passed over, which', '        print(f"passed over, which', "PassedOver.test_it_fails_where_nobody_looks"),
     ("noted: any CI is a gate", NOTE, 'os.environ.get("CI") == "true"', '"CI" in os.environ', "PassedOver.test_it_fails_where_nobody_looks"),
@@ -45,7 +45,7 @@ MUTATIONS = [   # name, tool, text, what stands there instead, test
     ("sentences: a long page is no fault", SENTENCES, "sys.exit(bool(failed))", "sys.exit(0)", "Pages.test_the_mean"),
     ("sentences: a page that isn't there ends it badly", SENTENCES, "except (OSError, UnicodeDecodeError)", "except UnicodeDecodeError", "Pages.test_a_page_that_is_not_there"),
     ("versions: a broken run is seen", COPIES, 'if status == 0 else "BROKEN"', 'if status == 0 else "seen"', "Lists.test_what_breaks_off_is_not_seen"),
-    ("versions: a class that can't begin is seen", COPIES, ' and not re.search(r"^ERROR: setUp(Class|Module) ", said, re.M)', "", "Lists.test_what_breaks_off_is_not_seen"),
+    ("versions: a class that can't begin is seen", COPIES, " and not has_not_begun(said)", "", "Lists.test_what_breaks_off_is_not_seen"),
     ("versions: nobody knows what broke", LOOP, "{said if found == 'BROKEN' else ''}", "", "Lists.test_what_breaks_off_is_not_seen"),
     ("versions: without an end", COPIES, "ran.wait(SECONDS)", "ran.wait()", "Lists.test_what_takes_too_long_is_not_seen"),
     ("versions: what has no end is missed", COPIES, "            status = None", "            status = 0", "Lists.test_what_takes_too_long_is_not_seen"),
@@ -80,6 +80,11 @@ MUTATIONS = [   # name, tool, text, what stands there instead, test
     ("versions: runs go on when it is interrupted", LOOP, "                wrong_copies.end_all()\n", "", "Lists.test_interrupted"),
     ("versions: all are tried before one that fails as it is", LOOP, "(found, said) in zip(classes, pool.map(lambda one: wrong_copies.tried(one[0][0], one[1], {}), classes.items())):",
      "(found, said) in zip(classes, list(pool.map(lambda one: wrong_copies.tried(one[0][0], one[1], {}), classes.items()))):", "Lists.test_what_fails_as_it_is"),
+    ("versions: what begins late is not tried", COPIES, "        if has_not_begun(said):", "        if False:", "Lists.test_what_cannot_begin_is_tried_once_more"),
+    ("browser: one try", BROWSER, "    TRIES = 4", "    TRIES = 1", "Starts.test_chromium"),
+    ("browser: one try of Firefox", BROWSER, "except (AssertionError, OSError):\n                self", "except (AssertionError, OSError):\n                left *= type(self) is Browser\n                self", "Starts.test_firefox"),
+    ("browser: tries without end", BROWSER, "                if not left:", "                if left:", "Starts.test_none_starts"),
+    ("browser: nobody knows why", BROWSER, "stdout=subprocess.PIPE, stderr=subprocess.STDOUT", "stdout=subprocess.PIPE, stderr=subprocess.DEVNULL", "Starts.test_none_starts"),
     ("prepared: half installed is there", PREPARE, "s/ installed$//p", "s/ .*$//p", "PreparesMachine.test_half_installed_is_missing"),
     ("prepared: by anybody", PREPARE, '"$(id -u)" != 0', '"$(id -u)" = -', "PreparesMachine.test_nothing_is_installed_unasked"),
     ("prepared: for ever", PREPARE, 'timeout --kill-after=10 "$seconds" apt-get', "apt-get", "PreparesMachine.test_it_does_not_hang"),

@@ -78,6 +78,17 @@ class Set(unittest.TestCase):
     def test_set(self):
         self.assertEqual(tool.TWO, 2)
 
+class Late(unittest.TestCase):
+    @classmethod
+    def setUpClass(cls):
+        room = pathlib.Path(os.environ["ROOM"])
+        if tool.ONE != 1 and not (room / "late").exists():
+            (room / "late").touch()
+            raise OSError("late")
+
+    def test_late(self):
+        self.assertEqual(tool.ONE, 1)
+
 if __name__ == "__main__":
     passed_over.run_tests("test_tool")
 """
@@ -115,7 +126,8 @@ class Lists(unittest.TestCase):
         """A list of these lines."""
         (self.tools / "tool_mutations.py").write_text(LIST.format(lines="".join(f"{line!r}, " for line in lines)))
         environment = {name: value for name, value in os.environ.items() if name != "CI"} | ({"CI": ci} if ci else {}) | more
-        return subprocess.Popen([sys.executable, self.tools / "tool_mutations.py", *words], env=environment, stdout=subprocess.PIPE, stderr=subprocess.PIPE, text=True)
+        return subprocess.Popen([sys.executable, self.tools / "tool_mutations.py", *words], env=environment, stdout=subprocess.PIPE, stderr=subprocess.PIPE, text=True,
+                                preexec_fn=lambda: signal.signal(signal.SIGINT, signal.SIG_DFL))       # whoever runs the tests may ignore it
 
     def ran(self, *lines, **how):
         """Its status, what it says (but for its minutes), and its errors."""
@@ -141,6 +153,11 @@ class Lists(unittest.TestCase):
             status, said, errors = self.ran(line, TWO)
             self.assertEqual((status, said[0], said[-2:], errors), (1, f"{line[0]}: BROKEN", ["two: seen", self.end(1, 2)], f"tool_mutations: not seen: {line[0]}\n"))
             self.assertIn(why, "\n".join(said))
+
+    def test_what_cannot_begin_is_tried_once_more(self):
+        with tempfile.TemporaryDirectory() as room:
+            self.assertEqual(self.ran((*ONE[:3], "Late.test_late"), ROOM=room)[:2], (0, ["one: seen", self.end(1, 1)]))
+            self.assertEqual(os.listdir(room), ["late"])
 
     def test_what_takes_too_long_is_not_seen(self):
         file = self.tools / "wrong_copies.py"

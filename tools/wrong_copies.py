@@ -48,9 +48,14 @@ def copy():
         yield room
 
 
+def has_not_begun(said):
+    """Whether a class of tests couldn't begin, as one whose browser didn't start."""
+    return re.search(r"^ERROR: setUp(Class|Module) ", said, re.M)
+
+
 def verdict(status, said):
     """What a run of tests says of a wrong version: a test has to fail, and not only to break off, or not to begin."""
-    if re.search(r"^FAILED \(", said, re.M) and not re.search(r"^ERROR: setUp(Class|Module) ", said, re.M):
+    if re.search(r"^FAILED \(", said, re.M) and not has_not_begun(said):
         return "seen"
     return "skipped" if "skipped=" in said else "MISSED" if status == 0 else "BROKEN"
 
@@ -84,9 +89,12 @@ def run(words, more):
 
 
 def tried(file, tests, more, change=None):
-    """The verdict of tests of a file of tools/, and what they said, in a copy where the text of a file may be another one."""
+    """The verdict of tests of a file of tools/, and what they said, in a copy where the text of a file may be another one. Those that can't begin are tried once more."""
     with copy() as room:
         if change:
             exchange(room / change[0], change[1])
-        status, said = run([sys.executable, room / "tools" / file, "-f", *tests], more)
+        words = [sys.executable, room / "tools" / file, "-f", *tests]
+        status, said = run(words, more)
+        if has_not_begun(said):
+            status, said = run(words, more)
     return verdict(status, said), said
