@@ -1,9 +1,11 @@
 -- One source over many destinations.
-use Rattle.std.proofs.Common.{◌≡◌, ◌+◌, ℕ, zero, suc, ◌<◌, ◌≤◌, ◌*◌, ◌/◌, Bool, true, false, not, ◌&&◌, ◌==◌, if◌then◌else◌, List, [], ◌∷◌, length, get_or, set, map, replicate, refl, sym, ap, ◌∙◌, arith}
+use Rattle.std.proofs.Common.{◌≡◌, ◌+◌, ℕ, zero, suc, ◌<◌, ◌≤◌, ◌*◌, ◌/◌, Bool, true, false, not, ◌&&◌, ◌==◌, if◌then◌else◌, List, [], ◌∷◌, length}
+use Rattle.std.proofs.Common.{get_or, set, map, replicate, refl, sym, ap, ◌∙◌, arith}
 use Rattle.fd_blend.specs.declared.channel.Colour.{Colour}
 use Rattle.fd_blend.specs.declared.channel.Channel.{Channel}
 use Rattle.fd_blend.specs.declared.equation.Factor.{Factor}
-use Rattle.fd_blend.specs.declared.equation.Factor.TheVariants.{Zero, One, SrcColor, InvSrcColor, SrcAlpha, InvSrcAlpha, DestAlpha, InvDestAlpha, DestColor, InvDestColor, BlendFactor, InvBlendFactor}
+use Rattle.fd_blend.specs.declared.equation.Factor.TheVariants.{Zero, One, SrcColor, InvSrcColor, SrcAlpha, InvSrcAlpha, DestAlpha, InvDestAlpha}
+use Rattle.fd_blend.specs.declared.equation.Factor.TheVariants.{DestColor, InvDestColor, BlendFactor, InvBlendFactor}
 use Rattle.fd_blend.specs.declared.equation.Part.{Part}
 use Rattle.fd_blend.specs.Blend.{blend, replaces}
 use Rattle.fd_blend.specs.Blending.{Blending}
@@ -18,7 +20,8 @@ use Rattle.fd_blend.proofs.RowLemmas.{blend_replaced}
 
 -- ---- factors that do not come from the destination
 
-pub same_value : (f : Factor) (channel : Channel) (factor s d e : Colour) → looks_at_destination f ≡ false → factor_value f channel factor s d ≡ factor_value f channel factor s e
+pub same_value : (f : Factor) (channel : Channel) (factor s d e : Colour) → looks_at_destination f ≡ false → factor_value f channel factor s d
+    ≡ factor_value f channel factor s e
 same_value Zero channel factor s d e h = refl
 same_value One channel factor s d e h = refl
 same_value SrcColor channel factor s d e h = refl
@@ -60,12 +63,16 @@ known_adds part h =
 
 -- a lane of a channel, its factors as they are over the destination that is seen
 pub added_by : (w : Bool) (part : Part) (channel : Channel) (factor s d e : Colour) → adds_unseen part ≡ true
-    → (if bit w == 0 then channel_of channel d else (units Add (channel_of channel s * factor_value part.src channel factor s e) (channel_of channel d * factor_value part.dst channel factor s e) + 127) / 255)
+    → (if bit w == 0 then channel_of channel d
+    else (units Add (channel_of channel s * factor_value part.src channel factor s e) (channel_of channel d * factor_value part.dst channel factor s e)
+    + 127) / 255)
     ≡ (if w then weighted_channel part channel factor s d else channel_of channel d)
 added_by w part channel factor s d e h =
     let known = known_adds part h in
-    channel_by w Add (channel_of channel s) (channel_of channel d) (same_value part.src channel factor s e d known.src) (same_value part.dst channel factor s e d known.dst)
-    ∙ ap (λ op. if w then (units op (channel_of channel s * factor_value part.src channel factor s d) (channel_of channel d * factor_value part.dst channel factor s d) + 127) / 255 else channel_of channel d) (sym known.adds)
+    channel_by w Add (channel_of channel s) (channel_of channel d) (same_value part.src channel factor s e d known.src)
+    (same_value part.dst channel factor s e d known.dst)
+    ∙ ap (λ op. if w then (units op (channel_of channel s * factor_value part.src channel factor s d)
+    (channel_of channel d * factor_value part.dst channel factor s d) + 127) / 255 else channel_of channel d) (sym known.adds)
 
 -- ---- the loop over a row
 
@@ -93,7 +100,8 @@ not_yet_changed f (suc n) k [] e h = refl
 not_yet_changed f (suc n) zero (c ∷ row) e h = absurd (omega arith)
 not_yet_changed f (suc n) (suc k) (c ∷ row) e h = not_yet_changed f n k row e (omega arith)
 
-pub one_more : (f : Colour → Colour) (n : ℕ) (row : List Colour) (e : Colour) → n < length row → set (changed_upto f n row) n (f (get_or row n e)) ≡ changed_upto f (suc n) row
+pub one_more : (f : Colour → Colour) (n : ℕ) (row : List Colour) (e : Colour) → n < length row → set (changed_upto f n row) n (f (get_or row n e))
+    ≡ changed_upto f (suc n) row
 unfolding changed_upto
 one_more f n [] e h = absurd (omega arith)
 one_more f zero (c ∷ row) e h = refl
@@ -107,6 +115,7 @@ two_more f n m row e e' h is =
     rw (next, last, one_more f n row e (omega arith)) (one_more f (suc n) row e' (omega arith))
 
 -- a source that takes the destination's place
-pub all_replaced : (state : Blending) (factor s : Colour) (row : List Colour) → replaces state ≡ true → replicate (length row) s ≡ map (blend state factor s) row
+pub all_replaced : (state : Blending) (factor s : Colour) (row : List Colour) → replaces state ≡ true → replicate (length row) s
+    ≡ map (blend state factor s) row
 all_replaced state factor s [] h = refl
 all_replaced state factor s (c ∷ row) h = (λ i. sym (blend_replaced state factor s c h) i ∷ all_replaced state factor s row h i)

@@ -4,7 +4,8 @@ use Rattle.std.specs.Prelude.{ℕ, ◌-◌, ◌*◌, min, max, Bool, true, false
 use Rattle.fd_blend.specs.declared.channel.Colour.{Colour}
 use Rattle.fd_blend.specs.declared.channel.Channel.{Channel}
 use Rattle.fd_blend.specs.declared.equation.Factor.{Factor}
-use Rattle.fd_blend.specs.declared.equation.Factor.TheVariants.{Zero, One, SrcColor, InvSrcColor, SrcAlpha, InvSrcAlpha, DestAlpha, InvDestAlpha, DestColor, InvDestColor, BlendFactor, InvBlendFactor}
+use Rattle.fd_blend.specs.declared.equation.Factor.TheVariants.{Zero, One, SrcColor, InvSrcColor, SrcAlpha, InvSrcAlpha, DestAlpha, InvDestAlpha}
+use Rattle.fd_blend.specs.declared.equation.Factor.TheVariants.{DestColor, InvDestColor, BlendFactor, InvBlendFactor}
 use Rattle.fd_blend.specs.declared.equation.BlendOp.{BlendOp}
 use Rattle.fd_blend.specs.declared.equation.BlendOp.TheVariants.{Add, Subtract, RevSubtract, Min, Max}
 use Rattle.fd_blend.specs.declared.equation.Part.{Part}
@@ -64,4 +65,5 @@ combined Max src dst src_factor dst_factor = max src dst
 -- a channel after its equation
 abbrev pub blended : Part → Channel → Colour → Colour → Colour → ℕ
 blended part channel factor src dst =
-    combined part.op (channel_of channel src) (channel_of channel dst) (factor_value part.src channel factor src dst) (factor_value part.dst channel factor src dst)
+    combined part.op (channel_of channel src) (channel_of channel dst) (factor_value part.src channel factor src dst)
+    (factor_value part.dst channel factor src dst)

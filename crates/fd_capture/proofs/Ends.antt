@@ -11,6 +11,7 @@ is_over old new None yields none = yields.0
 is_over old new (Some t) yields none = absurd (cc)
 
 -- one is
-pub goes_on : (old new : List spec.Token) (next : Option Token) → Yields old next new → is_some next ≡ true → (t : spec.Token) × (ts : List spec.Token) × (old ≡ t ∷ ts)
+pub goes_on : (old new : List spec.Token) (next : Option Token) → Yields old next new → is_some next ≡ true → (t : spec.Token) × (ts : List spec.Token)
+    × (old ≡ t ∷ ts)
 goes_on old new None yields some = absurd (cc)
 goes_on old new (Some t) yields some = (token_of t, new, yields)

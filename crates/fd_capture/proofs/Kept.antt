@@ -3,13 +3,15 @@ use Rattle.std.proofs.Common.{◌≡◌, ℕ, List, Option, Some, None, true, co
 use Rattle.serde_json.specs.Data.{Data, object, Members}
 use Rattle.serde_json.specs.Find.{get_member, as_bool, as_str, as_i64}
 use Rattle.fd_json.specs.Clipped.{clipped}
-use Rattle.fd_capture.specs.Field.{between, number_between, colour_of_data, rect_of_data, part_of_data, vertices_member, indices_member, indices_of, array_of, all_of, vertex_of, unsigned_32}
+use Rattle.fd_capture.specs.Field.{between, number_between, colour_of_data, rect_of_data, part_of_data, vertices_member, indices_member, indices_of}
+use Rattle.fd_capture.specs.Field.{array_of, all_of, vertex_of, unsigned_32}
 use Rattle.fd_capture.specs.Kind.{clear_event, raster_event, scissor_event, blend_event, factor_of, draw_event, marker_event, depth_event, depth_clear_event}
 use Rattle.fd_capture.specs.Fault.{◌>>=◌}
 use Rattle.fd_capture.specs.declared.fault.EventFault.TheVariants.{BadField}
 use Rattle.fd_capture.specs.Capture.{event_of, event_of_kind}
 use Rattle.std.specs.Prelude.{ok_or}
-use Rattle.fd_capture.specs.Streamed.{is_small, Clips, vertices_of, indices_of_array, listed_indices, well_formed, draw_from, event_of_kind_from, event_from, then_event}
+use Rattle.fd_capture.specs.Streamed.{is_small, Clips, vertices_of, indices_of_array, listed_indices, well_formed, draw_from, event_of_kind_from}
+use Rattle.fd_capture.specs.Streamed.{event_from, then_event}
 use Rattle.fd_capture.proofs.Outer.{number-clipped, text-clipped, flag-clipped, colour-clipped, rect-clipped, part-clipped}
 
 pub number_between-clipped : (low high : ℕ) (d : Data) → number_between low high (clipped d) ≡ number_between low high d
@@ -17,7 +19,8 @@ number_between-clipped low high d = ap (λ n. option_and_then (between low high)
 
 module _ (kept found : Members) (clips : Clips kept found) where
   -- a member that is looked at no deeper than the clip
-  pub member-kept : {X : Type 0} (f : Data → Option X) → ((d : Data) → f (clipped d) ≡ f d) → (name : List ℕ) → is_small name ≡ true → option_and_then f (get_member name kept) ≡ option_and_then f (get_member name found)
+  pub member-kept : {X : Type 0} (f : Data → Option X) → ((d : Data) → f (clipped d) ≡ f d) → (name : List ℕ) → is_small name ≡ true
+      → option_and_then f (get_member name kept) ≡ option_and_then f (get_member name found)
   member-kept f same name small = ap (option_and_then f) (clips name small) ∙ inner (get_member name found) where
     inner : (o : Option Data) → option_and_then f (option_map clipped o) ≡ option_and_then f o
     inner None = refl
@@ -36,7 +39,12 @@ module _ (kept found : Members) (clips : Clips kept found) where
   scissor-kept = rw (member-kept rect_of_data rect-clipped (codes "rect") refl) refl
 
   pub raster-kept : raster_event (object kept) ≡ raster_event (object found)
-  raster-kept = rw (member-kept as_str text-clipped (codes "cull") refl, member-kept as_bool flag-clipped (codes "front_ccw") refl, member-kept as_bool flag-clipped (codes "scissor") refl) refl
+  raster-kept = rw (
+    member-kept as_str text-clipped (codes "cull") refl,
+    member-kept as_bool flag-clipped (codes "front_ccw") refl,
+    member-kept as_bool
+        flag-clipped (codes "scissor") refl,
+  ) refl
 
   pub blend-kept : blend_event (object kept) ≡ blend_event (object found)
   blend-kept =
@@ -48,7 +56,12 @@ module _ (kept found : Members) (clips : Clips kept found) where
       ) refl
 
   pub depth-kept : depth_event (object kept) ≡ depth_event (object found)
-  depth-kept = rw (member-kept as_bool flag-clipped (codes "enable") refl, member-kept as_bool flag-clipped (codes "write") refl, member-kept as_str text-clipped (codes "func") refl) refl
+  depth-kept = rw (
+    member-kept as_bool flag-clipped (codes "enable") refl,
+    member-kept as_bool flag-clipped (codes "write") refl,
+    member-kept as_str
+        text-clipped (codes "func") refl,
+  ) refl
 
   pub depth_clear-kept : depth_clear_event (object kept) ≡ depth_clear_event (object found)
   depth_clear-kept = rw (member-kept (number_between 0 65535) (number_between-clipped 0 65535) (codes "depth") refl) refl
@@ -57,18 +70,21 @@ module _ (kept found : Members) (clips : Clips kept found) where
   marker-kept = rw (member-kept as_str text-clipped (codes "name") refl) refl
 
 -- the vertices and the indices of a draw, from what was read of them
-vertices_from : (version : ℕ) (o : Option Data) → well_formed (option_map (vertices_of version) o) ≡ option_and_then (all_of (vertex_of version)) (option_and_then array_of o)
+vertices_from : (version : ℕ) (o : Option Data) → well_formed (option_map (vertices_of version) o) ≡ option_and_then (all_of (vertex_of version))
+    (option_and_then array_of o)
 vertices_from version None = refl
 vertices_from version (Some d) = refl
 
-pub vertices-found : (version : ℕ) (found : Members) → well_formed (option_map (vertices_of version) (get_member (codes "vertices") found)) ≡ vertices_member version "vertices" (object found)
+pub vertices-found : (version : ℕ) (found : Members) → well_formed (option_map (vertices_of version) (get_member (codes "vertices") found))
+    ≡ vertices_member version "vertices" (object found)
 vertices-found version found = vertices_from version (get_member (codes "vertices") found)
 
 some_list : (o : Option (List ℕ)) → listed_indices (Some o) ≡ option_and_then (λ (is : List ℕ). Some (Some is)) o
 some_list None = refl
 some_list (Some is) = refl
 
-joined : (o : Option (List Data)) → option_and_then (λ (is : List ℕ). Some (Some is)) (option_and_then (all_of unsigned_32) o) ≡ option_and_then (λ (ds : List Data). option_and_then (λ (is : List ℕ). Some (Some is)) (all_of unsigned_32 ds)) o
+joined : (o : Option (List Data)) → option_and_then (λ (is : List ℕ). Some (Some is)) (option_and_then (all_of unsigned_32) o)
+    ≡ option_and_then (λ (ds : List Data). option_and_then (λ (is : List ℕ). Some (Some is)) (all_of unsigned_32 ds)) o
 joined None = refl
 joined (Some ds) = refl
 
@@ -76,21 +92,40 @@ indices_from : (o : Option Data) → listed_indices (option_map indices_of_array
 indices_from None = refl
 indices_from (Some d) = some_list (indices_of_array d) ∙ joined (array_of d)
 
-pub indices-found : (found : Members) → listed_indices (option_map indices_of_array (get_member (codes "indices") found)) ≡ indices_member "indices" (object found)
+pub indices-found : (found : Members) → listed_indices (option_map indices_of_array (get_member (codes "indices") found))
+    ≡ indices_member "indices" (object found)
 indices-found found = indices_from (get_member (codes "indices") found)
 
 module _ (version : ℕ) (kept found : Members) (clips : Clips kept found) where
-  draw-kept : draw_from (object kept) (option_map (vertices_of version) (get_member (codes "vertices") found)) (option_map indices_of_array (get_member (codes "indices") found)) ≡ draw_event version (object found)
+  draw-kept : draw_from (object kept) (option_map (vertices_of version) (get_member (codes "vertices") found))
+      (option_map indices_of_array (get_member (codes "indices") found)) ≡ draw_event version (object found)
   draw-kept = rw (member-kept kept found clips as_str text-clipped (codes "interp") refl, vertices-found version found, indices-found found) refl
 
-  kinds-kept : (kind : List ℕ) → event_of_kind_from version kind (object kept) (option_map (vertices_of version) (get_member (codes "vertices") found)) (option_map indices_of_array (get_member (codes "indices") found)) ≡ event_of_kind version kind (object found)
+  kinds-kept : (kind : List ℕ) → event_of_kind_from version kind (object kept) (option_map (vertices_of version) (get_member (codes "vertices") found))
+      (option_map indices_of_array (get_member (codes "indices") found)) ≡ event_of_kind version kind (object found)
   kinds-kept kind =
-      rw (clear-kept kept found clips, raster-kept kept found clips, scissor-kept kept found clips, blend-kept kept found clips, factor-kept kept found clips, draw-kept, marker-kept kept found clips, depth-kept kept found clips, depth_clear-kept kept found clips) refl
+      rw (
+        clear-kept kept found clips,
+        raster-kept kept found clips,
+        scissor-kept kept found clips,
+        blend-kept kept found clips,
+        factor-kept kept found clips,
+        draw-kept,
+        marker-kept kept found clips,
+        depth-kept kept found clips,
+        depth_clear-kept kept found clips,
+      ) refl
 
-  pub event-kept : event_from version (object kept) (option_map (vertices_of version) (get_member (codes "vertices") found)) (option_map indices_of_array (get_member (codes "indices") found)) ≡ event_of version (object found)
-  event-kept = ap (λ o. then_event (ok_or o BadField) (λ (kind : List ℕ). event_of_kind_from version kind (object kept) (option_map (vertices_of version) (get_member (codes "vertices") found)) (option_map indices_of_array (get_member (codes "indices") found)))) (kind-kept kept found clips) ∙ by_kind (option_and_then as_str (get_member (codes "kind") found)) where
-    by_kind : (o : Option (List ℕ))
-        → then_event (ok_or o BadField) (λ (kind : List ℕ). event_of_kind_from version kind (object kept) (option_map (vertices_of version) (get_member (codes "vertices") found)) (option_map indices_of_array (get_member (codes "indices") found)))
-        ≡ ok_or o BadField >>= (λ (kind : List ℕ). event_of_kind version kind (object found))
-    by_kind None = refl
-    by_kind (Some kind) = kinds-kept kind
+  pub event-kept : event_from version (object kept) (option_map (vertices_of version) (get_member (codes "vertices") found))
+      (option_map indices_of_array (get_member (codes "indices") found)) ≡ event_of version (object found)
+  event-kept = ap (λ o. then_event (ok_or o BadField)
+      (λ (kind : List ℕ). event_of_kind_from version kind (object kept) (option_map (vertices_of version) (get_member (codes "vertices") found))
+      (option_map indices_of_array (get_member (codes "indices") found)))) (kind-kept kept found clips)
+      ∙ by_kind (option_and_then as_str (get_member (codes "kind") found)) where
+        by_kind : (o : Option (List ℕ))
+            → then_event (ok_or o BadField)
+            (λ (kind : List ℕ). event_of_kind_from version kind (object kept) (option_map (vertices_of version) (get_member (codes "vertices") found))
+            (option_map indices_of_array (get_member (codes "indices") found)))
+            ≡ ok_or o BadField >>= (λ (kind : List ℕ). event_of_kind version kind (object found))
+        by_kind None = refl
+        by_kind (Some kind) = kinds-kept kind

@@ -16,7 +16,8 @@ use Rattle.fd_capture.specs.declared.fault.CaptureFault.TheVariants.{TooLong, No
 abbrev pub and_one : Result (List Event) CaptureFault → Result Event CaptureFault → Result (List Event) CaptureFault
 and_one so_far read = so_far >>= (λ (es : List Event). read >>= (λ (e : Event). Ok (es ++ e ∷ [])))
 
-before : (event : Event) (so_far : Result (List Event) CaptureFault) (read : Result Event CaptureFault) → (and_one so_far read >>= (λ (es : List Event). Ok (event ∷ es))) ≡ and_one (so_far >>= (λ (es : List Event). Ok (event ∷ es))) read
+before : (event : Event) (so_far : Result (List Event) CaptureFault) (read : Result Event CaptureFault)
+    → (and_one so_far read >>= (λ (es : List Event). Ok (event ∷ es))) ≡ and_one (so_far >>= (λ (es : List Event). Ok (event ∷ es))) read
 before event (Err fault) read = refl
 before event (Ok es) (Err fault) = refl
 before event (Ok es) (Ok e) = refl
@@ -26,26 +27,32 @@ alone (Ok e) = refl
 alone (Err fault) = refl
 
 first : (read : Result Event CaptureFault) (whole so_far : Result (List Event) CaptureFault) (last : Result Event CaptureFault) → whole ≡ and_one so_far last
-    → (read >>= (λ (e : Event). whole >>= (λ (es : List Event). Ok (e ∷ es)))) ≡ and_one (read >>= (λ (e : Event). so_far >>= (λ (es : List Event). Ok (e ∷ es)))) last
+    → (read >>= (λ (e : Event). whole >>= (λ (es : List Event). Ok (e ∷ es))))
+    ≡ and_one (read >>= (λ (e : Event). so_far >>= (λ (es : List Event). Ok (e ∷ es)))) last
 first (Err fault) whole so_far last is = refl
 first (Ok e) whole so_far last is = ap (λ (r : Result (List Event) CaptureFault). r >>= (λ (es : List Event). Ok (e ∷ es))) is ∙ before e so_far last
 
-pub events_from-push : (version number : ℕ) (front : List Data) (d : Data) → events_from version number (front ++ d ∷ []) ≡ and_one (events_from version number front) (event_numbered version (number + length front) d)
+pub events_from-push : (version number : ℕ) (front : List Data) (d : Data) → events_from version number (front ++ d ∷ [])
+    ≡ and_one (events_from version number front) (event_numbered version (number + length front) d)
 unfolding events_from
 events_from-push version number [] d = alone (event_numbered version number d) ∙ ap (λ (n : ℕ). and_one (Ok []) (event_numbered version n d)) (omega arith)
 events_from-push version number (e ∷ front) d =
     let same : number + 1 + length front ≡ number + suc (length front) = omega arith in
-    first (event_numbered version number e) (events_from version (number + 1) (front ++ d ∷ [])) (events_from version (number + 1) front) (event_numbered version (number + suc (length front)) d)
+    first (event_numbered version number e) (events_from version (number + 1) (front ++ d ∷ [])) (events_from version (number + 1) front)
+    (event_numbered version (number + suc (length front)) d)
     (events_from-push version (number + 1) front d ∙ ap (λ (n : ℕ). and_one (events_from version (number + 1) front) (event_numbered version n d)) same)
 
-fails_after : (fault : CaptureFault) (so_far : Result (List Event) CaptureFault) (read : Result Event CaptureFault) → so_far ≡ Err fault → and_one so_far read ≡ Err fault
+fails_after : (fault : CaptureFault) (so_far : Result (List Event) CaptureFault) (read : Result Event CaptureFault) → so_far ≡ Err fault → and_one so_far read
+    ≡ Err fault
 fails_after fault so_far read is = rw is refl
 
-fails_there : (fault : CaptureFault) (so_far : Result (List Event) CaptureFault) (es : List Event) (read : Result Event CaptureFault) → so_far ≡ Ok es → read ≡ Err fault → and_one so_far read ≡ Err fault
+fails_there : (fault : CaptureFault) (so_far : Result (List Event) CaptureFault) (es : List Event) (read : Result Event CaptureFault) → so_far ≡ Ok es
+    → read ≡ Err fault → and_one so_far read ≡ Err fault
 fails_there fault so_far es read is failed = rw (is, failed) refl
 
 -- if it fails so here, it fails so there
-Fails-weaker : {A B : Type 0} (fault : CaptureFault) (here : Result A CaptureFault) (there : Result B CaptureFault) → (here ≡ Err fault → there ≡ Err fault) → Fails fault here → Fails fault there
+Fails-weaker : {A B : Type 0} (fault : CaptureFault) (here : Result A CaptureFault) (there : Result B CaptureFault) → (here ≡ Err fault → there ≡ Err fault)
+    → Fails fault here → Fails fault there
 Fails-weaker TooLong here there f h = f h
 Fails-weaker NotJson here there f h = f h
 Fails-weaker NotCapture here there f h = f h
@@ -57,7 +64,8 @@ Fails-weaker (BadField number) here there f h = f h
 Fails-weaker Memory here there f h = tt
 
 -- what the calls so far gave, and one call more
-pub gives_more : (events more : Result (Vec Event Global) CaptureFault) (so_far : Result (List Event) CaptureFault) (read : Result Event CaptureFault) → Gives (λ (v : Vec Event Global). v.items) events so_far → GivesMore events more read
+pub gives_more : (events more : Result (Vec Event Global) CaptureFault) (so_far : Result (List Event) CaptureFault) (read : Result Event CaptureFault)
+    → Gives (λ (v : Vec Event Global). v.items) events so_far → GivesMore events more read
     → Gives (λ (v : Vec Event Global). v.items) more (and_one so_far read)
 gives_more (Ok events) (Ok more) so_far (Ok event) so is = rw (so, is) refl
 gives_more (Ok events) (Ok more) so_far (Err fault) so is = absurd is
@@ -80,7 +88,8 @@ many_are version ds many = ap (λ (b : Bool). cond b (Err TooMany) (events_from 
     beyond n many = grind (arith, nat_tests)
 
 -- one item more of a list, whose number stays at the greatest of 32 bits
-pub next_of : (version number : ℕ) (front : List Data) (d : Data) (events more : Result (Vec Event Global) CaptureFault) → number ≡ min (length front + 1) (2 ^ 32 - 1)
+pub next_of : (version number : ℕ) (front : List Data) (d : Data) (events more : Result (Vec Event Global) CaptureFault)
+    → number ≡ min (length front + 1) (2 ^ 32 - 1)
     → Gives (λ (v : Vec Event Global). v.items) events (few_events version front) → GivesNext number events more (event_numbered version number d)
     → Gives (λ (v : Vec Event Global). v.items) more (few_events version (front ++ d ∷ []))
 next_of version number front d events more is so next = by_number (nat_lt 1000000 number) refl next
@@ -95,7 +104,8 @@ next_of version number front d events more is so next = by_number (nat_lt 100000
         let few : length front ≤ 1000000 = grind (arith, nat_tests) in
         let still : length (front ++ d ∷ []) ≤ 1000000 = grind (arith, nat_tests, length_push front d) in
         let same : and_one (few_events version front) (event_numbered version number d) ≡ few_events version (front ++ d ∷ []) =
-        ap (λ (r : Result (List Event) CaptureFault). and_one r (event_numbered version number d)) (few_are version front few) ∙ ap (λ (n : ℕ). and_one (events_from version 1 front) (event_numbered version n d)) here
+        ap (λ (r : Result (List Event) CaptureFault). and_one r (event_numbered version number d)) (few_are version front few)
+        ∙ ap (λ (n : ℕ). and_one (events_from version 1 front) (event_numbered version n d)) here
         ∙ sym (few_are version (front ++ d ∷ []) still ∙ events_from-push version 1 front d) in
         rw (← same) (gives_more events more (few_events version front) (event_numbered version number d) so one)
 

@@ -1,5 +1,6 @@
 -- The table of what was read is the table of the whole capture.
-use Rattle.std.proofs.Common.{◌≡◌, ℕ, List, Bool, true, false, cond, Option, Some, None, Result, Ok, Err, Vec, Global, length, codes, bytes_eq, option_and_then, refl, sym, subst}
+use Rattle.std.proofs.Common.{◌≡◌, ℕ, List, Bool, true, false, cond, Option, Some, None, Result, Ok, Err, Vec, Global, length, codes, bytes_eq}
+use Rattle.std.proofs.Common.{option_and_then, refl, sym, subst}
 use Rattle.std.specs.Prelude.{nat_lt, ok_or, IfSome}
 use Rattle.serde_json.specs.Data.{Data, Members, object, null, boolean, number, string, array}
 use Rattle.serde_json.specs.Find.{get_member, as_str, as_object}
@@ -29,10 +30,13 @@ here t = t
 abbrev refused : CaptureFault → Result Table CaptureFault
 refused fault = Err fault
 
-step : (g fault : CaptureFault) (whole : Result (List Event) CaptureFault) (k : List Event → Result Table CaptureFault) → (Fails g whole → whole ≡ Err g) → refused fault ≡ refused g → Fails fault whole → (whole >>= k) ≡ Err g
-step g fault whole k plain is failed = let same : fault ≡ g = cc in let ended : whole ≡ Err g = plain (subst (λ (f : CaptureFault). Fails f whole) same failed) in rw ended refl
+step : (g fault : CaptureFault) (whole : Result (List Event) CaptureFault) (k : List Event → Result Table CaptureFault) → (Fails g whole → whole ≡ Err g)
+    → refused fault ≡ refused g → Fails fault whole → (whole >>= k) ≡ Err g
+step g fault whole k plain is failed = let same : fault ≡ g = cc in let ended : whole ≡ Err g =
+    plain (subst (λ (f : CaptureFault). Fails f whole) same failed) in rw ended refl
 
-behind : (g fault : CaptureFault) (whole : Result (List Event) CaptureFault) (k : List Event → Result Table CaptureFault) → Fails g (refused fault) → Fails fault whole → Fails g (whole >>= k)
+behind : (g fault : CaptureFault) (whole : Result (List Event) CaptureFault) (k : List Event → Result Table CaptureFault) → Fails g (refused fault)
+    → Fails fault whole → Fails g (whole >>= k)
 behind TooLong fault whole k is failed = step TooLong fault whole k (λ f. f) is failed
 behind NotJson fault whole k is failed = step NotJson fault whole k (λ f. f) is failed
 behind NotCapture fault whole k is failed = step NotCapture fault whole k (λ f. f) is failed
@@ -43,7 +47,8 @@ behind (UnknownEvent n) fault whole k is failed = step (UnknownEvent n) fault wh
 behind (BadField n) fault whole k is failed = step (BadField n) fault whole k (λ f. f) is failed
 behind Memory fault whole k is failed = tt
 
-through : (result : Result Table CaptureFault) (read : ReadEvents) (whole : Result (List Event) CaptureFault) (k : List Event → Result Table CaptureFault) → Gives (λ (v : Vec Event Global). v.items) read whole
+through : (result : Result Table CaptureFault) (read : ReadEvents) (whole : Result (List Event) CaptureFault) (k : List Event → Result Table CaptureFault)
+    → Gives (λ (v : Vec Event Global). v.items) read whole
     → Gives here result (read >>= λ (v : Vec Event Global). k v.items) → Gives here result (whole >>= k)
 through result (Ok events) whole k gives is = rw gives is
 through (Ok t) (Err fault) whole k gives is = absurd (cc)
@@ -54,7 +59,8 @@ limited : (version : ℕ) (ds : List Data) (k : List Event → Result Table Capt
     → ((cond (nat_lt most_events (length ds)) (Err TooMany) (Ok ds)) >>= λ (few : List Data). events_from version 1 few >>= k) ≡ (few_events version ds >>= k)
 limited version ds k = by_test (nat_lt most_events (length ds))
   where
-    by_test : (b : Bool) → ((cond b (Err TooMany) (Ok ds)) >>= λ (few : List Data). events_from version 1 few >>= k) ≡ (cond b (Err TooMany) (events_from version 1 ds) >>= k)
+    by_test : (b : Bool) → ((cond b (Err TooMany) (Ok ds)) >>= λ (few : List Data). events_from version 1 few >>= k)
+        ≡ (cond b (Err TooMany) (events_from version 1 ds) >>= k)
     by_test true = refl
     by_test false = refl
 
@@ -76,33 +82,51 @@ module _ (kept found : Members) (clips : Clips kept found) where
 -- ---- the table
 
 module _ (version : ℕ) (result : Result Table CaptureFault) where
-  sized : (ds : List Data) (read : ReadEvents) (found width height : Option ℕ) → IsReadIn version found → Gives (λ (v : Vec Event Global). v.items) read (few_events version ds)
-      → Gives here result (ok_or found Version >>= λ v. ok_or width Size >>= λ w. ok_or height Size >>= λ h. read >>= λ (es : Vec Event Global). Ok (all_on v w h es.items))
-      → Gives here result (ok_or found Version >>= λ v. ok_or width Size >>= λ w. ok_or height Size >>= λ h. (cond (nat_lt most_events (length ds)) (Err TooMany) (Ok ds)) >>= λ few. events_from v 1 few >>= λ es. Ok (all_on v w h es))
+  sized : (ds : List Data) (read : ReadEvents) (found width height : Option ℕ) → IsReadIn version found → Gives (λ (v : Vec Event Global). v.items) read
+      (few_events version ds)
+      → Gives here result (ok_or found Version >>= λ v. ok_or width Size >>= λ w. ok_or height Size >>= λ h. read >>= λ (es : Vec Event Global). Ok
+      (all_on v w h es.items))
+      → Gives here result (ok_or found Version >>= λ v. ok_or width Size >>= λ w. ok_or height Size >>= λ h.
+      (cond (nat_lt most_events (length ds)) (Err TooMany) (Ok ds)) >>= λ few. events_from v 1 few >>= λ es. Ok (all_on v w h es))
   sized ds read None width height in_version gives is = is
   sized ds read (Some v) None height in_version gives is = is
   sized ds read (Some v) (Some w) None in_version gives is = is
   sized ds read (Some v) (Some w) (Some h) in_version gives is =
-      let as_read : Gives (λ (v : Vec Event Global). v.items) read (few_events v ds) = subst (λ (n : ℕ). Gives (λ (v : Vec Event Global). v.items) read (few_events n ds)) (sym in_version) gives in
-      subst (Gives here result) (sym (limited v ds (λ es. Ok (all_on v w h es)))) (through result read (few_events v ds) (λ es. Ok (all_on v w h es)) as_read is)
+      let as_read : Gives (λ (v : Vec Event Global). v.items) read (few_events v ds) =
+      subst (λ (n : ℕ). Gives (λ (v : Vec Event Global). v.items) read (few_events n ds)) (sym in_version) gives in
+      subst (Gives here result) (sym (limited v ds (λ es. Ok (all_on v w h es))))
+      (through result read (few_events v ds) (λ es. Ok (all_on v w h es)) as_read is)
 
-  table_is : (d : Data) (format : Option (List ℕ)) (read : Option ReadEvents) (listed : Option (List Data)) → text_member "format" d ≡ format → GivesListed version read listed → IsReadIn version (number_member "version" 1 2 d)
-      → Gives here result (ok_or (option_and_then (λ text. cond (bytes_eq text (codes "framedbg")) read None) format) NotCapture >>= λ found. ok_or (number_member "version" 1 2 d) Version >>= λ v. ok_or (number_member "width" 1 most_pixels d) Size >>= λ w. ok_or (number_member "height" 1 most_pixels d) Size >>= λ h. found >>= λ (es : Vec Event Global). Ok (all_on v w h es.items))
-      → Gives here result (ok_or (option_and_then (λ text. cond (bytes_eq text (codes "framedbg")) listed None) format) NotCapture >>= λ ds. ok_or (number_member "version" 1 2 d) Version >>= λ v. ok_or (number_member "width" 1 most_pixels d) Size >>= λ w. ok_or (number_member "height" 1 most_pixels d) Size >>= λ h. (cond (nat_lt most_events (length ds)) (Err TooMany) (Ok ds)) >>= λ few. events_from v 1 few >>= λ es. Ok (all_on v w h es))
+  table_is : (d : Data) (format : Option (List ℕ)) (read : Option ReadEvents) (listed : Option (List Data)) → text_member "format" d ≡ format
+      → GivesListed version read listed → IsReadIn version (number_member "version" 1 2 d)
+      → Gives here result (ok_or (option_and_then (λ text. cond (bytes_eq text (codes "framedbg")) read None) format) NotCapture >>= λ found. ok_or
+      (number_member "version" 1 2 d) Version >>= λ v. ok_or (number_member "width" 1 most_pixels d) Size >>= λ w. ok_or
+      (number_member "height" 1 most_pixels d) Size >>= λ h. found >>= λ (es : Vec Event Global). Ok (all_on v w h es.items))
+      → Gives here result (ok_or (option_and_then (λ text. cond (bytes_eq text (codes "framedbg")) listed None) format) NotCapture >>= λ ds. ok_or
+      (number_member "version" 1 2 d) Version >>= λ v. ok_or (number_member "width" 1 most_pixels d) Size >>= λ w. ok_or
+      (number_member "height" 1 most_pixels d) Size >>= λ h. (cond (nat_lt most_events (length ds)) (Err TooMany) (Ok ds)) >>= λ few. events_from v 1 few
+      >>= λ es. Ok (all_on v w h es))
   table_is d None read listed same gives in_version is = is
   table_is d (Some text) read listed same gives in_version is = by_text (bytes_eq text (codes "framedbg")) read listed gives is
     where
       by_text : (b : Bool) (read : Option ReadEvents) (listed : Option (List Data)) → GivesListed version read listed
-          → Gives here result (ok_or (cond b read None) NotCapture >>= λ found. ok_or (number_member "version" 1 2 d) Version >>= λ v. ok_or (number_member "width" 1 most_pixels d) Size >>= λ w. ok_or (number_member "height" 1 most_pixels d) Size >>= λ h. found >>= λ (es : Vec Event Global). Ok (all_on v w h es.items))
-          → Gives here result (ok_or (cond b listed None) NotCapture >>= λ ds. ok_or (number_member "version" 1 2 d) Version >>= λ v. ok_or (number_member "width" 1 most_pixels d) Size >>= λ w. ok_or (number_member "height" 1 most_pixels d) Size >>= λ h. (cond (nat_lt most_events (length ds)) (Err TooMany) (Ok ds)) >>= λ few. events_from v 1 few >>= λ es. Ok (all_on v w h es))
+          → Gives here result (ok_or (cond b read None) NotCapture >>= λ found. ok_or (number_member "version" 1 2 d) Version >>= λ v. ok_or
+          (number_member "width" 1 most_pixels d) Size >>= λ w. ok_or (number_member "height" 1 most_pixels d) Size >>= λ h. found >>=
+          λ (es : Vec Event Global). Ok (all_on v w h es.items))
+          → Gives here result (ok_or (cond b listed None) NotCapture >>= λ ds. ok_or (number_member "version" 1 2 d) Version >>= λ v. ok_or
+          (number_member "width" 1 most_pixels d) Size >>= λ w. ok_or (number_member "height" 1 most_pixels d) Size >>= λ h.
+          (cond (nat_lt most_events (length ds)) (Err TooMany) (Ok ds)) >>= λ few. events_from v 1 few >>= λ es. Ok (all_on v w h es))
       by_text false read listed gives is = is
       by_text true None None gives is = is
       by_text true None (Some ds) gives is = absurd gives
       by_text true (Some r) None gives is = absurd gives
-      by_text true (Some r) (Some ds) gives is = sized ds r (number_member "version" 1 2 d) (number_member "width" 1 most_pixels d) (number_member "height" 1 most_pixels d) in_version gives is
+      by_text true (Some r) (Some ds) gives is = sized ds r (number_member "version" 1 2 d) (number_member "width" 1 most_pixels d)
+          (number_member "height" 1 most_pixels d) in_version gives is
 
   -- what the kept members and the events give is what the capture gives
-  pub table-read : (kept found : Members) (read : Option ReadEvents) → Clips kept found → GivesListed version read (option_and_then array_of (get_member (codes "events") found)) → IsReadIn version (number_member "version" 1 2 (object found))
+  pub table-read : (kept found : Members) (read : Option ReadEvents) → Clips kept found
+      → GivesListed version read (option_and_then array_of (get_member (codes "events") found))
+      → IsReadIn version (number_member "version" 1 2 (object found))
       → Gives here result (table_from (object kept) read) → Gives here result (table_of_value (object found))
   unfolding table_of_value
   table-read kept found read clips gives in_version is =
@@ -120,7 +144,8 @@ table-no_object (array ds) is = refl
 table-no_object (object ms) is = absurd (cc)
 
 -- events that were read in a version are events of it
-pub in_its_version : (version : ℕ) (found : Option ℕ) (read : Option ReadEvents) → IsReadIn version found → IfSome read (λ r. AreOf version r) → IfSome read (λ r. IfSome found (λ v. AreOf v r))
+pub in_its_version : (version : ℕ) (found : Option ℕ) (read : Option ReadEvents) → IsReadIn version found → IfSome read (λ r. AreOf version r)
+    → IfSome read (λ r. IfSome found (λ v. AreOf v r))
 in_its_version version found None in_version are = tt
 in_its_version version None (Some r) in_version are = tt
 in_its_version version (Some v) (Some r) in_version are = rw in_version are
@@ -137,10 +162,12 @@ read_then d read r is = by_format (text_member "format" d) is
         by_text false is = absurd (cc)
 
 -- the events of a capture that has them and a version
-pub are_of : (d : Data) (read : Option ReadEvents) (r : ReadEvents) (found : Option ℕ) (v : ℕ) (events : Vec Event Global) → IfSome read (λ q. IfSome found (λ w. AreOf w q)) → listed_from d read ≡ Some r → found ≡ Some v → r ≡ Ok events
+pub are_of : (d : Data) (read : Option ReadEvents) (r : ReadEvents) (found : Option ℕ) (v : ℕ) (events : Vec Event Global)
+    → IfSome read (λ q. IfSome found (λ w. AreOf w q)) → listed_from d read ≡ Some r → found ≡ Some v → r ≡ Ok events
     → AreOf v (Ok events)
 are_of d read r found v events are listed version is =
-    let some : IfSome (Some r) (λ q. IfSome found (λ w. AreOf w q)) = subst (λ (o : Option ReadEvents). IfSome o (λ q. IfSome found (λ w. AreOf w q))) (read_then d read r listed) are in
+    let some : IfSome (Some r) (λ q. IfSome found (λ w. AreOf w q)) = subst (λ (o : Option ReadEvents). IfSome o (λ q. IfSome found (λ w. AreOf w q)))
+    (read_then d read r listed) are in
     let here : IfSome (Some v) (λ w. AreOf w r) = subst (λ (o : Option ℕ). IfSome o (λ w. AreOf w r)) version some in
     subst (AreOf v) is here
 

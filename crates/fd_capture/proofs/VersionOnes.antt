@@ -1,5 +1,6 @@
 -- A capture that version 1 accepts is read as version 1 reads it.
-use Rattle.std.proofs.Common.{◌≡◌, ℕ, ℤ, pos, negsuc, ◌+◌, List, [], ◌∷◌, length, Bool, true, false, cond, Option, Some, None, Result, Ok, Err, refl, ap, arith, nat_lt}
+use Rattle.std.proofs.Common.{◌≡◌, ℕ, ℤ, pos, negsuc, ◌+◌, List, [], ◌∷◌, length, Bool, true, false, cond, Option, Some, None, Result, Ok, Err, refl}
+use Rattle.std.proofs.Common.{ap, arith, nat_lt}
 use Rattle.std.specs.Prelude.{unsigned_abs, codes, ok_or, All, IfSome, IfOk, nat_le, ◌&&◌}
 use Rattle.std.specs.Str.{bytes_eq}
 use Rattle.std.specs.Result.{result_ok}
@@ -24,7 +25,8 @@ use Rattle.fd_capture.specs.declared.fault.EventFault.{EventFault}
 use Rattle.fd_capture.specs.declared.fault.EventFault.TheVariants.{BadField, UnknownEvent}
 use Rattle.fd_events.specs.declared.event.Event.TheVariants.{Draw}
 use Rattle.fd_capture.specs.Fault.{map_fault, numbered, ◌>>=◌}
-use Rattle.fd_capture.specs.Field.{text_member, number_member, colour_member, flag_member, rect_member, part_member, signed_member, position_within, vertex_of, vertices_member, array_member, indices_member, all_of, between, number_between, whole_number}
+use Rattle.fd_capture.specs.Field.{text_member, number_member, colour_member, flag_member, rect_member, part_member, signed_member, position_within}
+use Rattle.fd_capture.specs.Field.{vertex_of, vertices_member, array_member, indices_member, all_of, between, number_between, whole_number}
 use Rattle.fd_snap.specs.Limits.{most_pixels, position_limit}
 use Rattle.fd_events.specs.Limits.{most_events}
 use Rattle.fd_capture.specs.Limits.{most_bytes}
@@ -78,22 +80,26 @@ position_stays x y = under (record { x = x; y = y }) (nat_le (unsigned_abs x) on
     (nat_le (unsigned_abs x) position_limit && nat_le (unsigned_abs y) position_limit) (λ is. grind (arith, nat_tests))
 
 side_stays : (name : String) (d : Data) → Stays (number_member name 1 one.most_pixels d) (number_member name 1 most_pixels d)
-side_stays name d = next (get (codes name) d) _ _ _ (stays (get (codes name) d)) (λ value. next (whole_number value) _ _ _ (stays (whole_number value)) between_stays)
+side_stays name d = next (get (codes name) d) _ _ _ (stays (get (codes name) d))
+    (λ value. next (whole_number value) _ _ _ (stays (whole_number value)) between_stays)
 
 vertex_stays : (d : Data) → Stays (one.vertex_of d) (vertex_of 1 d)
 vertex_stays d =
     next (signed_member "x" d) _ _ _ (stays (signed_member "x" d)) (λ x. next (signed_member "y" d) _ _ _ (stays (signed_member "y" d)) (λ y.
-    next (one.position_of x y) (position_within x y) _ _ (position_stays x y) (λ position. stays (colour_member "color" d >>? λ colour. Some (record { pos = position; colour = colour; z = 0 })))))
+    next (one.position_of x y) (position_within x y) _ _ (position_stays x y)
+    (λ position. stays (colour_member "color" d >>? λ colour. Some (record { pos = position; colour = colour; z = 0 })))))
 
 vertices_stay : (ds : List Data) → Stays (all_of one.vertex_of ds) (all_of (vertex_of 1) ds)
 vertices_stay [] = refl
 vertices_stay (d ∷ ds) =
-    next (one.vertex_of d) (vertex_of 1 d) _ _ (vertex_stays d) (λ v. next (all_of one.vertex_of ds) (all_of (vertex_of 1) ds) _ _ (vertices_stay ds) (λ vs. refl))
+    next (one.vertex_of d) (vertex_of 1 d) _ _ (vertex_stays d) (λ v. next (all_of one.vertex_of ds) (all_of (vertex_of 1) ds) _ _ (vertices_stay ds)
+    (λ vs. refl))
 
 draw_stays : (d : Data) → Stays (one.draw_of d) (draw_event 1 d)
 draw_stays d =
     next (text_member "interp" d >>? spelled_interp) _ _ _ (stays (text_member "interp" d >>? spelled_interp)) (λ interp.
-    next (one.vertices_at "vertices" d) (vertices_member 1 "vertices" d) _ _ (next (array_member "vertices" d) _ _ _ (stays (array_member "vertices" d)) vertices_stay) (λ vertices.
+    next (one.vertices_at "vertices" d) (vertices_member 1 "vertices" d) _ _
+    (next (array_member "vertices" d) _ _ _ (stays (array_member "vertices" d)) vertices_stay) (λ vertices.
     stays (indices_member "indices" d >>? λ indices. result_ok (one.made vertices indices interp) >>? λ draw. Some (Draw draw))))
 
 kind_stays : (kind : List ℕ) (d : Data) → StaysOk (one.event_of_kind kind d) (event_of_kind 1 kind d)
@@ -113,7 +119,9 @@ kind_stays kind d =
     either false e f r s first rest = rest
 
 number_stays : (number : ℕ) (d : Data) → StaysOk (one.event_numbered number d) (event_numbered 1 number d)
-number_stays number d = kept (one.event_of d) (event_of 1 d) (next_ok (ok_or (text_member "kind" d) BadField) _ _ _ (stays_ok (ok_or (text_member "kind" d) BadField)) (λ kind. kind_stays kind d))
+number_stays number d =
+    kept (one.event_of d) (event_of 1 d) (next_ok (ok_or (text_member "kind" d) BadField) _ _ _ (stays_ok (ok_or (text_member "kind" d) BadField))
+    (λ kind. kind_stays kind d))
   where
     kept : (r s : Result Event EventFault) → StaysOk r s → StaysOk (map_fault (numbered number) r) (map_fault (numbered number) s)
     kept (Err fault) s first = tt
@@ -148,21 +156,26 @@ IsZero v = v.z ≡ 0
 
 vertex_zero : (d : Data) → IfSome (one.vertex_of d) IsZero
 vertex_zero d =
-    through IsZero (signed_member "x" d) _ (λ x. through IsZero (signed_member "y" d) _ (λ y. through IsZero (one.position_of x y) _ (λ position. through IsZero (colour_member "color" d) _ (λ colour. refl))))
+    through IsZero (signed_member "x" d) _
+    (λ x. through IsZero (signed_member "y" d) _
+    (λ y. through IsZero (one.position_of x y) _ (λ position. through IsZero (colour_member "color" d) _ (λ colour. refl))))
 
 all_zero : (ds : List Data) → IfSome (all_of one.vertex_of ds) (λ vs. All IsZero vs)
 all_zero [] = All-nil IsZero
 all_zero (d ∷ ds) = both (one.vertex_of d) (all_of one.vertex_of ds) (vertex_zero d) (all_zero ds)
   where
-    both : (first : Option Vertex) (others : Option (List Vertex)) → IfSome first IsZero → IfSome others (λ vs. All IsZero vs) → IfSome (first >>? λ v. others >>? λ vs. Some (v ∷ vs)) (λ vs. All IsZero vs)
+    both : (first : Option Vertex) (others : Option (List Vertex)) → IfSome first IsZero → IfSome others (λ vs. All IsZero vs)
+        → IfSome (first >>? λ v. others >>? λ vs. Some (v ∷ vs)) (λ vs. All IsZero vs)
     both None others here rest = tt
     both (Some v) None here rest = tt
     both (Some v) (Some vs) here rest = All-cons IsZero v vs here rest
 
-made_of : (vs : List Vertex) (is : Option (List ℕ)) (interp : Interp) → All IsZero vs → IfSome (result_ok (one.made vs is interp)) (λ draw. All IsZero draw.vertices)
+made_of : (vs : List Vertex) (is : Option (List ℕ)) (interp : Interp) → All IsZero vs
+    → IfSome (result_ok (one.made vs is interp)) (λ draw. All IsZero draw.vertices)
 made_of vs is interp zeros = tests (nat_lt one.most_vertices (length vs)) (one.has_too_many is) (are_in_range (length vs) is)
   where
-    tests : (a b c : Bool) → IfSome (result_ok (cond a (Err Vertices) (cond b (Err Indices) (cond c (Ok (listed_draw vs is interp)) (Err IndexRange))))) (λ draw. All IsZero draw.vertices)
+    tests : (a b c : Bool) → IfSome (result_ok (cond a (Err Vertices) (cond b (Err Indices) (cond c (Ok (listed_draw vs is interp)) (Err IndexRange)))))
+        (λ draw. All IsZero draw.vertices)
     tests true b c = tt
     tests false true c = tt
     tests false false true = zeros
@@ -184,11 +197,14 @@ flat_kind : (kind : List ℕ) (d : Data) → IfOk (one.event_of_kind kind d) IsF
 flat_kind kind d =
     either (bytes_eq kind (codes "clear")) _ _ (or_fault (clear_event d) (any (colour_member "color" d) _ (λ colour. tt)))
     (either (bytes_eq kind (codes "raster")) _ _
-    (or_fault (raster_event d) (any (text_member "cull" d >>? spelled_cull) _ (λ cull. any (flag_member "front_ccw" d) _ (λ ccw. any (flag_member "scissor" d) _ (λ scissor. tt)))))
+    (or_fault (raster_event d)
+    (any (text_member "cull" d >>? spelled_cull) _ (λ cull. any (flag_member "front_ccw" d) _ (λ ccw. any (flag_member "scissor" d) _ (λ scissor. tt)))))
     (either (bytes_eq kind (codes "scissor")) _ _ (or_fault (scissor_event d) (any (rect_member "rect" d) _ (λ rect. tt)))
     (either (bytes_eq kind (codes "blend")) _ _
     (or_fault (blend_event d)
-    (any (flag_member "enable" d) _ (λ enable. any (part_member "rgb" d) _ (λ rgb. any (part_member "alpha" d) _ (λ alpha. any (number_member "mask" 0 15 d) _ (λ mask. nothing_or (has_colour_factor alpha) _ tt))))))
+    (any (flag_member "enable" d) _
+    (λ enable. any (part_member "rgb" d) _
+    (λ rgb. any (part_member "alpha" d) _ (λ alpha. any (number_member "mask" 0 15 d) _ (λ mask. nothing_or (has_colour_factor alpha) _ tt))))))
     (either (bytes_eq kind (codes "factor")) _ _ (or_fault (factor_of d) (any (colour_member "color" d) _ (λ colour. tt)))
     (either (bytes_eq kind (codes "draw")) _ _
     (or_fault (one.draw_of d)
@@ -196,7 +212,8 @@ flat_kind kind d =
     after (λ vs. All IsZero vs) (one.vertices_at "vertices" d) _ (through (λ vs. All IsZero vs) (array_member "vertices" d) _ all_zero) (λ vertices zeros.
     any (indices_member "indices" d) _ (λ indices.
     after (λ draw. All IsZero draw.vertices) (result_ok (one.made vertices indices interp)) _ (made_of vertices indices interp zeros) (λ draw holds. holds))))))
-    (either (bytes_eq kind (codes "marker")) _ _ (or_fault (marker_event d) (any (text_member "name" d) _ (λ name. any (result_ok (labelled name)) _ (λ label. tt)))) tt))))))
+    (either (bytes_eq kind (codes "marker")) _ _
+    (or_fault (marker_event d) (any (text_member "name" d) _ (λ name. any (result_ok (labelled name)) _ (λ label. tt)))) tt))))))
 
 flat_numbered : (number : ℕ) (d : Data) → IfOk (one.event_numbered number d) IsFlat
 flat_numbered number d = kept (one.event_of d) (read (ok_or (text_member "kind" d) BadField))
@@ -230,7 +247,8 @@ abbrev Reads : Result Table CaptureFault → Result Table CaptureFault → Type 
 Reads r s = IfOk r (λ t. (s ≡ Ok t) × IsRead t)
 
 -- a step before it, of which something is known
-reads : {A : Type 0} (P : A → Type 0) (r s : Result A CaptureFault) (f g : A → Result Table CaptureFault) → IfOk r (λ a. (s ≡ Ok a) × P a) → ((a : A) → P a → Reads (f a) (g a)) → Reads (r >>= f) (s >>= g)
+reads : {A : Type 0} (P : A → Type 0) (r s : Result A CaptureFault) (f g : A → Result Table CaptureFault) → IfOk r (λ a. (s ≡ Ok a) × P a)
+    → ((a : A) → P a → Reads (f a) (g a)) → Reads (r >>= f) (s >>= g)
 reads P (Err e) s f g first each = tt
 reads P (Ok a) s f g first each = rw first.0 (each a first.1)
 
@@ -245,7 +263,8 @@ first_version d = of_value (get (codes "version") d)
     of_number (negsuc n) = tt
     of_number (pos n) = tested (nat_le 1 n && nat_le n 1) refl
       where
-        tested : (b : Bool) → (nat_le 1 n && nat_le n 1) ≡ b → IfOk (ok_or (cond b (Some n) None) Version) (λ v. (ok_or (cond (nat_le 1 n && nat_le n 2) (Some n) None) Version ≡ Ok v) × (v ≡ 1))
+        tested : (b : Bool) → (nat_le 1 n && nat_le n 1) ≡ b
+            → IfOk (ok_or (cond b (Some n) None) Version) (λ v. (ok_or (cond (nat_le 1 n && nat_le n 2) (Some n) None) Version ≡ Ok v) × (v ≡ 1))
         tested false test = tt
         tested true test =
             let first : n ≡ 1 = grind (arith, nat_tests) in
@@ -256,12 +275,14 @@ first_version d = of_value (get (codes "version") d)
     of_whole None = tt
     of_whole (Some z) = of_number z
 
-    of_value : (value : Option Data) → IfOk (ok_or (value >>? number_between 1 1) Version) (λ v. (ok_or (value >>? number_between 1 2) Version ≡ Ok v) × (v ≡ 1))
+    of_value : (value : Option Data) → IfOk (ok_or (value >>? number_between 1 1) Version) (λ v. (ok_or (value >>? number_between 1 2) Version ≡ Ok v)
+        × (v ≡ 1))
     of_value None = tt
     of_value (Some e) = of_whole (whole_number e)
 
 few_stay : (listed : List Data)
-    → StaysOk {E = CaptureFault} (cond (nat_lt one.most_events (length listed)) (Err TooMany) (Ok listed)) (cond (nat_lt most_events (length listed)) (Err TooMany) (Ok listed))
+    → StaysOk {E = CaptureFault} (cond (nat_lt one.most_events (length listed)) (Err TooMany) (Ok listed))
+    (cond (nat_lt most_events (length listed)) (Err TooMany) (Ok listed))
 few_stay listed = fewer (nat_lt 65536 (length listed)) (nat_lt 1000000 (length listed)) (λ is. grind (arith, nat_tests))
   where
     fewer : (b c : Bool) → (b ≡ false → c ≡ false) → StaysOk {E = CaptureFault} (cond b (Err TooMany) (Ok listed)) (cond c (Err TooMany) (Ok listed))
@@ -281,7 +302,8 @@ table_stays d =
     found : (width height : ℕ) (r s : Result (List Event) CaptureFault) → StaysOk r s → IfOk r (λ es. All IsFlat es)
         → Reads (r >>= λ es. Ok (all_on 1 width height es)) (s >>= λ es. Ok (all_on 1 width height es))
     found width height (Err e) s first flat = tt
-    found width height (Ok es) s first flat = (ap (λ (read : Result (List Event) CaptureFault). read >>= λ es. Ok (all_on 1 width height es)) first, (refl, flat))
+    found width height (Ok es) s first flat =
+        (ap (λ (read : Result (List Event) CaptureFault). read >>= λ es. Ok (all_on 1 width height es)) first, (refl, flat))
 
 -- the same table, which is flat
 pub reads_same : (bytes : List ℕ) (t : Table) → one.capture_of bytes ≡ Ok t → (capture_of bytes ≡ Ok t) × (t.version ≡ 1) × All IsFlat t.events
@@ -290,5 +312,6 @@ reads_same bytes t is = let found : Reads (Ok t) (capture_of bytes) = rw is at w
   where
     whole : Reads (one.capture_of bytes) (capture_of bytes)
     whole =
-        reads _ (cond (nat_lt most_bytes (length bytes)) (Err TooLong) (Ok bytes)) _ _ _ (with_nothing _ _ (stays_ok (cond (nat_lt most_bytes (length bytes)) (Err TooLong) (Ok bytes)))) (λ text _.
+        reads _ (cond (nat_lt most_bytes (length bytes)) (Err TooLong) (Ok bytes)) _ _ _
+        (with_nothing _ _ (stays_ok (cond (nat_lt most_bytes (length bytes)) (Err TooLong) (Ok bytes)))) (λ text _.
         reads _ (ok_or (json_of text) NotJson) _ _ _ (with_nothing _ _ (stays_ok (ok_or (json_of text) NotJson))) (λ value _. table_stays value))

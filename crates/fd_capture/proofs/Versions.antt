@@ -1,5 +1,6 @@
 -- Captures of version 1 have no events of version 2.
-use Rattle.std.proofs.Common.{◌≡◌, ℕ, zero, suc, ◌+◌, ◌≤◌, List, [], ◌∷◌, Bool, true, false, Option, Some, None, Result, Ok, Err, refl, inl, inr, ◌⊎◌, cond, arith}
+use Rattle.std.proofs.Common.{◌≡◌, ℕ, zero, suc, ◌+◌, ◌≤◌, List, [], ◌∷◌, Bool, true, false, Option, Some, None, Result, Ok, Err, refl, inl, inr, ◌⊎◌}
+use Rattle.std.proofs.Common.{cond, arith}
 use Rattle.std.specs.Prelude.{codes, ok_or, All, IfSome, IfOk}
 use Rattle.std.specs.Str.{bytes_eq}
 use Rattle.std.specs.Result.{result_ok}
@@ -46,16 +47,23 @@ plain_kind : (kind : List ℕ) (d : Data) → PlainResult (event_of_kind 1 kind 
 plain_kind kind d =
     either (bytes_eq kind (codes "clear")) _ _ (or_fault (clear_event d) (after (colour_member "color" d) _ (λ colour. refl)))
     (either (bytes_eq kind (codes "raster")) _ _
-    (or_fault (raster_event d) (after (text_member "cull" d >>= spelled_cull) _ (λ cull. after (flag_member "front_ccw" d) _ (λ ccw. after (flag_member "scissor" d) _ (λ scissor. refl)))))
+    (or_fault (raster_event d)
+    (after (text_member "cull" d >>= spelled_cull) _
+    (λ cull. after (flag_member "front_ccw" d) _ (λ ccw. after (flag_member "scissor" d) _ (λ scissor. refl)))))
     (either (bytes_eq kind (codes "scissor")) _ _ (or_fault (scissor_event d) (after (rect_member "rect" d) _ (λ rect. refl)))
     (either (bytes_eq kind (codes "blend")) _ _
     (or_fault (blend_event d)
-    (after (flag_member "enable" d) _ (λ enable. after (part_member "rgb" d) _ (λ rgb. after (part_member "alpha" d) _ (λ alpha. after (number_member "mask" 0 15 d) _ (λ mask. nothing_or (has_colour_factor alpha) _ refl))))))
+    (after (flag_member "enable" d) _
+    (λ enable. after (part_member "rgb" d) _
+    (λ rgb. after (part_member "alpha" d) _ (λ alpha. after (number_member "mask" 0 15 d) _ (λ mask. nothing_or (has_colour_factor alpha) _ refl))))))
     (either (bytes_eq kind (codes "factor")) _ _ (or_fault (factor_of d) (after (colour_member "color" d) _ (λ colour. refl)))
     (either (bytes_eq kind (codes "draw")) _ _
     (or_fault (draw_event 1 d)
-    (after (text_member "interp" d >>= spelled_interp) _ (λ interp. after (vertices_member 1 "vertices" d) _ (λ vertices. after (indices_member "indices" d) _ (λ indices. after (result_ok (made vertices indices interp)) _ (λ draw. refl))))))
-    (either (bytes_eq kind (codes "marker")) _ _ (or_fault (marker_event d) (after (text_member "name" d) _ (λ name. after (result_ok (labelled name)) _ (λ label. refl)))) tt))))))
+    (after (text_member "interp" d >>= spelled_interp) _
+    (λ interp. after (vertices_member 1 "vertices" d) _
+    (λ vertices. after (indices_member "indices" d) _ (λ indices. after (result_ok (made vertices indices interp)) _ (λ draw. refl))))))
+    (either (bytes_eq kind (codes "marker")) _ _
+    (or_fault (marker_event d) (after (text_member "name" d) _ (λ name. after (result_ok (labelled name)) _ (λ label. refl)))) tt))))))
 
 plain_read : (kind : Result (List ℕ) EventFault) (d : Data) → PlainResult (kind >>=r λ k. event_of_kind 1 k d)
 plain_read (Ok kind) d = plain_kind kind d
@@ -73,14 +81,16 @@ unfolding events_from
 plain_events number [] = All-nil (λ (e : Event). is_of_depth e ≡ false)
 plain_events number (d ∷ ds) = both (event_numbered 1 number d) (events_from 1 (number + 1) ds) (plain_numbered number d) (plain_events (number + 1) ds)
   where
-    both : (first : Result Event CaptureFault) (others : Result (List Event) CaptureFault) → PlainResult first → IfOk others (λ es. All (λ e. is_of_depth e ≡ false) es)
+    both : (first : Result Event CaptureFault) (others : Result (List Event) CaptureFault) → PlainResult first
+        → IfOk others (λ es. All (λ e. is_of_depth e ≡ false) es)
         → IfOk (first >>=r λ event. others >>=r λ es. Ok (event ∷ es)) (λ es. All (λ e. is_of_depth e ≡ false) es)
     both (Err fault) others plain rest = tt
     both (Ok e) (Err fault) plain rest = tt
     both (Ok e) (Ok es) plain rest = All-cons (λ (f : Event). is_of_depth f ≡ false) e es plain rest
 
 -- what `EventTable::start` asks of a version and the events that were read
-pub IsVersion-read : (version : ℕ) (found : Option ℕ) (ds : List Data) (es : List Event) → found ≡ Some version → IfSome found (λ v. (1 ≤ v) × (v ≤ 2)) → events_from version 1 ds ≡ Ok es → IsVersion version es
+pub IsVersion-read : (version : ℕ) (found : Option ℕ) (ds : List Data) (es : List Event) → found ≡ Some version → IfSome found (λ v. (1 ≤ v) × (v ≤ 2))
+    → events_from version 1 ds ≡ Ok es → IsVersion version es
 IsVersion-read version found ds es is within read =
     let bounds : (1 ≤ version) × (version ≤ 2) = rw is at within in
     record {

@@ -1,5 +1,6 @@
 -- Promised. What the values and members of a capture (RFC 8259) stand for.
-use Rattle.std.specs.Prelude.{ℕ, ◌-◌, ◌^◌, ℤ, pos, negsuc, int_le, unsigned_abs, codes, Bool, Option, Some, None, option_map, option_and_then, List, [], ◌∷◌, nat_le, ◌&&◌, ◌==◌, if◌then◌else◌}
+use Rattle.std.specs.Prelude.{ℕ, ◌-◌, ◌^◌, ℤ, pos, negsuc, int_le, unsigned_abs, codes, Bool, Option, Some, None, option_map, option_and_then, List}
+use Rattle.std.specs.Prelude.{[], ◌∷◌, nat_le, ◌&&◌, ◌==◌, if◌then◌else◌}
 use Prim.Native.String.{String}
 use Rattle.serde_json.specs.Data.{Data, Items, no_items, item}
 use Rattle.serde_json.specs.Find.{get, as_bool, as_number, as_i64, as_str, as_array}

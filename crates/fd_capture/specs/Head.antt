@@ -21,7 +21,8 @@ use Rattle.fd_capture.specs.Listed.{GivesListed}
 
 -- the small members, and the events as those of a version
 abbrev pub HasHead : ℕ → Head → Members → Type 0
-HasHead version head found = (kept : Members) × (view head.members ≡ object kept) × Clips kept found × GivesListed version head.events (option_and_then array_of (get_member (codes "events") found))
+HasHead version head found = (kept : Members) × (view head.members ≡ object kept) × Clips kept found
+    × GivesListed version head.events (option_and_then array_of (get_member (codes "events") found))
 
 -- an object has a head, and no other value
 abbrev pub IsHead : ℕ → Option Head → Data → Type 0

@@ -41,8 +41,10 @@ indices_of_array d = array_of d >>= all_of unsigned_32
 abbrev pub is_small : List ℕ → Bool
 is_small name =
     bytes_eq name (codes "format") || bytes_eq name (codes "version") || bytes_eq name (codes "width") || bytes_eq name (codes "height")
-    || bytes_eq name (codes "kind") || bytes_eq name (codes "color") || bytes_eq name (codes "cull") || bytes_eq name (codes "front_ccw") || bytes_eq name (codes "scissor") || bytes_eq name (codes "rect")
-    || bytes_eq name (codes "enable") || bytes_eq name (codes "rgb") || bytes_eq name (codes "alpha") || bytes_eq name (codes "mask") || bytes_eq name (codes "interp") || bytes_eq name (codes "name")
+    || bytes_eq name (codes "kind") || bytes_eq name (codes "color") || bytes_eq name (codes "cull") || bytes_eq name (codes "front_ccw")
+    || bytes_eq name (codes "scissor") || bytes_eq name (codes "rect")
+    || bytes_eq name (codes "enable") || bytes_eq name (codes "rgb") || bytes_eq name (codes "alpha") || bytes_eq name (codes "mask")
+    || bytes_eq name (codes "interp") || bytes_eq name (codes "name")
     || bytes_eq name (codes "write") || bytes_eq name (codes "func") || bytes_eq name (codes "depth")
 
 -- of the small members, the outermost part

@@ -1,5 +1,7 @@
--- Working. What a capture of version 1 stands for: as it was defined before there was version 2, with the limits of then. A vertex has no depth, which is 0 in the table.
-use Rattle.std.specs.Prelude.{ℕ, ℤ, ◌+◌, ◌^◌, unsigned_abs, codes, Bool, false, List, [], ◌∷◌, length, Option, Some, None, ok_or, Result, Ok, Err, nat_lt, nat_le, ◌&&◌, if◌then◌else◌}
+-- Working. What a capture of version 1 stands for: as it was defined before there was version 2, with the limits of then. A vertex has no depth, which is 0
+-- in the table.
+use Rattle.std.specs.Prelude.{ℕ, ℤ, ◌+◌, ◌^◌, unsigned_abs, codes, Bool, false, List, [], ◌∷◌, length, Option, Some, None, ok_or, Result, Ok, Err}
+use Rattle.std.specs.Prelude.{nat_lt, nat_le, ◌&&◌, if◌then◌else◌}
 use Rattle.std.specs.List.{list_any}
 use Prim.Native.String.{String}
 use Rattle.std.specs.Str.{bytes_eq}

@@ -53,9 +53,11 @@ admitted_from e t inclusive h = elim (or_cases (same_sign e t) (int_eq e (pos 0)
 
 pub admitted_to : (e t : ℤ) (inclusive : Bool) → IsAdmitted e t inclusive → (same_sign e t || (int_eq e (pos 0) && inclusive)) ≡ true
 admitted_to e t inclusive (inl above) =
-    or_left (same_sign e t) (int_eq e (pos 0) && inclusive) (or_left (int_lt (pos 0) e && int_lt (pos 0) t) (int_lt e (pos 0) && int_lt t (pos 0)) (and_from (int_lt (pos 0) e) (int_lt (pos 0) t) (is_positive e above.0) (is_positive t above.1)))
+    or_left (same_sign e t) (int_eq e (pos 0) && inclusive) (or_left (int_lt (pos 0) e && int_lt (pos 0) t) (int_lt e (pos 0) && int_lt t (pos 0))
+    (and_from (int_lt (pos 0) e) (int_lt (pos 0) t) (is_positive e above.0) (is_positive t above.1)))
 admitted_to e t inclusive (inr (inl below)) =
-    or_left (same_sign e t) (int_eq e (pos 0) && inclusive) (or_right (int_lt (pos 0) e && int_lt (pos 0) t) (int_lt e (pos 0) && int_lt t (pos 0)) (and_from (int_lt e (pos 0)) (int_lt t (pos 0)) (is_negative e below.0) (is_negative t below.1)))
+    or_left (same_sign e t) (int_eq e (pos 0) && inclusive) (or_right (int_lt (pos 0) e && int_lt (pos 0) t) (int_lt e (pos 0) && int_lt t (pos 0))
+    (and_from (int_lt e (pos 0)) (int_lt t (pos 0)) (is_negative e below.0) (is_negative t below.1)))
 admitted_to e t inclusive (inr (inr on)) =
     or_right (same_sign e t) (int_eq e (pos 0) && inclusive) (and_from (int_eq e (pos 0)) inclusive ((Decides-int_eq e (pos 0)).1 on.0) on.1)
 
@@ -77,7 +79,8 @@ covered_from t x y h =
     let edges = and_parts (admits t.a t.b t.c (centre x y)) _ outer.1 in
     let others = and_parts (admits t.b t.c t.a (centre x y)) (admits t.c t.a t.b (centre x y)) edges.1 in
     record {
-      area = λ e. both_ways (int_eq (cross t.a t.b t.c) (pos 0)) (not-true (int_eq (cross t.a t.b t.c) (pos 0)) outer.0) ((Decides-int_eq (cross t.a t.b t.c) (pos 0)).1 e);
+      area = λ e. both_ways (int_eq (cross t.a t.b t.c) (pos 0)) (not-true (int_eq (cross t.a t.b t.c) (pos 0)) outer.0)
+          ((Decides-int_eq (cross t.a t.b t.c) (pos 0)).1 e);
       first = edges.0;
       second = others.0;
       third = others.1;
@@ -86,5 +89,6 @@ covered_from t x y h =
 pub covered_to : (t : Tri) (x y : ℕ) → IsCovered t.a t.b t.c (centre x y) → covers t x y ≡ true
 unfolding covers
 covered_to t x y h =
-    let area : int_eq (cross t.a t.b t.c) (pos 0) ≡ false = false_from_ne_true (int_eq (cross t.a t.b t.c) (pos 0)) (λ e. h.area ((Decides-int_eq (cross t.a t.b t.c) (pos 0)).0 e)) in
+    let area : int_eq (cross t.a t.b t.c) (pos 0) ≡ false = false_from_ne_true (int_eq (cross t.a t.b t.c) (pos 0))
+    (λ e. h.area ((Decides-int_eq (cross t.a t.b t.c) (pos 0)).0 e)) in
     and_from _ _ (not_from_false (int_eq (cross t.a t.b t.c) (pos 0)) area) (and_from _ _ h.first (and_from _ _ h.second h.third))

@@ -1,5 +1,6 @@
 -- The covered pixels of a row by the three edges of the clockwise triangle.
-use Rattle.std.proofs.Common.{◌≡◌, ℕ, zero, suc, ◌+◌, ◌*◌, ◌<◌, ◌≤◌, pos, ◌+ℤ◌, ◌-ℤ◌, ◌*ℤ◌, ◌≤ℤ◌, ◌<ℤ◌, ◌⊎◌, inl, inr, ◌↔◌, Bool, true, false, ◌&&◌, ◌||◌, ℤ, IsTrue, refl, sym, ap, subst, ◌∙◌, arith}
+use Rattle.std.proofs.Common.{◌≡◌, ℕ, zero, suc, ◌+◌, ◌*◌, ◌<◌, ◌≤◌, pos, ◌+ℤ◌, ◌-ℤ◌, ◌*ℤ◌, ◌≤ℤ◌, ◌<ℤ◌, ◌⊎◌, inl, inr, ◌↔◌, Bool, true, false, ◌&&◌}
+use Rattle.std.proofs.Common.{◌||◌, ℤ, IsTrue, refl, sym, ap, subst, ◌∙◌, arith}
 use Rattle.std.proofs.lemmas.Int.{ints}
 use Rattle.std.proofs.lemmas.Bool.{cases_lt, false≢true, false_from_ne_true, and_parts, or_cases}
 use Rattle.std.proofs.lemmas.Bool.Decides.{Decides-int_eq}
@@ -41,7 +42,8 @@ margin_inclusive : (u v c : Point) → IsPositive (cross u v c) → margin u v c
 margin_inclusive u v c side = rw (left_is u v c side) refl
 
 -- the columns that an edge admits, where the triangle has an area
-pub edge_columns : (u v c : Point) (y : ℕ) (e : Edge) → IsEdge u v c y e → IsPositive (cross u v c) → (x : ℕ) → IsTrue (admits u v c (centre x y)) ↔ ((e.step *ℤ pos x) ≤ℤ e.slack)
+pub edge_columns : (u v c : Point) (y : ℕ) (e : Edge) → IsEdge u v c y e → IsPositive (cross u v c) → (x : ℕ) → IsTrue (admits u v c (centre x y))
+    ↔ ((e.step *ℤ pos x) ≤ℤ e.slack)
 edge_columns u v c y e at side x =
     let slack : e.slack ≡ cross u v (centre 0 y) -ℤ margin_of (is_inclusive u v c) = rw (margin_inclusive u v c side) at at.slack in
     rw (at.step, slack) (columns_above u v c x y side)
@@ -71,27 +73,40 @@ unfolding IsLeaning
 never_all a b c first second third = omega (arith, ints, first, second, third)
 
 -- the side at a column that the edge leaves
-side_left : (u v c : Point) (y : ℕ) (e : Edge) → IsEdge u v c y e → (x : ℕ) → (e.step *ℤ pos x) ≤ℤ e.slack → up (margin u v c) + down (cross u v (centre x y)) ≤ up (cross u v (centre x y))
+side_left : (u v c : Point) (y : ℕ) (e : Edge) → IsEdge u v c y e → (x : ℕ) → (e.step *ℤ pos x) ≤ℤ e.slack → up (margin u v c) + down (cross u v (centre x y))
+    ≤ up (cross u v (centre x y))
 side_left u v c y e at x h =
-    let line = above_cut (cross u v (centre 0 y)) (cross u v (centre x y)) ((pos 256 *ℤ (v.y -ℤ u.y)) *ℤ pos x) (margin u v c) (along u v x y) (margin_is (is_top u v c || int_lt v.y u.y)).1 in
+    let line = above_cut (cross u v (centre 0 y)) (cross u v (centre x y)) ((pos 256 *ℤ (v.y -ℤ u.y)) *ℤ pos x) (margin u v c) (along u v x y)
+    (margin_is (is_top u v c || int_lt v.y u.y)).1 in
     line.1 (rw (at.step, at.slack) at h)
 
 module _ (a b c : Point) (y : ℕ) (first second third : Edge) (ab : IsEdge a b c y first) (bc : IsEdge b c a y second) (ca : IsEdge c a b y third) (x : ℕ) where
-  flat_leaves_none : cross a b c ≡ pos 0 → (first.step *ℤ pos x) ≤ℤ first.slack → (second.step *ℤ pos x) ≤ℤ second.slack → (third.step *ℤ pos x) ≤ℤ third.slack → ⊥
+  flat_leaves_none : cross a b c ≡ pos 0 → (first.step *ℤ pos x) ≤ℤ first.slack → (second.step *ℤ pos x) ≤ℤ second.slack
+      → (third.step *ℤ pos x) ≤ℤ third.slack → ⊥
   flat_leaves_none flat h1 h2 h3 =
       let s1 = side_left a b c y first ab x h1 in
       let s2 = side_left b c a y second bc x h2 in
       let s3 = side_left c a b y third ca x h3 in
       let sum = cross-sum a b c (centre x y) ∙ flat in
-      never_all a b c (leaning a b c (omega (arith, ints, s1, s2, s3, sum))) (leaning b c a (omega (arith, ints, s1, s2, s3, sum))) (leaning c a b (omega (arith, ints, s1, s2, s3, sum)))
+      never_all a b c (leaning a b c (omega (arith, ints, s1, s2, s3, sum))) (leaning b c a (omega (arith, ints, s1, s2, s3, sum)))
+      (leaning c a b (omega (arith, ints, s1, s2, s3, sum)))
 
-  pub covered_by_edges : IsClockwise a b c → IsCovered a b c (centre x y) ↔ (((first.step *ℤ pos x) ≤ℤ first.slack) × (((second.step *ℤ pos x) ≤ℤ second.slack) × ((third.step *ℤ pos x) ≤ℤ third.slack)))
+  pub covered_by_edges : IsClockwise a b c → IsCovered a b c (centre x y)
+      ↔ (((first.step *ℤ pos x) ≤ℤ first.slack) × (((second.step *ℤ pos x) ≤ℤ second.slack) × ((third.step *ℤ pos x) ≤ℤ third.slack)))
   covered_by_edges way = elim (cases_lt (down (cross a b c)) (up (cross a b c))) [
     | inl above ↦
         let one = edge_columns a b c y first ab above x in
         let two = edge_columns b c a y second bc (omega (arith, ints, cross-turn a b c)) x in
-        let three = edge_columns c a b y third ca (omega (arith, ints, cross-turn a b c, cross-turn b c a)) x in
-        (λ h. (one.0 h.first, (two.0 h.second, three.0 h.third)), λ h. record { area = λ e. omega (arith, ints, e); first = one.1 h.0; second = two.1 h.1.0; third = three.1 h.1.1 })
+        let three = edge_columns c a b y third ca (omega (arith, ints, cross-turn a b c, cross-turn b c a)) x in (
+          λ h. (one.0 h.first, (two.0 h.second, three.0 h.third)),
+          λ h. record {
+            area = λ e. omega (arith, ints, e);
+            first = one.1 h.0;
+            second =
+                two.1 h.1.0;
+            third = three.1 h.1.1;
+          },
+        )
     | inr level ↦
         let flat : cross a b c ≡ pos 0 = omega (arith, ints) in
         (λ h. absurd (h.area flat), λ h. absurd (flat_leaves_none flat h.0 h.1.0 h.1.1))
@@ -99,11 +114,13 @@ module _ (a b c : Point) (y : ℕ) (first second third : Edge) (ab : IsEdge a b 
 
 -- ---- the clockwise triangle covers the same pixels
 
-clockwise_cases : (t : Tri) → (IsNegative (cross t.a t.b t.c) × (clockwise t ≡ record { a = t.a; b = t.c; c = t.b })) ⊎ (IsClockwise t.a t.b t.c × (clockwise t ≡ t))
+clockwise_cases : (t : Tri) → (IsNegative (cross t.a t.b t.c) × (clockwise t ≡ record { a = t.a; b = t.c; c = t.b }))
+    ⊎ (IsClockwise t.a t.b t.c × (clockwise t ≡ t))
 unfolding clockwise
 clockwise_cases t = from (int_lt (cross t.a t.b t.c) (pos 0)) refl
   where
-    from : (b : Bool) → int_lt (cross t.a t.b t.c) (pos 0) ≡ b → (IsNegative (cross t.a t.b t.c) × (clockwise t ≡ record { a = t.a; b = t.c; c = t.b })) ⊎ (IsClockwise t.a t.b t.c × (clockwise t ≡ t))
+    from : (b : Bool) → int_lt (cross t.a t.b t.c) (pos 0) ≡ b → (IsNegative (cross t.a t.b t.c) × (clockwise t ≡ record { a = t.a; b = t.c; c = t.b }))
+        ⊎ (IsClockwise t.a t.b t.c × (clockwise t ≡ t))
     from true e = inl (negative_from (cross t.a t.b t.c) e, rw e refl)
     from false e = inr (
       elim (cases_lt (up (cross t.a t.b t.c)) (down (cross t.a t.b t.c))) [
@@ -120,8 +137,11 @@ covered_in_row t y first second third edges x = elim (clockwise_cases t) [
   | inl turned ↦
       let at : AreEdges (record { a = t.a; b = t.c; c = t.b }) y first second third = rw turned.1 at edges in
       let way : IsClockwise t.a t.c t.b = omega (arith, ints, turned.0, cross-swap t.a t.b t.c, cross-turn t.b t.a t.c) in
-      let by = covered_by_edges t.a t.c t.b y first second third at.ab at.bc at.ca x way in
-      (λ h. by.0 (IsCovered-turn t.b t.a t.c (centre x y) (IsCovered-swap t.a t.b t.c (centre x y) (covered_from t x y h))), λ h. covered_to t x y (IsCovered-turn t.c t.a t.b (centre x y) (IsCovered-swap t.a t.c t.b (centre x y) (by.1 h))))
+      let by = covered_by_edges t.a t.c t.b y first second third at.ab at.bc at.ca x way in (
+        λ h. by.0 (IsCovered-turn t.b t.a t.c (centre x y) (IsCovered-swap t.a t.b t.c (centre x y) (covered_from t x y h))),
+        λ h. covered_to t x y
+            (IsCovered-turn t.c t.a t.b (centre x y) (IsCovered-swap t.a t.c t.b (centre x y) (by.1 h))),
+      )
   | inr same ↦
       let at : AreEdges t y first second third = rw same.1 at edges in
       let by = covered_by_edges t.a t.b t.c y first second third at.ab at.bc at.ca x same.0 in
@@ -131,7 +151,8 @@ covered_in_row t y first second third edges x = elim (clockwise_cases t) [
 -- ---- the columns between which each edge in turn leaves the rest
 
 module _ (t : Tri) (y x0 x1 l1 r1 l2 r2 l3 r3 : ℕ) (P1 P2 P3 : ℕ → Type 0) (cover : (x : ℕ) → IsTrue (covers t x y) ↔ (P1 x × (P2 x × P3 x)))
-    (part1 : (x : ℕ) → x0 ≤ x → x < x1 → P1 x ↔ ((l1 ≤ x) × (x < r1))) (part2 : (x : ℕ) → l1 ≤ x → x < r1 → P2 x ↔ ((l2 ≤ x) × (x < r2))) (part3 : (x : ℕ) → l2 ≤ x → x < r2 → P3 x ↔ ((l3 ≤ x) × (x < r3)))
+    (part1 : (x : ℕ) → x0 ≤ x → x < x1 → P1 x ↔ ((l1 ≤ x) × (x < r1))) (part2 : (x : ℕ) → l1 ≤ x → x < r1 → P2 x ↔ ((l2 ≤ x) × (x < r2)))
+    (part3 : (x : ℕ) → l2 ≤ x → x < r2 → P3 x ↔ ((l3 ≤ x) × (x < r3)))
     (order : ((x0 ≤ l1) × (r1 ≤ x1)) × (((l1 ≤ l2) × (r2 ≤ r1)) × ((l2 ≤ l3) × (r3 ≤ r2)))) where
   to_span : (x : ℕ) → x0 ≤ x → x < x1 → IsTrue (covers t x y) → (l3 ≤ x) × (x < r3)
   to_span x low high h =
@@ -142,7 +163,13 @@ module _ (t : Tri) (y x0 x1 l1 r1 l2 r2 l3 r3 : ℕ) (P1 P2 P3 : ℕ → Type 0)
 
   from_span : (x : ℕ) → l3 ≤ x → x < r3 → IsTrue (covers t x y)
   from_span x low high =
-      (cover x).1 ((part1 x (omega arith) (omega arith)).1 (omega arith, omega arith), ((part2 x (omega arith) (omega arith)).1 (omega arith, omega arith), (part3 x (omega arith) (omega arith)).1 (low, high)))
+      (cover x).1 (
+        (part1 x (omega arith) (omega arith)).1 (omega arith, omega arith),
+        (
+          (part2 x (omega arith) (omega arith)).1 (omega arith, omega arith),
+          (part3 x (omega arith) (omega arith)).1 (low, high),
+        ),
+      )
 
   pub span_of_edges : l3 < r3 → IsSpan t y x0 x1 l3 r3
   span_of_edges some = record {
@@ -162,10 +189,12 @@ unfolding cross
 side_below u v y =
     equal_from
     (difference_of (product_of (minus v.x u.x) (minus (pos (256 * (y + 1) + 128)) u.y)) (product_of (minus v.y u.y) (minus (pos 128) u.x)))
-    (sum_of (difference_of (product_of (minus v.x u.x) (minus (pos (256 * y + 128)) u.y)) (product_of (minus v.y u.y) (minus (pos 128) u.x))) (product_of (natural 256) (minus v.x u.x)))
+    (sum_of (difference_of (product_of (minus v.x u.x) (minus (pos (256 * y + 128)) u.y)) (product_of (minus v.y u.y) (minus (pos 128) u.x)))
+    (product_of (natural 256) (minus v.x u.x)))
     (omega arith)
 
-pub edge_below : (u v c : Point) (y : ℕ) (e f : Edge) → f ≡ record { step = e.step; slack = e.slack +ℤ e.down; down = e.down } → IsEdge u v c y e → IsEdge u v c (y + 1) f
+pub edge_below : (u v c : Point) (y : ℕ) (e f : Edge) → f ≡ record { step = e.step; slack = e.slack +ℤ e.down; down = e.down } → IsEdge u v c y e
+    → IsEdge u v c (y + 1) f
 edge_below u v c y e f next at = rw next (record {
   step = at.step;
   slack = omega (arith, ints, at.slack, at.down, side_below u v y);
@@ -189,7 +218,8 @@ edge_lowered u v c y e at zero =
 edge_lowered u v c y e at (suc n) =
     let next : (lowered e n).slack +ℤ e.down ≡ (lowered e (suc n)).slack = omega (arith, ints) in
     subst (λ (m : ℕ). IsEdge u v c m (lowered e (suc n))) {x = y + n + 1} {y = y + suc n} (omega arith)
-    (edge_below u v c (y + n) (lowered e n) (lowered e (suc n)) (ap (λ (s : ℤ). record { step = e.step; slack = s; down = e.down }) (sym next)) (edge_lowered u v c y e at n))
+    (edge_below u v c (y + n) (lowered e n) (lowered e (suc n)) (ap (λ (s : ℤ). record { step = e.step; slack = s; down = e.down }) (sym next))
+    (edge_lowered u v c y e at n))
 
 -- a triangle covers no pixel that one of its edges leaves out
 module _ (t : Tri) (y : ℕ) (first second third : Edge) (edges : AreEdges (clockwise t) y first second third) (n x : ℕ) where

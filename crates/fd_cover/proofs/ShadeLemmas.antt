@@ -14,16 +14,21 @@ use borrow.Author.Differences.{up, down}
 
 -- an admitted side lies on the triangle's side or is 0
 side_agrees : (e t : ℤ) (inclusive : Bool) → IsAdmitted e t inclusive → (IsPositive t → down e ≡ 0) × (IsNegative t → up e ≡ 0)
-side_agrees (pos n) t inclusive h = (λ w. refl, λ w. elim h [ inl a ↦ absurd (omega arith) | inr m ↦ elim m [ inl b ↦ absurd (omega arith) | inr on ↦ omega (arith, ints, on.0) ] ])
-side_agrees (negsuc n) t inclusive h = (λ w. elim h [ inl a ↦ absurd (omega arith) | inr m ↦ elim m [ inl b ↦ absurd (omega arith) | inr on ↦ absurd (omega (arith, ints, on.0)) ] ], λ w. refl)
+side_agrees (pos n) t inclusive h =
+    (λ w. refl, λ w. elim h [ inl a ↦ absurd (omega arith) | inr m ↦ elim m [ inl b ↦ absurd (omega arith) | inr on ↦ omega (arith, ints, on.0) ] ])
+side_agrees (negsuc n) t inclusive h =
+    (λ w. elim h [ inl a ↦ absurd (omega arith) | inr m ↦ elim m [ inl b ↦ absurd (omega arith) | inr on ↦ absurd (omega (arith, ints, on.0)) ] ], λ w. refl)
 
-pub admitted_side : (u v c p : Point) (t : ℤ) → cross u v c ≡ t → admits u v c p ≡ true → (IsPositive t → down (cross u v p) ≡ 0) × (IsNegative t → up (cross u v p) ≡ 0)
+pub admitted_side : (u v c p : Point) (t : ℤ) → cross u v c ≡ t → admits u v c p ≡ true → (IsPositive t → down (cross u v p) ≡ 0)
+    × (IsNegative t → up (cross u v p) ≡ 0)
 unfolding admits
-admitted_side u v c p t same h = side_agrees (cross u v p) t (is_inclusive u v c) (rw same at (admitted_from (cross u v p) (cross u v c) (is_inclusive u v c) h))
+admitted_side u v c p t same h = side_agrees (cross u v p) t (is_inclusive u v c)
+    (rw same at (admitted_from (cross u v p) (cross u v c) (is_inclusive u v c) h))
 
 -- the sizes of three sides that lie on the side of their sum
 sizes_add : (a b c t : ℤ) → a +ℤ (b +ℤ c) ≡ t → t ≢ pos 0
-    → ((IsPositive t → down a ≡ 0) × (IsNegative t → up a ≡ 0)) → ((IsPositive t → down b ≡ 0) × (IsNegative t → up b ≡ 0)) → ((IsPositive t → down c ≡ 0) × (IsNegative t → up c ≡ 0))
+    → ((IsPositive t → down a ≡ 0) × (IsNegative t → up a ≡ 0)) → ((IsPositive t → down b ≡ 0) × (IsNegative t → up b ≡ 0))
+    → ((IsPositive t → down c ≡ 0) × (IsNegative t → up c ≡ 0))
     → (unsigned_abs b + unsigned_abs c + unsigned_abs a ≡ unsigned_abs t) × (0 < unsigned_abs t)
 sizes_add a b c (pos n) sum apart ha hb hc = (omega (arith, ints, sum, apart, ha.0, hb.0, hc.0), omega (arith, ints, apart))
 sizes_add a b c (negsuc n) sum apart ha hb hc = (omega (arith, ints, sum, ha.1, hb.1, hc.1), omega arith)

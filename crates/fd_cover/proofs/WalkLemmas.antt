@@ -1,5 +1,6 @@
 -- A rounded quotient along a row of covered pixels is the whole part of a place that grows by equal steps.
-use Rattle.std.proofs.Common.{List, length, map, replicate, get_or, ◌≡◌, ◌≢◌, ℕ, zero, suc, ◌+◌, ◌-◌, ◌*◌, ◌/◌, ◌%◌, ◌^◌, ◌<◌, ◌≤◌, ℤ, pos, negsuc, ◌+ℤ◌, ◌-ℤ◌, ◌*ℤ◌, inl, inr, true, refl, sym, ap, ◌∙◌, arith, unsigned_abs}
+use Rattle.std.proofs.Common.{List, length, map, replicate, get_or, ◌≡◌, ◌≢◌, ℕ, zero, suc, ◌+◌, ◌-◌, ◌*◌, ◌/◌, ◌%◌, ◌^◌, ◌<◌, ◌≤◌, ℤ, pos, negsuc}
+use Rattle.std.proofs.Common.{◌+ℤ◌, ◌-ℤ◌, ◌*ℤ◌, inl, inr, true, refl, sym, ap, ◌∙◌, arith, unsigned_abs}
 use Rattle.std.proofs.lemmas.Int.{ints}
 use Rattle.std.proofs.lemmas.Bool.{cases_lt}
 use Rattle.std.proofs.lemmas.Nat.{le-div}
@@ -31,7 +32,8 @@ steps e0 e1 ei p n i one all =
 
 -- the sizes of sides that all lie on one side or on the line
 sizes_step : (e0 e1 ei h : ℤ) (i : ℕ) (t : ℤ) → t ≢ pos 0 → e0 ≡ e1 +ℤ h *ℤ pos 256 → e0 ≡ ei +ℤ h *ℤ pos (256 * i)
-    → ((IsPositive t → down e0 ≡ 0) × (IsNegative t → up e0 ≡ 0)) → ((IsPositive t → down e1 ≡ 0) × (IsNegative t → up e1 ≡ 0)) → ((IsPositive t → down ei ≡ 0) × (IsNegative t → up ei ≡ 0))
+    → ((IsPositive t → down e0 ≡ 0) × (IsNegative t → up e0 ≡ 0)) → ((IsPositive t → down e1 ≡ 0) × (IsNegative t → up e1 ≡ 0))
+    → ((IsPositive t → down ei ≡ 0) × (IsNegative t → up ei ≡ 0))
     → unsigned_abs ei + i * unsigned_abs e0 ≡ unsigned_abs e0 + i * unsigned_abs e1
 sizes_step e0 e1 ei h i (pos zero) apart one all s0 s1 si = absurd (apart refl)
 sizes_step e0 e1 ei h i (pos (suc n)) apart one all s0 s1 si =
@@ -80,7 +82,8 @@ module _ (t : Tri) (x y i : ℕ) (first : covers t x y ≡ true) (second : cover
       (admitted_side t.a t.b t.c (centre (x + i) y) area refl (covered_from t (x + i) y here).first)
 
 sum_linear : (a0 a1 ai b0 b1 bi c0 c1 ci i a b c area : ℕ) → ai + i * a0 ≡ a0 + i * a1 → bi + i * b0 ≡ b0 + i * b1 → ci + i * c0 ≡ c0 + i * c1
-    → (2 * (ai * a + bi * b + ci * c) + area) + i * (2 * (a0 * a + b0 * b + c0 * c) + area) ≡ (2 * (a0 * a + b0 * b + c0 * c) + area) + i * (2 * (a1 * a + b1 * b + c1 * c) + area)
+    → (2 * (ai * a + bi * b + ci * c) + area) + i * (2 * (a0 * a + b0 * b + c0 * c) + area)
+    ≡ (2 * (a0 * a + b0 * b + c0 * c) + area) + i * (2 * (a1 * a + b1 * b + c1 * c) + area)
 sum_linear a0 a1 ai b0 b1 bi c0 c1 ci i a b c area ha hb hc =
     let fa : (ai + i * a0) * a ≡ (a0 + i * a1) * a = ap (λ k. k * a) ha in
     let fb : (bi + i * b0) * b ≡ (b0 + i * b1) * b = ap (λ k. k * b) hb in
@@ -91,7 +94,8 @@ sum_linear a0 a1 ai b0 b1 bi c0 c1 ci i a b c area ha hb hc =
 pub numerator-linear : (t : Tri) (x y i a b c : ℕ) → covers t x y ≡ true → covers t (x + 1) y ≡ true → covers t (x + i) y ≡ true
     → numerator t (x + i) y a b c + i * numerator t x y a b c ≡ numerator t x y a b c + i * numerator t (x + 1) y a b c
 numerator-linear t x y i a b c first second here =
-    sum_linear _ _ _ _ _ _ _ _ _ i a b c (area_of t) (weight_a-linear t x y i first second here) (weight_b-linear t x y i first second here) (weight_c-linear t x y i first second here)
+    sum_linear _ _ _ _ _ _ _ _ _ i a b c (area_of t) (weight_a-linear t x y i first second here) (weight_b-linear t x y i first second here)
+    (weight_c-linear t x y i first second here)
 
 -- ---- places
 
@@ -104,7 +108,8 @@ quotient_is w k q some low high =
       | inr same ↦ omega arith
     ]
 
-module _ (unit n0 n1 n m v0 v1 i : ℕ) (some : 0 < m) (fine : 192 * m ≤ unit) (few : i < 32) (linear : n + i * n0 ≡ n0 + i * n1) (near0 : IsNear unit n0 m v0) (near1 : IsNear unit n1 m v1) where
+module _ (unit n0 n1 n m v0 v1 i : ℕ) (some : 0 < m) (fine : 192 * m ≤ unit) (few : i < 32) (linear : n + i * n0 ≡ n0 + i * n1) (near0 : IsNear unit n0 m v0)
+    (near1 : IsNear unit n1 m v1) where
   abbrev rest0 : ℕ
   rest0 = n0 * unit - m * v0
 
@@ -194,7 +199,8 @@ pub record IsAlong (unit : ℕ) (t : Tri) (x y i : ℕ) : Type 0 where
   pub here : covers t (x + i) y ≡ true
   pub few : i < 32
 
-weighted_small : (wa wb wc a b c area top : ℕ) → wa + wb + wc ≡ area → a < top → b < top → c < top → 2 * (wa * a + wb * b + wc * c) + area + area ≤ 2 * (area * top)
+weighted_small : (wa wb wc a b c area top : ℕ) → wa + wb + wc ≡ area → a < top → b < top → c < top → 2 * (wa * a + wb * b + wc * c) + area + area
+    ≤ 2 * (area * top)
 weighted_small wa wb wc a b c area top sum small_a small_b small_c =
     let ha : wa * suc a ≤ wa * top = mul-le-mul_left wa small_a in
     let hb : wb * suc b ≤ wb * top = mul-le-mul_left wb small_b in
@@ -216,7 +222,8 @@ place_below place unit q top some is low =
     let rest : place % unit < unit = omega arith in
     omega arith
 
-module _ (unit : ℕ) (t : Tri) (x y i a b c v0 v1 : ℕ) (along : IsAlong unit t x y i) (near0 : IsNear unit (numerator t x y a b c) (2 * area_of t) v0) (near1 : IsNear unit (numerator t (x + 1) y a b c) (2 * area_of t) v1) where
+module _ (unit : ℕ) (t : Tri) (x y i a b c v0 v1 : ℕ) (along : IsAlong unit t x y i) (near0 : IsNear unit (numerator t x y a b c) (2 * area_of t) v0)
+    (near1 : IsNear unit (numerator t (x + 1) y a b c) (2 * area_of t) v1) where
   total : (weight_a t (x + i) y + weight_b t (x + i) y + weight_c t (x + i) y ≡ area_of t) × (0 < area_of t)
   total = weights_add t (x + i) y along.here
 
@@ -225,27 +232,34 @@ module _ (unit : ℕ) (t : Tri) (x y i a b c v0 v1 : ℕ) (along : IsAlong unit 
 
   pub whole_part : place_at v0 v1 i / unit ≡ interpolated t (x + i) y a b c
   whole_part =
-      place-quotient unit (numerator t x y a b c) (numerator t (x + 1) y a b c) (numerator t (x + i) y a b c) (2 * area_of t) v0 v1 i (omega (arith, total.1)) along.fine along.few linear near0 near1
+      place-quotient unit (numerator t x y a b c) (numerator t (x + 1) y a b c) (numerator t (x + i) y a b c) (2 * area_of t) v0 v1 i
+      (omega (arith, total.1)) along.fine along.few linear near0 near1
 
   pub no_loss : i * v0 ≤ v0 + 96 + i * v1
   no_loss =
-      place-exact unit (numerator t x y a b c) (numerator t (x + 1) y a b c) (numerator t (x + i) y a b c) (2 * area_of t) v0 v1 i (omega (arith, total.1)) along.fine along.few linear near0 near1
+      place-exact unit (numerator t x y a b c) (numerator t (x + 1) y a b c) (numerator t (x + i) y a b c) (2 * area_of t) v0 v1 i
+      (omega (arith, total.1)) along.fine along.few linear near0 near1
 
   pub place_fits : (top : ℕ) → a < top → b < top → c < top → place_at v0 v1 i < unit * top
   place_fits top small_a small_b small_c =
       let small = weighted_small (weight_a t (x + i) y) (weight_b t (x + i) y) (weight_c t (x + i) y) a b c (area_of t) top total.0 small_a small_b small_c in
-      place_below (place_at v0 v1 i) unit _ top (omega (arith, along.fine, total.1)) whole_part (quotient_below (numerator t (x + i) y a b c) (area_of t) top total.1 small)
+      place_below (place_at v0 v1 i) unit _ top (omega (arith, along.fine, total.1)) whole_part
+      (quotient_below (numerator t (x + i) y a b c) (area_of t) top total.1 small)
 
 -- the number at a column
-pub walk_value : (unit : ℕ) (t : Tri) (x y a b c i place step : ℕ) → IsAlong unit t x y i → IsWalk unit t x y a b c i place step → place / unit ≡ interpolated t (x + i) y a b c
-walk_value unit t x y a b c i place step along walk = ap (λ p. p / unit) walk.at ∙ whole_part unit t x y i a b c walk.begin walk.next along walk.first walk.second
+pub walk_value : (unit : ℕ) (t : Tri) (x y a b c i place step : ℕ) → IsAlong unit t x y i → IsWalk unit t x y a b c i place step → place / unit
+    ≡ interpolated t (x + i) y a b c
+walk_value unit t x y a b c i place step along walk = ap (λ p. p / unit) walk.at
+    ∙ whole_part unit t x y i a b c walk.begin walk.next along walk.first walk.second
 
-next_place : (v0 v1 i p q : ℕ) → i * v0 ≤ v0 + 96 + i * v1 → (i + 1) * v0 ≤ v0 + 96 + (i + 1) * v1 → v0 < 2 ^ 64 → p ≡ (v0 + 96 + i * v1) - i * v0 → q ≡ (v0 + 96 + (i + 1) * v1) - (i + 1) * v0 → q < 2 ^ 64
+next_place : (v0 v1 i p q : ℕ) → i * v0 ≤ v0 + 96 + i * v1 → (i + 1) * v0 ≤ v0 + 96 + (i + 1) * v1 → v0 < 2 ^ 64 → p ≡ (v0 + 96 + i * v1) - i * v0
+    → q ≡ (v0 + 96 + (i + 1) * v1) - (i + 1) * v0 → q < 2 ^ 64
     → (p + (v1 + (2 ^ 64 - v0)) % 2 ^ 64) % 2 ^ 64 ≡ q
 next_place v0 v1 i p q here next fits is_p is_q small = omega arith
 
 -- the next column
-pub walk_on : (unit top : ℕ) (t : Tri) (x y a b c i place step : ℕ) → unit * top ≡ 2 ^ 64 → a < top → b < top → c < top → IsAlong unit t x y i → IsAlong unit t x y (i + 1) → IsWalk unit t x y a b c i place step
+pub walk_on : (unit top : ℕ) (t : Tri) (x y a b c i place step : ℕ) → unit * top ≡ 2 ^ 64 → a < top → b < top → c < top → IsAlong unit t x y i
+    → IsAlong unit t x y (i + 1) → IsWalk unit t x y a b c i place step
     → IsWalk unit t x y a b c (i + 1) ((place + step) % 2 ^ 64) step
 walk_on unit top t x y a b c i place step whole small_a small_b small_c along along_next walk = record {
   begin = walk.begin;
@@ -256,13 +270,15 @@ walk_on unit top t x y a b c i place step whole small_a small_b small_c along al
   at =
       ap (λ s. (place + s) % 2 ^ 64) walk.by
       ∙ next_place walk.begin walk.next i place _
-      (no_loss unit t x y i a b c walk.begin walk.next along walk.first walk.second) (no_loss unit t x y (i + 1) a b c walk.begin walk.next along_next walk.first walk.second) walk.fits walk.at refl
+      (no_loss unit t x y i a b c walk.begin walk.next along walk.first walk.second)
+      (no_loss unit t x y (i + 1) a b c walk.begin walk.next along_next walk.first walk.second) walk.fits walk.at refl
       (rw whole at (place_fits unit t x y (i + 1) a b c walk.begin walk.next along_next walk.first walk.second top small_a small_b small_c));
   by = walk.by;
 }
 
 -- and the first one
-pub walk_from : (unit : ℕ) (t : Tri) (x y a b c v0 v1 place step : ℕ) → IsNear unit (numerator t x y a b c) (2 * area_of t) v0 → IsNear unit (numerator t (x + 1) y a b c) (2 * area_of t) v1
+pub walk_from : (unit : ℕ) (t : Tri) (x y a b c v0 v1 place step : ℕ) → IsNear unit (numerator t x y a b c) (2 * area_of t) v0
+    → IsNear unit (numerator t (x + 1) y a b c) (2 * area_of t) v1
     → v0 < 2 ^ 64 → place ≡ v0 + 96 → step ≡ (v1 + (2 ^ 64 - v0)) % 2 ^ 64 → IsWalk unit t x y a b c 0 place step
 walk_from unit t x y a b c v0 v1 place step first second small is_place is_step = record {
   begin = v0;
@@ -275,7 +291,8 @@ walk_from unit t x y a b c v0 v1 place step first second small is_place is_step 
 }
 
 -- the code's numerator is the one of the weights
-pub numerator_at : (unit : ℕ) (t : Tri) (x y a b c wa wb wc n m v : ℕ) → wa ≡ weight_a t x y → wb ≡ weight_b t x y → wc ≡ weight_c t x y → wa + wb + wc ≡ area_of t → m ≡ 2 * area_of t
+pub numerator_at : (unit : ℕ) (t : Tri) (x y a b c wa wb wc n m v : ℕ) → wa ≡ weight_a t x y → wb ≡ weight_b t x y → wc ≡ weight_c t x y → wa + wb + wc
+    ≡ area_of t → m ≡ 2 * area_of t
     → n ≡ 2 * (wa * a + wb * b + wc * c) + (wa + wb + wc) → IsNear unit n m v → IsNear unit (numerator t x y a b c) (2 * area_of t) v
 numerator_at unit t x y a b c wa wb wc n m v is_a is_b is_c area is_m value near =
     let summed : n ≡ 2 * (wa * a + wb * b + wc * c) + area_of t = rw area at value in
@@ -283,13 +300,15 @@ numerator_at unit t x y a b c wa wb wc n m v is_a is_b is_c area is_m value near
     rw (whole, is_m) at near
 
 -- a colour by its channels
-pub shaded_by : (t : Tri) (a b c : Colour) (x y red green blue alpha : ℕ) → red ≡ interpolated t x y a.r b.r c.r → green ≡ interpolated t x y a.g b.g c.g → blue ≡ interpolated t x y a.b b.b c.b → alpha ≡ interpolated t x y a.a b.a c.a
+pub shaded_by : (t : Tri) (a b c : Colour) (x y red green blue alpha : ℕ) → red ≡ interpolated t x y a.r b.r c.r → green ≡ interpolated t x y a.g b.g c.g
+    → blue ≡ interpolated t x y a.b b.b c.b → alpha ≡ interpolated t x y a.a b.a c.a
     → record { r = red; g = green; b = blue; a = alpha } ≡ shaded t Linear a b c x y
 unfolding shaded
 shaded_by t a b c x y red green blue alpha is_red is_green is_blue is_alpha = rw (is_red, is_green, is_blue, is_alpha) refl
 
 -- values that a function of the column gives
-pub columns_from : {A : Type 0} (d : A) (source : ℕ → A) (x n : ℕ) (sources : List A) → length sources ≡ n → ((i : ℕ) (d : A) → i < n → get_or sources i d ≡ source (x + i)) → sources ≡ map source (range_with_len x n)
+pub columns_from : {A : Type 0} (d : A) (source : ℕ → A) (x n : ℕ) (sources : List A) → length sources ≡ n
+    → ((i : ℕ) (d : A) → i < n → get_or sources i d ≡ source (x + i)) → sources ≡ map source (range_with_len x n)
 columns_from d source x n sources size each =
     ext_get_or d sources (map source (range_with_len x n)) (size ∙ sym (length-map-range_with_len source x n))
     (λ i within. let inside : i < n = omega (arith, size, within) in

@@ -45,12 +45,15 @@ total_split f a (suc n) m =
 pub total_cut : (f : ℕ → ℕ) (a n b m : ℕ) → a ≤ b → b + m ≤ a + n
     → ((k : ℕ) → a ≤ k → k < a + n → (k < b) ⊎ (b + m ≤ k) → f k ≡ 0) → total f a n ≡ total f b m
 total_cut f a n b m low high none =
-    let parts : total f a n ≡ total f a ((b - a) + (m + (a + n - (b + m)))) = ap (λ k. total f a k) {x = n} {y = (b - a) + (m + (a + n - (b + m)))} (omega arith) in
+    let parts : total f a n ≡ total f a ((b - a) + (m + (a + n - (b + m)))) = ap (λ k. total f a k) {x = n} {y = (b - a) + (m + (a + n - (b + m)))}
+    (omega arith) in
     let first = total_split f a (b - a) (m + (a + n - (b + m))) in
-    let place : total f (a + (b - a)) (m + (a + n - (b + m))) ≡ total f b (m + (a + n - (b + m))) = ap (λ k. total f k (m + (a + n - (b + m)))) {x = a + (b - a)} {y = b} (omega arith) in
+    let place : total f (a + (b - a)) (m + (a + n - (b + m))) ≡ total f b (m + (a + n - (b + m))) = ap (λ k. total f k (m + (a + n - (b + m))))
+    {x = a + (b - a)} {y = b} (omega arith) in
     let second = total_split f b m (a + n - (b + m)) in
     let before : total f a (b - a) ≡ 0 = total_nothing f a (b - a) (λ k from to. none k from (omega arith) (inl (omega arith))) in
-    let after : total f (b + m) (a + n - (b + m)) ≡ 0 = total_nothing f (b + m) (a + n - (b + m)) (λ k from to. none k (omega arith) (omega arith) (inr from)) in
+    let after : total f (b + m) (a + n - (b + m)) ≡ 0 = total_nothing f (b + m) (a + n - (b + m))
+    (λ k from to. none k (omega arith) (omega arith) (inr from)) in
     omega (arith, parts, first, place, second, before, after)
 
 pub total_more : (f : ℕ → ℕ) (y bottom : ℕ) → y < bottom → total f y (bottom - y) ≡ f y + total f (y + 1) (bottom - (y + 1))
@@ -106,7 +109,8 @@ written_in_row-span written p y first last span =
     total_span (λ x. written x y) first last p.left p.width span.same
     ∙ omega (arith, span.bounds.0, span.bounds.1, span.bounds.2)
 
-pub written_in_row-none : (written : ℕ → ℕ → Bool) (p : Place) (y : ℕ) → IsRowSpan (λ x. written x y) p.left (p.left + p.width) None → written_in_row written p y ≡ 0
+pub written_in_row-none : (written : ℕ → ℕ → Bool) (p : Place) (y : ℕ) → IsRowSpan (λ x. written x y) p.left (p.left + p.width) None
+    → written_in_row written p y ≡ 0
 written_in_row-none written p y span = no_pixel written y p.left p.width span.same
 
 pub written_in_row-le : (written : ℕ → ℕ → Bool) (p : Place) (y : ℕ) → written_in_row written p y ≤ p.width
@@ -129,7 +133,8 @@ pub and_true : (a b : Bool) → a ≡ true → (a && b) ≡ b
 and_true a b is = rw is refl
 
 -- the span of a box's columns is one of the place that the box takes
-pub box_span : (covered : ℕ → ℕ → Bool) (box : Bounds) (y : ℕ) (span : Option (ℕ × ℕ)) → box.left ≤ box.right → IsRowSpan (λ x. covered x y) box.left box.right span
+pub box_span : (covered : ℕ → ℕ → Bool) (box : Bounds) (y : ℕ) (span : Option (ℕ × ℕ)) → box.left ≤ box.right
+    → IsRowSpan (λ x. covered x y) box.left box.right span
     → IsRowSpan (λ x. covered x y) (place_of_box box).left ((place_of_box box).left + (place_of_box box).width) span
 box_span covered box y span order is =
     let right : box.left + (box.right - box.left) ≡ box.right = omega arith in
@@ -140,7 +145,8 @@ module _ (written covered : ℕ → ℕ → Bool) (p : Place) (box : Bounds) (in
   pub written_in_row-outside : (y : ℕ) → p.top ≤ y → y < p.top + p.height → (y < box.top) ⊎ (box.bottom ≤ y) → written_in_row written p y ≡ 0
   written_in_row-outside y from to out =
       no_pixel written y p.left p.width
-      (λ x low high. is x y (record { from_left = low; to_right = high; from_top = from; to_bottom = to }) ∙ and_false (is_within box x y) (covered x y) (outside_row box x y out))
+      (λ x low high. is x y (record { from_left = low; to_right = high; from_top = from; to_bottom = to })
+      ∙ and_false (is_within box x y) (covered x y) (outside_row box x y out))
 
   pub row_spans-outside : (y : ℕ) → p.top ≤ y → y < p.top + p.height → (y < box.top) ⊎ (box.bottom ≤ y) → row_spans written p y ≡ 0
   row_spans-outside y from to out = omega (arith, written_in_row-outside y from to out)
@@ -156,7 +162,8 @@ module _ (written covered : ℕ → ℕ → Bool) (p : Place) (box : Bounds) (in
       ∙ total_same (λ x. cond (written x y) 1 0) (λ x. cond (covered x y) 1 0) box.left (box.right - box.left)
       (λ x low high.
       ap (λ b. cond b 1 0)
-      (is x y (held x (omega (arith, inside.from_left)) (omega (arith, inside.to_right))) ∙ and_true (is_within box x y) (covered x y) (within_from box x y low (omega (arith, inside.columns)) from to)))
+      (is x y (held x (omega (arith, inside.from_left)) (omega (arith, inside.to_right)))
+      ∙ and_true (is_within box x y) (covered x y) (within_from box x y low (omega (arith, inside.columns)) from to)))
     where
       beside : (x : ℕ) → (x < box.left) ⊎ (box.left + (box.right - box.left) ≤ x) → (x < box.left) ⊎ (box.right ≤ x)
       beside x (inl low) = inl low
@@ -181,12 +188,14 @@ module _ (written covered : ℕ → ℕ → Bool) (p : Place) (box : Bounds) (in
   pub pixels_in-box : pixels_in written p ≡ pixels_in covered (place_of_box box)
   pixels_in-box =
       pixels_in-rows
-      ∙ total_same (written_in_row written p) (written_in_row covered (place_of_box box)) box.top (box.bottom - box.top) (λ y from to. written_in_row-inside y from (omega (arith, inside.rows)))
+      ∙ total_same (written_in_row written p) (written_in_row covered (place_of_box box)) box.top (box.bottom - box.top)
+      (λ y from to. written_in_row-inside y from (omega (arith, inside.rows)))
 
   pub spans_in-box : spans_in written p ≡ spans_in covered (place_of_box box)
   spans_in-box =
       spans_in-rows
-      ∙ total_same (row_spans written p) (row_spans covered (place_of_box box)) box.top (box.bottom - box.top) (λ y from to. ap (λ n. min 1 n) (written_in_row-inside y from (omega (arith, inside.rows))))
+      ∙ total_same (row_spans written p) (row_spans covered (place_of_box box)) box.top (box.bottom - box.top)
+      (λ y from to. ap (λ n. min 1 n) (written_in_row-inside y from (omega (arith, inside.rows))))
 
 -- nothing is written
 module _ (written : ℕ → ℕ → Bool) (p : Place) (none : (x y : ℕ) → Holds p x y → written x y ≡ false) where
@@ -209,7 +218,8 @@ module _ (written : ℕ → ℕ → Bool) (p : Place) (y : ℕ) (crossed : HasRo
       apart (inr high) same = absurd (omega arith)
 
   this_row : written_in_row (in_row written y) p y ≡ written_in_row written p y
-  this_row = total_same (λ x. cond (in_row written y x y) 1 0) (λ x. cond (written x y) 1 0) p.left p.width (λ x low high. ap (λ b. cond b 1 0) (and_true (eqb y y) (written x y) (eq-eqb y y refl)))
+  this_row = total_same (λ x. cond (in_row written y x y) 1 0) (λ x. cond (written x y) 1 0) p.left p.width
+      (λ x low high. ap (λ b. cond b 1 0) (and_true (eqb y y) (written x y) (eq-eqb y y refl)))
 
   one_row : (f : ℕ → ℕ) → ((k : ℕ) → (k < y) ⊎ (y + 1 ≤ k) → f k ≡ 0) → total f p.top p.height ≡ f y
   one_row f none =

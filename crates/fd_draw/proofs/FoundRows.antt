@@ -16,8 +16,10 @@ pub rows_more : (t : Tri) (box : Bounds) (rows : List RowSpan) (y : ℕ) (row : 
 rows_more t box rows y row span from fits above is given z low high = elim (cases_lt z y) [
   | inl upper ↦
       let other : z - box.top ≡ y - box.top → ⊥ = λ same. absurd (omega (arith, same, upper, low, from)) in
-      subst (λ r. IsRowSpan (λ x. covers t x z) box.left box.right (span_from box.left r)) (sym (get_or-set_other rows (y - box.top) (z - box.top) row no_pixel other)) (above z low upper)
+      subst (λ r. IsRowSpan (λ x. covers t x z) box.left box.right (span_from box.left r))
+      (sym (get_or-set_other rows (y - box.top) (z - box.top) row no_pixel other)) (above z low upper)
   | inr lower ↦
       let same : z ≡ y = omega (arith, lower, high) in
-      rw same (subst (λ r. IsRowSpan (λ x. covers t x y) box.left box.right (span_from box.left r)) (sym (get_or-set_same rows (y - box.top) row no_pixel fits)) (rw is given))
+      rw same (subst (λ r. IsRowSpan (λ x. covers t x y) box.left box.right (span_from box.left r))
+      (sym (get_or-set_same rows (y - box.top) row no_pixel fits)) (rw is given))
 ]

@@ -1,5 +1,6 @@
 -- Drawing, pixel by pixel.
-use Rattle.std.proofs.Common.{◌≡◌, ◌≢◌, ℕ, ◌+◌, ◌-◌, ◌<◌, ◌≤◌, Bool, true, false, ◌||◌, cond, eqb, List, [], ◌∷◌, ◌++◌, length, get_or, take, drop, refl, sym, ap, ◌∙◌, subst, arith, append_assoc, length-drop, inl, inr, ◌⊎◌}
+use Rattle.std.proofs.Common.{◌≡◌, ◌≢◌, ℕ, ◌+◌, ◌-◌, ◌<◌, ◌≤◌, Bool, true, false, ◌||◌, cond, eqb, List, [], ◌∷◌, ◌++◌, length, get_or, take, drop}
+use Rattle.std.proofs.Common.{refl, sym, ap, ◌∙◌, subst, arith, append_assoc, length-drop, inl, inr, ◌⊎◌}
 use Rattle.std.specs.Prelude.{◌&&◌, All, Option, Some, None, IfSome, nat_lt}
 use Rattle.std.specs.List.{zip}
 use Rattle.std.proofs.lemmas.Bool.{eq-eqb, ne_eqb, cases_lt, cases_eq}
@@ -56,7 +57,8 @@ module _ (A B : ℕ → ℕ → Pixel → Pixel) (R S : ℕ → ℕ → Pixel �
 
 module _ (A B : ℕ → ℕ → Pixel → Pixel) (R S : ℕ → ℕ → Pixel → List Pixel) (t t' : TileImage) (u u' : Undo) where
   -- the same by other words, where it is said of the pixels that are there
-  pub Paints-same-here : ((x y : ℕ) → Holds t.place x y → A x y (pixel_of t x y) ≡ B x y (pixel_of t x y)) → ((x y : ℕ) → Holds t.place x y → R x y (pixel_of t x y) ≡ S x y (pixel_of t x y))
+  pub Paints-same-here : ((x y : ℕ) → Holds t.place x y → A x y (pixel_of t x y) ≡ B x y (pixel_of t x y))
+      → ((x y : ℕ) → Holds t.place x y → R x y (pixel_of t x y) ≡ S x y (pixel_of t x y))
       → Paints A R t u t' u' → Paints B S t u t' u'
   Paints-same-here after kept painted = record {
     placed = painted.placed;
@@ -89,13 +91,15 @@ Paints-nothing t u filled begun = record {
 
 -- ---- pixels that are written in turn
 
-two_pixels : (b e : Bool) (paint : Pixel → Pixel) (c : Pixel) → (b && e) ≡ false → cond e (paint (cond b (paint c) c)) (cond b (paint c) c) ≡ cond (b || e) (paint c) c
+two_pixels : (b e : Bool) (paint : Pixel → Pixel) (c : Pixel) → (b && e) ≡ false → cond e (paint (cond b (paint c) c)) (cond b (paint c) c)
+    ≡ cond (b || e) (paint c) c
 two_pixels true true paint c apart = absurd (cc)
 two_pixels true false paint c apart = refl
 two_pixels false true paint c apart = refl
 two_pixels false false paint c apart = refl
 
-two_kept : (b e : Bool) (paint : Pixel → Pixel) (keep : Pixel → List Pixel) (c : Pixel) → (b && e) ≡ false → cond b (keep c) [] ++ cond e (keep (cond b (paint c) c)) [] ≡ cond (b || e) (keep c) []
+two_kept : (b e : Bool) (paint : Pixel → Pixel) (keep : Pixel → List Pixel) (c : Pixel) → (b && e) ≡ false → cond b (keep c) []
+    ++ cond e (keep (cond b (paint c) c)) [] ≡ cond (b || e) (keep c) []
 two_kept true true paint keep c apart = absurd (cc)
 two_kept true false paint keep c apart = append-nil (keep c)
 two_kept false true paint keep c apart = refl
@@ -122,7 +126,8 @@ module _ (paint : ℕ → ℕ → Pixel → Pixel) (keep : ℕ → ℕ → Pixel
       (λ x y c held. ap (λ b. cond b (keep x y c) []) (same x y held))
 
   -- no pixel of the place is written
-  pub Paints-unwritten : (written : ℕ → ℕ → Bool) (t : TileImage) (u : Undo) → IsTileImage t → u.frame_left ≡ false → ((x y : ℕ) → Holds t.place x y → written x y ≡ false)
+  pub Paints-unwritten : (written : ℕ → ℕ → Bool) (t : TileImage) (u : Undo) → IsTileImage t → u.frame_left ≡ false
+      → ((x y : ℕ) → Holds t.place x y → written x y ≡ false)
       → Paints (after_where written paint) (kept_where written keep) t u t u
   Paints-unwritten written t u filled begun none =
       Paints-same (λ x y c. c) (after_where written paint) (λ x y c. []) (kept_where written keep) t t u u
@@ -130,7 +135,8 @@ module _ (paint : ℕ → ℕ → Pixel → Pixel) (keep : ℕ → ℕ → Pixel
       (λ x y c held. sym (ap (λ b. cond b (keep x y c) []) (none x y held)))
       (Paints-nothing t u filled begun)
 
-  pub WritesRegion-nothing : (spans pixels : ℕ) (written : ℕ → ℕ → Bool) (t : TileImage) (u : Undo) → IsTileImage t → u.frame_left ≡ false → ((x y : ℕ) → Holds t.place x y → written x y ≡ false)
+  pub WritesRegion-nothing : (spans pixels : ℕ) (written : ℕ → ℕ → Bool) (t : TileImage) (u : Undo) → IsTileImage t → u.frame_left ≡ false
+      → ((x y : ℕ) → Holds t.place x y → written x y ≡ false)
       → WritesRegion spans pixels written paint keep t u t u
   WritesRegion-nothing spans pixels written t u filled begun none =
       record {
@@ -186,7 +192,8 @@ module _ (written : ℕ → ℕ → Bool) (paint : ℕ → ℕ → Pixel → Pix
         anything false = refl
     not_above x y held (inr past) = and_false (nat_lt y box.top) (written x y) (grind (arith, nat_tests))
 
-    pub Paints-first : (u : Undo) → IsTileImage t → u.frame_left ≡ false → Paints (after_where (above written box.top) paint) (kept_where (above written box.top) keep) t u t u
+    pub Paints-first : (u : Undo) → IsTileImage t → u.frame_left ≡ false → Paints (after_where (above written box.top) paint)
+        (kept_where (above written box.top) keep) t u t u
     Paints-first u filled begun = Paints-unwritten paint keep (above written box.top) t u filled begun (λ x y held. not_above x y held (cases_lt y box.top))
 
     all_above : (row x y : ℕ) → box.bottom ≤ row → Holds t.place x y → (y < row) ⊎ (row ≤ y) → above written row x y ≡ written x y
@@ -194,7 +201,8 @@ module _ (written : ℕ → ℕ → Bool) (paint : ℕ → ℕ → Pixel → Pix
     all_above row x y last held (inr past) =
         and_false (nat_lt y row) (written x y) (grind (arith, nat_tests)) ∙ sym (outside x y held (inr (omega arith)))
 
-    pub Paints-last : (row : ℕ) (t' : TileImage) (u u' : Undo) → box.bottom ≤ row → Paints (after_where (above written row) paint) (kept_where (above written row) keep) t u t' u'
+    pub Paints-last : (row : ℕ) (t' : TileImage) (u u' : Undo) → box.bottom ≤ row → Paints (after_where (above written row) paint)
+        (kept_where (above written row) keep) t u t' u'
         → Paints (after_where written paint) (kept_where written keep) t u t' u'
     Paints-last row t' u u' last = Paints-as paint keep (above written row) written t t' u u' (λ x y held. all_above row x y last held (cases_lt y row))
 
@@ -216,7 +224,8 @@ abbrev pub pair_at : TileImage → List Colour → List ℕ → ℕ → Pixel
 pair_at t cs ds x = (get_or cs (x - t.place.left) fresh, get_or ds (x - t.place.left) 65535)
 
 -- the pixels of row y from `first` to before `last` are kept, and the row then has these colours and depths
-module _ (written : ℕ → ℕ → Bool) (paint : ℕ → ℕ → Pixel → Pixel) (y first last : ℕ) (t : TileImage) (u : Undo) (filled : IsTileImage t) (crossed : HasRow t.place y)
+module _ (written : ℕ → ℕ → Bool) (paint : ℕ → ℕ → Pixel → Pixel) (y first last : ℕ) (t : TileImage) (u : Undo) (filled : IsTileImage t)
+    (crossed : HasRow t.place y)
     (begun : u.frame_left ≡ false) (span : IsRowSpan (λ x. written x y) t.place.left (t.place.left + t.place.width) (Some (first, last)))
     (cs : List Colour) (ds : List ℕ) (old : List Pixel) (wide : length cs ≡ t.place.width) (deep : length ds ≡ t.place.width) (long : length old ≡ last - first)
     (was : (x : ℕ) → first ≤ x → x < last → get_or old (x - first) fresh_pixel ≡ pixel_of t x y)
@@ -249,7 +258,8 @@ module _ (written : ℕ → ℕ → Bool) (paint : ℕ → ℕ → Pixel → Pix
 
   -- what becomes of a pixel, and what is kept of it
   abbrev Right : ℕ → ℕ → Type 0
-  Right x z = (pixel_of t' x z ≡ after_where (in_row written y) paint x z (pixel_of t x z)) × (kept_at (kept_row first y old) x z ≡ kept_where (in_row written y) keep_each x z (pixel_of t x z))
+  Right x z = (pixel_of t' x z ≡ after_where (in_row written y) paint x z (pixel_of t x z))
+      × (kept_at (kept_row first y old) x z ≡ kept_where (in_row written y) keep_each x z (pixel_of t x z))
 
   untouched : (x z : ℕ) → in_row written y x z ≡ false → pixel_of t' x z ≡ pixel_of t x z → kept_at (kept_row first y old) x z ≡ [] → Right x z
   untouched x z none same empty = (
@@ -289,7 +299,11 @@ module _ (written : ℕ → ℕ → Bool) (paint : ℕ → ℕ → Pixel → Pix
   pub Paints-span : Paints (after_where (in_row written y) paint) (kept_where (in_row written y) keep_each) t u t' u'
   Paints-span = record {
     placed = refl;
-    filled = record { colours = FillsPlace-with_row_in t.place t.rows y filled.colours crossed cs wide; depths = FillsPlace-with_row_in t.place t.depths y filled.depths crossed ds deep };
+    filled = record {
+      colours = FillsPlace-with_row_in t.place t.rows y filled.colours crossed cs wide;
+      depths =
+          FillsPlace-with_row_in t.place t.depths y filled.depths crossed ds deep;
+    };
     below = older-push (older u.frames) (top u.frames ++ kept_row first y old);
     begun = begun;
     some = λ _. omega (arith, length_push (older u.frames) (top u.frames ++ kept_row first y old));
@@ -307,17 +321,25 @@ in_no_span None x0 x1 x bounds out = refl
 in_no_span (Some s) x0 x1 x bounds (inl low) = in_span-before s.0 s.1 x (omega (arith, bounds.0))
 in_no_span (Some s) x0 x1 x bounds (inr high) = in_span-after s.0 s.1 x (omega (arith, bounds.2))
 
-wider : (span : Option (ℕ × ℕ)) (x0 x1 a b : ℕ) → a ≤ x0 → x1 ≤ b → IfSome span (λ s. (x0 ≤ s.0) × (s.0 < s.1) × (s.1 ≤ x1)) → IfSome span (λ s. (a ≤ s.0) × (s.0 < s.1) × (s.1 ≤ b))
+wider : (span : Option (ℕ × ℕ)) (x0 x1 a b : ℕ) → a ≤ x0 → x1 ≤ b → IfSome span (λ s. (x0 ≤ s.0) × (s.0 < s.1) × (s.1 ≤ x1))
+    → IfSome span (λ s. (a ≤ s.0) × (s.0 < s.1) × (s.1 ≤ b))
 wider None x0 x1 a b low high bounds = bounds
 wider (Some s) x0 x1 a b low high bounds = (omega (arith, bounds.0), bounds.1, omega (arith, bounds.2))
 
 -- the span of what is covered in a row of a box is that of what is written in the place's row
-pub span_written : (written covered : ℕ → ℕ → Bool) (p : Place) (box : Bounds) (y : ℕ) (span : Option (ℕ × ℕ)) → LiesIn box p → IsWrittenIn written covered p box
+pub span_written : (written covered : ℕ → ℕ → Bool) (p : Place) (box : Bounds) (y : ℕ) (span : Option (ℕ × ℕ)) → LiesIn box p
+    → IsWrittenIn written covered p box
     → box.top ≤ y → y < box.bottom → IsRowSpan (λ x. covered x y) box.left box.right span → IsRowSpan (λ x. written x y) p.left (p.left + p.width) span
 span_written written covered p box y span inside is from to given = record {
   bounds = wider span box.left box.right p.left (p.left + p.width) inside.from_left inside.to_right given.bounds;
   same = λ x low high.
-      let held : Holds p x y = record { from_left = low; to_right = high; from_top = omega (arith, inside.from_top); to_bottom = omega (arith, inside.to_bottom) } in
+      let held : Holds p x y = record {
+        from_left = low;
+        to_right = high;
+        from_top = omega (arith, inside.from_top);
+        to_bottom =
+            omega (arith, inside.to_bottom);
+      } in
       is x y held ∙ at x (cases_lt x box.left) (cases_lt x box.right);
 }
   where
@@ -330,7 +352,8 @@ span_written written covered p box y span inside is from to given = record {
     at x (inr low) (inr high) = out x (inr high)
 
 -- p is the place as it was read, and the rows are those as they were read and lent
-module _ (paint : ℕ → ℕ → Colour → Colour) (y first last : ℕ) (t : TileImage) (u : Undo) (p : Place) (read : p ≡ t.place) (filled : IsTileImage t) (crossed : HasRow t.place y)
+module _ (paint : ℕ → ℕ → Colour → Colour) (y first last : ℕ) (t : TileImage) (u : Undo) (p : Place) (read : p ≡ t.place) (filled : IsTileImage t)
+    (crossed : HasRow t.place y)
     (from_left : t.place.left ≤ first) (some : first < last) (to_right : last ≤ t.place.left + t.place.width) where
   span_at : IsRowSpan (λ x. columns_between first last x y) t.place.left (t.place.left + t.place.width) (Some (first, last))
   span_at = record { bounds = (from_left, some, to_right); same = λ x low high. refl }
@@ -344,7 +367,16 @@ module _ (paint : ℕ → ℕ → Colour → Colour) (y first last : ℕ) (t : T
 
   pub part_len : {X : Type 0} (row : List X) → length row ≡ t.place.width → length (part row) ≡ last - first
   part_len row wide =
-      omega (arith, length-take (last - p.left - (first - p.left)) (drop (first - p.left) row), length-drop (first - p.left) row, wide, read_left, span_at.bounds.0, span_at.bounds.1, span_at.bounds.2)
+      omega (
+        arith,
+        length-take (last - p.left - (first - p.left)) (drop (first - p.left) row),
+        length-drop (first - p.left) row,
+        wide,
+        read_left,
+        span_at.bounds.0,
+        span_at.bounds.1,
+        span_at.bounds.2,
+      )
 
   pub part_at : {X : Type 0} (row : List X) (d : X) (x : ℕ) → first ≤ x → x < last → get_or (part row) (x - first) d ≡ get_or row (x - t.place.left) d
   part_at row d x low high =
@@ -364,7 +396,8 @@ module _ (paint : ℕ → ℕ → Colour → Colour) (y first last : ℕ) (t : T
 
   old_long : length old_pixels ≡ last - first
   old_long =
-      length-zip_equal (part (row_of t y)) (part (depth_row_of t y)) (part_len (depth_row_of t y) wide_depths ∙ sym (part_len (row_of t y) wide_row)) ∙ part_len (row_of t y) wide_row
+      length-zip_equal (part (row_of t y)) (part (depth_row_of t y)) (part_len (depth_row_of t y) wide_depths ∙ sym (part_len (row_of t y) wide_row))
+      ∙ part_len (row_of t y) wide_row
 
   old_was : (x : ℕ) → first ≤ x → x < last → get_or old_pixels (x - first) fresh_pixel ≡ pixel_of t x y
   old_was x low high =
@@ -384,7 +417,8 @@ module _ (paint : ℕ → ℕ → Colour → Colour) (y first last : ℕ) (t : T
   fits = omega (arith, wide_row, read_left, span_at.bounds.0, span_at.bounds.1, span_at.bounds.2)
 
   painted_len : length painted ≡ last - p.left - (first - p.left)
-  painted_len = length-changed_row (λ x c. paint x y c) first (part (row_of t y)) ∙ omega (arith, part_len (row_of t y) wide_row, read_left, span_at.bounds.0, span_at.bounds.1)
+  painted_len = length-changed_row (λ x c. paint x y c) first (part (row_of t y))
+      ∙ omega (arith, part_len (row_of t y) wide_row, read_left, span_at.bounds.0, span_at.bounds.1)
 
   new_wide : length new_row ≡ t.place.width
   new_wide = length-put_mid (first - p.left) (last - p.left - (first - p.left)) (row_of t y) painted fits painted_len ∙ wide_row
@@ -392,10 +426,13 @@ module _ (paint : ℕ → ℕ → Colour → Colour) (y first last : ℕ) (t : T
   new_beside : (x : ℕ) → Holds t.place x y → (x < first) ⊎ (last ≤ x) → pair_at t new_row (depth_row_of t y) x ≡ pixel_of t x y
   new_beside x held (inl low) =
       let column : x - t.place.left < first - p.left = omega (arith, held.from_left, read_left) in
-      ap (λ c. (c, depth_in t x y)) (before_part (first - p.left) (last - p.left - (first - p.left)) (row_of t y) painted fits painted_len (x - t.place.left) fresh column)
+      ap (λ c. (c, depth_in t x y)) (before_part (first - p.left) (last - p.left - (first - p.left)) (row_of t y) painted fits painted_len
+      (x - t.place.left) fresh column)
   new_beside x held (inr high) =
-      let column : first - p.left + (last - p.left - (first - p.left)) ≤ x - t.place.left = omega (arith, held.from_left, read_left, span_at.bounds.0, span_at.bounds.1) in
-      ap (λ c. (c, depth_in t x y)) (past_part (first - p.left) (last - p.left - (first - p.left)) (row_of t y) painted fits painted_len (x - t.place.left) fresh column)
+      let column : first - p.left + (last - p.left - (first - p.left)) ≤ x - t.place.left =
+      omega (arith, held.from_left, read_left, span_at.bounds.0, span_at.bounds.1) in
+      ap (λ c. (c, depth_in t x y)) (past_part (first - p.left) (last - p.left - (first - p.left)) (row_of t y) painted fits painted_len
+      (x - t.place.left) fresh column)
 
   new_within : (x : ℕ) → Holds t.place x y → first ≤ x → x < last → pair_at t new_row (depth_row_of t y) x ≡ (paint x y (colour_in t x y), depth_in t x y)
   new_within x held low high =
@@ -408,10 +445,12 @@ module _ (paint : ℕ → ℕ → Colour → Colour) (y first last : ℕ) (t : T
       ∙ get_or-changed_row (λ x c. paint x y c) first (part (row_of t y)) (x - first) fresh (omega (arith, part_len (row_of t y) wide_row))
       ∙ ap (λ k. paint k y (get_or (part (row_of t y)) (x - first) fresh)) column ∙ ap (λ c. paint x y c) (part_at (row_of t y) fresh x low high))
 
-  pub Paints-code : (row lent pixels : List Colour) (deep : List ℕ) (u'' : Undo) → u.frame_left ≡ false → row ≡ row_of t y → deep ≡ depth_row_of t y → lent ≡ row_of t y
+  pub Paints-code : (row lent pixels : List Colour) (deep : List ℕ) (u'' : Undo) → u.frame_left ≡ false → row ≡ row_of t y → deep ≡ depth_row_of t y
+      → lent ≡ row_of t y
       → pixels ≡ changed_row (λ x c. paint x y c) first (part lent)
       → u'' ≡ with_kept u (kept_row first y (zip (part row) (part deep)))
-      → Paints (after_where (in_row (columns_between first last) y) (λ x z before. (paint x z before.0, before.1))) (kept_where (in_row (columns_between first last) y) keep_each) t u
+      → Paints (after_where (in_row (columns_between first last) y) (λ x z before. (paint x z before.0, before.1)))
+      (kept_where (in_row (columns_between first last) y) keep_each) t u
       (with_row_left t y (put_mid (first - p.left) (last - p.left - (first - p.left)) lent pixels)) u''
   Paints-code row lent pixels deep u'' begun same same_deep same' is_painted is_kept =
       let start : ℕ = first - p.left in
@@ -422,16 +461,22 @@ module _ (paint : ℕ → ℕ → Colour → Colour) (y first last : ℕ) (t : T
       let whole : with_row_left t y (put_mid (first - p.left) (last - p.left - (first - p.left)) lent pixels) ≡ with_rows t y new_row (depth_row_of t y) =
       ap (λ w. with_row_left t y w) left
       ∙ ap (λ rows. record { place = t.place; rows = rows; depths = t.depths }) (left_row_is t.place t.rows y filled.colours crossed new_row new_wide)
-      ∙ ap (λ depths. record { place = t.place; rows = with_row_in t.place t.rows y new_row; depths = depths }) (sym (with_row_in-as_it_is t.place t.depths y)) in
+      ∙ ap (λ depths. record { place = t.place; rows = with_row_in t.place t.rows y new_row; depths = depths })
+      (sym (with_row_in-as_it_is t.place t.depths y)) in
       let stack : u'' ≡ with_kept u (kept_row first y old_pixels) =
-      is_kept ∙ ap (λ r. with_kept u (kept_row first y (zip (part r) (part deep)))) same ∙ ap (λ d. with_kept u (kept_row first y (zip (part (row_of t y)) (part d)))) same_deep in
+      is_kept ∙ ap (λ r. with_kept u (kept_row first y (zip (part r) (part deep)))) same
+      ∙ ap (λ d. with_kept u (kept_row first y (zip (part (row_of t y)) (part d)))) same_deep in
       let step : ℕ → ℕ → Pixel → Pixel = λ x z before. (paint x z before.0, before.1) in
-      subst (λ v. Paints (after_where (in_row (columns_between first last) y) step) (kept_where (in_row (columns_between first last) y) keep_each) t u v u'') (sym whole)
-      (subst (λ v. Paints (after_where (in_row (columns_between first last) y) step) (kept_where (in_row (columns_between first last) y) keep_each) t u (with_rows t y new_row (depth_row_of t y)) v) (sym stack)
-      (Paints-span (columns_between first last) step y first last t u filled crossed begun span_at new_row (depth_row_of t y) old_pixels new_wide wide_depths old_long old_was new_beside new_within))
+      subst (λ v. Paints (after_where (in_row (columns_between first last) y) step) (kept_where (in_row (columns_between first last) y) keep_each) t u v u'')
+      (sym whole)
+      (subst (λ v. Paints (after_where (in_row (columns_between first last) y) step) (kept_where (in_row (columns_between first last) y) keep_each) t u
+      (with_rows t y new_row (depth_row_of t y)) v) (sym stack)
+      (Paints-span (columns_between first last) step y first last t u filled crossed begun span_at new_row (depth_row_of t y) old_pixels new_wide wide_depths
+      old_long old_was new_beside new_within))
 
 -- a row of the box in which nothing is covered
-module _ (written covered : ℕ → ℕ → Bool) (y : ℕ) (t : TileImage) (box : Bounds) (inside : LiesIn box t.place) (is : IsWrittenIn written covered t.place box) (from_top : box.top ≤ y) (to_bottom : y < box.bottom)
+module _ (written covered : ℕ → ℕ → Bool) (y : ℕ) (t : TileImage) (box : Bounds) (inside : LiesIn box t.place) (is : IsWrittenIn written covered t.place box)
+    (from_top : box.top ≤ y) (to_bottom : y < box.bottom)
     (given : IsRowSpan (λ x. covered x y) box.left box.right None) where
   none_at : IsRowSpan (λ x. written x y) t.place.left (t.place.left + t.place.width) None
   none_at = span_written written covered t.place box y None inside is from_top to_bottom given
@@ -443,5 +488,6 @@ module _ (written covered : ℕ → ℕ → Bool) (y : ℕ) (t : TileImage) (box
   none_written : (x z : ℕ) → Holds t.place x z → in_row written y x z ≡ false
   none_written x z held = none_here x z held (cases_eq z y)
 
-  pub WritesRegion-no_span : (n k : ℕ) (paint : ℕ → ℕ → Pixel → Pixel) (keep : ℕ → ℕ → Pixel → List Pixel) (u : Undo) → IsTileImage t → u.frame_left ≡ false → WritesRegion n k (in_row written y) paint keep t u t u
+  pub WritesRegion-no_span : (n k : ℕ) (paint : ℕ → ℕ → Pixel → Pixel) (keep : ℕ → ℕ → Pixel → List Pixel) (u : Undo) → IsTileImage t → u.frame_left ≡ false
+      → WritesRegion n k (in_row written y) paint keep t u t u
   WritesRegion-no_span n k paint keep u filled begun = WritesRegion-nothing paint keep n k (in_row written y) t u filled begun none_written

@@ -1,5 +1,6 @@
 -- A triangle with the depth test on: of each row the pixels that pass, in runs.
-use Rattle.std.proofs.Common.{◌≡◌, ℕ, ◌+◌, ◌-◌, ◌<◌, ◌≤◌, Bool, true, false, ◌||◌, cond, eqb, List, [], length, get_or, map, replicate, refl, sym, ap, ◌∙◌, subst, arith, inl, inr, ◌⊎◌, ◌/◌, ◌%◌, ◌^◌}
+use Rattle.std.proofs.Common.{◌≡◌, ℕ, ◌+◌, ◌-◌, ◌<◌, ◌≤◌, Bool, true, false, ◌||◌, cond, eqb, List, [], length, get_or, map, replicate, refl, sym, ap}
+use Rattle.std.proofs.Common.{◌∙◌, subst, arith, inl, inr, ◌⊎◌, ◌/◌, ◌%◌, ◌^◌}
 use Rattle.std.specs.List.{zip, range_with_len}
 use Rattle.std.proofs.lemmas.List.FromFn.{get_or-map-range_with_len, length-map-range_with_len}
 use Rattle.std.proofs.lemmas.Slice.Zip.{get_or-zip}
@@ -20,8 +21,10 @@ use Rattle.fd_events.specs.declared.pipeline.Pipeline.{Pipeline}
 use Rattle.fd_events.specs.Draw.{Triangle}
 use Rattle.fd_events.specs.Image.{is_drawn, depth_of as source_depth, pixel_after_triangle, source_of}
 use Rattle.fd_tile.specs.Place.{Holds, HasRow}
-use Rattle.fd_tile.specs.Tile.{Pixel, fresh_pixel, TileImage, IsTileImage, with_row_in, with_row_left, with_depth_row, with_depth_row_left, row_of, depth_row_of, colour_in, depth_in, pixel_of}
-use Rattle.fd_tile.proofs.Pixels.{length-row_in, row_in-same, row_in-other, left_row_is, with_row_in-as_it_is, with_depth_row_left_is, IsTileImage-with_depth_row}
+use Rattle.fd_tile.specs.Tile.{Pixel, fresh_pixel, TileImage, IsTileImage, with_row_in, with_row_left, with_depth_row, with_depth_row_left, row_of}
+use Rattle.fd_tile.specs.Tile.{depth_row_of, colour_in, depth_in, pixel_of}
+use Rattle.fd_tile.proofs.Pixels.{length-row_in, row_in-same, row_in-other, left_row_is, with_row_in-as_it_is, with_depth_row_left_is}
+use Rattle.fd_tile.proofs.Pixels.{IsTileImage-with_depth_row}
 use borrow.Rule.Slice.PartMut.{put_mid}
 use Rattle.fd_undo.specs.Frame.{kept_row}
 use Rattle.fd_undo.specs.Undo.{Undo, with_kept}
@@ -57,18 +60,21 @@ module _ (tri : Triangle) (interp : Interp) (s : Pipeline) (first last y : ℕ) 
 
   -- they all fail
   pub Paints-failed : IsTileImage t → u.frame_left ≡ false → ((c : ℕ) → first ≤ c → c < last → is_drawn tri s c y (depth_in t c y) ≡ false)
-      → Paints (after_where (in_row (columns_between first last) y) (pixel_after_triangle tri interp s)) (kept_where (in_row (columns_between first last) y) (kept_by_triangle tri s)) t u t u
+      → Paints (after_where (in_row (columns_between first last) y) (pixel_after_triangle tri interp s))
+      (kept_where (in_row (columns_between first last) y) (kept_by_triangle tri s)) t u t u
   Paints-failed filled begun failed =
       let undrawn : (c r : ℕ) → Run c r ≡ true → is_drawn tri s c r (depth_in t c r) ≡ false =
       λ c r here. let at = run_columns first last y c r here in rw at.2 (failed c at.0 at.1) in
-      Paints-same-here (λ c r p. p) (after_where (in_row (columns_between first last) y) (pixel_after_triangle tri interp s)) (λ c r p. []) (kept_where (in_row (columns_between first last) y) (kept_by_triangle tri s)) t t u u
+      Paints-same-here (λ c r p. p) (after_where (in_row (columns_between first last) y) (pixel_after_triangle tri interp s)) (λ c r p. [])
+      (kept_where (in_row (columns_between first last) y) (kept_by_triangle tri s)) t t u u
       (λ c r inside. cond_to (Run c r) _ _ (λ here. rw (undrawn c r here) refl))
       (λ c r inside. cond_to (Run c r) _ _ (λ here. rw (undrawn c r here) refl))
       (Paints-nothing t u filled begun)
 
 -- ---- depths that are stored in a row
 
-module _ (depths : List ℕ) (x y : ℕ) (t : TileImage) (filled : IsTileImage t) (crossed : HasRow t.place y) (from_left : t.place.left ≤ x) (to_right : x + length depths ≤ t.place.left + t.place.width) where
+module _ (depths : List ℕ) (x y : ℕ) (t : TileImage) (filled : IsTileImage t) (crossed : HasRow t.place y) (from_left : t.place.left ≤ x)
+    (to_right : x + length depths ≤ t.place.left + t.place.width) where
   deep : length (depth_row_of t y) ≡ t.place.width
   deep = length-row_in t.place t.depths y filled.depths crossed
 
@@ -101,16 +107,21 @@ module _ (depths : List ℕ) (x y : ℕ) (t : TileImage) (filled : IsTileImage t
   pair_stored false p d e is = ap (λ n. (p.0, n)) is
 
   pixel_stored : (c r : ℕ) → Holds t.place c r → (r ≡ y) ⊎ (r ≡ y → ⊥)
-      → pixel_of (with_depth_row t y stored_row) c r ≡ cond (in_row (columns_between x (x + length depths)) y c r) ((pixel_of t c r).0, get_or depths (c - x) 65535) (pixel_of t c r)
+      → pixel_of (with_depth_row t y stored_row) c r ≡ cond (in_row (columns_between x (x + length depths)) y c r)
+      ((pixel_of t c r).0, get_or depths (c - x) 65535) (pixel_of t c r)
   pixel_stored c r held (inr other) =
-      let out : in_row (columns_between x (x + length depths)) y c r ≡ false = and_false (eqb r y) (columns_between x (x + length depths) c r) (ne_eqb r y other) in
-      rw out (ap (λ l. (colour_in t c r, get_or l (c - t.place.left) 65535)) (row_in-other t.place t.depths y filled.depths crossed stored_row r held.from_top other))
+      let out : in_row (columns_between x (x + length depths)) y c r ≡ false = and_false (eqb r y) (columns_between x (x + length depths) c r)
+      (ne_eqb r y other) in
+      rw out (ap (λ l. (colour_in t c r, get_or l (c - t.place.left) 65535))
+      (row_in-other t.place t.depths y filled.depths crossed stored_row r held.from_top other))
   pixel_stored c r held (inl same) =
       let here : Holds t.place c y = subst (λ k. Holds t.place c k) same held in
-      subst (λ k. pixel_of (with_depth_row t y stored_row) c k ≡ cond (in_row (columns_between x (x + length depths)) y c k) ((pixel_of t c k).0, get_or depths (c - x) 65535) (pixel_of t c k)) (sym same)
+      subst (λ k. pixel_of (with_depth_row t y stored_row) c k ≡ cond (in_row (columns_between x (x + length depths)) y c k)
+      ((pixel_of t c k).0, get_or depths (c - x) 65535) (pixel_of t c k)) (sym same)
       (ap (λ l. (colour_in t c y, get_or l (c - t.place.left) 65535)) (row_in-same t.place t.depths y filled.depths crossed stored_row)
       ∙ rw (and_true (eqb y y) (columns_between x (x + length depths) c y) (eq-eqb y y refl))
-      (pair_stored (columns_between x (x + length depths) c y) (pixel_of t c y) (get_or stored_row (c - t.place.left) 65535) (get_or depths (c - x) 65535) (stored_at c here (cases_lt c x) (cases_lt c (x + length depths)))))
+      (pair_stored (columns_between x (x + length depths) c y) (pixel_of t c y) (get_or stored_row (c - t.place.left) 65535) (get_or depths (c - x) 65535)
+      (stored_at c here (cases_lt c x) (cases_lt c (x + length depths)))))
 
   stored_whole : StoresDepths depths x y t (with_depth_row t y stored_row)
   stored_whole = record {
@@ -126,7 +137,8 @@ module _ (depths : List ℕ) (x y : ℕ) (t : TileImage) (filled : IsTileImage t
       let same : put_mid start len lent new ≡ stored_row =
       ap (λ k. put_mid k len lent new) is_start ∙ ap (λ k. put_mid (x - t.place.left) k lent new) is_len
       ∙ ap (λ l. put_mid (x - t.place.left) (length depths) l new) is_lent ∙ ap (λ l. put_mid (x - t.place.left) (length depths) (depth_row_of t y) l) is_new in
-      subst (λ v. StoresDepths depths x y t v) (sym (ap (λ l. with_depth_row_left t y l) same ∙ with_depth_row_left_is t y filled crossed stored_row stored_size)) stored_whole
+      subst (λ v. StoresDepths depths x y t v)
+      (sym (ap (λ l. with_depth_row_left t y l) same ∙ with_depth_row_left_is t y filled crossed stored_row stored_size)) stored_whole
 
 -- ---- which pixels of a row pass
 
@@ -136,10 +148,12 @@ pub depths_at : (corners : Tri) (depths : List ℕ) (left y n : ℕ) (out : List
 depths_at corners depths left y n out is column d low high =
     let size : length out ≡ n = ap length is ∙ length-map-range_with_len (λ k. depth_at corners depths k y) left n in
     let back : left + (column - left) ≡ column = omega arith in
-    ap (λ l. get_or l (column - left) d) is ∙ get_or-map-range_with_len (λ k. depth_at corners depths k y) left n (column - left) column d (omega (arith, size)) back
+    ap (λ l. get_or l (column - left) d) is ∙ get_or-map-range_with_len (λ k. depth_at corners depths k y) left n (column - left) column d
+    (omega (arith, size)) back
 
 -- a pixel that is reached is drawn as its test says
-pub drawn_as_tested : (tri : Triangle) (s : Pipeline) (x y source stored : ℕ) (passed : Bool) → passed ≡ passes s.depth source stored → source ≡ source_depth tri x y → is_reached tri s x y ≡ true
+pub drawn_as_tested : (tri : Triangle) (s : Pipeline) (x y source stored : ℕ) (passed : Bool) → passed ≡ passes s.depth source stored
+    → source ≡ source_depth tri x y → is_reached tri s x y ≡ true
     → passed ≡ is_drawn tri s x y stored
 drawn_as_tested tri s x y source stored passed is same reached =
     is ∙ ap (λ d. passes s.depth d stored) same ∙ sym (drawn_reached tri s x y stored ∙ rw reached refl)
@@ -149,20 +163,30 @@ shifted_twice n a k = div-div-eq-div-mul n (2 ^ a) (2 ^ k) ∙ ap (λ m. n / m) 
 
 -- behind the pixels that are done the depths are as they were, and some in turn are drawn or not as the first of them
 module _ (tri : Triangle) (interp : Interp) (s : Pipeline) (x y done count passed : ℕ) (t t' : TileImage) (u u' : Undo)
-    (painted : Paints (after_where (in_row (columns_between x (x + done)) y) (pixel_after_triangle tri interp s)) (kept_where (in_row (columns_between x (x + done)) y) (kept_by_triangle tri s)) t u t' u')
+    (painted : Paints (after_where (in_row (columns_between x (x + done)) y) (pixel_after_triangle tri interp s))
+    (kept_where (in_row (columns_between x (x + done)) y) (kept_by_triangle tri s)) t u t' u')
     (crossed : HasRow t.place y) (from_left : t.place.left ≤ x) (to_right : x + (done + count) ≤ t.place.left + t.place.width)
     (tests : (column : ℕ) → x ≤ column → column < x + (done + count) → has_bit passed (column - x) ≡ is_drawn tri s column y (depth_in t column y))
     (alike : (k : ℕ) → k < count → has_bit (passed / 2 ^ done) k ≡ has_bit (passed / 2 ^ done) 0) where
   behind : (column : ℕ) → x + done ≤ column → column < x + (done + count) → depth_in t' column y ≡ depth_in t column y
   behind column low high =
-      let held : Holds t.place column y = record { from_left = omega arith; to_right = omega arith; from_top = crossed.from_top; to_bottom = crossed.to_bottom } in
-      let none : in_row (columns_between x (x + done)) y column y ≡ false = and_true (eqb y y) (columns_between x (x + done) column y) (eq-eqb y y refl) ∙ in_span-after x (x + done) column low in
-      ap (λ (p : Pixel). p.1) (painted.pixels column y held ∙ ap (λ b. cond b (pixel_after_triangle tri interp s column y (pixel_of t column y)) (pixel_of t column y)) none)
+      let held : Holds t.place column y = record {
+        from_left = omega arith;
+        to_right = omega arith;
+        from_top = crossed.from_top;
+        to_bottom =
+            crossed.to_bottom;
+      } in
+      let none : in_row (columns_between x (x + done)) y column y ≡ false = and_true (eqb y y) (columns_between x (x + done) column y) (eq-eqb y y refl)
+      ∙ in_span-after x (x + done) column low in
+      ap (λ (p : Pixel). p.1) (painted.pixels column y held
+      ∙ ap (λ b. cond b (pixel_after_triangle tri interp s column y (pixel_of t column y)) (pixel_of t column y)) none)
 
   rest_at : (k : ℕ) → has_bit (passed / 2 ^ done) k ≡ has_bit passed (done + k)
   rest_at k = ap (λ n. eqb (n % 2) 1) (shifted_twice passed done k)
 
-  pub drawn_alike : (column : ℕ) → x + done ≤ column → column < x + (done + count) → is_drawn tri s column y (depth_in t' column y) ≡ has_bit (passed / 2 ^ done) 0
+  pub drawn_alike : (column : ℕ) → x + done ≤ column → column < x + (done + count) → is_drawn tri s column y (depth_in t' column y)
+      ≡ has_bit (passed / 2 ^ done) 0
   drawn_alike column low high =
       let place : done + (column - (x + done)) ≡ column - x = omega arith in
       ap (λ d. is_drawn tri s column y d) (behind column low high) ∙ sym (tests column (omega arith) high)
@@ -191,12 +215,14 @@ module _ (paint : ℕ → ℕ → Pixel → Pixel) (keep : ℕ → ℕ → Pixel
       → Paints (after_where (in_row (columns_between middle last) y) paint) (kept_where (in_row (columns_between middle last) y) keep) t' u' t'' u''
       → Paints (after_where (in_row (columns_between first last) y) paint) (kept_where (in_row (columns_between first last) y) keep) t u t'' u''
   Paints-next t t' t'' u u' u'' =
-      Paints-both paint keep (in_row (columns_between first middle) y) (in_row (columns_between middle last) y) (in_row (columns_between first last) y) t t' t'' u u' u''
+      Paints-both paint keep (in_row (columns_between first middle) y) (in_row (columns_between middle last) y) (in_row (columns_between first last) y) t t'
+      t'' u u' u''
       (λ c r. apart_columns (eqb r y) (nat_le first c && nat_lt c middle) (nat_le middle c && nat_lt c last) (not_yet c))
       (λ c r. joined_columns (eqb r y) (nat_le first c && nat_lt c middle) (nat_le middle c && nat_lt c last) (nat_le first c && nat_lt c last) (both_runs c))
 
 -- the columns of a row's span
-module _ (written : ℕ → ℕ → Bool) (p : Place) (y first last : ℕ) (crossed : HasRow p y) (span : IsRowSpan (λ x. written x y) p.left (p.left + p.width) (Some (first, last))) where
+module _ (written : ℕ → ℕ → Bool) (p : Place) (y first last : ℕ) (crossed : HasRow p y)
+    (span : IsRowSpan (λ x. written x y) p.left (p.left + p.width) (Some (first, last))) where
   pub row_count : pixels_in (in_row written y) p ≡ last - first
   row_count = pixels_in-row written p y crossed ∙ written_in_row-span written p y first last span
 
@@ -205,13 +231,15 @@ module _ (written : ℕ → ℕ → Bool) (p : Place) (y first last : ℕ) (cros
       and_true (eqb r y) (columns_between first last c r) (eq-eqb r y same)
       ∙ sym (span.same c held.from_left held.to_right) ∙ ap (λ k. written c k) (sym same)
       ∙ sym (and_true (eqb r y) (written c r) (eq-eqb r y same))
-  same_columns c r held (inr other) = and_false (eqb r y) (columns_between first last c r) (ne_eqb r y other) ∙ sym (and_false (eqb r y) (written c r) (ne_eqb r y other))
+  same_columns c r held (inr other) = and_false (eqb r y) (columns_between first last c r) (ne_eqb r y other)
+      ∙ sym (and_false (eqb r y) (written c r) (ne_eqb r y other))
 
   pub Paints-row_done : (paint : ℕ → ℕ → Pixel → Pixel) (keep : ℕ → ℕ → Pixel → List Pixel) (t t' : TileImage) (u u' : Undo) → t.place ≡ p
       → Paints (after_where (in_row (columns_between first last) y) paint) (kept_where (in_row (columns_between first last) y) keep) t u t' u'
       → Paints (after_where (in_row written y) paint) (kept_where (in_row written y) keep) t u t' u'
   Paints-row_done paint keep t t' u u' placed =
-      Paints-as paint keep (in_row (columns_between first last) y) (in_row written y) t t' u u' (λ c r held. same_columns c r (subst (λ (q : Place). Holds q c r) placed held) (cases_eq r y))
+      Paints-as paint keep (in_row (columns_between first last) y) (in_row written y) t t' u u'
+      (λ c r held. same_columns c r (subst (λ (q : Place). Holds q c r) placed held) (cases_eq r y))
 
 -- ---- with the depth test off
 
@@ -223,7 +251,8 @@ drawn_off tri s x y stored off reached = drawn_reached tri s x y stored ∙ rw (
 
 -- a triangle is drawn wherever it is reached, and leaves the depth
 pub Paints-untested : (tri : Triangle) (interp : Interp) (s : Pipeline) (t t' : TileImage) (u u' : Undo) → s.depth.enable ≡ false
-    → Paints (after_where (is_reached tri s) (λ x y before. (blend s.blend s.factor (source_of tri interp x y) before.0, before.1))) (kept_where (is_reached tri s) keep_each) t u t' u'
+    → Paints (after_where (is_reached tri s) (λ x y before. (blend s.blend s.factor (source_of tri interp x y) before.0, before.1)))
+    (kept_where (is_reached tri s) keep_each) t u t' u'
     → Paints (after_where (is_reached tri s) (pixel_after_triangle tri interp s)) (kept_where (is_reached tri s) (kept_by_triangle tri s)) t u t' u'
 Paints-untested tri interp s t t' u u' off painted =
     Paints-same-here _ (after_where (is_reached tri s) (pixel_after_triangle tri interp s)) _ (kept_where (is_reached tri s) (kept_by_triangle tri s)) t t' u u'
@@ -257,7 +286,8 @@ module _ (t : TileImage) (u : Undo) (y : ℕ) (filled : IsTileImage t) (crossed 
   deep_row = length-row_in t.place t.depths y filled.depths crossed
 
   -- the row was kept, and has new colours and depths
-  module _ (row : List Colour) (deep : List ℕ) (column : ℕ) (u' : Undo) (same : row ≡ row_of t y) (same_deep : deep ≡ depth_row_of t y) (at : column ≡ t.place.left)
+  module _ (row : List Colour) (deep : List ℕ) (column : ℕ) (u' : Undo) (same : row ≡ row_of t y) (same_deep : deep ≡ depth_row_of t y)
+      (at : column ≡ t.place.left)
       (is_kept : u' ≡ with_kept u (kept_row column y (zip row deep))) where
     Paints-whole_row : (step : Pixel → Pixel) (cs : List Colour) (ds : List ℕ) → length cs ≡ t.place.width → length ds ≡ t.place.width
         → ((x : ℕ) → Holds t.place x y → pair_at t cs ds x ≡ step (pixel_of t x y))
@@ -267,7 +297,8 @@ module _ (t : TileImage) (u : Undo) (y : ℕ) (filled : IsTileImage t) (crossed 
         let stack : u' ≡ with_kept u (kept_row t.place.left y (zip (row_of t y) (depth_row_of t y))) =
         is_kept ∙ ap (λ r. with_kept u (kept_row column y (zip r deep))) same ∙ ap (λ d. with_kept u (kept_row column y (zip (row_of t y) d))) same_deep
         ∙ ap (λ k. with_kept u (kept_row k y (zip (row_of t y) (depth_row_of t y)))) at in
-        subst (λ v. Paints (after_where (in_row (λ _ _. true) y) (λ _ _. step)) (kept_where (in_row (λ _ _. true) y) keep_each) t u (with_rows t y cs ds) v) (sym stack)
+        subst (λ v. Paints (after_where (in_row (λ _ _. true) y) (λ _ _. step)) (kept_where (in_row (λ _ _. true) y) keep_each) t u (with_rows t y cs ds) v)
+        (sym stack)
         (Paints-span (λ _ _. true) (λ _ _. step) y t.place.left (t.place.left + t.place.width) t u filled crossed begun whole_row cs ds old wide long
         (length-zip_equal (row_of t y) (depth_row_of t y) (deep_row ∙ sym wide_row) ∙ wide_row ∙ omega arith)
         (λ x low high. get_or-zip (row_of t y) (depth_row_of t y) (x - t.place.left) fresh_pixel (omega (arith, wide_row)) (omega (arith, deep_row)))
@@ -275,27 +306,39 @@ module _ (t : TileImage) (u : Undo) (y : ℕ) (filled : IsTileImage t) (crossed 
         (λ x held low high. is x held))
 
     pub Paints-clear_colours : (colour : Colour) (lent left : List Colour) → lent ≡ row_of t y → left ≡ replicate (length lent) colour
-        → Paints (after_where (in_row (λ _ _. true) y) (λ _ _. cleared (Colours colour))) (kept_where (in_row (λ _ _. true) y) keep_each) t u (with_row_left t y left) u'
+        → Paints (after_where (in_row (λ _ _. true) y) (λ _ _. cleared (Colours colour))) (kept_where (in_row (λ _ _. true) y) keep_each) t u
+        (with_row_left t y left) u'
     Paints-clear_colours colour lent left same_lent is_left =
         let size : length (replicate t.place.width colour) ≡ t.place.width = length-replicate t.place.width colour in
-        let filled_left : left ≡ replicate t.place.width colour = is_left ∙ ap (λ l. replicate (length l) colour) same_lent ∙ ap (λ n. replicate n colour) wide_row in
+        let filled_left : left ≡ replicate t.place.width colour = is_left ∙ ap (λ l. replicate (length l) colour) same_lent
+        ∙ ap (λ n. replicate n colour) wide_row in
         let whole : with_row_left t y left ≡ with_rows t y (replicate t.place.width colour) (depth_row_of t y) =
         ap (λ l. with_row_left t y l) filled_left
-        ∙ ap (λ rows. record { place = t.place; rows = rows; depths = t.depths }) (left_row_is t.place t.rows y filled.colours crossed (replicate t.place.width colour) size)
-        ∙ ap (λ depths. record { place = t.place; rows = with_row_in t.place t.rows y (replicate t.place.width colour); depths = depths }) (sym (with_row_in-as_it_is t.place t.depths y)) in
-        subst (λ v. Paints (after_where (in_row (λ _ _. true) y) (λ _ _. cleared (Colours colour))) (kept_where (in_row (λ _ _. true) y) keep_each) t u v u') (sym whole)
+        ∙ ap (λ rows. record { place = t.place; rows = rows; depths = t.depths })
+        (left_row_is t.place t.rows y filled.colours crossed (replicate t.place.width colour) size)
+        ∙ ap (λ depths. record { place = t.place; rows = with_row_in t.place t.rows y (replicate t.place.width colour); depths = depths })
+        (sym (with_row_in-as_it_is t.place t.depths y)) in
+        subst (λ v. Paints (after_where (in_row (λ _ _. true) y) (λ _ _. cleared (Colours colour))) (kept_where (in_row (λ _ _. true) y) keep_each) t u v u')
+        (sym whole)
         (Paints-whole_row (cleared (Colours colour)) (replicate t.place.width colour) (depth_row_of t y) size deep_row
-        (λ x held. ap (λ c. (c, depth_in t x y)) (get_or-replicate t.place.width (x - t.place.left) colour fresh (omega (arith, held.from_left, held.to_right)))))
+        (λ x held. ap (λ c. (c, depth_in t x y))
+        (get_or-replicate t.place.width (x - t.place.left) colour fresh (omega (arith, held.from_left, held.to_right)))))
 
     pub Paints-clear_depths : (depth : ℕ) (lent left : List ℕ) → lent ≡ depth_row_of t y → left ≡ replicate (length lent) depth
-        → Paints (after_where (in_row (λ _ _. true) y) (λ _ _. cleared (Depths depth))) (kept_where (in_row (λ _ _. true) y) keep_each) t u (with_depth_row_left t y left) u'
+        → Paints (after_where (in_row (λ _ _. true) y) (λ _ _. cleared (Depths depth))) (kept_where (in_row (λ _ _. true) y) keep_each) t u
+        (with_depth_row_left t y left) u'
     Paints-clear_depths depth lent left same_lent is_left =
         let size : length (replicate t.place.width depth) ≡ t.place.width = length-replicate t.place.width depth in
-        let filled_left : left ≡ replicate t.place.width depth = is_left ∙ ap (λ l. replicate (length l) depth) same_lent ∙ ap (λ n. replicate n depth) deep_row in
+        let filled_left : left ≡ replicate t.place.width depth = is_left ∙ ap (λ l. replicate (length l) depth) same_lent
+        ∙ ap (λ n. replicate n depth) deep_row in
         let whole : with_depth_row_left t y left ≡ with_rows t y (row_of t y) (replicate t.place.width depth) =
         ap (λ l. with_depth_row_left t y l) filled_left
-        ∙ ap (λ depths. record { place = t.place; rows = t.rows; depths = depths }) (left_row_is t.place t.depths y filled.depths crossed (replicate t.place.width depth) size)
-        ∙ ap (λ rows. record { place = t.place; rows = rows; depths = with_row_in t.place t.depths y (replicate t.place.width depth) }) (sym (with_row_in-as_it_is t.place t.rows y)) in
-        subst (λ v. Paints (after_where (in_row (λ _ _. true) y) (λ _ _. cleared (Depths depth))) (kept_where (in_row (λ _ _. true) y) keep_each) t u v u') (sym whole)
+        ∙ ap (λ depths. record { place = t.place; rows = t.rows; depths = depths })
+        (left_row_is t.place t.depths y filled.depths crossed (replicate t.place.width depth) size)
+        ∙ ap (λ rows. record { place = t.place; rows = rows; depths = with_row_in t.place t.depths y (replicate t.place.width depth) })
+        (sym (with_row_in-as_it_is t.place t.rows y)) in
+        subst (λ v. Paints (after_where (in_row (λ _ _. true) y) (λ _ _. cleared (Depths depth))) (kept_where (in_row (λ _ _. true) y) keep_each) t u v u')
+        (sym whole)
         (Paints-whole_row (cleared (Depths depth)) (row_of t y) (replicate t.place.width depth) wide_row size
-        (λ x held. ap (λ d. (colour_in t x y, d)) (get_or-replicate t.place.width (x - t.place.left) depth 65535 (omega (arith, held.from_left, held.to_right)))))
+        (λ x held. ap (λ d. (colour_in t x y, d))
+        (get_or-replicate t.place.width (x - t.place.left) depth 65535 (omega (arith, held.from_left, held.to_right)))))

@@ -1,5 +1,6 @@
 -- Rows that are changed pixel by pixel.
-use Rattle.std.proofs.Common.{◌≡◌, ℕ, ◌+◌, ◌-◌, ◌<◌, ◌≤◌, List, [], ◌∷◌, ◌++◌, length, take, drop, get_or, map, refl, ap, ◌∙◌, arith, length-append, length-drop, sym}
+use Rattle.std.proofs.Common.{◌≡◌, ℕ, ◌+◌, ◌-◌, ◌<◌, ◌≤◌, List, [], ◌∷◌, ◌++◌, length, take, drop, get_or, map, refl, ap, ◌∙◌, arith, length-append}
+use Rattle.std.proofs.Common.{length-drop, sym}
 use Rattle.std.specs.List.{enumerate_from, range_with_len}
 use Rattle.std.proofs.lemmas.List.{length-map, get_or-map, length-take, get_or-take, get_or-drop, get_or_append_left, get_or-append_right}
 use borrow.Rule.Slice.PartMut.{put_mid, post_of}
@@ -19,7 +20,8 @@ pub length-changed_row : (change : ℕ → Colour → Colour) (x : ℕ) (row : L
 length-changed_row change x row = length-map (enumerate_from x row) (λ p. change p.0 p.1) ∙ length-enumerate_from x row
 
 -- the colour at a place in a changed row
-pub get_or-changed_row : (change : ℕ → Colour → Colour) (x : ℕ) (row : List Colour) (i : ℕ) (d : Colour) → i < length row → get_or (changed_row change x row) i d ≡ change (x + i) (get_or row i d)
+pub get_or-changed_row : (change : ℕ → Colour → Colour) (x : ℕ) (row : List Colour) (i : ℕ) (d : Colour) → i < length row
+    → get_or (changed_row change x row) i d ≡ change (x + i) (get_or row i d)
 get_or-changed_row change x row i d within =
     let inside : i < length (enumerate_from x row) = omega (arith, length-enumerate_from x row, within) in
     get_or-map (λ p. change p.0 p.1) (enumerate_from x row) i (0, d) d inside

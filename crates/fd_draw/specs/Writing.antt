@@ -31,7 +31,8 @@ pub record HasRoom (span_count pixel_count : ℕ) (u : Undo) : Type 0 where
   pub pixels : pixel_count ≤ u.pixels_left
 
 -- each pixel of a region becomes what `paint` makes of it, what `keep` says of it is kept, and no more than so many spans and pixels are used up
-pub record WritesRegion (span_count pixel_count : ℕ) (region : ℕ → ℕ → Bool) (paint : ℕ → ℕ → Pixel → Pixel) (keep : ℕ → ℕ → Pixel → List Pixel) (t : TileImage) (u : Undo) (t' : TileImage) (u' : Undo) : Type 0 where
+pub record WritesRegion (span_count pixel_count : ℕ) (region : ℕ → ℕ → Bool) (paint : ℕ → ℕ → Pixel → Pixel) (keep : ℕ → ℕ → Pixel → List Pixel)
+    (t : TileImage) (u : Undo) (t' : TileImage) (u' : Undo) : Type 0 where
   pub painted : Paints (after_where region paint) (kept_where region keep) t u t' u'
   pub spans : u.spans_left ≤ u'.spans_left + span_count
   pub pixels : u.pixels_left ≤ u'.pixels_left + pixel_count
@@ -41,4 +42,6 @@ pub record StoresDepths (depths : List ℕ) (x y : ℕ) (t t' : TileImage) : Typ
   pub placed : t'.place ≡ t.place
   pub filled : IsTileImage t'
   pub pixels : (column row : ℕ) → Holds t.place column row
-      → pixel_of t' column row ≡ (if in_row (columns_between x (x + length depths)) y column row then ((pixel_of t column row).0, slice_index_or depths (column - x) 65535) else pixel_of t column row)
+      → pixel_of t' column row
+      ≡ (if in_row (columns_between x (x + length depths)) y column row then ((pixel_of t column row).0, slice_index_or depths (column - x) 65535)
+      else pixel_of t column row)

@@ -1,5 +1,6 @@
 -- Boxes round triangles.
-use Rattle.std.proofs.Common.{◌≡◌, ℕ, zero, suc, ◌+◌, ◌-◌, ◌*◌, ◌<◌, ◌≤◌, min, max, Bool, true, false, ◌||◌, IsTrue, ◌⊎◌, inl, inr, List, [], ◌∷◌, ◌++◌, length, take, drop, Some, slice_get, option_map, add-one, arith, refl, sym, ap, ◌∙◌}
+use Rattle.std.proofs.Common.{◌≡◌, ℕ, zero, suc, ◌+◌, ◌-◌, ◌*◌, ◌<◌, ◌≤◌, min, max, Bool, true, false, ◌||◌, IsTrue, ◌⊎◌, inl, inr, List, [], ◌∷◌}
+use Rattle.std.proofs.Common.{◌++◌, length, take, drop, Some, slice_get, option_map, add-one, arith, refl, sym, ap, ◌∙◌}
 use Rattle.std.proofs.lemmas.Bool.{cases_lt}
 use Rattle.std.proofs.lemmas.Option.{slice_get_within}
 use Rattle.std.proofs.lemmas.Bool.Decides.{nat_tests}
@@ -10,7 +11,8 @@ use Rattle.fd_cover.specs.Bounds.{is_within, is_empty, HoldsCovered, HoldsBoth, 
 use Rattle.fd_cover.proofs.BoundsLemmas.{missed_outside, bounds_of-holds}
 use Rattle.fd_events.specs.declared.pipeline.Pipeline.{Pipeline}
 use Rattle.fd_events.specs.Limits.{group_size}
-use Rattle.fd_events.specs.Bounds.{HoldsTriangles, HoldsGroup, IsRoundGroup, AreRoundGroups, IsTriangleBox, AreTriangleBoxes, triangles_between, joined_with, bounds_of_triangles, IsRound, CoverNone}
+use Rattle.fd_events.specs.Bounds.{HoldsTriangles, HoldsGroup, IsRoundGroup, AreRoundGroups, IsTriangleBox, AreTriangleBoxes, triangles_between}
+use Rattle.fd_events.specs.Bounds.{joined_with, bounds_of_triangles, IsRound, CoverNone}
 use Rattle.fd_events.specs.Draw.{Triangle}
 use Rattle.fd_events.specs.Image.{Pixel, is_drawn_by, is_drawn, pixel_after_triangles, kept_by_triangles}
 
@@ -31,7 +33,8 @@ the_first true b h none = refl
 the_first false b h none = cc
 
 grown : (ts : List Triangle) (k i : ℕ) (t : Triangle) (corners : Tri) (before own box : Bounds)
-    → option_map (λ (u : Triangle). u.corners) (slice_get ts k) ≡ Some corners → HoldsTriangles before (take k ts) → HoldsCovered own corners → HoldsBoth box before own
+    → option_map (λ (u : Triangle). u.corners) (slice_get ts k) ≡ Some corners → HoldsTriangles before (take k ts) → HoldsCovered own corners
+    → HoldsBoth box before own
     → slice_get (take (suc k) ts) i ≡ Some t → HoldsCovered box t.corners
 grown [] k i t corners before own box next holds covered both at = cc
 grown (first ∷ ts) zero zero t corners before own box next holds covered both at =
@@ -45,7 +48,8 @@ grown (first ∷ ts) (suc k) (suc i) t corners before own box next holds covered
 
 -- the box of the first triangles, joined with that of the next one
 pub HoldsTriangles-next : (ts : List Triangle) (k : ℕ) (corners : Tri) (before own box : Bounds)
-    → option_map (λ (u : Triangle). u.corners) (slice_get ts k) ≡ Some corners → HoldsTriangles before (take k ts) → HoldsCovered own corners → HoldsBoth box before own
+    → option_map (λ (u : Triangle). u.corners) (slice_get ts k) ≡ Some corners → HoldsTriangles before (take k ts) → HoldsCovered own corners
+    → HoldsBoth box before own
     → HoldsTriangles box (take (k + 1) ts)
 HoldsTriangles-next ts k corners before own box next holds covered both =
     λ i t at. grown ts k i t corners before own box next holds covered both (rw add-one at at)
@@ -94,7 +98,8 @@ IsRound-further ts first k corners before own box from next round is_own covered
     rw (← more) (IsRound-next (drop first ts) (k - first) corners before own box (rw at next) round is_own covered is_joined both)
 
 -- the box round a group holds what its triangles cover
-pub HoldsGroup-triangles_between : (ts : List Triangle) (group first last : ℕ) (box : Bounds) → first ≡ group_size * group → last ≡ min (first + group_size) (length ts)
+pub HoldsGroup-triangles_between : (ts : List Triangle) (group first last : ℕ) (box : Bounds) → first ≡ group_size * group
+    → last ≡ min (first + group_size) (length ts)
     → HoldsTriangles box (triangles_between first last ts) → HoldsGroup box group ts
 HoldsGroup-triangles_between ts group first last box is_first is_last holds = λ i t low high at.
     let within : i < length ts = slice_get_within ts i t at in
@@ -114,7 +119,8 @@ slice_get-last (z ∷ xs) x y (suc i) at = elim (slice_get-last xs x y i at) [
 ]
 
 -- one more group
-pub AreRoundGroups-next : (boxes : List Bounds) (ts : List Triangle) (group : ℕ) (box : Bounds) → length boxes ≡ group → AreRoundGroups boxes ts → IsRoundGroup box group ts
+pub AreRoundGroups-next : (boxes : List Bounds) (ts : List Triangle) (group : ℕ) (box : Bounds) → length boxes ≡ group → AreRoundGroups boxes ts
+    → IsRoundGroup box group ts
     → AreRoundGroups (boxes ++ box ∷ []) ts
 AreRoundGroups-next boxes ts group box is_next hold holds = λ i found at. elim (slice_get-last boxes box found i at) [
   | inl before ↦ hold i found before
@@ -122,7 +128,8 @@ AreRoundGroups-next boxes ts group box is_next hold holds = λ i found at. elim 
 ]
 
 -- one more box
-pub AreTriangleBoxes-next : (boxes : List Bounds) (ts : List Triangle) (number : ℕ) (box : Bounds) → length boxes ≡ number → AreTriangleBoxes boxes ts → IsTriangleBox box number ts
+pub AreTriangleBoxes-next : (boxes : List Bounds) (ts : List Triangle) (number : ℕ) (box : Bounds) → length boxes ≡ number → AreTriangleBoxes boxes ts
+    → IsTriangleBox box number ts
     → AreTriangleBoxes (boxes ++ box ∷ []) ts
 AreTriangleBoxes-next boxes ts number box is_next hold holds = λ i found at. elim (slice_get-last boxes box found i at) [
   | inl before ↦ hold i found before
@@ -130,33 +137,35 @@ AreTriangleBoxes-next boxes ts number box is_next hold holds = λ i found at. el
 ]
 
 -- a triangle's own box
-pub IsTriangleBox-own : (ts : List Triangle) (number : ℕ) (corners : Tri) (box : Bounds) → option_map (λ (u : Triangle). u.corners) (slice_get ts number) ≡ Some corners
+pub IsTriangleBox-own : (ts : List Triangle) (number : ℕ) (corners : Tri) (box : Bounds) → option_map (λ (u : Triangle). u.corners) (slice_get ts number)
+    ≡ Some corners
     → box ≡ bounds_of corners → HoldsCovered box corners → IsTriangleBox box number ts
 IsTriangleBox-own ts number corners box is value covered = λ t at. let same : t.corners ≡ corners = cc in rw same (value, covered)
-
--- the box round all triangles holds what a group's cover
-pub HoldsGroup-all : (ts : List Triangle) (group : ℕ) (box : Bounds) → HoldsTriangles box ts → HoldsGroup box group ts
-HoldsGroup-all ts group box holds = λ i t low high at. holds i t at
 
 -- ---- a pixel outside the box
 
 -- nothing is drawn there
-pub is_drawn-outside : (t : Triangle) (s : Pipeline) (box : Bounds) (x y stored : ℕ) → HoldsCovered box t.corners → is_within box x y ≡ false → is_drawn t s x y stored ≡ false
+pub is_drawn-outside : (t : Triangle) (s : Pipeline) (box : Bounds) (x y stored : ℕ) → HoldsCovered box t.corners → is_within box x y ≡ false
+    → is_drawn t s x y stored ≡ false
 is_drawn-outside t s box x y stored holds outside = ap is_drawn_by (missed_outside t.corners t.depths s.raster s.scissor s.depth stored box x y holds outside)
 
 -- it stays as it is
-pub pixel_after_triangles-outside : (ts : List Triangle) (interp : Interp) (s : Pipeline) (box : Bounds) (x y : ℕ) (before : Pixel) → HoldsTriangles box ts → is_within box x y ≡ false
+pub pixel_after_triangles-outside : (ts : List Triangle) (interp : Interp) (s : Pipeline) (box : Bounds) (x y : ℕ) (before : Pixel) → HoldsTriangles box ts
+    → is_within box x y ≡ false
     → pixel_after_triangles ts interp s x y before ≡ before
 pixel_after_triangles-outside [] interp s box x y before holds outside = refl
 pixel_after_triangles-outside (t ∷ ts) interp s box x y before holds outside =
-    rw (is_drawn-outside t s box x y before.1 (holds zero t refl) outside) (pixel_after_triangles-outside ts interp s box x y before (λ i u at. holds (suc i) u at) outside)
+    rw (is_drawn-outside t s box x y before.1 (holds zero t refl) outside)
+    (pixel_after_triangles-outside ts interp s box x y before (λ i u at. holds (suc i) u at) outside)
 
 -- nothing is kept of it
-pub kept_by_triangles-outside : (ts : List Triangle) (interp : Interp) (s : Pipeline) (box : Bounds) (x y : ℕ) (before : Pixel) → HoldsTriangles box ts → is_within box x y ≡ false
+pub kept_by_triangles-outside : (ts : List Triangle) (interp : Interp) (s : Pipeline) (box : Bounds) (x y : ℕ) (before : Pixel) → HoldsTriangles box ts
+    → is_within box x y ≡ false
     → kept_by_triangles ts interp s x y before ≡ []
 kept_by_triangles-outside [] interp s box x y before holds outside = refl
 kept_by_triangles-outside (t ∷ ts) interp s box x y before holds outside =
-    rw (is_drawn-outside t s box x y before.1 (holds zero t refl) outside) (kept_by_triangles-outside ts interp s box x y before (λ i u at. holds (suc i) u at) outside)
+    rw (is_drawn-outside t s box x y before.1 (holds zero t refl) outside)
+    (kept_by_triangles-outside ts interp s box x y before (λ i u at. holds (suc i) u at) outside)
 
 -- ---- the box round triangles holds what they cover
 
@@ -167,7 +176,8 @@ hull_holds : (a b : Bounds) (x y : ℕ) → (is_within a x y || is_within b x y)
     → is_within (record { left = min a.left b.left; top = min a.top b.top; right = max a.right b.right; bottom = max a.bottom b.bottom }) x y ≡ true
 hull_holds a b x y h = grind (arith, nat_tests)
 
-joined_by : (a b : Bounds) (x y : ℕ) (no_a no_b : Bool) → is_empty a ≡ no_a → is_empty b ≡ no_b → IsTrue (is_within a x y || is_within b x y) → IsTrue (is_within (joined_box a b) x y)
+joined_by : (a b : Bounds) (x y : ℕ) (no_a no_b : Bool) → is_empty a ≡ no_a → is_empty b ≡ no_b → IsTrue (is_within a x y || is_within b x y)
+    → IsTrue (is_within (joined_box a b) x y)
 unfolding joined_box
 joined_by a b x y true no_b is_a is_b h = rw is_a (the_other (is_within a x y) (is_within b x y) h (empty_holds_none a x y is_a))
 joined_by a b x y false true is_a is_b h = rw (is_a, is_b) (the_first (is_within a x y) (is_within b x y) h (empty_holds_none b x y is_b))
@@ -179,21 +189,24 @@ joined_box-holds a b x y h = joined_by a b x y (is_empty a) (is_empty b) refl re
 joined_with-keeps : (ts : List Triangle) (box : Bounds) (x y : ℕ) → is_within box x y ≡ true → is_within (joined_with box ts) x y ≡ true
 joined_with-keeps [] box x y h = h
 joined_with-keeps (t ∷ ts) box x y h =
-    joined_with-keeps ts (joined_box box (bounds_of t.corners)) x y (joined_box-holds box (bounds_of t.corners) x y (either_left (is_within box x y) (is_within (bounds_of t.corners) x y) h))
+    joined_with-keeps ts (joined_box box (bounds_of t.corners)) x y
+    (joined_box-holds box (bounds_of t.corners) x y (either_left (is_within box x y) (is_within (bounds_of t.corners) x y) h))
 
 joined_with-holds : (ts : List Triangle) (box : Bounds) → HoldsTriangles (joined_with box ts) ts
 joined_with-holds [] box i t at = cc
 joined_with-holds (first ∷ ts) box zero t at = λ x y covered.
     let same : first ≡ t = cc in
     let own : is_within (bounds_of first.corners) x y ≡ true = bounds_of-holds first.corners x y (rw same covered) in
-    joined_with-keeps ts (joined_box box (bounds_of first.corners)) x y (joined_box-holds box (bounds_of first.corners) x y (either_right (is_within box x y) (is_within (bounds_of first.corners) x y) own))
+    joined_with-keeps ts (joined_box box (bounds_of first.corners)) x y
+    (joined_box-holds box (bounds_of first.corners) x y (either_right (is_within box x y) (is_within (bounds_of first.corners) x y) own))
 joined_with-holds (first ∷ ts) box (suc i) t at = joined_with-holds ts (joined_box box (bounds_of first.corners)) i t at
 
 pub bounds_of_triangles-holds : (ts : List Triangle) → HoldsTriangles (bounds_of_triangles ts) ts
 bounds_of_triangles-holds ts = joined_with-holds ts (record { left = 0; top = 0; right = 0; bottom = 0 })
 
 -- two runs of triangles that cover nothing of the window
-pub CoverNone-then : (window : Bounds) (ts : List Triangle) (first middle last : ℕ) → CoverNone window ts first middle → CoverNone window ts middle last → CoverNone window ts first last
+pub CoverNone-then : (window : Bounds) (ts : List Triangle) (first middle last : ℕ) → CoverNone window ts first middle → CoverNone window ts middle last
+    → CoverNone window ts first last
 CoverNone-then window ts first middle last before after i t from to at = elim (cases_lt i middle) [
   | inl lower ↦ before i t from lower at
   | inr higher ↦ after i t higher to at

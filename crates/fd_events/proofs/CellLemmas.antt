@@ -18,7 +18,8 @@ added_there : (lists : List (List ℕ)) (cell other : ℕ) (after : List ℕ) �
 added_there lists cell other after apart = get_or-set_other lists cell other after [] apart
 
 -- what holds of a list and of the longer one holds of all
-each_list : (P : List ℕ → Type 0) (lists : List (List ℕ)) (cell : ℕ) (after : List ℕ) → cell < length lists → ((other : ℕ) → P (listed_at lists other)) → P after
+each_list : (P : List ℕ → Type 0) (lists : List (List ℕ)) (cell : ℕ) (after : List ℕ) → cell < length lists → ((other : ℕ) → P (listed_at lists other))
+    → P after
     → (other : ℕ) → P (listed_at (set lists cell after) other)
 each_list P lists cell after here all own other = elim (cases_eq other cell) [
   | inl same ↦ rw same (subst P (sym (added_here lists cell 0 after here)) own)
@@ -43,9 +44,11 @@ Grow-add lists cell number here = record {
   };
 }
 
-pub added : (lists : List (List ℕ)) (cell number : ℕ) → cell < length lists → Contains (listed_at (set lists cell (listed_at lists cell ++ number ∷ [])) cell) number
+pub added : (lists : List (List ℕ)) (cell number : ℕ) → cell < length lists → Contains (listed_at (set lists cell (listed_at lists cell ++ number ∷ [])) cell)
+    number
 added lists cell number here =
-    subst (λ (xs : List ℕ). Contains xs number) (sym (added_here lists cell number (listed_at lists cell ++ number ∷ []) here)) (Contains-push (listed_at lists cell) number)
+    subst (λ (xs : List ℕ). Contains xs number) (sym (added_here lists cell number (listed_at lists cell ++ number ∷ []) here))
+    (Contains-push (listed_at lists cell) number)
 
 -- ---- one number more
 

@@ -1,5 +1,6 @@
 -- The triangles of a draw, one by one.
-use Rattle.std.proofs.Common.{◌≡◌, ℕ, zero, suc, ◌+◌, ◌*◌, ◌/◌, ◌<◌, ◌≤◌, Bool, true, false, ◌&&◌, List, [], ◌∷◌, length, Option, Some, Ok, refl, ap, slice_get, nat_lt, arith}
+use Rattle.std.proofs.Common.{◌≡◌, ℕ, zero, suc, ◌+◌, ◌*◌, ◌/◌, ◌<◌, ◌≤◌, Bool, true, false, ◌&&◌, List, [], ◌∷◌, length, Option, Some, Ok, refl, ap}
+use Rattle.std.proofs.Common.{slice_get, nat_lt, arith}
 use Rattle.std.specs.List.{list_all}
 use Rattle.std.proofs.lemmas.Option.{slice_get_within}
 use Rattle.std.proofs.lemmas.Bool.Decides.{nat_tests}
@@ -16,7 +17,8 @@ length-triangles_of_list (a ∷ b ∷ []) = refl
 length-triangles_of_list (a ∷ b ∷ c ∷ vs) = omega (arith, length-triangles_of_list vs)
 
 -- the triangle of a number has the three corners from three times the number on
-pub slice_get-triangles_of_list : (vs : List Vertex) (i : ℕ) (a b c : Vertex) → slice_get vs (3 * i) ≡ Some a → slice_get vs (3 * i + 1) ≡ Some b → slice_get vs (3 * i + 2) ≡ Some c
+pub slice_get-triangles_of_list : (vs : List Vertex) (i : ℕ) (a b c : Vertex) → slice_get vs (3 * i) ≡ Some a → slice_get vs (3 * i + 1) ≡ Some b
+    → slice_get vs (3 * i + 2) ≡ Some c
     → slice_get (triangles_of_list vs) i ≡ Some (triangle_of_vertices a b c)
 slice_get-triangles_of_list [] i a b c first second third = cc
 slice_get-triangles_of_list (p ∷ []) i a b c first second third = let lt = slice_get_within (p ∷ []) (3 * i + 2) c third in absurd (omega arith)
@@ -34,7 +36,8 @@ pub record IsMade (vertices : List Vertex) (indices : Option (List ℕ)) : Type 
   pub few_indices : has_too_many indices ≡ false
   pub in_range : are_in_range (length vertices) indices ≡ true
 
-pub IsMade-from_made : (vertices : List Vertex) (indices : Option (List ℕ)) (interp : Interp) (d : DrawList) → made vertices indices interp ≡ Ok d → IsMade vertices indices
+pub IsMade-from_made : (vertices : List Vertex) (indices : Option (List ℕ)) (interp : Interp) (d : DrawList) → made vertices indices interp ≡ Ok d
+    → IsMade vertices indices
 IsMade-from_made vertices indices interp d is = record {
   few_vertices = grind (arith, nat_tests);
   few_indices = grind (arith, nat_tests);
@@ -58,17 +61,20 @@ found (v ∷ vs) zero h = (v, refl)
 found (v ∷ vs) (suc index) h = found vs index (omega arith)
 
 -- the vertex that the first of these indices names
-first_of_all : (vertices : List Vertex) (index : ℕ) (indices : List ℕ) → list_all (λ index. nat_lt index (length vertices)) (index ∷ indices) ≡ true → (v : Vertex) × (slice_get vertices index ≡ Some v)
+first_of_all : (vertices : List Vertex) (index : ℕ) (indices : List ℕ) → list_all (λ index. nat_lt index (length vertices)) (index ∷ indices) ≡ true
+    → (v : Vertex) × (slice_get vertices index ≡ Some v)
 first_of_all vertices index indices all = found vertices index (below index (length vertices) (and_left _ _ all))
 
 -- a vertex for each index in range
-pub length-listed_by : (vertices : List Vertex) (indices : List ℕ) → list_all (λ index. nat_lt index (length vertices)) indices ≡ true → length (listed_by vertices (Some indices)) ≡ length indices
+pub length-listed_by : (vertices : List Vertex) (indices : List ℕ) → list_all (λ index. nat_lt index (length vertices)) indices ≡ true
+    → length (listed_by vertices (Some indices)) ≡ length indices
 length-listed_by vertices [] all = refl
 length-listed_by vertices (index ∷ indices) all =
     let named = first_of_all vertices index indices all in
     rw named.1 (ap suc (length-listed_by vertices indices (and_right _ _ all)))
 
-pub slice_get-listed_by : (vertices : List Vertex) (indices : List ℕ) (k index : ℕ) → list_all (λ index. nat_lt index (length vertices)) indices ≡ true → slice_get indices k ≡ Some index
+pub slice_get-listed_by : (vertices : List Vertex) (indices : List ℕ) (k index : ℕ) → list_all (λ index. nat_lt index (length vertices)) indices ≡ true
+    → slice_get indices k ≡ Some index
     → slice_get (listed_by vertices (Some indices)) k ≡ slice_get vertices index
 slice_get-listed_by vertices [] k index all at = cc
 slice_get-listed_by vertices (first ∷ indices) zero index all at =
@@ -80,28 +86,33 @@ slice_get-listed_by vertices (first ∷ indices) (suc k) index all at =
     rw named.1 (slice_get-listed_by vertices indices k index (and_right _ _ all) at)
 
 -- an index in range names a vertex
-pub index_below : (count : ℕ) (indices : List ℕ) (k index : ℕ) → list_all (λ index. nat_lt index count) indices ≡ true → slice_get indices k ≡ Some index → index < count
+pub index_below : (count : ℕ) (indices : List ℕ) (k index : ℕ) → list_all (λ index. nat_lt index count) indices ≡ true → slice_get indices k ≡ Some index
+    → index < count
 index_below count [] k index all at = cc
 index_below count (first ∷ indices) zero index all at = let same : first ≡ index = cc in rw (← same) (below first count (and_left _ _ all))
 index_below count (first ∷ indices) (suc k) index all at = index_below count indices k index (and_right _ _ all) at
 
 -- ---- a draw with indices
 
-pub corner_below : (vs : List Vertex) (is : List ℕ) (interp : Interp) (d : DrawList) (corner : ℕ) → made vs (Some is) interp ≡ Ok d → corner < length (listed_by vs (Some is)) → corner < length is
+pub corner_below : (vs : List Vertex) (is : List ℕ) (interp : Interp) (d : DrawList) (corner : ℕ) → made vs (Some is) interp ≡ Ok d
+    → corner < length (listed_by vs (Some is)) → corner < length is
 corner_below vs is interp d corner ok lt =
     let tests = IsMade-from_made vs (Some is) interp d ok in
     omega (arith, length-listed_by vs is tests.in_range)
 
-pub index_in_range : (vs : List Vertex) (is : List ℕ) (interp : Interp) (d : DrawList) (corner index : ℕ) → made vs (Some is) interp ≡ Ok d → slice_get is corner ≡ Some index → index < length vs
+pub index_in_range : (vs : List Vertex) (is : List ℕ) (interp : Interp) (d : DrawList) (corner index : ℕ) → made vs (Some is) interp ≡ Ok d
+    → slice_get is corner ≡ Some index → index < length vs
 index_in_range vs is interp d corner index ok at =
     let tests = IsMade-from_made vs (Some is) interp d ok in
     index_below (length vs) is corner index tests.in_range at
 
-pub slice_get-listed : (vs : List Vertex) (is : List ℕ) (interp : Interp) (d : DrawList) (corner index : ℕ) → made vs (Some is) interp ≡ Ok d → slice_get is corner ≡ Some index
+pub slice_get-listed : (vs : List Vertex) (is : List ℕ) (interp : Interp) (d : DrawList) (corner index : ℕ) → made vs (Some is) interp ≡ Ok d
+    → slice_get is corner ≡ Some index
     → slice_get (listed_by vs (Some is)) corner ≡ slice_get vs index
 slice_get-listed vs is interp d corner index ok at =
     let tests = IsMade-from_made vs (Some is) interp d ok in
     slice_get-listed_by vs is corner index tests.in_range at
 
-pub length-listed : (vs : List Vertex) (is : List ℕ) (interp : Interp) (d : DrawList) → made vs (Some is) interp ≡ Ok d → length (listed_by vs (Some is)) ≡ length is
+pub length-listed : (vs : List Vertex) (is : List ℕ) (interp : Interp) (d : DrawList) → made vs (Some is) interp ≡ Ok d → length (listed_by vs (Some is))
+    ≡ length is
 length-listed vs is interp d ok = let tests = IsMade-from_made vs (Some is) interp d ok in length-listed_by vs is tests.in_range

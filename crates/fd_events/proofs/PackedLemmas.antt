@@ -15,7 +15,8 @@ pub record ArePacked (numbers starts : List ℕ) (lists : List (List ℕ)) (coun
   pub same : (i : ℕ) → i < count → between_starts numbers starts i ≡ listed_at lists i
 
 -- a part stays as it is when more comes behind
-part_kept : (xs ys : List ℕ) (start end : ℕ) → start ≤ length xs → end ≤ length xs → take (end - start) (drop start (xs ++ ys)) ≡ take (end - start) (drop start xs)
+part_kept : (xs ys : List ℕ) (start end : ℕ) → start ≤ length xs → end ≤ length xs → take (end - start) (drop start (xs ++ ys))
+    ≡ take (end - start) (drop start xs)
 part_kept xs ys start end from to =
     ap (λ (part : List ℕ). take (end - start) part) (drop-append-le start xs ys from)
     ∙ take-append-le (end - start) (drop start xs) ys (omega (arith, length-drop start xs, from, to))
@@ -26,14 +27,6 @@ part_added xs ys end is =
     let count : end - length xs ≡ length ys = omega (arith, is, length-append xs ys) in
     ap (λ (part : List ℕ). take (end - length xs) part) (drop-append_seam xs ys) ∙ ap (λ n. take n ys) count ∙ take-length ys
 
-pub ArePacked-none : (lists : List (List ℕ)) → ArePacked [] (0 ∷ []) lists 0
-ArePacked-none lists = record {
-  all = refl;
-  last = refl;
-  bounded = λ i most. let first : i ≡ 0 = omega (arith, most) in rw first (omega arith);
-  same = λ i below. absurd (omega (arith, below));
-}
-
 start_kept : (starts : List ℕ) (end i : ℕ) → i < length starts → start_of (starts ++ end ∷ []) i ≡ start_of starts i
 start_kept starts end i within = get_or-append starts (end ∷ []) 0 i within
 
@@ -41,7 +34,8 @@ start_added : (starts : List ℕ) (end i : ℕ) → i ≡ length starts → star
 start_added starts end i is = ap (λ n. get_or (starts ++ end ∷ []) n 0) is ∙ get_or-append_seam starts end [] 0
 
 -- one list more
-pub ArePacked-next : (numbers starts list : List ℕ) (lists : List (List ℕ)) (count end : ℕ) → ArePacked numbers starts lists count → list ≡ listed_at lists count
+pub ArePacked-next : (numbers starts list : List ℕ) (lists : List (List ℕ)) (count end : ℕ) → ArePacked numbers starts lists count
+    → list ≡ listed_at lists count
     → end ≡ length (numbers ++ list) → ArePacked (numbers ++ list) (starts ++ end ∷ []) lists (count + 1)
 ArePacked-next numbers starts list lists count end before its is =
     let longer = length-append numbers list in
@@ -58,7 +52,8 @@ ArePacked-next numbers starts list lists count end before its is =
         | inl earlier ↦
             let start = kept i (omega (arith, earlier)) in
             let end_is = kept (i + 1) (omega (arith, earlier)) in
-            rw (start, end_is) (part_kept numbers list (start_of starts i) (start_of starts (i + 1)) (before.bounded i (omega (arith, earlier))) (before.bounded (i + 1) (omega (arith, earlier)))
+            rw (start, end_is) (part_kept numbers list (start_of starts i) (start_of starts (i + 1)) (before.bounded i (omega (arith, earlier)))
+            (before.bounded (i + 1) (omega (arith, earlier)))
             ∙ before.same i earlier)
         | inr later ↦
             let same : i ≡ count = omega (arith, later, below) in
@@ -68,7 +63,8 @@ ArePacked-next numbers starts list lists count end before its is =
     }
 
 -- all lists
-pub ArePacked-all : (numbers starts : List ℕ) (lists : List (List ℕ)) → ArePacked numbers starts lists (length lists) → (cell : ℕ) → between_starts numbers starts cell ≡ listed_at lists cell
+pub ArePacked-all : (numbers starts : List ℕ) (lists : List (List ℕ)) → ArePacked numbers starts lists (length lists) → (cell : ℕ)
+    → between_starts numbers starts cell ≡ listed_at lists cell
 ArePacked-all numbers starts lists packed cell = elim (cases_lt cell (length lists)) [
   | inl within ↦ packed.same cell within
   | inr past ↦

@@ -1,5 +1,6 @@
 -- What an event leaves outside its reach.
-use Rattle.std.proofs.Common.{◌≡◌, ◌≢◌, ℕ, suc, ◌<◌, ◌&&◌, Bool, true, false, ◌⊎◌, inl, inr, List, length, get_or, replicate, slice_get, Option, Some, None, option_map, refl, sym, ap, ◌∙◌, subst, arith}
+use Rattle.std.proofs.Common.{◌≡◌, ◌≢◌, ℕ, suc, ◌<◌, ◌&&◌, Bool, true, false, ◌⊎◌, inl, inr, List, length, get_or, replicate, slice_get, Option, Some}
+use Rattle.std.proofs.Common.{None, option_map, refl, sym, ap, ◌∙◌, subst, arith}
 use Rattle.std.specs.Prelude.{IfSome, not, map, slice_set}
 use Rattle.std.proofs.lemmas.Bool.Decides.{nat_tests, eqb_tells}
 use Rattle.std.proofs.lemmas.List.{length-map, length-set, get_or-map, get_or-replicate, get_or-set_same, get_or-set_other}
@@ -16,7 +17,8 @@ use Rattle.fd_events.specs.Table.{is_set}
 use Rattle.fd_events.proofs.BoundsLemmas.{bounds_of_triangles-holds, pixel_after_triangles-outside, kept_by_triangles-outside}
 
 -- a pixel of the target that the clipped box leaves out
-pub outside_clipped : (box : Bounds) (width height x y : ℕ) → x < width → y < height → is_within (clipped_box width height box) x y ≡ false → is_within box x y ≡ false
+pub outside_clipped : (box : Bounds) (width height x y : ℕ) → x < width → y < height → is_within (clipped_box width height box) x y ≡ false
+    → is_within box x y ≡ false
 outside_clipped box width height x y column row outside = grind (arith, nat_tests)
 
 -- the box of the whole target leaves out none
@@ -25,7 +27,8 @@ in_whole width height x y column row = grind (arith, nat_tests)
 
 pub reach-holds : (width height : ℕ) (event : Event) → HoldsWritten (reach_of width height event) width height event
 reach-holds width height (Clear colour) state x y before column row outside = let inside = in_whole width height x y column row in absurd (cc (inside, outside))
-reach-holds width height (DepthClear depth) state x y before column row outside = let inside = in_whole width height x y column row in absurd (cc (inside, outside))
+reach-holds width height (DepthClear depth) state x y before column row outside = let inside = in_whole width height x y column row in
+    absurd (cc (inside, outside))
 reach-holds width height (Draw draw) state x y before column row outside =
     let ts = triangles_of draw in
     let box = bounds_of_triangles ts in
@@ -44,10 +47,12 @@ reach-holds width height (Marker label) state x y before column row outside = (r
 pub length-reaches : (width height : ℕ) (events : List Event) (reaches : List Reach) → AreReaches width height events reaches → length reaches ≡ length events
 length-reaches width height events reaches are = sym (length-map reaches box_of) ∙ ap length are ∙ length-map events (reach_of width height)
 
-pub reach_at : (width height : ℕ) (events : List Event) (reaches : List Reach) (n : ℕ) (reach : Reach) → AreReaches width height events reaches → slice_get reaches n ≡ Some reach
+pub reach_at : (width height : ℕ) (events : List Event) (reaches : List Reach) (n : ℕ) (reach : Reach) → AreReaches width height events reaches
+    → slice_get reaches n ≡ Some reach
     → option_map (reach_of width height) (slice_get events n) ≡ Some (box_of reach)
 reach_at width height events reaches n reach are at =
-    sym (slice_get-map (reach_of width height) events n) ∙ ap (λ boxes. slice_get boxes n) (sym are) ∙ slice_get-map box_of reaches n ∙ ap (option_map box_of) at
+    sym (slice_get-map (reach_of width height) events n) ∙ ap (λ boxes. slice_get boxes n) (sym are) ∙ slice_get-map box_of reaches n
+    ∙ ap (option_map box_of) at
 
 -- whether it may write, by its box
 may_write_by : (width height : ℕ) (on : Bool) (found : Option Event) (box : Bounds) → option_map (reach_of width height) found ≡ Some box
@@ -57,7 +62,8 @@ may_write_by width height on (Some event) box is =
     let same : reach_of width height event ≡ box = cc in
     ap (λ b. Some (on && not (is_empty b))) same
 
-pub writer_at : (width height : ℕ) (events : List Event) (flags writers : List Bool) (reaches : List Reach) (n : ℕ) → AreReaches width height events reaches → AreWriters flags reaches writers
+pub writer_at : (width height : ℕ) (events : List Event) (flags writers : List Bool) (reaches : List Reach) (n : ℕ) → AreReaches width height events reaches
+    → AreWriters flags reaches writers
     → n < length reaches → option_map (may_write width height (is_set flags (suc n))) (slice_get events n) ≡ Some (get_or writers n false)
 writer_at width height events flags writers reaches n are writing within =
     may_write_by width height (is_set flags (suc n)) (slice_get events n) (box_of (get_or reaches n nowhere))
@@ -66,7 +72,8 @@ writer_at width height events flags writers reaches n are writing within =
     ∙ ap (λ (b : Bool). Some b) (sym (writing.each n within))
 
 -- where all are switched on
-pub AreWriters-all_on : (reaches : List Reach) (n : ℕ) → n ≡ length reaches → AreWriters (replicate n true) reaches (map (λ reach. not (is_empty (box_of reach))) reaches)
+pub AreWriters-all_on : (reaches : List Reach) (n : ℕ) → n ≡ length reaches
+    → AreWriters (replicate n true) reaches (map (λ reach. not (is_empty (box_of reach))) reaches)
 AreWriters-all_on reaches n size = record {
   number = length-map reaches (λ reach. not (is_empty (box_of reach)));
   each = λ k within.
@@ -75,7 +82,8 @@ AreWriters-all_on reaches n size = record {
 }
 
 -- where one is switched
-pub AreWriters-set : (flags writers : List Bool) (reaches : List Reach) (n : ℕ) (on : Bool) → AreWriters flags reaches writers → n < length flags → n < length reaches
+pub AreWriters-set : (flags writers : List Bool) (reaches : List Reach) (n : ℕ) (on : Bool) → AreWriters flags reaches writers → n < length flags
+    → n < length reaches
     → AreWriters (slice_set flags n on) reaches (slice_set writers n (on && not (is_empty (box_of (get_or reaches n nowhere)))))
 AreWriters-set flags writers reaches n on are flagged within = record {
   number = length-set writers n (on && not (is_empty (box_of (get_or reaches n nowhere)))) ∙ are.number;
@@ -92,7 +100,8 @@ AreWriters-set flags writers reaches n on are flagged within = record {
     now = on && not (is_empty (box_of (get_or reaches n nowhere)))
 
     at : (k : ℕ) → k < length reaches → (k ≡ n) ⊎ (k ≢ n)
-        → get_or (slice_set writers n (on && not (is_empty (box_of (get_or reaches n nowhere))))) k false ≡ (get_or (slice_set flags n on) k false && not (is_empty (box_of (get_or reaches k nowhere))))
+        → get_or (slice_set writers n (on && not (is_empty (box_of (get_or reaches n nowhere))))) k false
+        ≡ (get_or (slice_set flags n on) k false && not (is_empty (box_of (get_or reaches k nowhere))))
     at k below (inl same) =
         let there : n < length writers = omega (arith, are.number) in
         ap (λ j. get_or (slice_set writers n now) j false) same
@@ -105,7 +114,8 @@ AreWriters-set flags writers reaches n on are flagged within = record {
         ∙ ap (λ b. b && not (is_empty (box_of (get_or reaches k nowhere)))) (sym (get_or-set_other flags n k on false other))
 
 -- so for the box that a table gives
-pub reach_is-holds : (width height : ℕ) (found : Option Event) (box : Bounds) → option_map (reach_of width height) found ≡ Some box → IfSome found (HoldsWritten box width height)
+pub reach_is-holds : (width height : ℕ) (found : Option Event) (box : Bounds) → option_map (reach_of width height) found ≡ Some box
+    → IfSome found (HoldsWritten box width height)
 reach_is-holds width height None box is = absurd (cc)
 reach_is-holds width height (Some event) box is =
     let same : reach_of width height event ≡ box = cc in

@@ -1,5 +1,6 @@
 -- The states that are computed one after the other.
-use Rattle.std.proofs.Common.{◌≡◌, ◌≢◌, ℕ, zero, suc, ◌+◌, ◌<◌, ◌≤◌, Bool, true, false, cond, List, [], ◌∷◌, length, get_or, Some, None, unwrap_or, slice_get, refl, sym, ap, ◌∙◌, add-one, arith, inl, inr}
+use Rattle.std.proofs.Common.{◌≡◌, ◌≢◌, ℕ, zero, suc, ◌+◌, ◌<◌, ◌≤◌, Bool, true, false, cond, List, [], ◌∷◌, length, get_or, Some, None, unwrap_or}
+use Rattle.std.proofs.Common.{slice_get, refl, sym, ap, ◌∙◌, add-one, arith, inl, inr}
 use Rattle.std.proofs.Math.ListN.{set}
 use Rattle.std.proofs.lemmas.Bool.{cases_lt}
 use Rattle.std.proofs.lemmas.Option.{slice_get-get_or, unwrap_or-slice_get}
@@ -25,7 +26,8 @@ chosen true event state = refl
 chosen false event state = refl
 
 -- the state past the event at index k
-pub state_of-next : (events : List Event) (flags : List Bool) (k : ℕ) (event : Event) (on : Bool) (state : Pipeline) → k < length events → event ≡ get_or events k event → on ≡ get_or flags k false → state_of events flags k ≡ state
+pub state_of-next : (events : List Event) (flags : List Bool) (k : ℕ) (event : Event) (on : Bool) (state : Pipeline) → k < length events
+    → event ≡ get_or events k event → on ≡ get_or flags k false → state_of events flags k ≡ state
     → state_of events flags (k + 1) ≡ cond on (state_after event state) state
 state_of-next events flags k event on state lt is flag before =
     let here : slice_get events k ≡ Some event = slice_get-get_or events k event lt ∙ ap (λ (e : Event). Some e) (sym is) in
@@ -33,7 +35,8 @@ state_of-next events flags k event on state lt is flag before =
     rw (add-one, set_so, here, before) (chosen on event state)
 
 -- one more state
-pub states-grow : (events : List Event) (flags : List Bool) (states : List Pipeline) (k : ℕ) (v : Pipeline) → k + 1 < length states → v ≡ state_of events flags (k + 1) → ((j : ℕ) → j ≤ k → slice_get states j ≡ Some (state_of events flags j))
+pub states-grow : (events : List Event) (flags : List Bool) (states : List Pipeline) (k : ℕ) (v : Pipeline) → k + 1 < length states
+    → v ≡ state_of events flags (k + 1) → ((j : ℕ) → j ≤ k → slice_get states j ≡ Some (state_of events flags j))
     → (j : ℕ) → j ≤ k + 1 → slice_get (set states (k + 1) v) j ≡ Some (state_of events flags j)
 states-grow events flags states k v lt is before j le =
     elim (cases_lt j (k + 1)) [
@@ -44,4 +47,5 @@ states-grow events flags states k v lt is before j le =
 -- a flag says nothing of the states before its event
 pub state_of-set : (events : List Event) (flags : List Bool) (i : ℕ) (on : Bool) (k : ℕ) → k ≤ i → state_of events (set flags i on) k ≡ state_of events flags k
 state_of-set events flags i on zero le = refl
-state_of-set events flags i on (suc k) le = rw (slice_get-set_other flags i k on (λ e. absurd (omega arith)), state_of-set events flags i on k (omega arith)) refl
+state_of-set events flags i on (suc k) le = rw (slice_get-set_other flags i k on (λ e. absurd (omega arith)), state_of-set events flags i on k (omega arith))
+    refl

@@ -16,7 +16,8 @@ triangles_between first last ts = take (last - first) (drop first ts)
 
 -- the box holds every pixel that a triangle of this group covers
 abbrev pub HoldsGroup : Bounds → ℕ → List Triangle → Type 0
-HoldsGroup box group ts = (i : ℕ) (t : Triangle) → group_size * group ≤ i → i < group_size * group + group_size → slice_get ts i ≡ Some t → HoldsCovered box t.corners
+HoldsGroup box group ts = (i : ℕ) (t : Triangle) → group_size * group ≤ i → i < group_size * group + group_size → slice_get ts i ≡ Some t
+    → HoldsCovered box t.corners
 
 -- a box, joined with those of triangles one after the other
 abbrev pub joined_with : Bounds → List Triangle → Bounds
@@ -59,4 +60,5 @@ AreTriangleBoxes boxes ts = (number : ℕ) (box : Bounds) → slice_get boxes nu
 
 -- none of the triangles from number first up to number last covers a pixel of the window
 abbrev pub CoverNone : Bounds → List Triangle → ℕ → ℕ → Type 0
-CoverNone window ts first last = (i : ℕ) (t : Triangle) → first ≤ i → i < last → slice_get ts i ≡ Some t → (x y : ℕ) → IsTrue (is_within window x y) → covers t.corners x y ≡ false
+CoverNone window ts first last = (i : ℕ) (t : Triangle) → first ≤ i → i < last → slice_get ts i ≡ Some t → (x y : ℕ) → IsTrue (is_within window x y)
+    → covers t.corners x y ≡ false

@@ -61,4 +61,5 @@ ListAllCovered grid lists ts = (i : ℕ) (t : Triangle) → slice_get ts i ≡ S
 pub record ListTriangles (cells : Cells) (ts : List Triangle) : Type 0 where
   pub grid : IsGrid cells.grid
   pub rise : (cell : ℕ) → IsNonDecreasing (listed_in cells.lists cell)
-  pub listed : (i : ℕ) (t : Triangle) (x y : ℕ) → slice_get ts i ≡ Some t → IsTrue (covers t.corners x y) → HasCell cells.grid x y → Contains (listed_in cells.lists (cell_at cells.grid x y)) i
+  pub listed : (i : ℕ) (t : Triangle) (x y : ℕ) → slice_get ts i ≡ Some t → IsTrue (covers t.corners x y) → HasCell cells.grid x y
+      → Contains (listed_in cells.lists (cell_at cells.grid x y)) i

@@ -49,4 +49,5 @@ nowhere = record { left = 0; top = 0; right = 0; bottom = 0 }
 -- beside each of them is kept whether its event is switched on and it has a pixel
 pub record AreWriters (flags : List Bool) (reaches : List Reach) (writers : List Bool) : Type 0 where
   pub number : length writers ≡ length reaches
-  pub each : (k : ℕ) → k < length reaches → slice_index_or writers k false ≡ (slice_index_or flags k false && not (is_empty (box_of (slice_index_or reaches k nowhere))))
+  pub each : (k : ℕ) → k < length reaches → slice_index_or writers k false
+      ≡ (slice_index_or flags k false && not (is_empty (box_of (slice_index_or reaches k nowhere))))

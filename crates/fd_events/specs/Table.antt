@@ -1,5 +1,6 @@
 -- Promised. What a table of events is, and its states.
-use Rattle.std.specs.Prelude.{◌≡◌, ℕ, zero, suc, ◌+◌, ◌≤◌, Bool, true, false, List, length, replicate, Option, Some, None, slice_get, slice_set, unwrap_or, Result, Ok, Err, IsOk, nat_le, ◌&&◌, ◌⊎◌, All, if◌then◌else◌}
+use Rattle.std.specs.Prelude.{◌≡◌, ℕ, zero, suc, ◌+◌, ◌≤◌, Bool, true, false, List, length, replicate, Option, Some, None, slice_get, slice_set}
+use Rattle.std.specs.Prelude.{unwrap_or, Result, Ok, Err, IsOk, nat_le, ◌&&◌, ◌⊎◌, All, if◌then◌else◌}
 use Rattle.fd_snap.specs.Limits.{most_pixels}
 use Rattle.fd_events.specs.Limits.{most_events}
 use Rattle.fd_events.specs.declared.event.Event.{Event}

@@ -1,5 +1,6 @@
 -- The grammar of JSON and the reading of its data, one turn of a loop at a time.
-use Rattle.std.proofs.Common.{◌≡◌, ℕ, zero, suc, ◌-◌, ◌<◌, ◌≤◌, List, [], ◌∷◌, length, Option, Some, None, ◌⊎◌, inl, inr, option_map, option_and_then, refl, ap, ◌∙◌, arith}
+use Rattle.std.proofs.Common.{◌≡◌, ℕ, zero, suc, ◌-◌, ◌<◌, ◌≤◌, List, [], ◌∷◌, length, Option, Some, None, ◌⊎◌, inl, inr, option_map, option_and_then}
+use Rattle.std.proofs.Common.{refl, ap, ◌∙◌, arith}
 use Rattle.json.specs.Token.{Token}
 use Rattle.json.specs.Lex.{tokens}
 use Rattle.json.specs.Json as json
@@ -12,7 +13,8 @@ use Rattle.fd_json.specs.Taken.{taken}
 -- ---- what was converted
 
 -- with the tokens that are left, under f or before it
-paired : {A B : Type 0} (f : A → B) (rest : List Token) (o : Option A) → option_map (λ b. (b, rest)) (option_map f o) ≡ parse_map f (option_map (λ a. (a, rest)) o)
+paired : {A B : Type 0} (f : A → B) (rest : List Token) (o : Option A) → option_map (λ b. (b, rest)) (option_map f o)
+    ≡ parse_map f (option_map (λ a. (a, rest)) o)
 paired f rest None = refl
 paired f rest (Some a) = refl
 
@@ -20,7 +22,8 @@ pub converted-array : (o : Option (json.Items × List Token)) → converted of_j
 converted-array None = refl
 converted-array (Some p) = paired array p.1 (of_items p.0)
 
-pub converted-object : (o : Option (json.Members × List Token)) → converted of_json (parse_map json.object o) ≡ parse_map object (converted (λ ms. of_members ms no_members) o)
+pub converted-object : (o : Option (json.Members × List Token)) → converted of_json (parse_map json.object o)
+    ≡ parse_map object (converted (λ ms. of_members ms no_members) o)
 converted-object None = refl
 converted-object (Some p) = paired object p.1 (of_members p.0 no_members)
 
@@ -46,7 +49,8 @@ converts (Some p) d r is = made (of_json p.0) refl is
   where
     made : (x : Option Data) → of_json p.0 ≡ x → option_map {U = Data × List Token} (λ e. (e, p.1)) x ≡ Some (d, r) → Converts (Some p) d r
     made None of is = absurd (cc)
-    made (Some e) of is = let same : p.1 ≡ r = ap (rest_or r) is in let last : e ≡ d = ap (data_or d) is in (p.0, ap (λ (s : List Token). Some (p.0, s)) same, of ∙ ap Some last)
+    made (Some e) of is = let same : p.1 ≡ r = ap (rest_or r) is in let last : e ≡ d = ap (data_or d) is in
+        (p.0, ap (λ (s : List Token). Some (p.0, s)) same, of ∙ ap Some last)
 
 fails : (o : Option (Json × List Token)) → converted of_json o ≡ None → Fails o
 fails None is = inl refl
@@ -58,9 +62,11 @@ fails (Some p) is = made (of_json p.0) refl is
 
 -- ---- items
 
-with_item : (j : Json) (d : Data) (o : Option (json.Items × List Token)) → of_json j ≡ Some d → converted of_items (parse_map (json.item j) o) ≡ parse_map (item d) (converted of_items o)
+with_item : (j : Json) (d : Data) (o : Option (json.Items × List Token)) → of_json j ≡ Some d → converted of_items (parse_map (json.item j) o)
+    ≡ parse_map (item d) (converted of_items o)
 with_item j d None is = refl
-with_item j d (Some p) is = ap (λ x. option_map (λ b. (b, p.1)) (option_and_then (λ e. option_map (item e) (of_items p.0)) x)) is ∙ paired (item d) p.1 (of_items p.0)
+with_item j d (Some p) is = ap (λ x. option_map (λ b. (b, p.1)) (option_and_then (λ e. option_map (item e) (of_items p.0)) x)) is
+    ∙ paired (item d) p.1 (of_items p.0)
 
 with_no_item : (j : Json) (o : Option (json.Items × List Token)) → of_json j ≡ None → converted of_items (parse_map (json.item j) o) ≡ None
 with_no_item j None is = refl
@@ -85,7 +91,8 @@ module _ (p : Parse Json) where
       refused : (n : ℕ) → Fails (p ts) → converted of_items (items p n ts) ≡ None
       refused n (inl none) = ap (converted of_items) (items_fail p n ts going none)
       refused zero (inr found) = ap (converted of_items) (none_left ts)
-      refused (suc n) (inr found) = ap (converted of_items) (items_more p (suc n) ts found.1 found.0 (omega arith) going found.2) ∙ with_no_item found.0 (items p (suc n - 1) found.1) found.3
+      refused (suc n) (inr found) = ap (converted of_items) (items_more p (suc n) ts found.1 found.0 (omega arith) going found.2)
+          ∙ with_no_item found.0 (items p (suc n - 1) found.1) found.3
 
   -- the end of an array
   pub items_over : (n : ℕ) (ts r : List Token) → length ts ≤ n → after_end_array ts ≡ Some r → converted of_items (items p n ts) ≡ Some (no_items, r)
@@ -98,7 +105,8 @@ with_member : (k : List ℕ) (j : Json) (d : Data) (found : Members) (o : Option
 with_member k j d found None is = refl
 with_member k j d found (Some p) is = ap (λ x. option_map (λ b. (b, p.1)) (option_and_then (λ e. of_members p.0 (put k e found)) x)) is
 
-with_no_member : (k : List ℕ) (j : Json) (found : Members) (o : Option (json.Members × List Token)) → of_json j ≡ None → converted (λ ms. of_members ms found) (parse_map (json.member k j) o) ≡ None
+with_no_member : (k : List ℕ) (j : Json) (found : Members) (o : Option (json.Members × List Token)) → of_json j ≡ None
+    → converted (λ ms. of_members ms found) (parse_map (json.member k j) o) ≡ None
 with_no_member k j found None is = refl
 with_no_member k j found (Some p) is = ap (λ x. option_map (λ b. (b, p.1)) (option_and_then (λ e. of_members p.0 (put k e found)) x)) is
 
@@ -112,23 +120,27 @@ module _ (p : Parse Json) (found : Members) where
       → converted (λ ms. of_members ms found) (members p n ts) ≡ converted (λ ms. of_members ms (put k d found)) (members p (n - 1) r)
   member_read n k ts s r d turns key is =
       let first = converts (p s) d r is in
-      ap (converted (λ ms. of_members ms found)) (members_more p n k ts s r first.0 turns key first.1) ∙ with_member k first.0 d found (members p (n - 1) r) first.2
+      ap (converted (λ ms. of_members ms found)) (members_more p n k ts s r first.0 turns key first.1)
+      ∙ with_member k first.0 d found (members p (n - 1) r) first.2
 
   -- one whose value is refused
-  pub member_refused : (n : ℕ) (k : List ℕ) (ts s : List Token) → read_key ts ≡ Some (Some k, s) → converted of_json (p s) ≡ None → converted (λ ms. of_members ms found) (members p n ts) ≡ None
+  pub member_refused : (n : ℕ) (k : List ℕ) (ts s : List Token) → read_key ts ≡ Some (Some k, s) → converted of_json (p s) ≡ None
+      → converted (λ ms. of_members ms found) (members p n ts) ≡ None
   member_refused n k ts s key is = refused n (fails (p s) is)
     where
       refused : (n : ℕ) → Fails (p s) → converted (λ ms. of_members ms found) (members p n ts) ≡ None
       refused n (inl none) = ap (converted (λ ms. of_members ms found)) (members_fail p n k ts s key none)
       refused zero (inr first) = ap (converted (λ ms. of_members ms found)) (no_turns ts)
-      refused (suc n) (inr first) = ap (converted (λ ms. of_members ms found)) (members_more p (suc n) k ts s first.1 first.0 (omega arith) key first.2) ∙ with_no_member k first.0 found (members p (suc n - 1) first.1) first.3
+      refused (suc n) (inr first) = ap (converted (λ ms. of_members ms found)) (members_more p (suc n) k ts s first.1 first.0 (omega arith) key first.2)
+          ∙ with_no_member k first.0 found (members p (suc n - 1) first.1) first.3
 
   -- no key, and no end
   pub key_refused : (n : ℕ) (ts : List Token) → read_key ts ≡ None → converted (λ ms. of_members ms found) (members p n ts) ≡ None
   key_refused n ts none = ap (converted (λ ms. of_members ms found)) (members_no_key p n ts none)
 
   -- the end of an object
-  pub members_over : (n : ℕ) (ts r : List Token) → length ts ≤ n → read_key ts ≡ Some (None, r) → converted (λ ms. of_members ms found) (members p n ts) ≡ Some (found, r)
+  pub members_over : (n : ℕ) (ts r : List Token) → length ts ≤ n → read_key ts ≡ Some (None, r) → converted (λ ms. of_members ms found) (members p n ts)
+      ≡ Some (found, r)
   members_over n ts r enough closed = ap (converted (λ ms. of_members ms found)) (members_end p n ts r enough closed)
 
 -- ---- a whole text
@@ -140,7 +152,8 @@ whole_read text d is =
     ap (λ o. option_and_then of_json (option_and_then (λ p. if_last p.0 p.1) o)) first.1 ∙ first.2
 
 pub whole_and_more : (text : List ℕ) (d : Data) (t : Token) (ts : List Token) → taken max_depth (tokens text) ≡ Some (d, t ∷ ts) → read text ≡ None
-whole_and_more text d t ts is = ap (λ o. option_and_then of_json (option_and_then (λ p. if_last p.0 p.1) o)) (converts (value max_depth (tokens text)) d (t ∷ ts) is).1
+whole_and_more text d t ts is = ap (λ o. option_and_then of_json (option_and_then (λ p. if_last p.0 p.1) o))
+    (converts (value max_depth (tokens text)) d (t ∷ ts) is).1
 
 pub whole_refused : (text : List ℕ) → taken max_depth (tokens text) ≡ None → read text ≡ None
 whole_refused text is = refused (fails (value max_depth (tokens text)) is)

@@ -10,7 +10,8 @@ use Rattle.fd_tile.specs.Tile.{Pixel, pixel_in}
 use Rattle.fd_tile.proofs.Pixels.{value_in-over_place, over_place_same}
 use Rattle.fd_events.specs.Table.{Table}
 use Rattle.fd_events.specs.Image.{fresh_pixel, pixel_at, kept_after}
-use Rattle.fd_owner.specs.History.{Frame, History, position, last_image, records, pixels_kept, pixel_past, kept_past, frame_after, extend, fresh_history, drawn_history}
+use Rattle.fd_owner.specs.History.{Frame, History, position, last_image, records, pixels_kept, pixel_past, kept_past, frame_after, extend}
+use Rattle.fd_owner.specs.History.{fresh_history, drawn_history}
 use Rattle.fd_owner.proofs.Histories.{position_extend_to, extend_more, extend_none, last_extend}
 
 pub position_drawn : (table : Table) (place : Place) (k : ℕ) → position (drawn_history table place k) ≡ k
@@ -28,13 +29,16 @@ last_drawn table place zero = ap last_image (extend_none table place (fresh_hist
 last_drawn table place (suc k) =
     ap last_image (drawn_more table place k)
     ∙ last_extend table place (drawn_history table place k)
-    ∙ ap (λ (n : ℕ). over_place place (λ x y. pixel_past table n x y (pixel_in place (last_image (drawn_history table place k)) x y))) (position_drawn table place k)
+    ∙ ap (λ (n : ℕ). over_place place (λ x y. pixel_past table n x y (pixel_in place (last_image (drawn_history table place k)) x y)))
+    (position_drawn table place k)
     ∙ ap (λ (rows : List (List Pixel)). over_place place (λ x y. pixel_past table k x y (pixel_in place rows x y))) (last_drawn table place k)
-    ∙ over_place_same place (λ x y. pixel_past table k x y (pixel_in place (over_place place (λ a b. pixel_at table k a b)) x y)) (λ x y. pixel_past table k x y (pixel_at table k x y))
+    ∙ over_place_same place (λ x y. pixel_past table k x y (pixel_in place (over_place place (λ a b. pixel_at table k a b)) x y))
+    (λ x y. pixel_past table k x y (pixel_at table k x y))
     (λ x y held. ap (pixel_past table k x y) (value_in-over_place place (λ a b. pixel_at table k a b) x y fresh_pixel held))
 
 -- what it shows of a pixel
-pub pixel_drawn : (table : Table) (place : Place) (k x y : ℕ) → Holds place x y → pixel_in place (last_image (drawn_history table place k)) x y ≡ pixel_at table k x y
+pub pixel_drawn : (table : Table) (place : Place) (k x y : ℕ) → Holds place x y → pixel_in place (last_image (drawn_history table place k)) x y
+    ≡ pixel_at table k x y
 pixel_drawn table place k x y held =
     ap (λ (rows : List (List Pixel)). pixel_in place rows x y) (last_drawn table place k)
     ∙ value_in-over_place place (λ a b. pixel_at table k a b) x y fresh_pixel held
@@ -65,16 +69,19 @@ module _ (place : Place) (x y : ℕ) (held : Holds place x y) where
   kept_before table h i first last =
       kept_is (extend table place h) i
       ∙ ap (λ rs. at_pixel (get_or rs (i - 1) [])) (records_extend table h)
-      ∙ ap at_pixel (get_or_append_left (records h) ((frame_after table place (position h) (last_image h)).kept ∷ []) [] (i - 1) (omega (arith, length-records h)))
+      ∙ ap at_pixel (get_or_append_left (records h) ((frame_after table place (position h) (last_image h)).kept ∷ []) [] (i - 1)
+      (omega (arith, length-records h)))
       ∙ sym (kept_is h i)
 
   -- the last event
-  kept_last : (table : Table) (h : History) → pixels_kept place (extend table place h) (position h + 1) x y ≡ kept_past table (position h) x y (pixel_in place (last_image h) x y)
+  kept_last : (table : Table) (h : History) → pixels_kept place (extend table place h) (position h + 1) x y
+      ≡ kept_past table (position h) x y (pixel_in place (last_image h) x y)
   unfolding frame_after
   kept_last table h =
       kept_is (extend table place h) (position h + 1)
       ∙ ap (λ rs. at_pixel (get_or rs (position h + 1 - 1) [])) (records_extend table h)
-      ∙ ap at_pixel (get_or_at (records h) (frame_after table place (position h) (last_image h)).kept [] [] (position h + 1 - 1) (omega (arith, length-records h)))
+      ∙ ap at_pixel (get_or_at (records h) (frame_after table place (position h) (last_image h)).kept [] [] (position h + 1 - 1)
+      (omega (arith, length-records h)))
       ∙ value_in-over_place place (λ a b. kept_past table (position h) a b (pixel_in place (last_image h) a b)) x y [] held
 
   -- what a table's event overwrites of the pixel

@@ -25,7 +25,8 @@ all_restored-emptied : (frames : List (List KeptPixel)) (t : TileImage) → all_
 all_restored-emptied [] t = refl
 all_restored-emptied (f ∷ frames) t = all_restored-emptied frames t
 
-frames_seen-emptied : (t : TileImage) (frames : List (List KeptPixel)) → frames_seen t (emptied frames) ≡ map (λ _. frame_without_kept t.place (pixels_of t)) (frames_seen t frames)
+frames_seen-emptied : (t : TileImage) (frames : List (List KeptPixel)) → frames_seen t (emptied frames) ≡ map (λ _. frame_without_kept t.place (pixels_of t))
+    (frames_seen t frames)
 frames_seen-emptied t [] = refl
 frames_seen-emptied t (f ∷ frames) =
     ap (λ (u : TileImage). frame_without_kept t.place (pixels_of u) ∷ frames_seen t (emptied frames)) (all_restored-emptied frames t)
@@ -73,7 +74,8 @@ recorded-without_past place h =
     let blank : Frame → Frame = λ _. frame_without_kept place (last_image h) in
     ap (sum_by pixels) (map_mapped blank (λ (f : Frame). f.kept) h.frames)
     ∙ none_in pixels (λ (f : Frame). (blank f).kept) h.frames
-    (λ f. none_in (λ (row : List (List Pixel)). sum_by length row) row (range_with_len place.top place.height) (λ y. none_in length (λ (x : ℕ). let none : List Pixel = [] in none) columns (λ x. refl)))
+    (λ f. none_in (λ (row : List (List Pixel)). sum_by length row) row (range_with_len place.top place.height)
+    (λ y. none_in length (λ (x : ℕ). let none : List Pixel = [] in none) columns (λ x. refl)))
 
 -- what a history shows further on rests on its position and on what it shows alone
 pub last_extend_by : (table : Table) (place : Place) (count : ℕ) (h g : History) → position h ≡ position g → last_image h ≡ last_image g
@@ -85,5 +87,6 @@ last_extend_by table place (suc count) h g at same =
     let at' : position h' ≡ position g' = omega (arith, position_extend_by table place count h, position_extend_by table place count g, at) in
     last_extend table place h'
     ∙ ap (λ (k : ℕ). over_place place (λ x y. pixel_past table k x y (pixel_in place (last_image h') x y))) at'
-    ∙ ap (λ (rows : List (List Pixel)). over_place place (λ x y. pixel_past table (position g') x y (pixel_in place rows x y))) (last_extend_by table place count h g at same)
+    ∙ ap (λ (rows : List (List Pixel)). over_place place (λ x y. pixel_past table (position g') x y (pixel_in place rows x y)))
+    (last_extend_by table place count h g at same)
     ∙ sym (last_extend table place g')

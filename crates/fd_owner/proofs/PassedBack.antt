@@ -21,17 +21,20 @@ all_restored-more [] n t = all_restored-empty n t
 all_restored-more (f ∷ frames) n t = ap (restored f) (all_restored-more frames n t)
 
 -- the frames below them are seen as before
-frames_seen-below : (frames : List (List KeptPixel)) (n : ℕ) (t : TileImage) → take (length frames) (frames_seen t (frames ++ replicate n [])) ≡ frames_seen t frames
+frames_seen-below : (frames : List (List KeptPixel)) (n : ℕ) (t : TileImage) → take (length frames) (frames_seen t (frames ++ replicate n []))
+    ≡ frames_seen t frames
 frames_seen-below [] n t = refl
 frames_seen-below (f ∷ frames) n t =
-    ap (λ (u : TileImage). frame_of (pixels_of u) (record_of t.place f) ∷ take (length frames) (frames_seen t (frames ++ replicate n []))) (all_restored-more frames n t)
+    ap (λ (u : TileImage). frame_of (pixels_of u) (record_of t.place f) ∷ take (length frames) (frames_seen t (frames ++ replicate n [])))
+    (all_restored-more frames n t)
     ∙ ap (λ (fs : List Frame). frame_of (pixels_of (all_restored frames t)) (record_of t.place f) ∷ fs) (frames_seen-below frames n t)
 
 module _ (t : TileImage) (u u' : Undo) (n : ℕ) (is : u.frames ≡ u'.frames ++ replicate n []) where
   pub history_of-dropped : history_of t u' ≡ first_frames (length (frames_seen t u'.frames)) (history_of t u)
   history_of-dropped =
       sym (ap (λ fs. opened (pixels_of (all_restored fs t)) (take (length (frames_seen t u'.frames)) (frames_seen t fs))) is
-      ∙ ap (λ (v : TileImage). opened (pixels_of v) (take (length (frames_seen t u'.frames)) (frames_seen t (u'.frames ++ replicate n [])))) (all_restored-more u'.frames n t)
+      ∙ ap (λ (v : TileImage). opened (pixels_of v) (take (length (frames_seen t u'.frames)) (frames_seen t (u'.frames ++ replicate n []))))
+      (all_restored-more u'.frames n t)
       ∙ ap (λ (k : ℕ). opened (pixels_of (all_restored u'.frames t)) (take k (frames_seen t (u'.frames ++ replicate n [])))) (length-frames_seen t u'.frames)
       ∙ ap (opened (pixels_of (all_restored u'.frames t))) (frames_seen-below u'.frames n t))
 

@@ -28,14 +28,21 @@ abbrev Misses : Bounds → Place → Type 0
 Misses box place = (x y : ℕ) → Holds place x y → is_within box x y ≡ false
 
 -- on a target that a place lies in, in the place
-module _ (place : Place) (width height : ℕ) (placed : IsTilePlace place) (right : place.left + place.width ≤ width) (bottom : place.top + place.height ≤ height) where
+module _ (place : Place) (width height : ℕ) (placed : IsTilePlace place) (right : place.left + place.width ≤ width)
+    (bottom : place.top + place.height ≤ height) where
   in_target : (x y : ℕ) → Holds place x y → (x < width) × (y < height)
   in_target x y held = (omega (arith, held.to_right, right), omega (arith, held.to_bottom, bottom))
 
   -- the whole target has the place's first pixel
   not_whole : Misses (record { left = 0; top = 0; right = width; bottom = height }) place → ⊥
   not_whole misses =
-      let held : Holds place place.left place.top = record { from_left = omega arith; to_right = omega (arith, placed.wide); from_top = omega arith; to_bottom = omega (arith, placed.high) } in
+      let held : Holds place place.left place.top = record {
+        from_left = omega arith;
+        to_right = omega (arith, placed.wide);
+        from_top =
+            omega arith;
+        to_bottom = omega (arith, placed.high);
+      } in
       let on = in_target place.left place.top held in
       let inside = in_whole width height place.left place.top on.0 on.1 in
       let outside = misses place.left place.top held in
@@ -48,7 +55,8 @@ module _ (place : Place) (width height : ℕ) (placed : IsTilePlace place) (righ
       ap (λ covered. covered && (not (is_culled s.raster t.corners) && not (s.raster.scissor && not (holds s.scissor x y))))
       (uncovered_outside t.corners (bounds_of_triangles ts) x y (bounds_of_triangles-holds ts i t at) outside)
 
-  event_demands-none : (event : Event) (s : Pipeline) → Misses (reach_of width height event) place → (event_spans event s place ≡ 0) × (event_pixels event s place ≡ 0)
+  event_demands-none : (event : Event) (s : Pipeline) → Misses (reach_of width height event) place → (event_spans event s place ≡ 0)
+      × (event_pixels event s place ≡ 0)
   event_demands-none (Clear colour) s misses = absurd (not_whole misses)
   event_demands-none (DepthClear depth) s misses = absurd (not_whole misses)
   event_demands-none (Draw draw) s misses =
@@ -68,8 +76,10 @@ module _ (place : Place) (width height : ℕ) (placed : IsTilePlace place) (righ
   demands-none window whole None s far = (refl, refl)
   demands-none window whole (Some event) s far = event_demands-none event s (λ x y held. far x y (whole x y held))
 
-pub untouched_from : (table : Table) (from to : ℕ) (window : Bounds) (place : Place) → IsTilePlace place → IsInside place table → ((x y : ℕ) → Holds place x y → IsTrue (is_within window x y))
+pub untouched_from : (table : Table) (from to : ℕ) (window : Bounds) (place : Place) → IsTilePlace place → IsInside place table
+    → ((x y : ℕ) → Holds place x y → IsTrue (is_within window x y))
     → AreFar table from to window → AreUntouched table from to place
 untouched_from table from to window place placed inside whole far k above below =
-    let none = demands-none place table.width table.height placed inside.right inside.bottom window whole (active_event table (suc k)) (state_at table k) (far k above below) in
+    let none = demands-none place table.width table.height placed inside.right inside.bottom window whole (active_event table (suc k)) (state_at table k)
+    (far k above below) in
     record { spans = none.0; pixels = none.1 }

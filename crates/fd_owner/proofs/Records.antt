@@ -1,5 +1,6 @@
 -- What the frames keep, told as records: pixel by pixel, and how many in all.
-use Rattle.std.proofs.Common.{◌≡◌, ◌≢◌, ℕ, zero, suc, ◌+◌, ◌-◌, ◌<◌, ◌≤◌, Bool, true, false, cond, eqb, List, [], ◌∷◌, length, get_or, refl, sym, ap, ◌∙◌, subst, arith, inl, inr, ◌⊎◌}
+use Rattle.std.proofs.Common.{◌≡◌, ◌≢◌, ℕ, zero, suc, ◌+◌, ◌-◌, ◌<◌, ◌≤◌, Bool, true, false, cond, eqb, List, [], ◌∷◌, length, get_or, refl, sym, ap}
+use Rattle.std.proofs.Common.{◌∙◌, subst, arith, inl, inr, ◌⊎◌}
 use Rattle.std.specs.Prelude.{◌&&◌, nat_le, map, All}
 use Rattle.std.specs.List.{sum_by, range_with_len}
 use Rattle.std.proofs.lemmas.Bool.{eq-eqb, ne_eqb, cases_lt, cases_eq, and_left, and_right}
@@ -36,10 +37,12 @@ kept_at-outside p (k ∷ ks) x y inside out =
     apart a b held (inl across) (inl down) = absurd (out (subst (λ c. Holds p x c) down (subst (λ c. Holds p c b) across held)))
 
 -- nothing is listed past its last row, or past the end of a row
-over_place-below : {X : Type 0} (p : Place) (f : ℕ → ℕ → List X) (x y : ℕ) → p.top + p.height ≤ y → get_or (get_or (over_place p f) (y - p.top) []) (x - p.left) [] ≡ []
+over_place-below : {X : Type 0} (p : Place) (f : ℕ → ℕ → List X) (x y : ℕ) → p.top + p.height ≤ y → get_or (get_or (over_place p f) (y - p.top) [])
+    (x - p.left) [] ≡ []
 over_place-below p f x y past =
     ap (λ r. get_or r (x - p.left) [])
-    (get_or_past (over_place p f) (y - p.top) [] (omega (arith, length-map-range_with_len (λ z. map (λ w. f w z) (range_with_len p.left p.width)) p.top p.height)))
+    (get_or_past (over_place p f) (y - p.top) []
+    (omega (arith, length-map-range_with_len (λ z. map (λ w. f w z) (range_with_len p.left p.width)) p.top p.height)))
 
 over_place-right : {X : Type 0} (p : Place) (f : ℕ → ℕ → List X) (x y : ℕ) → p.top ≤ y → y < p.top + p.height → p.left + p.width ≤ x
     → get_or (get_or (over_place p f) (y - p.top) []) (x - p.left) [] ≡ []
@@ -61,7 +64,8 @@ record_of-at p ks x y inside = by_place (cases_lt x p.left) (cases_lt y p.top) (
     there : p.left ≤ x → p.top ≤ y → (nat_le p.left x && nat_le p.top y) ≡ true
     there left top = grind (arith, nat_tests)
 
-    by_place : (x < p.left) ⊎ (p.left ≤ x) → (y < p.top) ⊎ (p.top ≤ y) → (x < p.left + p.width) ⊎ (p.left + p.width ≤ x) → (y < p.top + p.height) ⊎ (p.top + p.height ≤ y)
+    by_place : (x < p.left) ⊎ (p.left ≤ x) → (y < p.top) ⊎ (p.top ≤ y) → (x < p.left + p.width) ⊎ (p.left + p.width ≤ x) → (y < p.top + p.height)
+        ⊎ (p.top + p.height ≤ y)
         → cond (nat_le p.left x && nat_le p.top y) (get_or (get_or (record_of p ks) (y - p.top) []) (x - p.left) []) [] ≡ kept_at ks x y
     by_place (inl left) top right bottom =
         let not : (nat_le p.left x && nat_le p.top y) ≡ false = grind (arith, nat_tests) in
@@ -92,7 +96,8 @@ pub pixels_kept-history_of : (t : TileImage) (u : Undo) (i x y : ℕ) → IsOwne
     → pixels_kept t.place (history_of t u) i x y ≡ kept_at (get_or u.frames (i - 1) []) x y
 pixels_kept-history_of t u i x y owner first last =
     let within : i - 1 < length u.frames = omega arith in
-    let at : List (List (List Pixel)) → List Pixel = λ r. cond (nat_le t.place.left x && nat_le t.place.top y) (get_or (get_or r (y - t.place.top) []) (x - t.place.left) []) [] in
+    let at : List (List (List Pixel)) → List Pixel = λ r. cond (nat_le t.place.left x && nat_le t.place.top y)
+    (get_or (get_or r (y - t.place.top) []) (x - t.place.left) []) [] in
     ap (λ rs. at (get_or rs (i - 1) [])) (records-frames_seen t u.frames)
     ∙ ap at (get_or-map (record_of t.place) u.frames (i - 1) [] [] within)
     ∙ record_of-at t.place (get_or u.frames (i - 1) []) x y (All-get_or (λ frame. Inside t.place frame) u.frames (i - 1) [] within owner.inside)

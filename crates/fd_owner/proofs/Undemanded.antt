@@ -1,5 +1,6 @@
 -- An event that demands no pixel of a place draws nothing there.
-use Rattle.std.proofs.Common.{◌≡◌, ℕ, zero, suc, ◌+◌, ◌<◌, ◌≤◌, ◌⊎◌, inl, inr, Bool, true, false, cond, List, [], ◌∷◌, Option, Some, None, slice_get, refl, sym, ap, ◌∙◌, arith}
+use Rattle.std.proofs.Common.{◌≡◌, ℕ, zero, suc, ◌+◌, ◌<◌, ◌≤◌, ◌⊎◌, inl, inr, Bool, true, false, cond, List, [], ◌∷◌, Option, Some, None, slice_get}
+use Rattle.std.proofs.Common.{refl, sym, ap, ◌∙◌, arith}
 use Rattle.std.specs.List.{sum_by}
 use Rattle.std.proofs.lemmas.Bool.{cases_lt}
 use Rattle.std.proofs.lemmas.List.Sums.{sum_by-cons}
@@ -42,7 +43,8 @@ not_counted false n is none = refl
 uncounted : (written : ℕ → ℕ → Bool) (p : Place) (x y : ℕ) → pixels_in written p ≡ 0 → Holds p x y → written x y ≡ false
 uncounted written p x y none held =
     let row : written_in_row written p y ≡ 0 = each_nothing (written_in_row written p) p.top p.height y none held.from_top held.to_bottom in
-    not_counted (written x y) (cond (written x y) 1 0) refl (each_nothing (λ column. cond (written column y) 1 0) p.left p.width x row held.from_left held.to_right)
+    not_counted (written x y) (cond (written x y) 1 0) refl
+    (each_nothing (λ column. cond (written column y) 1 0) p.left p.width x row held.from_left held.to_right)
 
 -- triangles that demand no pixel are not drawn
 undemanded : (ts : List Triangle) (s : Pipeline) (p : Place) → sum_by (triangle_pixels s p) ts ≡ 0 → IsUndrawn ts s p
@@ -66,8 +68,11 @@ module _ (s : Pipeline) (p : Place) (x y : ℕ) (before : Pixel) (held : Holds p
   by_event (Clear colour) none = absurd (written_anyhow none)
   by_event (DepthClear depth) none = absurd (written_anyhow none)
   by_event (Draw draw) none =
-      let nowhere = undemanded (triangles_of draw) s p none in
-      (pixel_after_triangles-undrawn (triangles_of draw) draw.interp s p x y before nowhere held, kept_by_triangles-undrawn (triangles_of draw) draw.interp s p x y before nowhere held)
+      let nowhere = undemanded (triangles_of draw) s p none in (
+        pixel_after_triangles-undrawn (triangles_of draw) draw.interp s p x y before nowhere held,
+        kept_by_triangles-undrawn (triangles_of draw) draw.interp s
+            p x y before nowhere held,
+      )
   by_event (SetRaster raster) none = (refl, refl)
   by_event (SetScissor rect) none = (refl, refl)
   by_event (SetBlend blend) none = (refl, refl)
@@ -89,7 +94,8 @@ Paints-undemanded table k t u filled begun none =
     (Paints-nothing t u filled begun)
 
 -- the event is there, switched on or not
-demands_nothing : (on : Bool) (found : Option Event) (event : Event) (s : Pipeline) (p : Place) → found ≡ Some event → (event_spans event s p ≡ 0) × (event_pixels event s p ≡ 0)
+demands_nothing : (on : Bool) (found : Option Event) (event : Event) (s : Pipeline) (p : Place) → found ≡ Some event → (event_spans event s p ≡ 0)
+    × (event_pixels event s p ≡ 0)
     → (spans_of (cond on found None) s p ≡ 0) × (pixels_written (cond on found None) s p ≡ 0)
 demands_nothing false found event s p is none = (refl, refl)
 demands_nothing true found event s p is none =

@@ -1,9 +1,11 @@
 -- Rows that stand one after the other in a list.
-use Rattle.std.proofs.Common.{◌≡◌, ℕ, zero, suc, ◌+◌, ◌-◌, ◌*◌, ◌<◌, ◌≤◌, List, [], ◌∷◌, ◌++◌, length, get_or, take, drop, replicate, refl, sym, ap, ◌∙◌, arith, append_assoc, length-append, length-drop, Option}
+use Rattle.std.proofs.Common.{◌≡◌, ℕ, zero, suc, ◌+◌, ◌-◌, ◌*◌, ◌<◌, ◌≤◌, List, [], ◌∷◌, ◌++◌, length, get_or, take, drop, replicate, refl, sym, ap}
+use Rattle.std.proofs.Common.{◌∙◌, arith, append_assoc, length-append, length-drop, Option}
 use Rattle.std.specs.Prelude.{slice_set, All}
 use Rattle.std.proofs.Math.Nat.{zero-mul, suc-mul, add-mul, mul-le-mul_right}
 use Rattle.std.proofs.lemmas.Nat.{row_fits}
-use Rattle.std.proofs.lemmas.List.{take_at, drop_at, take-take, take-append-le, drop-append-le, drop-drop, drop-take, length-take-le, take-append-drop, take-replicate, drop-replicate, with_items_is}
+use Rattle.std.proofs.lemmas.List.{take_at, drop_at, take-take, take-append-le, drop-append-le, drop-drop, drop-take, length-take-le}
+use Rattle.std.proofs.lemmas.List.{take-append-drop, take-replicate, drop-replicate, with_items_is}
 use Rattle.std.proofs.lemmas.List.Elements.{All-nil, All-cons}
 use Rattle.std.specs.List.{refill, length_refill}
 use Rattle.std.specs.Global.{Vec}
@@ -12,7 +14,8 @@ use Rattle.fd_tile.specs.declared.place.Place.{Place}
 use Rattle.fd_tile.specs.Place.{Holds, HasRow, IsTilePlace}
 use Rattle.fd_tile.specs.Part.{part_left}
 use Rattle.fd_blend.specs.declared.channel.Colour.{Colour}
-use Rattle.fd_tile.specs.Tile.{TileImage, FillsPlace, IsTileImage, IsTile, cut_rows, rows_over, row_in, with_row_in, with_row, with_rows_from, row_of, depth_row_of}
+use Rattle.fd_tile.specs.Tile.{TileImage, FillsPlace, IsTileImage, IsTile, cut_rows, rows_over, row_in, with_row_in, with_row, with_rows_from, row_of}
+use Rattle.fd_tile.specs.Tile.{depth_row_of}
 use Rattle.fd_tile.proofs.Pixels.{HasRow-from_Holds, length-row_of, length-depth_row_of}
 
 -- the list with these items from index i on
@@ -42,7 +45,8 @@ pasted_at-append {X = X} i new more xs fits =
     let after : drop (length new) (drop i (pasted_at (i + length new) more xs)) ≡ more ++ end =
     drop-drop (length new) i (pasted_at j more xs) ∙ drop_at (take j xs) (more ++ end) j first in
     let rest : drop (length (new ++ more)) (drop i xs) ≡ end =
-    ap (λ k. drop k (drop i xs)) (length-append new more) ∙ sym (drop-drop (length more) (length new) (drop i xs)) ∙ ap (λ l. drop (length more) l) (drop-drop (length new) i xs) in
+    ap (λ k. drop k (drop i xs)) (length-append new more) ∙ sym (drop-drop (length more) (length new) (drop i xs))
+    ∙ ap (λ l. drop (length more) l) (drop-drop (length new) i xs) in
     ap (λ l. take i xs ++ l) (ap (λ l. (new ++ more) ++ l) rest ∙ append_assoc new more end)
     ∙ sym (ap (λ l. l ++ (new ++ drop (length new) (drop i (pasted_at j more xs)))) before ∙ ap (λ l. take i xs ++ (new ++ l)) after)
 
@@ -54,7 +58,8 @@ pub cut_rows-wide : {X : Type 0} (w n : ℕ) (xs : List X) → n * w ≤ length 
 cut_rows-wide w zero xs fits = All-nil (λ row. length row ≡ w)
 cut_rows-wide w (suc n) xs fits =
     let more : suc n * w ≡ n * w + w = suc-mul n w in
-    All-cons (λ row. length row ≡ w) (take w xs) (cut_rows w n (drop w xs)) (length-take-le w xs (omega arith)) (cut_rows-wide w n (drop w xs) (omega (arith, length-drop w xs)))
+    All-cons (λ row. length row ≡ w) (take w xs) (cut_rows w n (drop w xs)) (length-take-le w xs (omega arith))
+    (cut_rows-wide w n (drop w xs) (omega (arith, length-drop w xs)))
 
 -- one row
 pub cut_rows-at : {X : Type 0} (w n i : ℕ) (xs : List X) → i < n → get_or (cut_rows w n xs) i [] ≡ take w (drop (i * w) xs)
@@ -62,10 +67,12 @@ cut_rows-at w zero i xs within = absurd (omega arith)
 cut_rows-at w (suc n) zero xs within = ap (λ k. take w (drop k xs)) (sym (zero-mul w))
 cut_rows-at w (suc n) (suc i) xs within =
     let more : suc i * w ≡ i * w + w = suc-mul i w in
-    cut_rows-at w n i (drop w xs) (omega arith) ∙ ap (λ l. take w l) (drop-drop (i * w) w xs ∙ ap (λ k. drop k xs) {x = w + i * w} {y = suc i * w} (omega arith))
+    cut_rows-at w n i (drop w xs) (omega arith)
+    ∙ ap (λ l. take w l) (drop-drop (i * w) w xs ∙ ap (λ k. drop k xs) {x = w + i * w} {y = suc i * w} (omega arith))
 
 -- one row is written
-pub cut_rows-set : {X : Type 0} (w n i : ℕ) (row xs : List X) → i < n → length row ≡ w → n * w ≤ length xs → cut_rows w n (pasted_at (i * w) row xs) ≡ slice_set (cut_rows w n xs) i row
+pub cut_rows-set : {X : Type 0} (w n i : ℕ) (row xs : List X) → i < n → length row ≡ w → n * w ≤ length xs → cut_rows w n (pasted_at (i * w) row xs)
+    ≡ slice_set (cut_rows w n xs) i row
 cut_rows-set {X = X} w zero i row xs within wide fits = absurd (omega arith)
 cut_rows-set {X = X} w (suc n) zero row xs within wide fits =
     let rest : List X = drop (length row) xs in
@@ -135,7 +142,8 @@ module _ {X : Type 0} (p : Place) (items : List X) (placed : IsTilePlace p) (cou
 
       part_is : part_left items start (start + p.width) left ≡ pasted_at start full items
       part_is =
-          ap (λ n. take start items ++ (refill n (take n (drop start items)) left ++ drop n (drop start items))) {x = start + p.width - start} {y = p.width} (omega arith)
+          ap (λ n. take start items ++ (refill n (take n (drop start items)) left ++ drop n (drop start items))) {x = start + p.width - start} {y = p.width}
+          (omega arith)
           ∙ ap (λ n. take start items ++ (full ++ drop n (drop start items))) (sym full_long)
 
       -- a row was lent and left
@@ -151,9 +159,11 @@ module _ {X : Type 0} (p : Place) (items : List X) (placed : IsTilePlace p) (cou
       length-part_left = ap length part_is ∙ length-pasted_at start full items (omega (arith, full_long, row_fits_in))
 
 -- the same of the list of a Vec
-module _ {X : Type 0} (p : Place) (v : Vec X) (placed : IsTilePlace p) (counted : length v.items ≡ p.height * p.width) (y start : ℕ) (crossed : HasRow p y) (begins : start ≡ (y - p.top) * p.width) (left : List X) where
+module _ {X : Type 0} (p : Place) (v : Vec X) (placed : IsTilePlace p) (counted : length v.items ≡ p.height * p.width) (y start : ℕ) (crossed : HasRow p y)
+    (begins : start ≡ (y - p.top) * p.width) (left : List X) where
   items_left : (with_items v (part_left v.items start (start + p.width) left)).items ≡ part_left v.items start (start + p.width) left
-  items_left = with_items_is v (part_left v.items start (start + p.width) left) (length-part_left p v.items placed counted y start crossed begins left ∙ sym v.ok.0)
+  items_left = with_items_is v (part_left v.items start (start + p.width) left) (length-part_left p v.items placed counted y start crossed begins left
+      ∙ sym v.ok.0)
 
   pub vec_rows_left : rows_over p (with_items v (part_left v.items start (start + p.width) left)).items
       ≡ with_row_in p (rows_over p v.items) y (refill (length (row_in p (rows_over p v.items) y)) (row_in p (rows_over p v.items) y) left)
@@ -166,15 +176,18 @@ module _ {X : Type 0} (p : Place) (v : Vec X) (placed : IsTilePlace p) (counted 
 rows_fit : (d k h w : ℕ) → d + k ≤ h → d * w + k * w ≤ h * w
 rows_fit d k h w fits = omega (arith, add-mul d k w, mul-le-mul_right w fits)
 
-pub rows_within : (p : Place) (size y start count n : ℕ) → size ≡ p.height * p.width → p.top ≤ y → y + count ≤ p.top + p.height → start ≡ (y - p.top) * p.width → n ≡ count * p.width → start + n ≤ size
+pub rows_within : (p : Place) (size y start count n : ℕ) → size ≡ p.height * p.width → p.top ≤ y → y + count ≤ p.top + p.height
+    → start ≡ (y - p.top) * p.width → n ≡ count * p.width → start + n ≤ size
 rows_within p size y start count n counted low high begins wide = omega (arith, rows_fit (y - p.top) count p.height p.width (omega arith))
 
 abbrev of_rows : Place → List (List Colour) → List (List ℕ) → TileImage
 of_rows p rows depths = record { place = p; rows = rows; depths = depths }
 
-pub put_rows_is : (p : Place) (items : List Colour) (depths : List (List ℕ)) (y start count : ℕ) (new : List Colour) → length items ≡ p.height * p.width → p.top ≤ y → y + count ≤ p.top + p.height
+pub put_rows_is : (p : Place) (items : List Colour) (depths : List (List ℕ)) (y start count : ℕ) (new : List Colour) → length items ≡ p.height * p.width
+    → p.top ≤ y → y + count ≤ p.top + p.height
     → start ≡ (y - p.top) * p.width → length new ≡ count * p.width
-    → record { place = p; rows = rows_over p (pasted_at start new items); depths = depths } ≡ with_rows_from (record { place = p; rows = rows_over p items; depths = depths }) y (cut_rows p.width count new)
+    → record { place = p; rows = rows_over p (pasted_at start new items); depths = depths }
+    ≡ with_rows_from (record { place = p; rows = rows_over p items; depths = depths }) y (cut_rows p.width count new)
 put_rows_is p items depths y start zero [] counted low high begins wide = ap (λ l. of_rows p (rows_over p l) depths) (take-append-drop start items)
 put_rows_is p items depths y start zero (c ∷ new) counted low high begins wide = absurd (omega (arith, zero-mul p.width))
 put_rows_is p items depths y start (suc n) new counted low high begins wide =
@@ -186,7 +199,8 @@ put_rows_is p items depths y start (suc n) new counted low high begins wide =
     let down : (y + 1 - p.top) * p.width ≡ (y - p.top) * p.width + p.width =
     ap (λ k. k * p.width) {x = y + 1 - p.top} {y = suc (y - p.top)} (omega arith) ∙ suc-mul (y - p.top) p.width in
     let next : start + length (take p.width new) ≡ (y + 1 - p.top) * p.width = omega (arith, down, begins, row_long) in
-    let fits : start + (length (take p.width new) + length (drop p.width new)) ≤ length items = omega (arith, rows_fit (y - p.top) (suc n) p.height p.width (omega arith), row_long, rest_long, begins, more) in
+    let fits : start + (length (take p.width new) + length (drop p.width new)) ≤ length items =
+    omega (arith, rows_fit (y - p.top) (suc n) p.height p.width (omega arith), row_long, rest_long, begins, more) in
     let after : List Colour = pasted_at (start + length row) rest items in
     let after_counted : length after ≡ p.height * p.width = length-pasted_at (start + length row) rest items (omega (arith, fits)) ∙ counted in
     ap (λ l. of_rows p (rows_over p (pasted_at start l items)) depths) (sym (take-append-drop p.width new))
@@ -194,7 +208,8 @@ put_rows_is p items depths y start (suc n) new counted low high begins wide =
     ∙ ap (λ rows. of_rows p rows depths) (cut_rows-set p.width p.height (y - p.top) row after (omega arith) row_long (omega arith))
     ∙ ap (λ t. with_row t y row) (put_rows_is p items depths (y + 1) (start + length row) n rest counted (omega arith) (omega arith) next rest_long)
 
-module _ (p : Place) (v : Vec Colour) (y start count : ℕ) (new lent left : List Colour) (counted : length v.items ≡ p.height * p.width) (low : p.top ≤ y) (high : y + count ≤ p.top + p.height)
+module _ (p : Place) (v : Vec Colour) (y start count : ℕ) (new lent left : List Colour) (counted : length v.items ≡ p.height * p.width) (low : p.top ≤ y)
+    (high : y + count ≤ p.top + p.height)
     (begins : start ≡ (y - p.top) * p.width) (wide : length new ≡ count * p.width) (read : lent ≡ v.items) (written : left ≡ new) where
   abbrev put : List Colour
   put = take start lent ++ (left ++ drop (start + length new - start) (drop start lent))
@@ -207,7 +222,8 @@ module _ (p : Place) (v : Vec Colour) (y start count : ℕ) (new lent left : Lis
 
   items_put : (with_items v put).items ≡ pasted_at start new v.items
   items_put =
-      with_items_is v put (ap length put_is ∙ length-pasted_at start new v.items (rows_within p (length v.items) y start count (length new) counted low high begins wide) ∙ sym v.ok.0)
+      with_items_is v put (ap length put_is
+      ∙ length-pasted_at start new v.items (rows_within p (length v.items) y start count (length new) counted low high begins wide) ∙ sym v.ok.0)
       ∙ put_is
 
   pub vec_put_rows_is : (depths : List (List ℕ)) → record { place = p; rows = rows_over p (with_items v put).items; depths = depths }
@@ -215,7 +231,8 @@ module _ (p : Place) (v : Vec Colour) (y start count : ℕ) (new lent left : Lis
   vec_put_rows_is depths = ap (λ l. of_rows p (rows_over p l) depths) items_put ∙ put_rows_is p v.items depths y start count new counted low high begins wide
 
   pub vec_put_counted : length (with_items v put).items ≡ p.height * p.width
-  vec_put_counted = ap length items_put ∙ length-pasted_at start new v.items (rows_within p (length v.items) y start count (length new) counted low high begins wide) ∙ counted
+  vec_put_counted = ap length items_put
+      ∙ length-pasted_at start new v.items (rows_within p (length v.items) y start count (length new) counted low high begins wide) ∙ counted
 
 -- ---- a tile's fields
 pub IsTile-filled : (p : Place) (colours : List Colour) (depths : List ℕ) (flat : Option ℕ) → IsTile p colours depths flat
@@ -226,7 +243,8 @@ IsTile-filled p colours depths flat i = record {
 }
 
 -- a pixel's column lies in its rows
-pub column_within : (t : TileImage) (p : Place) (x y : ℕ) → p ≡ t.place → IsTileImage t → Holds t.place x y → (x - p.left < length (row_of t y)) × (x - p.left < length (depth_row_of t y))
+pub column_within : (t : TileImage) (p : Place) (x y : ℕ) → p ≡ t.place → IsTileImage t → Holds t.place x y → (x - p.left < length (row_of t y))
+    × (x - p.left < length (depth_row_of t y))
 column_within t p x y same filled held =
     let crossed : HasRow t.place y = HasRow-from_Holds t.place x y held in (
       omega (arith, ap (λ q. q.left) same, held.from_left, held.to_right, length-row_of t y filled crossed),

@@ -9,7 +9,8 @@ use Rattle.fd_blend.specs.declared.channel.Colour.{Colour}
 use Rattle.fd_blend.specs.Channel.{fresh}
 use Rattle.fd_tile.specs.declared.place.Place.{Place}
 use Rattle.fd_tile.specs.Place.{Holds, HasRow, IsTilePlace, over_place}
-use Rattle.fd_tile.specs.Tile.{TileImage, FillsPlace, IsFlat, IsTileImage, row_in, with_row_in, value_in, row_of, with_row, with_row_left, depth_row_of, with_depth_row, with_depth_row_left, pixels_of, pixel_of, pixel_in}
+use Rattle.fd_tile.specs.Tile.{TileImage, FillsPlace, IsFlat, IsTileImage, row_in, with_row_in, value_in, row_of, with_row, with_row_left}
+use Rattle.fd_tile.specs.Tile.{depth_row_of, with_depth_row, with_depth_row_left, pixels_of, pixel_of, pixel_in}
 
 -- a list of the right length is left as it is
 pub refill_same : {X : Type 0} (row w : List X) → length w ≡ length row → refill (length row) row w ≡ w
@@ -20,9 +21,6 @@ refill_same row w e =
 
 pub HasRow-from_Holds : (p : Place) (x y : ℕ) → Holds p x y → HasRow p y
 HasRow-from_Holds p x y held = record { from_top = held.from_top; to_bottom = held.to_bottom }
-
-pub Holds-in_row : (p : Place) (x y : ℕ) → HasRow p y → p.left ≤ x → x < p.left + p.width → Holds p x y
-Holds-in_row p x y row low high = record { from_left = low; to_right = high; from_top = row.from_top; to_bottom = row.to_bottom }
 
 -- ---- one row
 module _ {X : Type 0} (p : Place) (rows : List (List X)) (y : ℕ) (filled : FillsPlace p rows) (crossed : HasRow p y) where
@@ -69,15 +67,6 @@ module _ (t : TileImage) (y : ℕ) (filled : IsTileImage t) (crossed : HasRow t.
   pub with_row_left_is : (w : List Colour) → length w ≡ t.place.width → with_row_left t y w ≡ with_row t y w
   with_row_left_is w e = ap (λ rows. record t { rows = rows }) (left_row_is t.place t.rows y filled.colours crossed w e)
 
-  pub row_of-with_row_same : (w : List Colour) → row_of (with_row t y w) y ≡ w
-  row_of-with_row_same w = row_in-same t.place t.rows y filled.colours crossed w
-
-  pub row_of-with_row_other : (w : List Colour) (z : ℕ) → t.place.top ≤ z → z ≢ y → row_of (with_row t y w) z ≡ row_of t z
-  row_of-with_row_other w z low other = row_in-other t.place t.rows y filled.colours crossed w z low other
-
-  pub with_row-with_row : (w v : List Colour) → with_row (with_row t y w) y v ≡ with_row t y v
-  with_row-with_row w v = ap (λ rows. record t { rows = rows }) (with_row_in-twice t.place t.rows y filled.colours crossed w v)
-
   pub length-depth_row_of : length (depth_row_of t y) ≡ t.place.width
   length-depth_row_of = length-row_in t.place t.depths y filled.depths crossed
 
@@ -89,13 +78,6 @@ module _ (t : TileImage) (y : ℕ) (filled : IsTileImage t) (crossed : HasRow t.
 
   pub IsTileImage-with_depth_row : (w : List ℕ) → length w ≡ t.place.width → IsTileImage (with_depth_row t y w)
   IsTileImage-with_depth_row w e = record { colours = filled.colours; depths = FillsPlace-with_row_in t.place t.depths y filled.depths crossed w e }
-
--- a row that is written as it is changes nothing
-pub with_row_same : (t : TileImage) (y : ℕ) → with_row t y (row_of t y) ≡ t
-with_row_same t y = ap (λ rows. record t { rows = rows }) (with_row_in-as_it_is t.place t.rows y)
-
-pub with_depth_row_same : (t : TileImage) (y : ℕ) → with_depth_row t y (depth_row_of t y) ≡ t
-with_depth_row_same t y = ap (λ depths. record t { depths = depths }) (with_row_in-as_it_is t.place t.depths y)
 
 -- ---- all pixels
 

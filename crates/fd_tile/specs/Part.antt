@@ -12,4 +12,5 @@ part_left xs start end left = take start xs ++ (refill (end - start) (take (end 
 
 -- once the borrow r ends, the items from `start` to `end` are those that r shows last
 abbrev pub LendsPart : (T A : RattleType) (heap : Ghosts A.Denot) → MutBor (vec.the_row T A heap).Denot → ℕ → ℕ → MutBor (List T.Denot) → Fml
-LendsPart T A heap items start end r = Lends (vec.the_row T A heap) (Array T 0) items r (λ left. with_items items.now (part_left items.now.items start end left))
+LendsPart T A heap items start end r = Lends (vec.the_row T A heap) (Array T 0) items r
+    (λ left. with_items items.now (part_left items.now.items start end left))

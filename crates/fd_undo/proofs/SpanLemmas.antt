@@ -50,19 +50,6 @@ row_of_span-more s cs new ds deep fits deep_fits =
     ∙ ap (λ l. kept_row s.x s.y (zip (colours_in s cs) l)) (depths_more s.same_depth s.len ds deep deep_fits)
 
 -- ---- no more are listed than there are pixels
-colours_few : (one : Bool) (n : ℕ) → (one ≡ true → 0 < n) → (if one then 1 else n) ≤ n
-colours_few true n some = omega (arith, some refl)
-colours_few false n some = omega arith
-
-pub listed_colours_at_most : (s : Span) → (s.one_colour ≡ true → 0 < s.len) → listed_colours s ≤ s.len
-listed_colours_at_most s some = colours_few s.one_colour s.len some
-
-depths_few : (o : Option ℕ) (n : ℕ) → depths_listed o n ≤ n
-depths_few (Some d) n = omega arith
-depths_few None n = omega arith
-
-pub listed_depths_at_most : (s : Span) → listed_depths s ≤ s.len
-listed_depths_at_most s = depths_few s.same_depth s.len
 
 -- ---- what is listed of a row gives all of it
 colours_all : (one : Bool) (n : ℕ) (cs : List Colour) → (one ≡ true → (0 < length cs) × (cs ≡ replicate (length cs) (get_or cs 0 fresh))) → n ≡ length cs
@@ -71,11 +58,13 @@ colours_all true n cs alike size =
     ap (λ c. replicate n c) (get_or-take 1 cs 0 fresh (omega arith)) ∙ ap (λ k. replicate k (get_or cs 0 fresh)) size ∙ sym (alike refl).1
 colours_all false n cs alike size = take-take n n cs (omega arith) ∙ take_all n cs (omega arith)
 
-depths_all : (o : Option ℕ) (n : ℕ) (ds : List ℕ) → IfSome o (λ d. ds ≡ replicate (length ds) d) → n ≡ length ds → values_in o n (take (depths_listed o n) ds) ≡ ds
+depths_all : (o : Option ℕ) (n : ℕ) (ds : List ℕ) → IfSome o (λ d. ds ≡ replicate (length ds) d) → n ≡ length ds → values_in o n (take (depths_listed o n) ds)
+    ≡ ds
 depths_all (Some d) n ds alike size = ap (λ k. replicate k d) size ∙ sym alike
 depths_all None n ds alike size = take-take n n ds (omega arith) ∙ take_all n ds (omega arith)
 
-pub row_of_span-listed : (s : Span) (cs : List Colour) (ds : List ℕ) → (s.one_colour ≡ true → (0 < length cs) × (cs ≡ replicate (length cs) (get_or cs 0 fresh)))
+pub row_of_span-listed : (s : Span) (cs : List Colour) (ds : List ℕ)
+    → (s.one_colour ≡ true → (0 < length cs) × (cs ≡ replicate (length cs) (get_or cs 0 fresh)))
     → IfSome s.same_depth (λ d. ds ≡ replicate (length ds) d) → s.len ≡ length cs → length ds ≡ length cs
     → row_of_span s (take (listed_colours s) cs) (take (listed_depths s) ds) ≡ kept_row s.x s.y (zip cs ds)
 row_of_span-listed s cs ds alike deep_alike size equal =

@@ -244,7 +244,8 @@ found-behind i (t ∷ low) high count n is some from =
     other_number t (low ++ high) n (λ e. absurd (omega (arith, e, later, from))) ∙ found-behind (t.number + 1) low high count n is.1 some from
 
 -- the block in the middle has it
-pub found-middle : (a b c : List KeptFrame) (count n : ℕ) → Rise 0 (a ++ (b ++ c)) count → 0 < length b → first_number b ≤ n → (0 < length c → n < first_number c)
+pub found-middle : (a b c : List KeptFrame) (count n : ℕ) → Rise 0 (a ++ (b ++ c)) count → 0 < length b → first_number b ≤ n
+    → (0 < length c → n < first_number c)
     → found n (a ++ (b ++ c)) ≡ found n b
 found-middle a [] c count n is some from before = absurd (omega arith)
 found-middle a (f ∷ b) c count n is some from before =

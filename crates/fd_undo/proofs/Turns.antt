@@ -43,7 +43,8 @@ module _ (spans : List Span) (cs : List Colour) (ds : List ℕ) (i first deep x 
 
   -- the span's own, and what follows
   both : kept_from (drop i spans) cs ds first deep x y
-      ≡ kept_at (row_of_span s (drop first cs) (drop deep ds)) x y ++ kept_from (drop (i + 1) spans) cs ds (first + listed_colours s) (deep + listed_depths s) x y
+      ≡ kept_at (row_of_span s (drop first cs) (drop deep ds)) x y ++ kept_from (drop (i + 1) spans) cs ds (first + listed_colours s)
+      (deep + listed_depths s) x y
   both =
       let own : List Pixel = kept_at (row_of_span s (drop first cs) (drop deep ds)) x y in
       ap (λ l. kept_from l cs ds first deep x y) parts

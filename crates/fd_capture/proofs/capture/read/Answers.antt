@@ -14,4 +14,5 @@ pub returns-clause-exact : goal.returns-clause-exact
 returns-clause-exact c =
     let few : length c.args.bytes.now ≤ most_bytes = omega (arith, c.if-bytes-gt-MAX_CAPTURE_LEN.false) in
     let same = c.in-Ok.ensures.cases in
-    subst (λ whole. Gives (λ table. table) c.table_of_text.result whole) (ap (λ bytes. table_of_text bytes) same.0 ∙ sym (capture-of_text c.args.bytes.now few same.1)) c.table_of_text.ensures
+    subst (λ whole. Gives (λ table. table) c.table_of_text.result whole) (ap (λ bytes. table_of_text bytes) same.0
+    ∙ sym (capture-of_text c.args.bytes.now few same.1)) c.table_of_text.ensures

@@ -5,7 +5,8 @@ use Rattle.fd_capture.proofs.Whole.{are_of_version, within-or, read_in-or, same_
 use Rattle.fd_capture.proofs.capture.table_of_text.Goals as goal
 
 pub table-requires-clause-events : goal.table-requires-clause-events
-table-requires-clause-events c = are_of_version c.likely_version-likely.result c.in_ok-head.head.events _ c.likely_version-likely.ensures c.in_ok-head.ensures.2.3
+table-requires-clause-events c = are_of_version c.likely_version-likely.result c.in_ok-head.head.events _ c.likely_version-likely.ensures
+    c.in_ok-head.ensures.2.3
 
 pub table-requires-2-clause-version : goal.table-requires-2-clause-version
 table-requires-2-clause-version c =
@@ -18,5 +19,6 @@ table-requires-2-clause-version c =
 pub table-requires-2-clause-events : goal.table-requires-2-clause-events
 table-requires-2-clause-events c =
     let within : (1 ≤ c.unwrap_or-found.result) × (c.unwrap_or-found.result ≤ 2) =
-    subst (λ (n : ℕ). (1 ≤ n) × (n ≤ 2)) (sym c.unwrap_or-found.ensures) (within-or c.version.result c.likely_version-likely.result c.version.ensures.within c.likely_version-likely.ensures) in
+    subst (λ (n : ℕ). (1 ≤ n) × (n ≤ 2)) (sym c.unwrap_or-found.ensures)
+    (within-or c.version.result c.likely_version-likely.result c.version.ensures.within c.likely_version-likely.ensures) in
     are_of_version c.unwrap_or-found.result c.in_ok-head-2.head.events _ within c.in_ok-head-2.ensures.2.3

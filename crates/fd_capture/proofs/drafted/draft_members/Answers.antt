@@ -24,7 +24,8 @@ returns-in_err-vertices-clause-refused c refused =
     let l = c.members in
     let k = c.in-Some.name.now in
     let key : read_key l.reader ≡ Some (Some k, c.next_key.new.self) = grind arith in
-    object-refused c.args.depth c.args.reader.now l.reader c.next_key.new.self l.invariant.0 k l.invariant.1 key (c.in_err-vertices.ensures.refused (grind arith))
+    object-refused c.args.depth c.args.reader.now l.reader c.next_key.new.self l.invariant.0 k l.invariant.1 key
+    (c.in_err-vertices.ensures.refused (grind arith))
 
 pub members-preserved-then-eq : goal.members-preserved-then-eq
 members-preserved-then-eq c =
@@ -36,7 +37,8 @@ members-preserved-then-eq c =
     let is : bytes_eq k (codes "vertices") ≡ true = search rules in
     let name = same_name k (codes "vertices") is in (
       put k read.0 found,
-      object-member c.args.depth c.args.reader.now l.reader c.next_key.new.self c.vertices.new.reader found k read.0 l.invariant.1 key read.1 c.in_ok-vertices.ensures.shorter,
+      object-member c.args.depth c.args.reader.now l.reader c.next_key.new.self c.vertices.new.reader found k read.0 l.invariant.1 key read.1
+          c.in_ok-vertices.ensures.shorter,
       clips-other (members_view l.members.entries) found k read.0 (ap is_small name) l.invariant.2,
       ap Some read.2 ∙ made-after (vertices_of c.args.version) (codes "vertices") k read.0 found true is,
       l.invariant.4 ∙ made-after indices_of_array (codes "indices") k read.0 found false (ap (λ n. bytes_eq n (codes "indices")) name),
@@ -47,7 +49,8 @@ returns-in_err-indices-clause-refused c refused =
     let l = c.members in
     let k = c.in-Some.name.now in
     let key : read_key l.reader ≡ Some (Some k, c.next_key.new.self) = grind arith in
-    object-refused c.args.depth c.args.reader.now l.reader c.next_key.new.self l.invariant.0 k l.invariant.1 key (c.in_err-indices.ensures.refused (grind arith))
+    object-refused c.args.depth c.args.reader.now l.reader c.next_key.new.self l.invariant.0 k l.invariant.1 key
+    (c.in_err-indices.ensures.refused (grind arith))
 
 pub members-preserved-then-eq-2 : goal.members-preserved-then-eq-2
 members-preserved-then-eq-2 c =
@@ -59,7 +62,8 @@ members-preserved-then-eq-2 c =
     let is : bytes_eq k (codes "indices") ≡ true = search rules in
     let name = same_name k (codes "indices") is in (
       put k read.0 found,
-      object-member c.args.depth c.args.reader.now l.reader c.next_key.new.self c.indices.new.reader found k read.0 l.invariant.1 key read.1 c.in_ok-indices.ensures.shorter,
+      object-member c.args.depth c.args.reader.now l.reader c.next_key.new.self c.indices.new.reader found k read.0 l.invariant.1 key read.1
+          c.in_ok-indices.ensures.shorter,
       clips-other (members_view l.members.entries) found k read.0 (ap is_small name) l.invariant.2,
       l.invariant.3 ∙ made-after (vertices_of c.args.version) (codes "vertices") k read.0 found false (ap (λ n. bytes_eq n (codes "vertices")) name),
       ap Some read.2 ∙ made-after indices_of_array (codes "indices") k read.0 found true is,
@@ -76,7 +80,8 @@ members-preserved-in_ok-put c =
     let no_vertices : bytes_eq k (codes "vertices") ≡ false = search rules in
     let no_indices : bytes_eq k (codes "indices") ≡ false = search rules in (
       put k read.0 found,
-      object-member c.args.depth c.args.reader.now l.reader c.next_key.new.self c.put.new.reader found k read.0 l.invariant.1 key read.1 c.in_ok-put.ensures.shorter,
+      object-member c.args.depth c.args.reader.now l.reader c.next_key.new.self c.put.new.reader found k read.0 l.invariant.1 key read.1
+          c.in_ok-put.ensures.shorter,
       rw read.2 (clips-put (members_view l.members.entries) found k read.0 l.invariant.2),
       l.invariant.3 ∙ made-after (vertices_of c.args.version) (codes "vertices") k read.0 found false no_vertices,
       l.invariant.4 ∙ made-after indices_of_array (codes "indices") k read.0 found false no_indices,
@@ -100,7 +105,8 @@ members-preserved c =
     let no_indices : bytes_eq k (codes "indices") ≡ false = search rules in
     let large : is_small k ≡ false = search rules in (
       put k read.0 found,
-      object-member c.args.depth c.args.reader.now l.reader c.next_key.new.self c.pass.new.reader found k read.0 l.invariant.1 key read.1 c.in_ok-pass.ensures.shorter,
+      object-member c.args.depth c.args.reader.now l.reader c.next_key.new.self c.pass.new.reader found k read.0 l.invariant.1 key read.1
+          c.in_ok-pass.ensures.shorter,
       clips-other (members_view l.members.entries) found k read.0 large l.invariant.2,
       l.invariant.3 ∙ made-after (vertices_of c.args.version) (codes "vertices") k read.0 found false no_vertices,
       l.invariant.4 ∙ made-after indices_of_array (codes "indices") k read.0 found false no_indices,
@@ -115,5 +121,10 @@ returns-in_err-pass-clause-refused c refused =
 
 pub returns-clause-ok : goal.returns-clause-ok
 returns-clause-ok c =
-    let l = c.members in
-    (l.invariant.0, object-ends c.args.depth c.args.reader.now l.reader c.next_key.new.self l.invariant.0 l.invariant.1 (grind arith), l.invariant.2, l.invariant.3, l.invariant.4)
+    let l = c.members in (
+      l.invariant.0,
+      object-ends c.args.depth c.args.reader.now l.reader c.next_key.new.self l.invariant.0 l.invariant.1 (grind arith),
+      l.invariant.2,
+      l.invariant.3,
+      l.invariant.4,
+    )

@@ -16,7 +16,8 @@ returns-clause-ok c =
     let opened : taken c.args.depth c.args.reader.now ≡ parse_map object (members_taken (c.args.depth - 1) c.open_object.new.reader) = search rules in
     let draft = c.in_ok-draft.draft in
     let read = c.in_ok-draft.ensures.ok in
-    let same : event_from c.args.version (view (Object draft.members)) (option_map (option_map (λ v. v.items)) draft.vertices) (option_map (option_map (λ v. v.items)) draft.indices) ≡ event_of c.args.version (object read.0) =
+    let same : event_from c.args.version (view (Object draft.members)) (option_map (option_map (λ v. v.items)) draft.vertices)
+    (option_map (option_map (λ v. v.items)) draft.indices) ≡ event_of c.args.version (object read.0) =
     rw (view-Object draft.members, read.3, read.4) (event-kept c.args.version (members_view draft.members.entries) read.0 read.2) in (
       object read.0,
       opened ∙ ap (parse_map object) read.1,

@@ -39,7 +39,8 @@ members-preserved-then-eq c =
     let is : bytes_eq k (codes "events") ≡ true = search rules in
     let name = same_name k (codes "events") is in (
       put k read.0 found,
-      object-member c.args.depth c.args.reader.now l.reader c.next_key.new.self c.events.new.reader found k read.0 l.invariant.1 key read.1 c.in_ok-listed.ensures.shorter,
+      object-member c.args.depth c.args.reader.now l.reader c.next_key.new.self c.events.new.reader found k read.0 l.invariant.1 key read.1
+          c.in_ok-listed.ensures.shorter,
       clips-other (members_view l.members.entries) found k read.0 (ap is_small name) l.invariant.2,
       subst (GivesListed c.args.version c.in_ok-listed.listed) (field-after array_of (codes "events") k read.0 found true is) read.2,
     )
@@ -53,7 +54,8 @@ members-preserved-in-Continue-branch-4 c =
     let read = c.in_ok-put.ensures.ok in
     let no_events : bytes_eq k (codes "events") ≡ false = search rules in (
       put k read.0 found,
-      object-member c.args.depth c.args.reader.now l.reader c.next_key.new.self c.put.new.reader found k read.0 l.invariant.1 key read.1 c.in_ok-put.ensures.shorter,
+      object-member c.args.depth c.args.reader.now l.reader c.next_key.new.self c.put.new.reader found k read.0 l.invariant.1 key read.1
+          c.in_ok-put.ensures.shorter,
       rw read.2 (clips-put (members_view l.members.entries) found k read.0 l.invariant.2),
       subst (GivesListed c.args.version l.listed) (field-after array_of (codes "events") k read.0 found false no_events) l.invariant.3,
     )
@@ -75,7 +77,8 @@ members-preserved c =
     let no_events : bytes_eq k (codes "events") ≡ false = search rules in
     let large : is_small k ≡ false = search rules in (
       put k read.0 found,
-      object-member c.args.depth c.args.reader.now l.reader c.next_key.new.self c.pass.new.reader found k read.0 l.invariant.1 key read.1 c.in_ok-pass.ensures.shorter,
+      object-member c.args.depth c.args.reader.now l.reader c.next_key.new.self c.pass.new.reader found k read.0 l.invariant.1 key read.1
+          c.in_ok-pass.ensures.shorter,
       clips-other (members_view l.members.entries) found k read.0 large l.invariant.2,
       subst (GivesListed c.args.version l.listed) (field-after array_of (codes "events") k read.0 found false no_events) l.invariant.3,
     )
@@ -89,5 +92,8 @@ returns-in_err-pass-clause-refused c refused =
 
 pub returns-clause-ok : goal.returns-clause-ok
 returns-clause-ok c =
-    let l = c.members in
-    (l.invariant.0, object-ends c.args.depth c.args.reader.now l.reader c.next_key.new.self l.invariant.0 l.invariant.1 (grind arith), (members_view l.members.entries, view-Object l.members, l.invariant.2, l.invariant.3))
+    let l = c.members in (
+      l.invariant.0,
+      object-ends c.args.depth c.args.reader.now l.reader c.next_key.new.self l.invariant.0 l.invariant.1 (grind arith),
+      (members_view l.members.entries, view-Object l.members, l.invariant.2, l.invariant.3),
+    )

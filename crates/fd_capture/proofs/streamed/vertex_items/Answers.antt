@@ -20,7 +20,8 @@ items-preserved-in-Continue-branch-3 c =
     let is : (vertex_of c.args.version) read.0 ≡ Some c.in-Some.vertex = sym read.2 ∙ c.in-Some.is in (
       l.invariant.0 ++ read.0 ∷ [],
       array-item c.args.depth c.args.reader.now l.reader c.vertex.new.reader l.invariant.0 read.0 l.invariant.1 going.0 (rw (← going.1) read.1) shorter,
-      rw c.in_ok-push-in-Some.ensures.items (so_far-some (vertex_of c.args.version) l.well_formed l.invariant.0 l.vertices.items read.0 c.in-Some.vertex l.invariant.2 is),
+      rw c.in_ok-push-in-Some.ensures.items (so_far-some (vertex_of c.args.version) l.well_formed l.invariant.0 l.vertices.items read.0 c.in-Some.vertex
+          l.invariant.2 is),
     )
 
 pub items-preserved : goal.items-preserved
@@ -39,12 +40,22 @@ pub returns-then-not-well_formed-clause-ok : goal.returns-then-not-well_formed-c
 returns-then-not-well_formed-clause-ok c =
     let l = c.items in
     let ill : l.well_formed ≡ false = search rules in
-    let none : all_of (vertex_of c.args.version) l.invariant.0 ≡ None = coe 0 1 (i. AllSoFar (vertex_of c.args.version) (ill i) l.invariant.0 l.vertices.items) l.invariant.2 in
-    (_, array-ends c.args.depth c.args.reader.now l.reader c.take_end_array.new.self l.invariant.0 l.invariant.1 (grind arith), sym (ap (all_of (vertex_of c.args.version)) (list_of-items_after l.invariant.0) ∙ none))
+    let none : all_of (vertex_of c.args.version) l.invariant.0 ≡ None =
+    coe 0 1 (i. AllSoFar (vertex_of c.args.version) (ill i) l.invariant.0 l.vertices.items) l.invariant.2 in (
+      _,
+      array-ends c.args.depth c.args.reader.now l.reader c.take_end_array.new.self l.invariant.0 l.invariant.1 (grind arith),
+      sym
+          (ap (all_of (vertex_of c.args.version)) (list_of-items_after l.invariant.0) ∙ none),
+    )
 
 pub returns-clause-ok : goal.returns-clause-ok
 returns-clause-ok c =
     let l = c.items in
     let well : l.well_formed ≡ true = search rules in
-    let all : all_of (vertex_of c.args.version) l.invariant.0 ≡ Some l.vertices.items = coe 0 1 (i. AllSoFar (vertex_of c.args.version) (well i) l.invariant.0 l.vertices.items) l.invariant.2 in
-    (_, array-ends c.args.depth c.args.reader.now l.reader c.take_end_array.new.self l.invariant.0 l.invariant.1 (grind arith), sym (ap (all_of (vertex_of c.args.version)) (list_of-items_after l.invariant.0) ∙ all))
+    let all : all_of (vertex_of c.args.version) l.invariant.0 ≡ Some l.vertices.items =
+    coe 0 1 (i. AllSoFar (vertex_of c.args.version) (well i) l.invariant.0 l.vertices.items) l.invariant.2 in (
+      _,
+      array-ends c.args.depth c.args.reader.now l.reader c.take_end_array.new.self l.invariant.0 l.invariant.1 (grind arith),
+      sym
+          (ap (all_of (vertex_of c.args.version)) (list_of-items_after l.invariant.0) ∙ all),
+    )

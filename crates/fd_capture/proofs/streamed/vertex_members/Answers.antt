@@ -31,7 +31,8 @@ members-preserved-then-eq c =
     let is : bytes_eq k (codes "x") ≡ true = search rules in
     let name = same_name k (codes "x") is in (
       put k read.0 found,
-      object-member c.args.depth c.args.reader.now l.reader c.next_key.new.self c.coordinate.new.reader found k read.0 l.invariant.1 key read.1 c.in_ok-x.ensures.shorter,
+      object-member c.args.depth c.args.reader.now l.reader c.next_key.new.self c.coordinate.new.reader found k read.0 l.invariant.1 key read.1
+          c.in_ok-x.ensures.shorter,
       read.2 ∙ field-after signed_32 (codes "x") k read.0 found true is,
       l.invariant.3 ∙ field-after signed_32 (codes "y") k read.0 found false (ap (λ n. bytes_eq n (codes "y")) name),
       l.invariant.4 ∙ field-after colour_of_data (codes "color") k read.0 found false (ap (λ n. bytes_eq n (codes "color")) name),
@@ -55,7 +56,8 @@ members-preserved-then-eq-2 c =
     let is : bytes_eq k (codes "y") ≡ true = search rules in
     let name = same_name k (codes "y") is in (
       put k read.0 found,
-      object-member c.args.depth c.args.reader.now l.reader c.next_key.new.self c.coordinate-then-eq-2.new.reader found k read.0 l.invariant.1 key read.1 c.in_ok-y.ensures.shorter,
+      object-member c.args.depth c.args.reader.now l.reader c.next_key.new.self c.coordinate-then-eq-2.new.reader found k read.0 l.invariant.1 key read.1
+          c.in_ok-y.ensures.shorter,
       l.invariant.2 ∙ field-after signed_32 (codes "x") k read.0 found false (ap (λ n. bytes_eq n (codes "x")) name),
       read.2 ∙ field-after signed_32 (codes "y") k read.0 found true is,
       l.invariant.4 ∙ field-after colour_of_data (codes "color") k read.0 found false (ap (λ n. bytes_eq n (codes "color")) name),
@@ -79,7 +81,8 @@ members-preserved-then-eq-3 c =
     let is : bytes_eq k (codes "color") ≡ true = search rules in
     let name = same_name k (codes "color") is in (
       put k read.0 found,
-      object-member c.args.depth c.args.reader.now l.reader c.next_key.new.self c.colour.new.reader found k read.0 l.invariant.1 key read.1 c.in_ok-color.ensures.shorter,
+      object-member c.args.depth c.args.reader.now l.reader c.next_key.new.self c.colour.new.reader found k read.0 l.invariant.1 key read.1
+          c.in_ok-color.ensures.shorter,
       l.invariant.2 ∙ field-after signed_32 (codes "x") k read.0 found false (ap (λ n. bytes_eq n (codes "x")) name),
       l.invariant.3 ∙ field-after signed_32 (codes "y") k read.0 found false (ap (λ n. bytes_eq n (codes "y")) name),
       read.2 ∙ field-after colour_of_data (codes "color") k read.0 found true is,
@@ -103,7 +106,8 @@ members-preserved-then-eq-4 c =
     let is : bytes_eq k (codes "z") ≡ true = search rules in
     let name = same_name k (codes "z") is in (
       put k read.0 found,
-      object-member c.args.depth c.args.reader.now l.reader c.next_key.new.self c.vertex_depth.new.reader found k read.0 l.invariant.1 key read.1 c.in_ok-z.ensures.shorter,
+      object-member c.args.depth c.args.reader.now l.reader c.next_key.new.self c.vertex_depth.new.reader found k read.0 l.invariant.1 key read.1
+          c.in_ok-z.ensures.shorter,
       l.invariant.2 ∙ field-after signed_32 (codes "x") k read.0 found false (ap (λ n. bytes_eq n (codes "x")) name),
       l.invariant.3 ∙ field-after signed_32 (codes "y") k read.0 found false (ap (λ n. bytes_eq n (codes "y")) name),
       l.invariant.4 ∙ field-after colour_of_data (codes "color") k read.0 found false (ap (λ n. bytes_eq n (codes "color")) name),
@@ -122,7 +126,8 @@ members-preserved c =
     let no_color : bytes_eq k (codes "color") ≡ false = search rules in
     let no_z : bytes_eq k (codes "z") ≡ false = search rules in (
       put k read.0 found,
-      object-member c.args.depth c.args.reader.now l.reader c.next_key.new.self c.pass.new.reader found k read.0 l.invariant.1 key read.1 c.in_ok-pass.ensures.shorter,
+      object-member c.args.depth c.args.reader.now l.reader c.next_key.new.self c.pass.new.reader found k read.0 l.invariant.1 key read.1
+          c.in_ok-pass.ensures.shorter,
       l.invariant.2 ∙ field-after signed_32 (codes "x") k read.0 found false no_x,
       l.invariant.3 ∙ field-after signed_32 (codes "y") k read.0 found false no_y,
       l.invariant.4 ∙ field-after colour_of_data (codes "color") k read.0 found false no_color,
@@ -138,5 +143,9 @@ returns-in_err-pass-clause-refused c refused =
 
 pub returns-clause-ok : goal.returns-clause-ok
 returns-clause-ok c =
-    let l = c.members in
-    (l.invariant.0, object-ends c.args.depth c.args.reader.now l.reader c.next_key.new.self l.invariant.0 l.invariant.1 (grind arith), rw (c.vertex_from.ensures, l.invariant.2, l.invariant.3, l.invariant.5, l.invariant.4) refl)
+    let l = c.members in (
+      l.invariant.0,
+      object-ends c.args.depth c.args.reader.now l.reader c.next_key.new.self l.invariant.0 l.invariant.1
+          (grind arith),
+      rw (c.vertex_from.ensures, l.invariant.2, l.invariant.3, l.invariant.5, l.invariant.4) refl,
+    )

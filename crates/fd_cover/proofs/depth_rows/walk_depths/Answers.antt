@@ -18,8 +18,11 @@ loop-i-init c =
     let two = c.at-2.ensures in
     record {
       depths = λ k d low. absurd (omega arith);
-      walk = λ some. walk_from (2 ^ 48) t x y za zb zc _ _ _ _ (numerator_at (2 ^ 48) t x y za zb zc _ _ _ _ _ _ one.a one.b one.c one.area c.requires.divisor c.depth_numerator-first.ensures.value c.depth_quotient-first.ensures.near)
-          (numerator_at (2 ^ 48) t (x + 1) y za zb zc _ _ _ _ _ _ two.a two.b two.c two.area c.requires.divisor c.depth_numerator-second.ensures.value c.depth_quotient-second.ensures.near) (omega (arith, c.depth_quotient-first.ensures.bound)) c.between-place.ensures.place c.between-place.ensures.step;
+      walk = λ some. walk_from (2 ^ 48) t x y za zb zc _ _ _ _ (numerator_at (2 ^ 48) t x y za zb zc _ _ _ _ _ _ one.a one.b one.c one.area c.requires.divisor
+          c.depth_numerator-first.ensures.value c.depth_quotient-first.ensures.near)
+          (numerator_at (2 ^ 48) t (x + 1) y za zb zc _ _ _ _ _ _ two.a two.b two.c two.area c.requires.divisor c.depth_numerator-second.ensures.value
+          c.depth_quotient-second.ensures.near) (omega (arith, c.depth_quotient-first.ensures.bound)) c.between-place.ensures.place
+          c.between-place.ensures.step;
     }
 
 pub loop-i-preserved : goal.loop-i-preserved

@@ -9,15 +9,19 @@ pub overflow_mul-result-2 : goal.overflow_mul-result-2
 overflow_mul-result-2 c = product_fits c.down_to-2.result c.right_to-2.result c.down_to-2.ensures.bound c.right_to-2.ensures.bound
 
 pub overflow_sub-result : goal.overflow_sub-result
-overflow_sub-result c = two_by_two_fits c.right_to.result c.down_to.result c.down_to-2.result c.right_to-2.result c.right_to.ensures.bound c.down_to.ensures.bound c.down_to-2.ensures.bound c.right_to-2.ensures.bound
+overflow_sub-result c = two_by_two_fits c.right_to.result c.down_to.result c.down_to-2.result c.right_to-2.result c.right_to.ensures.bound
+    c.down_to.ensures.bound c.down_to-2.ensures.bound c.right_to-2.ensures.bound
 
 pub returns-clause-value : goal.returns-clause-value
 unfolding cross
 returns-clause-value c =
-    let e = two_by_two c.right_to.result c.down_to.result c.down_to-2.result c.right_to-2.result c.right_to.ensures.bound c.down_to.ensures.bound c.down_to-2.ensures.bound c.right_to-2.ensures.bound in
+    let e = two_by_two c.right_to.result c.down_to.result c.down_to-2.result c.right_to-2.result c.right_to.ensures.bound c.down_to.ensures.bound
+    c.down_to-2.ensures.bound c.right_to-2.ensures.bound in
     rw e (rw (c.right_to.ensures.value, c.down_to.ensures.value, c.down_to-2.ensures.value, c.right_to-2.ensures.value))
 
 pub returns-clause-bound : goal.returns-clause-bound
 returns-clause-bound c =
-    let e = two_by_two c.right_to.result c.down_to.result c.down_to-2.result c.right_to-2.result c.right_to.ensures.bound c.down_to.ensures.bound c.down_to-2.ensures.bound c.right_to-2.ensures.bound in
-    rw e (two_by_two_bound c.right_to.result c.down_to.result c.down_to-2.result c.right_to-2.result c.right_to.ensures.bound c.down_to.ensures.bound c.down_to-2.ensures.bound c.right_to-2.ensures.bound)
+    let e = two_by_two c.right_to.result c.down_to.result c.down_to-2.result c.right_to-2.result c.right_to.ensures.bound c.down_to.ensures.bound
+    c.down_to-2.ensures.bound c.right_to-2.ensures.bound in
+    rw e (two_by_two_bound c.right_to.result c.down_to.result c.down_to-2.result c.right_to-2.result c.right_to.ensures.bound c.down_to.ensures.bound
+    c.down_to-2.ensures.bound c.right_to-2.ensures.bound)

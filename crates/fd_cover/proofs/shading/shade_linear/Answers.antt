@@ -21,14 +21,22 @@ loop-i-init c =
       shaded = λ k d low. absurd (omega arith);
       places = refl;
       steps = refl;
-      red = λ some. walk_from (2 ^ 56) t x y ka.r kb.r kc.r _ _ _ _ (numerator_at (2 ^ 56) t x y ka.r kb.r kc.r _ _ _ _ _ _ one.a one.b one.c one.area divisor c.numerator.ensures.value c.quotient.ensures.near)
-          (numerator_at (2 ^ 56) t (x + 1) y ka.r kb.r kc.r _ _ _ _ _ _ two.a two.b two.c two.area divisor c.numerator-2.ensures.value c.quotient-2.ensures.near) (omega (arith, c.quotient.ensures.bound)) c.between-red.ensures.place c.between-red.ensures.step;
-      green = λ some. walk_from (2 ^ 56) t x y ka.g kb.g kc.g _ _ _ _ (numerator_at (2 ^ 56) t x y ka.g kb.g kc.g _ _ _ _ _ _ one.a one.b one.c one.area divisor c.numerator-3.ensures.value c.quotient-3.ensures.near)
-          (numerator_at (2 ^ 56) t (x + 1) y ka.g kb.g kc.g _ _ _ _ _ _ two.a two.b two.c two.area divisor c.numerator-4.ensures.value c.quotient-4.ensures.near) (omega (arith, c.quotient-3.ensures.bound)) c.between-green.ensures.place c.between-green.ensures.step;
-      blue = λ some. walk_from (2 ^ 56) t x y ka.b kb.b kc.b _ _ _ _ (numerator_at (2 ^ 56) t x y ka.b kb.b kc.b _ _ _ _ _ _ one.a one.b one.c one.area divisor c.numerator-5.ensures.value c.quotient-5.ensures.near)
-          (numerator_at (2 ^ 56) t (x + 1) y ka.b kb.b kc.b _ _ _ _ _ _ two.a two.b two.c two.area divisor c.numerator-6.ensures.value c.quotient-6.ensures.near) (omega (arith, c.quotient-5.ensures.bound)) c.between-blue.ensures.place c.between-blue.ensures.step;
-      alpha = λ some. walk_from (2 ^ 56) t x y ka.a kb.a kc.a _ _ _ _ (numerator_at (2 ^ 56) t x y ka.a kb.a kc.a _ _ _ _ _ _ one.a one.b one.c one.area divisor c.numerator-7.ensures.value c.quotient-7.ensures.near)
-          (numerator_at (2 ^ 56) t (x + 1) y ka.a kb.a kc.a _ _ _ _ _ _ two.a two.b two.c two.area divisor c.numerator-8.ensures.value c.quotient-8.ensures.near) (omega (arith, c.quotient-7.ensures.bound)) c.between-alpha.ensures.place c.between-alpha.ensures.step;
+      red = λ some. walk_from (2 ^ 56) t x y ka.r kb.r kc.r _ _ _ _
+          (numerator_at (2 ^ 56) t x y ka.r kb.r kc.r _ _ _ _ _ _ one.a one.b one.c one.area divisor c.numerator.ensures.value c.quotient.ensures.near)
+          (numerator_at (2 ^ 56) t (x + 1) y ka.r kb.r kc.r _ _ _ _ _ _ two.a two.b two.c two.area divisor c.numerator-2.ensures.value
+          c.quotient-2.ensures.near) (omega (arith, c.quotient.ensures.bound)) c.between-red.ensures.place c.between-red.ensures.step;
+      green = λ some. walk_from (2 ^ 56) t x y ka.g kb.g kc.g _ _ _ _
+          (numerator_at (2 ^ 56) t x y ka.g kb.g kc.g _ _ _ _ _ _ one.a one.b one.c one.area divisor c.numerator-3.ensures.value c.quotient-3.ensures.near)
+          (numerator_at (2 ^ 56) t (x + 1) y ka.g kb.g kc.g _ _ _ _ _ _ two.a two.b two.c two.area divisor c.numerator-4.ensures.value
+          c.quotient-4.ensures.near) (omega (arith, c.quotient-3.ensures.bound)) c.between-green.ensures.place c.between-green.ensures.step;
+      blue = λ some. walk_from (2 ^ 56) t x y ka.b kb.b kc.b _ _ _ _
+          (numerator_at (2 ^ 56) t x y ka.b kb.b kc.b _ _ _ _ _ _ one.a one.b one.c one.area divisor c.numerator-5.ensures.value c.quotient-5.ensures.near)
+          (numerator_at (2 ^ 56) t (x + 1) y ka.b kb.b kc.b _ _ _ _ _ _ two.a two.b two.c two.area divisor c.numerator-6.ensures.value
+          c.quotient-6.ensures.near) (omega (arith, c.quotient-5.ensures.bound)) c.between-blue.ensures.place c.between-blue.ensures.step;
+      alpha = λ some. walk_from (2 ^ 56) t x y ka.a kb.a kc.a _ _ _ _
+          (numerator_at (2 ^ 56) t x y ka.a kb.a kc.a _ _ _ _ _ _ one.a one.b one.c one.area divisor c.numerator-7.ensures.value c.quotient-7.ensures.near)
+          (numerator_at (2 ^ 56) t (x + 1) y ka.a kb.a kc.a _ _ _ _ _ _ two.a two.b two.c two.area divisor c.numerator-8.ensures.value
+          c.quotient-8.ensures.near) (omega (arith, c.quotient-7.ensures.bound)) c.between-alpha.ensures.place c.between-alpha.ensures.step;
     }
 
 pub loop-i-preserved : goal.loop-i-preserved
@@ -63,14 +71,23 @@ loop-i-preserved c =
       shaded = λ k d low. elim (cases_lt k i) [
         | inl less ↦ get_or-set_other c.loop-i.out i k _ d (λ same. omega (arith, same, less)) ∙ before.shaded k d less
         | inr more ↦ let same : k ≡ i = omega arith in
-            get_or-set_at c.loop-i.out i k _ d same (omega (arith, c.loop-i.auto.out, c.loop-i-test.true)) ∙ rw same (shaded_by t ka kb kc (x + i) y _ _ _ _ red green blue alpha)
+            get_or-set_at c.loop-i.out i k _ d same (omega (arith, c.loop-i.auto.out, c.loop-i-test.true))
+            ∙ rw same (shaded_by t ka kb kc (x + i) y _ _ _ _ red green blue alpha)
       ];
       places = c.moved-places.ensures.len;
       steps = before.steps;
-      red = λ more. rw (c.moved-places.ensures.lanes 0 (omega arith)) (walk_on (2 ^ 56) 256 t x y ka.r kb.r kc.r i _ _ refl c.numerator.ensures.bytes.0 c.numerator.ensures.bytes.1.0 c.numerator.ensures.bytes.1.1 here (along (i + 1) more) red_walk);
-      green = λ more. rw (c.moved-places.ensures.lanes 1 (omega arith)) (walk_on (2 ^ 56) 256 t x y ka.g kb.g kc.g i _ _ refl c.numerator-3.ensures.bytes.0 c.numerator-3.ensures.bytes.1.0 c.numerator-3.ensures.bytes.1.1 here (along (i + 1) more) green_walk);
-      blue = λ more. rw (c.moved-places.ensures.lanes 2 (omega arith)) (walk_on (2 ^ 56) 256 t x y ka.b kb.b kc.b i _ _ refl c.numerator-5.ensures.bytes.0 c.numerator-5.ensures.bytes.1.0 c.numerator-5.ensures.bytes.1.1 here (along (i + 1) more) blue_walk);
-      alpha = λ more. rw (c.moved-places.ensures.lanes 3 (omega arith)) (walk_on (2 ^ 56) 256 t x y ka.a kb.a kc.a i _ _ refl c.numerator-7.ensures.bytes.0 c.numerator-7.ensures.bytes.1.0 c.numerator-7.ensures.bytes.1.1 here (along (i + 1) more) alpha_walk);
+      red = λ more. rw (c.moved-places.ensures.lanes 0 (omega arith))
+          (walk_on (2 ^ 56) 256 t x y ka.r kb.r kc.r i _ _ refl c.numerator.ensures.bytes.0 c.numerator.ensures.bytes.1.0 c.numerator.ensures.bytes.1.1 here
+          (along (i + 1) more) red_walk);
+      green = λ more. rw (c.moved-places.ensures.lanes 1 (omega arith))
+          (walk_on (2 ^ 56) 256 t x y ka.g kb.g kc.g i _ _ refl c.numerator-3.ensures.bytes.0 c.numerator-3.ensures.bytes.1.0 c.numerator-3.ensures.bytes.1.1
+          here (along (i + 1) more) green_walk);
+      blue = λ more. rw (c.moved-places.ensures.lanes 2 (omega arith))
+          (walk_on (2 ^ 56) 256 t x y ka.b kb.b kc.b i _ _ refl c.numerator-5.ensures.bytes.0 c.numerator-5.ensures.bytes.1.0 c.numerator-5.ensures.bytes.1.1
+          here (along (i + 1) more) blue_walk);
+      alpha = λ more. rw (c.moved-places.ensures.lanes 3 (omega arith))
+          (walk_on (2 ^ 56) 256 t x y ka.a kb.a kc.a i _ _ refl c.numerator-7.ensures.bytes.0 c.numerator-7.ensures.bytes.1.0 c.numerator-7.ensures.bytes.1.1
+          here (along (i + 1) more) alpha_walk);
     }
 
 pub returns : goal.returns

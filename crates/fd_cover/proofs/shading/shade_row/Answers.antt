@@ -21,7 +21,8 @@ returns-in-Flat c =
     let kc = colour_of c.args.colours.now 2 in
     c.fill.ensures.after (λ y clone. search rules)
     ∙ flat_columns c.args.triangle.now ka kb kc c.args.y c.args.x (length c.args.out.now)
-    ∙ ap (λ interp. map (λ column. shaded c.args.triangle.now interp ka kb kc column c.args.y) (range_with_len c.args.x (length c.args.out.now))) (sym c.in-Flat.is)
+    ∙ ap (λ interp. map (λ column. shaded c.args.triangle.now interp ka kb kc column c.args.y) (range_with_len c.args.x (length c.args.out.now)))
+    (sym c.in-Flat.is)
 
 pub returns-then-out-eq1 : goal.returns-then-out-eq1
 returns-then-out-eq1 c =

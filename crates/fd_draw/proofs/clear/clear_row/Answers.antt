@@ -30,11 +30,28 @@ returns-in-Colours c =
     let zipped = length-zip_equal c.row.result.now c.depth_row.result.now (omega (arith, wide, deep, row, depths)) in
     let kept = length-kept_row c.place-left.result.left c.args.y (zip c.row.result.now c.depth_row.result.now) in
     record {
-      painted = rw c.in-Colours.is (Paints-clear_colours c.args.tile.now c.args.undo.now c.args.y c.requires.filled c.requires.crossed c.requires.room.begun c.row.result.now c.depth_row.result.now
+      painted = rw c.in-Colours.is (Paints-clear_colours c.args.tile.now c.args.undo.now c.args.y c.requires.filled c.requires.crossed c.requires.room.begun
+          c.row.result.now c.depth_row.result.now
           c.place-left.result.left c.keep_known.new.self c.row.ensures c.depth_row.ensures (ap (λ p. p.left) c.place-left.ensures.value) c.keep_known.ensures
           c.in-Colours.colour c.row_mut.result.now c.fill.new.self c.row_mut.ensures.value (c.fill.ensures.after (λ y clone. search rules)));
-      spans = omega (arith, c.requires.room.spans, clear_spans c.args.tile.now c.args.undo.now c.args.y c.requires.filled c.requires.crossed c.requires.room.begun, ap (λ v. v.spans_left) c.keep_known.ensures);
-      pixels = omega (arith, c.requires.room.pixels, clear_pixels c.args.tile.now c.args.undo.now c.args.y c.requires.filled c.requires.crossed c.requires.room.begun, kept, zipped, row, wide, ap (λ v. v.pixels_left) c.keep_known.ensures);
+      spans = omega (
+        arith,
+        c.requires.room.spans,
+        clear_spans c.args.tile.now c.args.undo.now c.args.y c.requires.filled c.requires.crossed
+            c.requires.room.begun,
+        ap (λ v. v.spans_left) c.keep_known.ensures,
+      );
+      pixels = omega (
+        arith,
+        c.requires.room.pixels,
+        clear_pixels c.args.tile.now c.args.undo.now c.args.y c.requires.filled c.requires.crossed
+            c.requires.room.begun,
+        kept,
+        zipped,
+        row,
+        wide,
+        ap (λ v. v.pixels_left) c.keep_known.ensures,
+      );
     }
 
 pub returns-in-Depths : goal.returns-in-Depths
@@ -46,9 +63,27 @@ returns-in-Depths c =
     let zipped = length-zip_equal c.row.result.now c.depth_row.result.now (omega (arith, wide, deep, row, depths)) in
     let kept = length-kept_row c.place-left.result.left c.args.y (zip c.row.result.now c.depth_row.result.now) in
     record {
-      painted = rw c.in-Depths.is (Paints-clear_depths c.args.tile.now c.args.undo.now c.args.y c.requires.filled c.requires.crossed c.requires.room.begun c.row.result.now c.depth_row.result.now
+      painted = rw c.in-Depths.is (Paints-clear_depths c.args.tile.now c.args.undo.now c.args.y c.requires.filled c.requires.crossed c.requires.room.begun
+          c.row.result.now c.depth_row.result.now
           c.place-left.result.left c.keep_known.new.self c.row.ensures c.depth_row.ensures (ap (λ p. p.left) c.place-left.ensures.value) c.keep_known.ensures
-          c.in-Depths.depth c.depth_row_mut.result.now c.fill-in-Depths.new.self c.depth_row_mut.ensures.value (c.fill-in-Depths.ensures.after (λ y clone. search rules)));
-      spans = omega (arith, c.requires.room.spans, clear_spans c.args.tile.now c.args.undo.now c.args.y c.requires.filled c.requires.crossed c.requires.room.begun, ap (λ v. v.spans_left) c.keep_known.ensures);
-      pixels = omega (arith, c.requires.room.pixels, clear_pixels c.args.tile.now c.args.undo.now c.args.y c.requires.filled c.requires.crossed c.requires.room.begun, kept, zipped, row, wide, ap (λ v. v.pixels_left) c.keep_known.ensures);
+          c.in-Depths.depth c.depth_row_mut.result.now c.fill-in-Depths.new.self c.depth_row_mut.ensures.value
+          (c.fill-in-Depths.ensures.after (λ y clone. search rules)));
+      spans = omega (
+        arith,
+        c.requires.room.spans,
+        clear_spans c.args.tile.now c.args.undo.now c.args.y c.requires.filled c.requires.crossed
+            c.requires.room.begun,
+        ap (λ v. v.spans_left) c.keep_known.ensures,
+      );
+      pixels = omega (
+        arith,
+        c.requires.room.pixels,
+        clear_pixels c.args.tile.now c.args.undo.now c.args.y c.requires.filled c.requires.crossed
+            c.requires.room.begun,
+        kept,
+        zipped,
+        row,
+        wide,
+        ap (λ v. v.pixels_left) c.keep_known.ensures,
+      );
     }

@@ -34,10 +34,15 @@ pub clear_row-requires-clause-room : goal.clear_row-requires-clause-room
 clear_row-requires-clause-room c =
     let written : ℕ → ℕ → Bool = λ _ _. true in
     let p = c.args.tile.now.place in
-    let crossed : HasRow p c.loop-y.y = record { from_top = omega (arith, c.requires.inside.from_top, c.loop-y.auto.y); to_bottom = omega (arith, c.requires.inside.to_bottom, c.loop-y-test.true) } in
+    let crossed : HasRow p c.loop-y.y = record {
+      from_top = omega (arith, c.requires.inside.from_top, c.loop-y.auto.y);
+      to_bottom =
+          omega (arith, c.requires.inside.to_bottom, c.loop-y-test.true);
+    } in
     let spans = total_more (row_spans written p) c.loop-y.y c.args.area.bottom c.loop-y-test.true in
     let pixels = total_more (written_in_row written p) c.loop-y.y c.args.area.bottom c.loop-y-test.true in
-    subst (λ (q : Place). HasRoom (spans_in (in_row written c.loop-y.y) q) (pixels_in (in_row written c.loop-y.y) q) c.loop-y.undo) (sym c.loop-y.invariant.painted.placed) (record {
+    subst (λ (q : Place). HasRoom (spans_in (in_row written c.loop-y.y) q) (pixels_in (in_row written c.loop-y.y) q) c.loop-y.undo)
+    (sym c.loop-y.invariant.painted.placed) (record {
       begun = c.loop-y.invariant.painted.begun;
       spans = omega (arith, spans, spans_in-row written p c.loop-y.y crossed, c.loop-y.invariant.spans, c.requires.room.spans);
       pixels = omega (arith, pixels, pixels_in-row written p c.loop-y.y crossed, c.loop-y.invariant.pixels, c.requires.room.pixels);
@@ -47,7 +52,11 @@ pub loop-y-preserved : goal.loop-y-preserved
 loop-y-preserved c =
     let written : ℕ → ℕ → Bool = λ _ _. true in
     let p = c.args.tile.now.place in
-    let crossed : HasRow p c.loop-y.y = record { from_top = omega (arith, c.requires.inside.from_top, c.loop-y.auto.y); to_bottom = omega (arith, c.requires.inside.to_bottom, c.loop-y-test.true) } in
+    let crossed : HasRow p c.loop-y.y = record {
+      from_top = omega (arith, c.requires.inside.from_top, c.loop-y.auto.y);
+      to_bottom =
+          omega (arith, c.requires.inside.to_bottom, c.loop-y-test.true);
+    } in
     let spans = total_more (row_spans written p) c.loop-y.y c.args.area.bottom c.loop-y-test.true in
     let pixels = total_more (written_in_row written p) c.loop-y.y c.args.area.bottom c.loop-y-test.true in
     let same_spans = ap (λ (q : Place). spans_in (in_row written c.loop-y.y) q) c.loop-y.invariant.painted.placed in
@@ -63,7 +72,8 @@ returns c =
     let written : ℕ → ℕ → Bool = λ _ _. true in
     let p = c.args.tile.now.place in
     record {
-      painted = Paints-last written _ keep_each ((λ _ _. true)) c.args.tile.now c.args.area c.requires.whole c.loop-y.y _ _ _ c.loop-y-test.false c.loop-y.invariant.painted;
+      painted = Paints-last written _ keep_each ((λ _ _. true)) c.args.tile.now c.args.area c.requires.whole c.loop-y.y _ _ _ c.loop-y-test.false
+          c.loop-y.invariant.painted;
       spans = omega (arith, total_none (row_spans written p) c.loop-y.y c.args.area.bottom c.loop-y-test.false, c.loop-y.invariant.spans);
       pixels = omega (arith, total_none (written_in_row written p) c.loop-y.y c.args.area.bottom c.loop-y-test.false, c.loop-y.invariant.pixels);
     }

@@ -9,7 +9,10 @@ use Rattle.fd_draw.proofs.clear.clear_rows.Given as goal
 -- the rows above this one are cleared, and the room for the others is left
 abbrev pub invariant-loop-y : goal.invariant-loop-y
 invariant-loop-y l = record {
-  painted : Paints (after_where (above (λ _ _. true) l.y) (λ _ _. cleared l.clear)) (kept_where (above (λ _ _. true) l.y) keep_each) l.initial.tile l.initial.undo l.tile l.undo;
-  spans : l.initial.undo.spans_left + total (row_spans (λ _ _. true) l.initial.tile.place) l.y (l.fn.area.bottom - l.y) ≤ l.undo.spans_left + spans_in (λ _ _. true) l.initial.tile.place;
-  pixels : l.initial.undo.pixels_left + total (written_in_row (λ _ _. true) l.initial.tile.place) l.y (l.fn.area.bottom - l.y) ≤ l.undo.pixels_left + pixels_in (λ _ _. true) l.initial.tile.place;
+  painted : Paints (after_where (above (λ _ _. true) l.y) (λ _ _. cleared l.clear)) (kept_where (above (λ _ _. true) l.y) keep_each) l.initial.tile
+      l.initial.undo l.tile l.undo;
+  spans : l.initial.undo.spans_left + total (row_spans (λ _ _. true) l.initial.tile.place) l.y (l.fn.area.bottom - l.y) ≤ l.undo.spans_left + spans_in
+      (λ _ _. true) l.initial.tile.place;
+  pixels : l.initial.undo.pixels_left + total (written_in_row (λ _ _. true) l.initial.tile.place) l.y (l.fn.area.bottom - l.y)
+      ≤ l.undo.pixels_left + pixels_in (λ _ _. true) l.initial.tile.place;
 }

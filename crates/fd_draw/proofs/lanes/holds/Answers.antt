@@ -27,13 +27,15 @@ pub returns-in-Greater-clause-bound : goal.returns-in-Greater-clause-bound
 returns-in-Greater-clause-bound c = lanes_bound nat_lt c.args.stored c.args.sources c.requires.stored c.requires.sources
 
 pub returns-in-NotEqual-clause-bits : goal.returns-in-NotEqual-clause-bits
-returns-in-NotEqual-clause-bits c = λ k low. rw c.in-NotEqual.is (lane_set (λ a b. not (eqb a b)) c.args.sources c.args.stored c.requires.sources c.requires.stored k low)
+returns-in-NotEqual-clause-bits c =
+    λ k low. rw c.in-NotEqual.is (lane_set (λ a b. not (eqb a b)) c.args.sources c.args.stored c.requires.sources c.requires.stored k low)
 
 pub returns-in-NotEqual-clause-bound : goal.returns-in-NotEqual-clause-bound
 returns-in-NotEqual-clause-bound c = lanes_bound (λ a b. not (eqb a b)) c.args.sources c.args.stored c.requires.sources c.requires.stored
 
 pub returns-in-GreaterEqual-clause-bits : goal.returns-in-GreaterEqual-clause-bits
-returns-in-GreaterEqual-clause-bits c = λ k low. rw c.in-GreaterEqual.is (lane_set nat_le c.args.stored c.args.sources c.requires.stored c.requires.sources k low)
+returns-in-GreaterEqual-clause-bits c =
+    λ k low. rw c.in-GreaterEqual.is (lane_set nat_le c.args.stored c.args.sources c.requires.stored c.requires.sources k low)
 
 pub returns-in-GreaterEqual-clause-bound : goal.returns-in-GreaterEqual-clause-bound
 returns-in-GreaterEqual-clause-bound c = lanes_bound nat_le c.args.stored c.args.sources c.requires.stored c.requires.sources

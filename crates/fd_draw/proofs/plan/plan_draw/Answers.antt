@@ -8,7 +8,9 @@ use Rattle.fd_draw.specs.declared.room.Demand.{Demand}
 use Rattle.fd_draw.specs.Demand.{triangle_pixels, triangle_spans}
 use Rattle.fd_draw.specs.Plan.{ArePlanned, AreUnreached}
 use Rattle.fd_draw.specs.Triangles.{triangle_at}
-use Rattle.fd_draw.proofs.Triangles.{found_here, IsUndrawn, no_pixels, no_spans, none_pixels, none_spans, pixels-passed, pixels_found, planned_full, planned_kept, planned_past, spans-passed, spans_few, spans_found, sum_more, undrawn_closed, undrawn_culled, unreached_both, unreached_here, unreached_missed, unreached_uncovered}
+use Rattle.fd_draw.proofs.Triangles.{found_here, IsUndrawn, no_pixels, no_spans, none_pixels, none_spans, pixels-passed, pixels_found, planned_full}
+use Rattle.fd_draw.proofs.Triangles.{planned_kept, planned_past, spans-passed, spans_few, spans_found, sum_more, undrawn_closed, undrawn_culled}
+use Rattle.fd_draw.proofs.Triangles.{unreached_both, unreached_here, unreached_missed, unreached_uncovered}
 use Rattle.fd_draw.proofs.plan.plan_draw.Goals as goal
 use Rattle.fd_draw.proofs.plan.plan_draw.Goals.{in-Some, in_default}
 
@@ -20,10 +22,12 @@ idle c = elim (c.is_idle.ensures c.if-is_idle.true) [
 ]
 
 pub returns-then-is_idle-clause-spans : goal.returns-then-is_idle-clause-spans
-returns-then-is_idle-clause-spans c = ap (λ (d : Demand). d.spans) c.without_triangles-plan.ensures.demand ∙ sym (no_spans (triangles_of c.args.draw.now) c.args.state.now c.args.place (idle c))
+returns-then-is_idle-clause-spans c = ap (λ (d : Demand). d.spans) c.without_triangles-plan.ensures.demand
+    ∙ sym (no_spans (triangles_of c.args.draw.now) c.args.state.now c.args.place (idle c))
 
 pub returns-then-is_idle-clause-pixels : goal.returns-then-is_idle-clause-pixels
-returns-then-is_idle-clause-pixels c = ap (λ (d : Demand). d.pixels) c.without_triangles-plan.ensures.demand ∙ sym (no_pixels (triangles_of c.args.draw.now) c.args.state.now c.args.place (idle c))
+returns-then-is_idle-clause-pixels c = ap (λ (d : Demand). d.pixels) c.without_triangles-plan.ensures.demand
+    ∙ sym (no_pixels (triangles_of c.args.draw.now) c.args.state.now c.args.place (idle c))
 
 pub returns-then-is_idle-clause-planned : goal.returns-then-is_idle-clause-planned
 returns-then-is_idle-clause-planned c =
@@ -75,7 +79,8 @@ loop-triangle-preserved c =
     elim c.match-find.branch [
       | in-Some w ↦
           let found = w.in-Some.found in
-          let on = found_here d i c.tri.result s p window.result window.ensures.inside window.ensures.left_open c.tri.ensures found w.in-Some.ensures.found w.in-Some.ensures.part w.in-Some.ensures.drawn in
+          let on = found_here d i c.tri.result s p window.result window.ensures.inside window.ensures.left_open c.tri.ensures found w.in-Some.ensures.found
+          w.in-Some.ensures.part w.in-Some.ensures.drawn in
           let its_spans = spans_found (triangle_at d i) s p found on in
           let its_pixels = pixels_found (triangle_at d i) s p found on in
           let add = w.add.ensures in
@@ -89,7 +94,8 @@ loop-triangle-preserved c =
             few_pixels = omega (arith, near.ensures.from, on.found.few_pixels, add.pixels, ap (λ (q : Plan). q.demand.pixels) w.plan-is, inv.few_pixels);
             planned = elim (cases_lt (array_vec_len old.planned) 8) [
               | inl less ↦ rw (w.plan-is, (add.room less).0, (add.room less).1)
-                  (planned_kept d s p old.planned.items old.rest i near.result inv.planned below near.ensures.from near.ensures.last none found (inv.room less) on)
+                  (planned_kept d s p old.planned.items old.rest i near.result inv.planned below near.ensures.from near.ensures.last none found
+                  (inv.room less) on)
               | inr more ↦ let full : array_vec_len old.planned ≡ 8 = omega (arith, more, inv.few) in rw (w.plan-is, (add.full full).0, (add.full full).1)
                   (planned_full d s p old.planned.items old.rest i near.result inv.planned below near.ensures.from near.ensures.last none)
             ];
@@ -103,13 +109,21 @@ loop-triangle-preserved c =
                   λ less. absurd (omega (arith, full, less, ap (λ (q : Plan). array_vec_len q.planned) w.plan-is, ap (λ v. array_vec_len v) (add.full full).0))
             ];
             few = elim (cases_lt (array_vec_len old.planned) 8) [
-              | inl less ↦ omega (arith, less, ap (λ (q : Plan). array_vec_len q.planned) w.plan-is, ap length (add.room less).0, length_push old.planned.items (record { triangle = i; found = found }))
+              | inl less ↦ omega (
+                arith,
+                less,
+                ap (λ (q : Plan). array_vec_len q.planned) w.plan-is,
+                ap length (add.room less).0,
+                length_push
+                    old.planned.items (record { triangle = i; found = found }),
+              )
               | inr more ↦ let full : array_vec_len old.planned ≡ 8 = omega (arith, more, inv.few) in
                   omega (arith, full, ap (λ (q : Plan). array_vec_len q.planned) w.plan-is, ap (λ v. array_vec_len v) (add.full full).0)
             ];
           }
       | in_default w ↦
-          let unreached = unreached_here d i c.tri.result s p window.result window.ensures.inside window.ensures.left_open c.tri.ensures w.in_default.ensures.none in
+          let unreached = unreached_here d i c.tri.result s p window.result window.ensures.inside window.ensures.left_open c.tri.ensures
+          w.in_default.ensures.none in
           let its_spans = none_spans (triangle_at d i) s p unreached in
           let its_pixels = none_pixels (triangle_at d i) s p unreached in
           rw w.plan-is (record {

@@ -9,8 +9,10 @@ use Rattle.fd_draw.proofs.plan.plan_draw.Given as goal
 -- what was counted and what the triangles that are left write is what all write; where there is room, all that were found are kept
 abbrev pub invariant-loop-triangle : goal.invariant-loop-triangle
 invariant-loop-triangle l = record {
-  spans : l.plan.demand.spans + sum_by (triangle_spans l.state l.fn.place) (drop l.triangle (triangles_of l.draw)) ≡ sum_by (triangle_spans l.state l.fn.place) (triangles_of l.draw);
-  pixels : l.plan.demand.pixels + sum_by (triangle_pixels l.state l.fn.place) (drop l.triangle (triangles_of l.draw)) ≡ sum_by (triangle_pixels l.state l.fn.place) (triangles_of l.draw);
+  spans : l.plan.demand.spans + sum_by (triangle_spans l.state l.fn.place) (drop l.triangle (triangles_of l.draw))
+      ≡ sum_by (triangle_spans l.state l.fn.place) (triangles_of l.draw);
+  pixels : l.plan.demand.pixels + sum_by (triangle_pixels l.state l.fn.place) (drop l.triangle (triangles_of l.draw))
+      ≡ sum_by (triangle_pixels l.state l.fn.place) (triangles_of l.draw);
   within : l.triangle ≤ length (triangles_of l.draw);
   few_spans : l.plan.demand.spans ≤ 1024 * l.triangle;
   few_pixels : l.plan.demand.pixels ≤ 1024 * l.triangle;

@@ -9,7 +9,8 @@ use Rattle.fd_draw.proofs.tested.draw_runs.Given as goal
 -- so many pixels are done, and no more than one span and one pixel each were used
 abbrev pub invariant-loop-done : goal.invariant-loop-done
 invariant-loop-done l = record {
-  painted : Paints (after_where (in_row (columns_between l.x (l.x + l.done)) l.y) (pixel_after_triangle (triangle_of l.primitive) l.primitive.interp l.state)) (kept_where (in_row (columns_between l.x (l.x + l.done)) l.y) (kept_by_triangle (triangle_of l.primitive) l.state))
+  painted : Paints (after_where (in_row (columns_between l.x (l.x + l.done)) l.y) (pixel_after_triangle (triangle_of l.primitive) l.primitive.interp l.state))
+      (kept_where (in_row (columns_between l.x (l.x + l.done)) l.y) (kept_by_triangle (triangle_of l.primitive) l.state))
       l.initial.tile l.initial.undo l.tile l.undo;
   within : l.done ≤ length l.depths;
   spans : l.initial.undo.spans_left ≤ l.undo.spans_left + l.done;

@@ -15,7 +15,8 @@ loop-y-init c =
     let p = c.args.tile.now.place in
     let pixels = pixels_in-rows written (covers c.args.primitive.now.corners) p c.args.found.now.area c.requires.found.inside c.requires.found.reached in
     record {
-      painted = Paints-first written _ _ (covers c.args.primitive.now.corners) c.args.tile.now c.args.found.now.area c.requires.found.reached c.args.undo.now c.requires.filled c.requires.room.begun;
+      painted = Paints-first written _ _ (covers c.args.primitive.now.corners) c.args.tile.now c.args.found.now.area c.requires.found.reached c.args.undo.now
+          c.requires.filled c.requires.room.begun;
       spans = omega (arith, pixels);
       pixels = omega (arith, pixels);
     }
@@ -24,9 +25,14 @@ pub draw_row-requires-clause-room : goal.draw_row-requires-clause-room
 draw_row-requires-clause-room c =
     let written = is_reached (triangle_of c.args.primitive.now) c.args.state.now in
     let p = c.args.tile.now.place in
-    let crossed : HasRow p c.loop-y.y = record { from_top = omega (arith, c.requires.found.inside.from_top, c.loop-y.auto.y); to_bottom = omega (arith, c.requires.found.inside.to_bottom, c.loop-y-test.true) } in
+    let crossed : HasRow p c.loop-y.y = record {
+      from_top = omega (arith, c.requires.found.inside.from_top, c.loop-y.auto.y);
+      to_bottom =
+          omega (arith, c.requires.found.inside.to_bottom, c.loop-y-test.true);
+    } in
     let pixels = total_more (written_in_row written p) c.loop-y.y c.args.found.now.area.bottom c.loop-y-test.true in
-    subst (λ (q : Place). HasRoom (pixels_in (in_row written c.loop-y.y) q) (pixels_in (in_row written c.loop-y.y) q) c.loop-y.undo) (sym c.loop-y.invariant.painted.placed) (record {
+    subst (λ (q : Place). HasRoom (pixels_in (in_row written c.loop-y.y) q) (pixels_in (in_row written c.loop-y.y) q) c.loop-y.undo)
+    (sym c.loop-y.invariant.painted.placed) (record {
       begun = c.loop-y.invariant.painted.begun;
       spans = omega (arith, pixels, pixels_in-row written p c.loop-y.y crossed, c.loop-y.invariant.spans, c.requires.room.spans);
       pixels = omega (arith, pixels, pixels_in-row written p c.loop-y.y crossed, c.loop-y.invariant.pixels, c.requires.room.pixels);
@@ -36,7 +42,11 @@ pub loop-y-preserved : goal.loop-y-preserved
 loop-y-preserved c =
     let written = is_reached (triangle_of c.args.primitive.now) c.args.state.now in
     let p = c.args.tile.now.place in
-    let crossed : HasRow p c.loop-y.y = record { from_top = omega (arith, c.requires.found.inside.from_top, c.loop-y.auto.y); to_bottom = omega (arith, c.requires.found.inside.to_bottom, c.loop-y-test.true) } in
+    let crossed : HasRow p c.loop-y.y = record {
+      from_top = omega (arith, c.requires.found.inside.from_top, c.loop-y.auto.y);
+      to_bottom =
+          omega (arith, c.requires.found.inside.to_bottom, c.loop-y-test.true);
+    } in
     let pixels = total_more (written_in_row written p) c.loop-y.y c.args.found.now.area.bottom c.loop-y-test.true in
     let same_pixels = ap (λ (q : Place). pixels_in (in_row written c.loop-y.y) q) c.loop-y.invariant.painted.placed in
     record {
@@ -50,7 +60,8 @@ returns c =
     let written = is_reached (triangle_of c.args.primitive.now) c.args.state.now in
     let p = c.args.tile.now.place in
     record {
-      painted = Paints-last written _ _ (covers c.args.primitive.now.corners) c.args.tile.now c.args.found.now.area c.requires.found.reached c.loop-y.y _ _ _ c.loop-y-test.false c.loop-y.invariant.painted;
+      painted = Paints-last written _ _ (covers c.args.primitive.now.corners) c.args.tile.now c.args.found.now.area c.requires.found.reached c.loop-y.y _ _ _
+          c.loop-y-test.false c.loop-y.invariant.painted;
       spans = omega (arith, total_none (written_in_row written p) c.loop-y.y c.args.found.now.area.bottom c.loop-y-test.false, c.loop-y.invariant.spans);
       pixels = omega (arith, total_none (written_in_row written p) c.loop-y.y c.args.found.now.area.bottom c.loop-y-test.false, c.loop-y.invariant.pixels);
     }

@@ -10,7 +10,11 @@ use Rattle.fd_draw.proofs.write.write_rows.Given as goal
 -- the rows above this one are written, and the room for the others is left
 abbrev pub invariant-loop-y : goal.invariant-loop-y
 invariant-loop-y l = record {
-  painted : Paints (after_where (above (is_reached (triangle_of l.primitive) l.state) l.y) (pixel_blended (triangle_of l.primitive) l.primitive.interp l.state)) (kept_where (above (is_reached (triangle_of l.primitive) l.state) l.y) keep_each) l.initial.tile l.initial.undo l.tile l.undo;
-  spans : l.initial.undo.spans_left + total (row_spans (is_reached (triangle_of l.primitive) l.state) l.initial.tile.place) l.y (l.found.area.bottom - l.y) ≤ l.undo.spans_left + spans_in (is_reached (triangle_of l.primitive) l.state) l.initial.tile.place;
-  pixels : l.initial.undo.pixels_left + total (written_in_row (is_reached (triangle_of l.primitive) l.state) l.initial.tile.place) l.y (l.found.area.bottom - l.y) ≤ l.undo.pixels_left + pixels_in (is_reached (triangle_of l.primitive) l.state) l.initial.tile.place;
+  painted : Paints (after_where (above (is_reached (triangle_of l.primitive) l.state) l.y)
+      (pixel_blended (triangle_of l.primitive) l.primitive.interp l.state)) (kept_where (above (is_reached (triangle_of l.primitive) l.state) l.y) keep_each)
+      l.initial.tile l.initial.undo l.tile l.undo;
+  spans : l.initial.undo.spans_left + total (row_spans (is_reached (triangle_of l.primitive) l.state) l.initial.tile.place) l.y (l.found.area.bottom - l.y)
+      ≤ l.undo.spans_left + spans_in (is_reached (triangle_of l.primitive) l.state) l.initial.tile.place;
+  pixels : l.initial.undo.pixels_left + total (written_in_row (is_reached (triangle_of l.primitive) l.state) l.initial.tile.place) l.y
+      (l.found.area.bottom - l.y) ≤ l.undo.pixels_left + pixels_in (is_reached (triangle_of l.primitive) l.state) l.initial.tile.place;
 }

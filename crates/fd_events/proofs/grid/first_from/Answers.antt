@@ -12,16 +12,19 @@ pub returns-in-Some-clause-from : goal.returns-in-Some-clause-from
 returns-in-Some-clause-from c =
     let lookup = c.in-Some.ensures.lookup in
     let place = c.partition_point-place.result in
-    let point : Parts c.args.numbers.now c.args.number place = IsPartitionPoint-from_clause (λ n. ltb n c.args.number) _ _ c.partition_point-place.ensures.partitioned
+    let point : Parts c.args.numbers.now c.args.number place =
+    IsPartitionPoint-from_clause (λ n. ltb n c.args.number) _ _ c.partition_point-place.ensures.partitioned
     (IsPartitionedBy-ltb (λ n. n) _ c.args.number c.requires.rise) (λ a r q k. search rules) in
-    let there : c.args.number ≤ get_or c.args.numbers.now place c.in-Some.listed.now = ltb-false _ _ (point.1 place c.in-Some.listed.now (omega arith) lookup.3.0) in
+    let there : c.args.number ≤ get_or c.args.numbers.now place c.in-Some.listed.now =
+    ltb-false _ _ (point.1 place c.in-Some.listed.now (omega arith) lookup.3.0) in
     omega (arith, c.min.ensures, c.requires.order, there, lookup.1)
 
 pub returns-in-Some-clause-passed : goal.returns-in-Some-clause-passed
 returns-in-Some-clause-passed c = λ i from to has.
     let lookup = c.in-Some.ensures.lookup in
     let place = c.partition_point-place.result in
-    let point : Parts c.args.numbers.now c.args.number place = IsPartitionPoint-from_clause (λ n. ltb n c.args.number) _ _ c.partition_point-place.ensures.partitioned
+    let point : Parts c.args.numbers.now c.args.number place =
+    IsPartitionPoint-from_clause (λ n. ltb n c.args.number) _ _ c.partition_point-place.ensures.partitioned
     (IsPartitionedBy-ltb (λ n. n) _ c.args.number c.requires.rise) (λ a r q k. search rules) in
     let is : get_or c.args.numbers.now has.0 i ≡ i = has.2 in
     elim (cases_lt has.0 place) [
@@ -33,7 +36,8 @@ pub returns-in-None-clause-passed : goal.returns-in-None-clause-passed
 returns-in-None-clause-passed c = λ i from to has.
     let lookup = c.in-None.ensures.lookup in
     let place = c.partition_point-place.result in
-    let point : Parts c.args.numbers.now c.args.number place = IsPartitionPoint-from_clause (λ n. ltb n c.args.number) _ _ c.partition_point-place.ensures.partitioned
+    let point : Parts c.args.numbers.now c.args.number place =
+    IsPartitionPoint-from_clause (λ n. ltb n c.args.number) _ _ c.partition_point-place.ensures.partitioned
     (IsPartitionedBy-ltb (λ n. n) _ c.args.number c.requires.rise) (λ a r q k. search rules) in
     let is : get_or c.args.numbers.now has.0 i ≡ i = has.2 in
     let before : has.0 < place = omega (arith, has.1, lookup.3) in

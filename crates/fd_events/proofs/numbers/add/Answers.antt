@@ -13,8 +13,10 @@ returns c =
     let cell = c.args.cell in
     let here : cell < length before = omega (arith, c.requires, c.args.lists.now.ok.0) in
     let within : cell < length (numbers_of before) = omega (arith, here, length-map before items) in
-    let old : c.index_mut-list.result.now.items ≡ listed_at (numbers_of before) cell = ap items c.index_mut-list.ensures.value ∙ sym (get_or-map items before cell _ [] here) in
-    let new : c.push.new.self.items ≡ listed_at (numbers_of before) cell ++ c.args.number ∷ [] = c.in_ok-push.ensures.items ∙ ap (λ (xs : List ℕ). xs ++ c.args.number ∷ []) old in
+    let old : c.index_mut-list.result.now.items ≡ listed_at (numbers_of before) cell = ap items c.index_mut-list.ensures.value
+    ∙ sym (get_or-map items before cell _ [] here) in
+    let new : c.push.new.self.items ≡ listed_at (numbers_of before) cell ++ c.args.number ∷ [] = c.in_ok-push.ensures.items
+    ∙ ap (λ (xs : List ℕ). xs ++ c.args.number ∷ []) old in
     let is : numbers_of (set before cell c.push.new.self) ≡ set (numbers_of before) cell (listed_at (numbers_of before) cell ++ c.args.number ∷ []) =
     map-set items before cell c.push.new.self ∙ ap (λ (xs : List ℕ). set (numbers_of before) cell xs) new in
     subst (λ (lists : List (List ℕ)). Grow c.args.number (numbers_of before) lists × Contains (listed_at lists cell) c.args.number) (sym is)

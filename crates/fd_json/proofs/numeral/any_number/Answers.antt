@@ -9,7 +9,8 @@ use Rattle.fd_json.proofs.numeral.any_number.Goals as goal
 pub returns-then-bytes-eq45 : goal.returns-then-bytes-eq45
 returns-then-bytes-eq45 c =
     let sign : (slice_index c.args.text.now 0 == minus) ≡ true = search rules in
-    let scanned : c.scan.result ≡ scan (drop 1 c.args.text.now) = c.scan.ensures.parts ∙ ap scan (rest c.as_bytes-bytes.result.now) ∙ ap (λ (s : List ℕ). scan (drop 1 s)) c.as_bytes-bytes.ensures.value in
+    let scanned : c.scan.result ≡ scan (drop 1 c.args.text.now) = c.scan.ensures.parts ∙ ap scan (rest c.as_bytes-bytes.result.now)
+    ∙ ap (λ (s : List ℕ). scan (drop 1 s)) c.as_bytes-bytes.ensures.value in
     c.signed.ensures ∙ ap (number_from true) scanned ∙ sym (number_of-minus c.args.text.now sign)
 
 pub returns-else-not-is_empty : goal.returns-else-not-is_empty

@@ -7,13 +7,15 @@ use Rattle.fd_json.proofs.numeral.digits.Goals as goal
 pub overflow_mul-value : goal.overflow_mul-value
 overflow_mul-value c =
     let l = c.loop-i in
-    let small = few_digits (take l.i c.args.bytes.now) 17 l.invariant.0 (omega (arith, length-take-le l.i c.args.bytes.now (omega (arith, c.loop-i-test.true)), c.loop-i-test.true, c.if-bytes-gt-PLAIN_DIGITS.false)) in
+    let small = few_digits (take l.i c.args.bytes.now) 17 l.invariant.0
+    (omega (arith, length-take-le l.i c.args.bytes.now (omega (arith, c.loop-i-test.true)), c.loop-i-test.true, c.if-bytes-gt-PLAIN_DIGITS.false)) in
     omega (arith, small, l.invariant.1)
 
 pub overflow_add-value : goal.overflow_add-value
 overflow_add-value c =
     let l = c.loop-i in
-    let small = few_digits (take l.i c.args.bytes.now) 17 l.invariant.0 (omega (arith, length-take-le l.i c.args.bytes.now (omega (arith, c.loop-i-test.true)), c.loop-i-test.true, c.if-bytes-gt-PLAIN_DIGITS.false)) in
+    let small = few_digits (take l.i c.args.bytes.now) 17 l.invariant.0
+    (omega (arith, length-take-le l.i c.args.bytes.now (omega (arith, c.loop-i-test.true)), c.loop-i-test.true, c.if-bytes-gt-PLAIN_DIGITS.false)) in
     omega (arith, small, l.invariant.1, c.from.ensures, c.if-digit-gt9.false)
 
 pub loop-i-preserved : goal.loop-i-preserved
@@ -27,5 +29,6 @@ loop-i-preserved c =
 pub returns-clause-small : goal.returns-clause-small
 returns-clause-small c =
     let l = c.loop-i in
-    let small = few_digits (take l.i c.args.bytes.now) 18 l.invariant.0 (omega (arith, length-take-le l.i c.args.bytes.now (omega (arith, l.auto.i-end)), l.auto.i-end, c.if-bytes-gt-PLAIN_DIGITS.false)) in
+    let small = few_digits (take l.i c.args.bytes.now) 18 l.invariant.0
+    (omega (arith, length-take-le l.i c.args.bytes.now (omega (arith, l.auto.i-end)), l.auto.i-end, c.if-bytes-gt-PLAIN_DIGITS.false)) in
     omega (arith, small, l.invariant.1)

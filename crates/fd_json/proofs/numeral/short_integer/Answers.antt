@@ -13,7 +13,8 @@ returns-else-size-eq0-clause-value c =
     let n = c.in_ok-size.size in
     let small = c.in_ok-size.ensures.small in
     let some : 0 < n = grind (arith, c.if-size-eq0.false) in
-    let read = subst (λ (s : List ℕ). IsNumeral 10 s × (n ≡ digits_value 10 s)) (rest c.as_bytes-bytes.result.now ∙ ap (drop 1) c.as_bytes-bytes.ensures.value) c.in_ok-size.ensures.value in
+    let read = subst (λ (s : List ℕ). IsNumeral 10 s × (n ≡ digits_value 10 s)) (rest c.as_bytes-bytes.result.now
+    ∙ ap (drop 1) c.as_bytes-bytes.ensures.value) c.in_ok-size.ensures.value in
     number_of-minus c.args.text.now sign ∙ number-minus_digits (drop 1 c.args.text.now) n read.0 read.1 small some ∙ as_negative n small some
 
 pub returns-in_ok-size-2-clause-value : goal.returns-in_ok-size-2-clause-value

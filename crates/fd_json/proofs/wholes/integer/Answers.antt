@@ -34,5 +34,10 @@ pub returns-in_ok-pass_rest-clause-value : goal.returns-in_ok-pass_rest-clause-v
 returns-in_ok-pass_rest-clause-value c =
     let first : c.args.reader.now ≡ token_of c.in_ok-first.first ∷ c.next.new.self = grind arith in
     let read = c.in_ok-pass_rest.ensures.value in
-    let other : begins_number (token_of c.in_ok-first.first) ≡ false = grind arith in
-    (read.0, ap (taken c.args.depth) first ∙ read.1, sym (ap (option_and_then as_i64) (no_number c.args.depth (token_of c.in_ok-first.first) c.next.new.self c.pass_rest.new.reader read.0 other read.1)))
+    let other : begins_number (token_of c.in_ok-first.first) ≡ false = grind arith in (
+      read.0,
+      ap (taken c.args.depth) first
+          ∙ read.1,
+      sym (ap (option_and_then as_i64) (no_number c.args.depth (token_of c.in_ok-first.first) c.next.new.self c.pass_rest.new.reader read.0 other
+          read.1)),
+    )

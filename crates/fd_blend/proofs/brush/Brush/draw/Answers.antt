@@ -19,7 +19,14 @@ pub loop-pair-preserved : goal.loop-pair-preserved
 loop-pair-preserved c =
     let f = blend c.args.self.now.state c.args.self.now.factor c.args.self.now.source in
     let i = 2 * c.loop-pair.pair in
-    rw (c.pair.ensures.first, c.pair.ensures.second, c.loop-pair.invariant, not_yet_changed f i i c.args.dst.now _ (omega arith), not_yet_changed f i (i + 1) c.args.dst.now _ (omega arith))
+    rw (
+      c.pair.ensures.first,
+      c.pair.ensures.second,
+      c.loop-pair.invariant,
+      not_yet_changed f i i c.args.dst.now _ (omega arith),
+      not_yet_changed f i
+          (i + 1) c.args.dst.now _ (omega arith),
+    )
     (two_more f i (2 * (c.loop-pair.pair + 1)) c.args.dst.now _ _ (omega (arith, c.loop-pair-test.true)) (omega arith))
 
 pub returns-else-pairs-dst : goal.returns-else-pairs-dst

@@ -22,14 +22,18 @@ returns-clause-first c = λ state source is_of settled.
     let small : (k : ℕ) → k < 8 → slice_index (pair_bytes d e) k < 256 = λ k lt. rw (c.pair_bytes-bytes.ensures) at (c.added-lanes.ensures.small k lt) in
     let src = bytes_by source settled.source_r settled.source_g settled.source_b settled.source_a in
     let dst = bytes_by d (small 0 (omega arith)) (small 1 (omega arith)) (small 2 (omega arith)) (small 3 (omega arith)) in
-    let lane : (k : ℕ) → k < 8 → slice_index c.added-lanes.result k ≡ added_lane (pair_bytes d e) (in_lanes (λ part channel. weighted_source part channel factor source) rgb alpha) (in_lanes (λ part channel. destination_factor part channel factor source) rgb alpha) (written_of mask) k
-    = λ k lt. c.added-lanes.ensures.lanes k lt ∙ (λ i. added_lane (c.pair_bytes-bytes.ensures i) (settled.of_sources i) (settled.of_factors i) (lanes.under_mask i) k) in
+    let lane : (k : ℕ) → k < 8 → slice_index c.added-lanes.result k
+    ≡ added_lane (pair_bytes d e) (in_lanes (λ part channel. weighted_source part channel factor source) rgb alpha)
+    (in_lanes (λ part channel. destination_factor part channel factor source) rgb alpha) (written_of mask) k
+    = λ k lt. c.added-lanes.ensures.lanes k lt
+    ∙ (λ i. added_lane (c.pair_bytes-bytes.ensures i) (settled.of_sources i) (settled.of_factors i) (lanes.under_mask i) k) in
     let bound = bytes_by factor lanes.factor_r lanes.factor_g lanes.factor_b lanes.factor_a in
     c.colours_of.ensures.first ∙ colour_by {c = weighted rgb alpha mask factor source d}
     (lane 0 (omega arith) ∙ added_by (writes mask Red) rgb Red factor source d fresh settled.rgb_adds)
     (lane 1 (omega arith) ∙ added_by (writes mask Green) rgb Green factor source d fresh settled.rgb_adds)
     (lane 2 (omega arith) ∙ added_by (writes mask Blue) rgb Blue factor source d fresh settled.rgb_adds)
-    (lane 3 (omega arith) ∙ added_by (writes mask Alpha) alpha Alpha factor source d fresh settled.alpha_adds) ∙ weighted_blend state rgb alpha mask factor source d is_of bound src dst
+    (lane 3 (omega arith) ∙ added_by (writes mask Alpha) alpha Alpha factor source d fresh settled.alpha_adds)
+    ∙ weighted_blend state rgb alpha mask factor source d is_of bound src dst
 
 pub returns-clause-second : goal.returns-clause-second
 returns-clause-second c = λ state source is_of settled.
@@ -43,11 +47,15 @@ returns-clause-second c = λ state source is_of settled.
     let small : (k : ℕ) → k < 8 → slice_index (pair_bytes d e) k < 256 = λ k lt. rw (c.pair_bytes-bytes.ensures) at (c.added-lanes.ensures.small k lt) in
     let src = bytes_by source settled.source_r settled.source_g settled.source_b settled.source_a in
     let dst = bytes_by e (small 4 (omega arith)) (small 5 (omega arith)) (small 6 (omega arith)) (small 7 (omega arith)) in
-    let lane : (k : ℕ) → k < 8 → slice_index c.added-lanes.result k ≡ added_lane (pair_bytes d e) (in_lanes (λ part channel. weighted_source part channel factor source) rgb alpha) (in_lanes (λ part channel. destination_factor part channel factor source) rgb alpha) (written_of mask) k
-    = λ k lt. c.added-lanes.ensures.lanes k lt ∙ (λ i. added_lane (c.pair_bytes-bytes.ensures i) (settled.of_sources i) (settled.of_factors i) (lanes.under_mask i) k) in
+    let lane : (k : ℕ) → k < 8 → slice_index c.added-lanes.result k
+    ≡ added_lane (pair_bytes d e) (in_lanes (λ part channel. weighted_source part channel factor source) rgb alpha)
+    (in_lanes (λ part channel. destination_factor part channel factor source) rgb alpha) (written_of mask) k
+    = λ k lt. c.added-lanes.ensures.lanes k lt
+    ∙ (λ i. added_lane (c.pair_bytes-bytes.ensures i) (settled.of_sources i) (settled.of_factors i) (lanes.under_mask i) k) in
     let bound = bytes_by factor lanes.factor_r lanes.factor_g lanes.factor_b lanes.factor_a in
     c.colours_of.ensures.second ∙ colour_by {c = weighted rgb alpha mask factor source e}
     (lane 4 (omega arith) ∙ added_by (writes mask Red) rgb Red factor source e fresh settled.rgb_adds)
     (lane 5 (omega arith) ∙ added_by (writes mask Green) rgb Green factor source e fresh settled.rgb_adds)
     (lane 6 (omega arith) ∙ added_by (writes mask Blue) rgb Blue factor source e fresh settled.rgb_adds)
-    (lane 7 (omega arith) ∙ added_by (writes mask Alpha) alpha Alpha factor source e fresh settled.alpha_adds) ∙ weighted_blend state rgb alpha mask factor source e is_of bound src dst
+    (lane 7 (omega arith) ∙ added_by (writes mask Alpha) alpha Alpha factor source e fresh settled.alpha_adds)
+    ∙ weighted_blend state rgb alpha mask factor source e is_of bound src dst

@@ -15,7 +15,8 @@ area_of t = cross t.a t.b t.c
 pub returns-then-area-eq0-clause-value : goal.returns-then-area-eq0-clause-value
 unfolding bounds_of
 returns-then-area-eq0-clause-value c =
-    let flat : int_eq (area_of c.args.triangle.now) (pos 0) ≡ true = (Decides-int_eq (area_of c.args.triangle.now) (pos 0)).1 (omega (arith, ints, c.area.ensures.value, c.if-area-eq0.true)) in
+    let flat : int_eq (area_of c.args.triangle.now) (pos 0) ≡ true = (Decides-int_eq (area_of c.args.triangle.now) (pos 0)).1
+    (omega (arith, ints, c.area.ensures.value, c.if-area-eq0.true)) in
     rw flat c.empty.ensures
 
 pub returns-then-area-eq0-clause-covered : goal.returns-then-area-eq0-clause-covered

@@ -15,7 +15,8 @@ overflow_mul-total c =
     record { fits = below_64 _ (depth_fits self.divisor (self.scale / 512) c.args.total scaled c.requires.small) }
 
 product_fits : (a b : ℕ) → a < 2 ^ 64 → b < 2 ^ 64 → a * b < 2 ^ 128
-product_fits a b h k = let product : a * b ≤ (2 ^ 64 - 1) * (2 ^ 64 - 1) = mul-le-mul {n₂ = 2 ^ 64 - 1} {m₂ = 2 ^ 64 - 1} (omega arith) (omega arith) in omega arith
+product_fits a b h k = let product : a * b ≤ (2 ^ 64 - 1) * (2 ^ 64 - 1) = mul-le-mul {n₂ = 2 ^ 64 - 1} {m₂ = 2 ^ 64 - 1} (omega arith) (omega arith) in
+    omega arith
 
 pub overflow_mul-product : goal.overflow_mul-product
 overflow_mul-product c =
@@ -34,7 +35,8 @@ overflow_cast-result c =
     let near = part_near self.divisor self.scale self.factor (self.even c.requires.divisor) self.some self.scaled self.below self.near in
     let floor = floor_of (c.args.total * (self.scale / 512) * self.factor) in
     let fits : c.args.total * (self.scale / 512) < 2 * 2 ^ 62 = depth_fits self.divisor (self.scale / 512) c.args.total scaled c.requires.small in
-    let bound = is_bounded (2 ^ 48) (2 ^ 62) self.divisor (self.scale / 512) self.factor c.args.total _ some below near fits floor.0 floor.1 131071 c.requires.small in
+    let bound = is_bounded (2 ^ 48) (2 ^ 62) self.divisor (self.scale / 512) self.factor c.args.total _ some below near fits floor.0 floor.1 131071
+    c.requires.small in
     rw (c.from.ensures, c.from-2.ensures) (record { fits = omega (arith, bound) })
 
 pub returns-clause-near : goal.returns-clause-near
@@ -46,7 +48,8 @@ returns-clause-near c =
     let near = part_near self.divisor self.scale self.factor (self.even c.requires.divisor) self.some self.scaled self.below self.near in
     let floor = floor_of (c.args.total * (self.scale / 512) * self.factor) in
     let fits : c.args.total * (self.scale / 512) < 2 * 2 ^ 62 = depth_fits self.divisor (self.scale / 512) c.args.total scaled c.requires.small in
-    rw (c.from.ensures, c.from-2.ensures) (is_near (2 ^ 48) (2 ^ 62) self.divisor (self.scale / 512) self.factor c.args.total _ some below near fits floor.0 floor.1)
+    rw (c.from.ensures, c.from-2.ensures) (is_near (2 ^ 48) (2 ^ 62) self.divisor (self.scale / 512) self.factor c.args.total _ some below near fits floor.0
+    floor.1)
 
 pub returns-clause-bound : goal.returns-clause-bound
 returns-clause-bound c =
@@ -57,5 +60,6 @@ returns-clause-bound c =
     let near = part_near self.divisor self.scale self.factor (self.even c.requires.divisor) self.some self.scaled self.below self.near in
     let floor = floor_of (c.args.total * (self.scale / 512) * self.factor) in
     let fits : c.args.total * (self.scale / 512) < 2 * 2 ^ 62 = depth_fits self.divisor (self.scale / 512) c.args.total scaled c.requires.small in
-    let bound = is_bounded (2 ^ 48) (2 ^ 62) self.divisor (self.scale / 512) self.factor c.args.total _ some below near fits floor.0 floor.1 131071 c.requires.small in
+    let bound = is_bounded (2 ^ 48) (2 ^ 62) self.divisor (self.scale / 512) self.factor c.args.total _ some below near fits floor.0 floor.1 131071
+    c.requires.small in
     rw (c.from.ensures, c.from-2.ensures) (omega (arith, bound))

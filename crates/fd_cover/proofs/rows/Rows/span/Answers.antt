@@ -6,20 +6,26 @@ pub returns-then-left-right-clause-span : goal.returns-then-left-right-clause-sp
 returns-then-left-right-clause-span c =
     let at = c.self.inside in
     rw (← c.self.view_is)
-    (span_of_edges at.triangle at.y c.args.x0 c.args.x1 c.within-left.result.0 c.within-left.result.1 c.within-left-2.result.0 c.within-left-2.result.1 c.within-left-3.result.0 c.within-left-3.result.1
+    (span_of_edges at.triangle at.y c.args.x0 c.args.x1 c.within-left.result.0 c.within-left.result.1 c.within-left-2.result.0 c.within-left-2.result.1
+    c.within-left-3.result.0 c.within-left-3.result.1
     (λ x. (at.first.step *ℤ pos x) ≤ℤ at.first.slack) (λ x. (at.second.step *ℤ pos x) ≤ℤ at.second.slack) (λ x. (at.third.step *ℤ pos x) ≤ℤ at.third.slack)
     (covered_in_row at.triangle at.y at.first at.second at.third c.self.invariant.1)
-    c.within-left.ensures.columns c.within-left-2.ensures.columns c.within-left-3.ensures.columns
-    ((c.within-left.ensures.first, c.within-left.ensures.last), ((c.within-left-2.ensures.first, c.within-left-2.ensures.last), (c.within-left-3.ensures.first, c.within-left-3.ensures.last)))
+    c.within-left.ensures.columns c.within-left-2.ensures.columns c.within-left-3.ensures.columns (
+      (c.within-left.ensures.first, c.within-left.ensures.last),
+      ((c.within-left-2.ensures.first, c.within-left-2.ensures.last), (c.within-left-3.ensures.first, c.within-left-3.ensures.last)),
+    )
     (omega arith))
 
 pub returns-else-left-right-clause-none : goal.returns-else-left-right-clause-none
 returns-else-left-right-clause-none c =
     let at = c.self.inside in
     rw (← c.self.view_is)
-    (none_of_edges at.triangle at.y c.args.x0 c.args.x1 c.within-left.result.0 c.within-left.result.1 c.within-left-2.result.0 c.within-left-2.result.1 c.within-left-3.result.0 c.within-left-3.result.1
+    (none_of_edges at.triangle at.y c.args.x0 c.args.x1 c.within-left.result.0 c.within-left.result.1 c.within-left-2.result.0 c.within-left-2.result.1
+    c.within-left-3.result.0 c.within-left-3.result.1
     (λ x. (at.first.step *ℤ pos x) ≤ℤ at.first.slack) (λ x. (at.second.step *ℤ pos x) ≤ℤ at.second.slack) (λ x. (at.third.step *ℤ pos x) ≤ℤ at.third.slack)
     (covered_in_row at.triangle at.y at.first at.second at.third c.self.invariant.1)
-    c.within-left.ensures.columns c.within-left-2.ensures.columns c.within-left-3.ensures.columns
-    ((c.within-left.ensures.first, c.within-left.ensures.last), ((c.within-left-2.ensures.first, c.within-left-2.ensures.last), (c.within-left-3.ensures.first, c.within-left-3.ensures.last)))
+    c.within-left.ensures.columns c.within-left-2.ensures.columns c.within-left-3.ensures.columns (
+      (c.within-left.ensures.first, c.within-left.ensures.last),
+      ((c.within-left-2.ensures.first, c.within-left-2.ensures.last), (c.within-left-3.ensures.first, c.within-left-3.ensures.last)),
+    )
     (omega arith))

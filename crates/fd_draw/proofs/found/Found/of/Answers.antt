@@ -18,12 +18,15 @@ loop-y-preserved c =
     let spans = total_more (row_spans written p) y c.args.area.bottom c.loop-y-test.true in
     let pixels = total_more (written_in_row written p) y c.args.area.bottom c.loop-y-test.true in
     let given : IsRowSpan (λ x. covers c.args.edges.0 x y) c.args.area.left c.args.area.right c.covered_span-span.result =
-    subst (λ (r : Tri × ℕ). IsRowSpan (λ x. covers r.0 x r.1) c.args.area.left c.args.area.right c.covered_span-span.result) c.loop-y.invariant.edges c.covered_span-span.ensures in
+    subst (λ (r : Tri × ℕ). IsRowSpan (λ x. covers r.0 x r.1) c.args.area.left c.args.area.right c.covered_span-span.result) c.loop-y.invariant.edges
+    c.covered_span-span.ensures in
     let span = box_span written c.args.area y c.covered_span-span.result c.requires.small.columns given in
     let few = written_in_row-le written p y in
     let next : c.down.new.self ≡ (c.args.edges.0, y + 1) = c.down.ensures ∙ ap (λ (r : Tri × ℕ). (r.0, r.1 + 1)) c.loop-y.invariant.edges in
-    let rows = rows_more c.args.edges.0 c.args.area c.loop-y.rows y c.of.result c.covered_span-span.result c.loop-y.auto.y (omega (arith, c.loop-y.invariant.size, c.requires.small.low, c.loop-y-test.true)) c.loop-y.invariant.rows c.of.ensures given in
-    let size : length (set c.loop-y.rows (y - c.args.area.top) c.of.result) ≡ 32 = length-set c.loop-y.rows (y - c.args.area.top) c.of.result ∙ c.loop-y.invariant.size in
+    let rows = rows_more c.args.edges.0 c.args.area c.loop-y.rows y c.of.result c.covered_span-span.result c.loop-y.auto.y
+    (omega (arith, c.loop-y.invariant.size, c.requires.small.low, c.loop-y-test.true)) c.loop-y.invariant.rows c.of.ensures given in
+    let size : length (set c.loop-y.rows (y - c.args.area.top) c.of.result) ≡ 32 = length-set c.loop-y.rows (y - c.args.area.top) c.of.result
+    ∙ c.loop-y.invariant.size in
     elim c.match-span.branch [
       | in-Some w ↦
           let here : IsRowSpan (λ x. written x y) p.left (p.left + p.width) (Some (w.in-Some.left, w.in-Some.right)) = rw w.in-Some.is at span in

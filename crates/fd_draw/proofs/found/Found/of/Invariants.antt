@@ -11,8 +11,10 @@ invariant-loop-y l = record {
   size : length l.rows ≡ 32;
   rows : AreRowSpans l.fn.edges.0 l.area l.rows l.y;
   edges : l.edges ≡ (l.fn.edges.0, l.y);
-  spans : l.demand.spans + total (row_spans (covers l.fn.edges.0) (place_of_box l.area)) l.y (l.area.bottom - l.y) ≡ spans_in (covers l.fn.edges.0) (place_of_box l.area);
-  pixels : l.demand.pixels + total (written_in_row (covers l.fn.edges.0) (place_of_box l.area)) l.y (l.area.bottom - l.y) ≡ pixels_in (covers l.fn.edges.0) (place_of_box l.area);
+  spans : l.demand.spans + total (row_spans (covers l.fn.edges.0) (place_of_box l.area)) l.y (l.area.bottom - l.y)
+      ≡ spans_in (covers l.fn.edges.0) (place_of_box l.area);
+  pixels : l.demand.pixels + total (written_in_row (covers l.fn.edges.0) (place_of_box l.area)) l.y (l.area.bottom - l.y)
+      ≡ pixels_in (covers l.fn.edges.0) (place_of_box l.area);
   few_spans : l.demand.spans ≤ l.y - l.area.top;
   few_pixels : l.demand.pixels ≤ 32 * (l.y - l.area.top);
 }

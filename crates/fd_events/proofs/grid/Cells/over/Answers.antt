@@ -7,5 +7,6 @@ use Rattle.fd_events.proofs.grid.Cells.over.Goals as goal
 pub returns-in-Some-2 : goal.returns-in-Some-2
 returns-in-Some-2 c =
     let lists = c.in_ok-lists.ensures in
-    let same : (cell : ℕ) → listed_in c.in-Some-2.lists cell ≡ listed_at (numbers_of c.in_ok-lists.lists.items) cell = rw (← c.deref.ensures.value) (rw c.in-Some-2.is at c.in_ok-lists-2.ensures) in
+    let same : (cell : ℕ) → listed_in c.in-Some-2.lists cell ≡ listed_at (numbers_of c.in_ok-lists.lists.items) cell =
+    rw (← c.deref.ensures.value) (rw c.in-Some-2.is at c.in_ok-lists-2.ensures) in
     ListTriangles-from (record { grid = c.in-Some.grid; lists = c.in-Some-2.lists }) _ _ _ c.in-Some.ensures same lists.0 lists.1

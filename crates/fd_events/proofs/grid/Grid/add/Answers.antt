@@ -15,8 +15,10 @@ returns-then-is_empty c =
     let part = c.part_under-part.result in (
       Grow-nothing c.args.number (numbers_of c.args.lists.now.items),
       λ x y covered has.
-          let inside : is_within part (cell_over c.args.self x) (cell_over c.args.self y) ≡ true = c.part_under-part.ensures.under x y (c.requires.covered x y covered) has in
-          let outside : is_within part (cell_over c.args.self x) (cell_over c.args.self y) ≡ false = empty_holds_none part _ _ (sym c.is_empty.ensures ∙ c.if-is_empty.true) in
+          let inside : is_within part (cell_over c.args.self x) (cell_over c.args.self y) ≡ true =
+          c.part_under-part.ensures.under x y (c.requires.covered x y covered) has in
+          let outside : is_within part (cell_over c.args.self x) (cell_over c.args.self y) ≡ false =
+          empty_holds_none part _ _ (sym c.is_empty.ensures ∙ c.if-is_empty.true) in
           absurd (cc (inside, outside)),
     )
 
@@ -37,7 +39,8 @@ add_row-requires c =
     let part = c.part_under-part in
     let reached = c.reached-left.ensures in
     let within : c.place-in-loop-row.result ≤ cell_count c.args.self =
-    rw c.place-in-loop-row.ensures (place-within c.args.self c.reached-left.result.1 c.loop-row.row c.requires.grid (omega (arith, part.ensures.left, reached.first, reached.order))
+    rw c.place-in-loop-row.ensures (place-within c.args.self c.reached-left.result.1 c.loop-row.row c.requires.grid
+    (omega (arith, part.ensures.left, reached.first, reached.order))
     (omega (arith, part.ensures.right, reached.last))
     (omega (arith, part.ensures.top, c.loop-row.auto.row)) (omega (arith, part.ensures.bottom, c.loop-row-test.true))) in
     omega (arith, within, c.requires.lists, c.loop-row.invariant.grown.same, before, now, c.args.lists.now.ok.0, c.loop-row.lists.ok.0)
@@ -62,8 +65,10 @@ loop-row-preserved c =
                   | inl left ↦ absurd (reached.before column (from_left part.result column row within) left x y refl same covered)
                   | inr from ↦ elim (cases_lt column c.reached-left.result.1) [
                     | inl to ↦
-                        let first : c.place.result ≤ cell_place grid column c.loop-row.row = rw c.place.ensures (omega (arith, part.ensures.left, reached.first, from)) in
-                        let last : cell_place grid column c.loop-row.row < c.place-in-loop-row.result = rw c.place-in-loop-row.ensures (omega (arith, part.ensures.left, reached.first, from, to)) in
+                        let first : c.place.result ≤ cell_place grid column c.loop-row.row =
+                        rw c.place.ensures (omega (arith, part.ensures.left, reached.first, from)) in
+                        let last : cell_place grid column c.loop-row.row < c.place-in-loop-row.result =
+                        rw c.place-in-loop-row.ensures (omega (arith, part.ensures.left, reached.first, from, to)) in
                         rw same (more.1 (cell_place grid column c.loop-row.row) first last)
                     | inr right ↦ absurd (reached.after column right (to_right part.result column row within) x y refl same covered)
                   ]

@@ -6,7 +6,8 @@ pub loop-left-preserved : goal.loop-left-preserved
 loop-left-preserved c =
     let inv = c.loop-left.invariant in
     let triangle : c.of-edges.result.0 ≡ c.args.triangle.now = ap (λ rows. rows.0) c.of-edges.ensures in
-    let start : c.of-edges.result.1 ≡ c.args.row * 2 ^ c.args.self.shift = ap (λ rows. rows.1) c.of-edges.ensures ∙ ap (λ side. c.args.row * side) c.side.ensures in
+    let start : c.of-edges.result.1 ≡ c.args.row * 2 ^ c.args.self.shift = ap (λ rows. rows.1) c.of-edges.ensures
+    ∙ ap (λ side. c.args.row * side) c.side.ensures in
     record {
       first = omega (arith, inv.first);
       last = omega (arith, c.loop-left-test.true);
@@ -22,7 +23,8 @@ pub loop-right-preserved : goal.loop-right-preserved
 loop-right-preserved c =
     let inv = c.loop-right.invariant in
     let triangle : c.of-edges.result.0 ≡ c.args.triangle.now = ap (λ rows. rows.0) c.of-edges.ensures in
-    let start : c.of-edges.result.1 ≡ c.args.row * 2 ^ c.args.self.shift = ap (λ rows. rows.1) c.of-edges.ensures ∙ ap (λ side. c.args.row * side) c.side.ensures in
+    let start : c.of-edges.result.1 ≡ c.args.row * 2 ^ c.args.self.shift = ap (λ rows. rows.1) c.of-edges.ensures
+    ∙ ap (λ side. c.args.row * side) c.side.ensures in
     record {
       order = omega (arith, c.loop-right-test.true);
       last = omega (arith, inv.last);

@@ -12,6 +12,10 @@ loop-triangle-preserved c =
     let boxes = c.loop-triangle.boxes.items in
     let i = c.loop-triangle.triangle in
     let own = IsTriangleBox-own ts i c.tri.result c.of.result c.tri.ensures c.of.ensures.value c.of.ensures.covered in
-    let all : AreTriangleBoxes (boxes ++ c.of.result ∷ []) ts = AreTriangleBoxes-next boxes ts i c.of.result c.loop-triangle.invariant.0 c.loop-triangle.invariant.1 own in
-    let items : c.push.new.self.items ≡ boxes ++ c.of.result ∷ [] = c.in_ok-push.ensures.items in
-    (ap length items ∙ length_push boxes c.of.result ∙ omega (arith, c.loop-triangle.invariant.0), subst (λ (bs : List Bounds). AreTriangleBoxes bs ts) (sym items) all)
+    let all : AreTriangleBoxes (boxes ++ c.of.result ∷ []) ts = AreTriangleBoxes-next boxes ts i c.of.result c.loop-triangle.invariant.0
+    c.loop-triangle.invariant.1 own in
+    let items : c.push.new.self.items ≡ boxes ++ c.of.result ∷ [] = c.in_ok-push.ensures.items in (
+      ap length items ∙ length_push boxes c.of.result ∙ omega (arith, c.loop-triangle.invariant.0),
+      subst (λ (bs : List Bounds). AreTriangleBoxes bs ts)
+          (sym items) all,
+    )

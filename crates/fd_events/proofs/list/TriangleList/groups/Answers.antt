@@ -9,6 +9,8 @@ loop-group-preserved c =
     let inv = c.loop-group.invariant in
     let ts = triangles_of c.args.self.now in
     let items = c.in_ok-push.ensures.items in
-    let pushed : AreRoundGroups (c.loop-group.groups.items ++ c.group_bounds.result ∷ []) ts = AreRoundGroups-next c.loop-group.groups.items ts c.loop-group.group c.group_bounds.result inv.0 inv.1 c.group_bounds.ensures in
-    let longer : length (c.loop-group.groups.items ++ c.group_bounds.result ∷ []) ≡ c.loop-group.group + 1 = omega (arith, inv.0, length-append c.loop-group.groups.items (c.group_bounds.result ∷ [])) in
+    let pushed : AreRoundGroups (c.loop-group.groups.items ++ c.group_bounds.result ∷ []) ts =
+    AreRoundGroups-next c.loop-group.groups.items ts c.loop-group.group c.group_bounds.result inv.0 inv.1 c.group_bounds.ensures in
+    let longer : length (c.loop-group.groups.items ++ c.group_bounds.result ∷ []) ≡ c.loop-group.group + 1 =
+    omega (arith, inv.0, length-append c.loop-group.groups.items (c.group_bounds.result ∷ [])) in
     (rw items longer, subst (λ boxes. AreRoundGroups boxes ts) (sym items) pushed)

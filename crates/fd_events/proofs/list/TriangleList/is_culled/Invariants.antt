@@ -7,4 +7,5 @@ use Rattle.fd_events.proofs.list.TriangleList.is_culled.Given as goal
 -- so are all before
 abbrev pub invariant-loop-triangle : goal.invariant-loop-triangle
 invariant-loop-triangle l =
-    (i : ℕ) (t : Triangle) → i < l.triangle → slice_get (triangles_of l.self) i ≡ Some t → IsTrue (is_culled (record { cull = l.fn.cull; front_ccw = l.fn.front_ccw; scissor = false }) t.corners)
+    (i : ℕ) (t : Triangle) → i < l.triangle → slice_get (triangles_of l.self) i ≡ Some t
+    → IsTrue (is_culled (record { cull = l.fn.cull; front_ccw = l.fn.front_ccw; scissor = false }) t.corners)

@@ -14,9 +14,11 @@ pub index-requires-in-Some-2 : goal.index-requires-in-Some-2
 index-requires-in-Some-2 c =
     let made = rw c.in-Some.is at c.self.invariant in
     let lt = rw (← c.self.view_is, c.in-Some.is) at c.requires in
-    let below : c.args.corner < length c.in-Some.indices.items = corner_below c.self.inside.vertices.items c.in-Some.indices.items c.self.inside.interp _ c.args.corner made lt in
+    let below : c.args.corner < length c.in-Some.indices.items = corner_below c.self.inside.vertices.items c.in-Some.indices.items c.self.inside.interp _
+    c.args.corner made lt in
     let at = slice_get_read c.in-Some.indices.items _ c.args.corner c.index-in-Some.result.now refl below c.index-in-Some.ensures in
-    let range : c.index-in-Some.result.now < length c.self.inside.vertices.items = index_in_range c.self.inside.vertices.items c.in-Some.indices.items c.self.inside.interp _ c.args.corner c.index-in-Some.result.now made at in
+    let range : c.index-in-Some.result.now < length c.self.inside.vertices.items = index_in_range c.self.inside.vertices.items c.in-Some.indices.items
+    c.self.inside.interp _ c.args.corner c.index-in-Some.result.now made at in
     omega (arith, range, c.self.inside.vertices.ok.0)
 
 pub returns-in-None : goal.returns-in-None
@@ -28,9 +30,11 @@ pub returns-in-Some : goal.returns-in-Some
 returns-in-Some c =
     let made = rw c.in-Some.is at c.self.invariant in
     let lt = rw (← c.self.view_is, c.in-Some.is) at c.requires in
-    let below : c.args.corner < length c.in-Some.indices.items = corner_below c.self.inside.vertices.items c.in-Some.indices.items c.self.inside.interp _ c.args.corner made lt in
+    let below : c.args.corner < length c.in-Some.indices.items = corner_below c.self.inside.vertices.items c.in-Some.indices.items c.self.inside.interp _
+    c.args.corner made lt in
     let at = slice_get_read c.in-Some.indices.items _ c.args.corner c.index-in-Some.result.now refl below c.index-in-Some.ensures in
-    let range : c.index-in-Some.result.now < length c.self.inside.vertices.items = index_in_range c.self.inside.vertices.items c.in-Some.indices.items c.self.inside.interp _ c.args.corner c.index-in-Some.result.now made at in
+    let range : c.index-in-Some.result.now < length c.self.inside.vertices.items = index_in_range c.self.inside.vertices.items c.in-Some.indices.items
+    c.self.inside.interp _ c.args.corner c.index-in-Some.result.now made at in
     rw (← c.self.view_is, c.in-Some.is)
     (slice_get-listed c.self.inside.vertices.items c.in-Some.indices.items c.self.inside.interp _ c.args.corner c.index-in-Some.result.now made at
     ∙ slice_get_read c.self.inside.vertices.items _ c.index-in-Some.result.now c.index-in-Some-2.result.now refl range c.index-in-Some-2.ensures)

@@ -12,7 +12,8 @@ returns c =
     let same : place ≡ c.args.self.now.place = c.place.ensures.value in
     let inside : IsInside place c.args.table.now = rw same c.requires.inside in
     let placed : IsTilePlace place = rw same c.place.ensures.filled.placed in
-    let untouched = untouched_from c.args.table.now c.position.result c.next_near.result c.window_of.result place placed inside c.window_of.ensures c.next_near.ensures.far in
+    let untouched = untouched_from c.args.table.now c.position.result c.next_near.result c.window_of.result place placed inside c.window_of.ensures
+    c.next_near.ensures.far in
     record {
       least = omega (arith, c.position.ensures, c.next_near.ensures.from);
       most = c.next_near.ensures.last;

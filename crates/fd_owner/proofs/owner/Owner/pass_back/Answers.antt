@@ -11,7 +11,8 @@ drop_empty-requires c =
 
 pub invariant_of-self : goal.invariant_of-self
 invariant_of-self c =
-    IsOwner-dropped c.self.inside.tile c.self.inside.undo c.drop_empty.new.self (length c.self.inside.undo.frames - length c.drop_empty.new.self.frames) c.drop_empty.ensures.dropped c.self.invariant
+    IsOwner-dropped c.self.inside.tile c.self.inside.undo c.drop_empty.new.self (length c.self.inside.undo.frames - length c.drop_empty.new.self.frames)
+    c.drop_empty.ensures.dropped c.self.invariant
 
 pub returns : goal.returns
 returns c =

@@ -20,7 +20,8 @@ invariant_of-self c =
     let old : IsOwner t (without_room u.frames) = record { inside = c.self.invariant.inside; fits = c.self.invariant.fits } in
     let on : position (history_of t u) ≤ c.args.to = omega (arith, c.requires.on, ap (λ (s : Shown). position s.history) c.self.view_is) in
     let far = subst (λ (s : Shown). AreUntouched c.args.table.now (position s.history) c.args.to s.place) (sym c.self.view_is) c.requires.far in
-    subst (λ (v : Undo). IsOwner t v) (sym c.pass_to.ensures) (gone_on c.args.table.now t c.place-place.ensures.filled u.frames old c.args.to on c.ranges.to.fits far).0
+    subst (λ (v : Undo). IsOwner t v) (sym c.pass_to.ensures)
+    (gone_on c.args.table.now t c.place-place.ensures.filled u.frames old c.args.to on c.ranges.to.fits far).0
 
 pub returns : goal.returns
 returns c =
@@ -30,5 +31,6 @@ returns c =
     let old : IsOwner t (without_room u.frames) = record { inside = c.self.invariant.inside; fits = c.self.invariant.fits } in
     let on : position (history_of t u) ≤ c.args.to = omega (arith, c.requires.on, ap (λ (s : Shown). position s.history) c.self.view_is) in
     let far = subst (λ (s : Shown). AreUntouched c.args.table.now (position s.history) c.args.to s.place) (sym c.self.view_is) c.requires.far in
-    let passed = ap (history_of t) c.pass_to.ensures ∙ (gone_on c.args.table.now t c.place-place.ensures.filled u.frames old c.args.to on c.ranges.to.fits far).1 in
+    let passed = ap (history_of t) c.pass_to.ensures
+    ∙ (gone_on c.args.table.now t c.place-place.ensures.filled u.frames old c.args.to on c.ranges.to.fits far).1 in
     rw (← c.self.view_is) (record { moved = ap S passed; at = ap position passed ∙ position_extend_to c.args.table.now t.place c.args.to (history_of t u) on })

@@ -9,11 +9,14 @@ slice_bounds-copy_from_slice-end c =
     let t = c.self.inside in
     let same : t.place ≡ c.args.self.now.place = ap (λ u. u.place) c.self.view_is in
     let low : t.place.top ≤ c.args.y = subst (λ (p : Place). p.top ≤ c.args.y) (sym same) c.requires.from_top in
-    let high : c.args.y + c.args.count ≤ t.place.top + t.place.height = subst (λ (p : Place). c.args.y + c.args.count ≤ p.top + p.height) (sym same) c.requires.to_bottom in
-    let wide : length c.args.colours.now ≡ c.args.count * t.place.width = subst (λ (p : Place). length c.args.colours.now ≡ c.args.count * p.width) (sym same) c.requires.counted in
+    let high : c.args.y + c.args.count ≤ t.place.top + t.place.height = subst (λ (p : Place). c.args.y + c.args.count ≤ p.top + p.height)
+    (sym same) c.requires.to_bottom in
+    let wide : length c.args.colours.now ≡ c.args.count * t.place.width = subst (λ (p : Place). length c.args.colours.now ≡ c.args.count * p.width)
+    (sym same) c.requires.counted in
     omega (
       arith,
-      rows_within t.place (length t.colours.items) c.args.y c.row_start-start.result c.args.count (length c.args.colours.now) c.self.invariant.counted low high c.row_start-start.ensures wide,
+      rows_within t.place (length t.colours.items) c.args.y c.row_start-start.result c.args.count (length c.args.colours.now) c.self.invariant.counted low
+          high c.row_start-start.ensures wide,
       ap length c.deref_mut.ensures.value,
     )
 
@@ -23,11 +26,14 @@ invariant_of-self c =
     let i = c.self.invariant in
     let same : t.place ≡ c.args.self.now.place = ap (λ u. u.place) c.self.view_is in
     let low : t.place.top ≤ c.args.y = subst (λ (p : Place). p.top ≤ c.args.y) (sym same) c.requires.from_top in
-    let high : c.args.y + c.args.count ≤ t.place.top + t.place.height = subst (λ (p : Place). c.args.y + c.args.count ≤ p.top + p.height) (sym same) c.requires.to_bottom in
-    let wide : length c.args.colours.now ≡ c.args.count * t.place.width = subst (λ (p : Place). length c.args.colours.now ≡ c.args.count * p.width) (sym same) c.requires.counted in
+    let high : c.args.y + c.args.count ≤ t.place.top + t.place.height = subst (λ (p : Place). c.args.y + c.args.count ≤ p.top + p.height)
+    (sym same) c.requires.to_bottom in
+    let wide : length c.args.colours.now ≡ c.args.count * t.place.width = subst (λ (p : Place). length c.args.colours.now ≡ c.args.count * p.width)
+    (sym same) c.requires.counted in
     record {
       placed = i.placed;
-      counted = vec_put_counted t.place t.colours c.args.y c.row_start-start.result c.args.count c.args.colours.now c.deref_mut.result.now c.copy_from_slice.new.self i.counted low high c.row_start-start.ensures wide
+      counted = vec_put_counted t.place t.colours c.args.y c.row_start-start.result c.args.count c.args.colours.now c.deref_mut.result.now
+          c.copy_from_slice.new.self i.counted low high c.row_start-start.ensures wide
           c.deref_mut.ensures.value c.copy_from_slice.ensures.after;
       deep_counted = i.deep_counted;
       alike = i.alike;
@@ -38,7 +44,10 @@ returns c =
     let t = c.self.inside in
     let same : t.place ≡ c.args.self.now.place = ap (λ u. u.place) c.self.view_is in
     let low : t.place.top ≤ c.args.y = subst (λ (p : Place). p.top ≤ c.args.y) (sym same) c.requires.from_top in
-    let high : c.args.y + c.args.count ≤ t.place.top + t.place.height = subst (λ (p : Place). c.args.y + c.args.count ≤ p.top + p.height) (sym same) c.requires.to_bottom in
-    let wide : length c.args.colours.now ≡ c.args.count * t.place.width = subst (λ (p : Place). length c.args.colours.now ≡ c.args.count * p.width) (sym same) c.requires.counted in
-    rw (← c.self.view_is) (vec_put_rows_is t.place t.colours c.args.y c.row_start-start.result c.args.count c.args.colours.now c.deref_mut.result.now c.copy_from_slice.new.self c.self.invariant.counted low high c.row_start-start.ensures wide
+    let high : c.args.y + c.args.count ≤ t.place.top + t.place.height = subst (λ (p : Place). c.args.y + c.args.count ≤ p.top + p.height)
+    (sym same) c.requires.to_bottom in
+    let wide : length c.args.colours.now ≡ c.args.count * t.place.width = subst (λ (p : Place). length c.args.colours.now ≡ c.args.count * p.width)
+    (sym same) c.requires.counted in
+    rw (← c.self.view_is) (vec_put_rows_is t.place t.colours c.args.y c.row_start-start.result c.args.count c.args.colours.now c.deref_mut.result.now
+    c.copy_from_slice.new.self c.self.invariant.counted low high c.row_start-start.ensures wide
     c.deref_mut.ensures.value c.copy_from_slice.ensures.after (rows_over t.place t.depths.items))

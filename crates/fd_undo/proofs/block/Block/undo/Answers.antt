@@ -26,7 +26,12 @@ undo_to-requires-clause-inside c =
 
 pub undo_to-requires-clause-countable : goal.undo_to-requires-clause-countable
 undo_to-requires-clause-countable c =
-    omega (arith, c.requires.countable, ap (λ (f : KeptFrame). length f.kept) (top (goal.at-undo_to-requires-clause-countable c).After-take_last-mark).newest_is)
+    omega (
+      arith,
+      c.requires.countable,
+      ap (λ (f : KeptFrame). length f.kept)
+          (top (goal.at-undo_to-requires-clause-countable c).After-take_last-mark).newest_is,
+    )
 
 pub invariant_of-self : goal.invariant_of-self
 invariant_of-self c =
