@@ -38,7 +38,7 @@ class Browser:
         for left in reversed(range(self.TRIES)):
             try:
                 return self.begin(width, height)
-            except (AssertionError, OSError):
+            except (AssertionError, ConnectionError, TimeoutError, urllib.error.URLError):       # and not where there is no such program
                 self.stop()
                 if not left:
                     raise
@@ -181,7 +181,10 @@ class Firefox(Browser):
     def told(self):
         length = b""
         while not length.endswith(b":"):
-            length += self.stream.read(1)
+            byte = self.stream.read(1)
+            if not byte:
+                raise ConnectionError("Firefox ended")
+            length += byte
         return json.loads(self.stream.read(int(length[:-1])))
 
     def ask(self, command, given):

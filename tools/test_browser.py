@@ -54,6 +54,11 @@ class Starts(unittest.TestCase):
             self.starts(browser.Browser, "chromedriver", 99)
         self.assertEqual(self.count, browser.Browser.TRIES)
 
+    def test_no_driver(self):
+        """Then that is said, at once."""
+        with mock.patch.dict(os.environ, PATH=str(self.here)), self.assertRaisesRegex(FileNotFoundError, "chromedriver"):
+            browser.Browser()
+
 
 if __name__ == "__main__":
     passed_over.run_tests("test_browser")
