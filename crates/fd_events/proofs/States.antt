@@ -1,13 +1,15 @@
 -- The states that are computed one after the other.
-use Rattle.std.proofs.Common.{◌≡◌, ◌≢◌, ℕ, zero, suc, ◌+◌, ◌<◌, ◌≤◌, Bool, true, false, cond, List, [], ◌∷◌, length, get_or, Some, None, unwrap_or}
-use Rattle.std.proofs.Common.{slice_get, refl, sym, ap, ◌∙◌, add-one, arith, inl, inr}
+use Rattle.std.proofs.Common.{◌≡◌, ◌≢◌, ℕ, zero, suc, ◌+◌, ◌<◌, ◌≤◌, Bool, true, false, cond, List, [], ◌∷◌, ◌++◌, length, get_or, Option, Some, None}
+use Rattle.std.proofs.Common.{unwrap_or, slice_get, refl, sym, ap, ◌∙◌, add-one, arith, inl, inr}
 use Rattle.std.proofs.Math.ListN.{set}
-use Rattle.std.proofs.lemmas.Bool.{cases_lt}
-use Rattle.std.proofs.lemmas.Option.{slice_get-get_or, unwrap_or-slice_get}
+use Rattle.std.proofs.lemmas.Bool.{cases_eq, cases_lt}
+use Rattle.std.proofs.lemmas.Option.{slice_get-get_or, get_or_from_slice_get, unwrap_or-slice_get}
 use Rattle.fd_events.specs.declared.event.Event.{Event}
+use Rattle.fd_events.specs.declared.event.Event.TheVariants.{Clear, SetRaster, SetScissor, SetBlend, SetFactor, SetDepth, DepthClear, Draw, Marker}
 use Rattle.fd_events.specs.declared.pipeline.Pipeline.{Pipeline}
 use Rattle.fd_events.specs.Pipeline.{state_after}
 use Rattle.fd_events.specs.Table.{state_of, state_after_event}
+use Rattle.fd_events.specs.StateList.{is_state_event, place_past, place_past_event, state_place, ArePlaces}
 
 pub slice_get-set_same : {A : Type 0} (xs : List A) (i : ℕ) (v : A) → i < length xs → slice_get (set xs i v) i ≡ Some v
 slice_get-set_same [] i v h = absurd (omega arith)
@@ -20,6 +22,8 @@ slice_get-set_other (x ∷ xs) zero zero v h = absurd (h refl)
 slice_get-set_other (x ∷ xs) zero (suc j) v h = refl
 slice_get-set_other (x ∷ xs) (suc i) zero v h = refl
 slice_get-set_other (x ∷ xs) (suc i) (suc j) v h = slice_get-set_other xs i j v (λ e. h (ap suc e))
+
+-- ---- states
 
 chosen : (on : Bool) (event : Event) (state : Pipeline) → state_after_event (cond on (Some event) None) state ≡ cond on (state_after event state) state
 chosen true event state = refl
@@ -34,18 +38,147 @@ state_of-next events flags k event on state lt is flag before =
     let set_so : unwrap_or (slice_get flags k) false ≡ on = unwrap_or-slice_get flags k false ∙ sym flag in
     rw (add-one, set_so, here, before) (chosen on event state)
 
--- one more state
-pub states-grow : (events : List Event) (flags : List Bool) (states : List Pipeline) (k : ℕ) (v : Pipeline) → k + 1 < length states
-    → v ≡ state_of events flags (k + 1) → ((j : ℕ) → j ≤ k → slice_get states j ≡ Some (state_of events flags j))
-    → (j : ℕ) → j ≤ k + 1 → slice_get (set states (k + 1) v) j ≡ Some (state_of events flags j)
-states-grow events flags states k v lt is before j le =
-    elim (cases_lt j (k + 1)) [
-      | inl below ↦ slice_get-set_other states (k + 1) j v (λ e. absurd (omega arith)) ∙ before j (omega arith)
-      | inr above ↦ let same : j ≡ k + 1 = omega arith in rw (same, slice_get-set_same states (k + 1) v lt) (ap (λ (s : Pipeline). Some s) is)
-    ]
-
 -- a flag says nothing of the states before its event
 pub state_of-set : (events : List Event) (flags : List Bool) (i : ℕ) (on : Bool) (k : ℕ) → k ≤ i → state_of events (set flags i on) k ≡ state_of events flags k
 state_of-set events flags i on zero le = refl
 state_of-set events flags i on (suc k) le = rw (slice_get-set_other flags i k on (λ e. absurd (omega arith)), state_of-set events flags i on k (omega arith))
     refl
+
+-- ---- places
+
+place_by : (found : Bool) (place : ℕ) → (place ≤ cond found (place + 1) place) × (cond found (place + 1) place ≤ place + 1)
+place_by true place = (omega arith, omega arith)
+place_by false place = (omega arith, omega arith)
+
+place_steps : (found : Option Event) (place : ℕ) → (place ≤ place_past_event found place) × (place_past_event found place ≤ place + 1)
+place_steps None place = (omega arith, omega arith)
+place_steps (Some event) place = place_by (is_state_event event) place
+
+-- an event takes at most one place
+pub state_place-next : (events : List Event) (k : ℕ) → (state_place events k ≤ state_place events (k + 1)) ×
+    (state_place events (k + 1) ≤ state_place events k + 1)
+state_place-next events k = rw (add-one k) (place_steps (slice_get events k) (state_place events k))
+
+pub state_place-at : (events : List Event) (k : ℕ) (event : Event) → k < length events → event ≡ get_or events k event
+    → state_place events (k + 1) ≡ place_past event (state_place events k)
+state_place-at events k event lt is =
+    let here : slice_get events k ≡ Some event = slice_get-get_or events k event lt ∙ ap (λ (e : Event). Some e) (sym is) in
+    rw (add-one k, here) refl
+
+pub places_rise : (events : List Event) (j k : ℕ) → j ≤ k → state_place events j ≤ state_place events k
+places_rise events j zero le = let same : j ≡ zero = omega arith in rw same (omega arith)
+places_rise events j (suc k) le =
+    elim (cases_lt j (suc k)) [
+      | inl below ↦ omega (arith, places_rise events j k (omega arith), (place_steps (slice_get events k) (state_place events k)).0)
+      | inr above ↦ let same : j ≡ suc k = omega arith in rw same (omega arith)
+    ]
+
+-- the place that is read
+pub place_read : (events : List Event) (places : List ℕ) (k place : ℕ) → ArePlaces events places → k ≤ length events → place ≡ get_or places k place
+    → place ≡ state_place events k
+place_read events places k place are le is = is ∙ get_or_from_slice_get places k (state_place events k) place (are.each k le)
+
+-- ---- an event that takes no place
+
+quiet : (event : Event) (state : Pipeline) → is_state_event event ≡ false → state_after event state ≡ state
+quiet (Clear colour) state is = refl
+quiet (SetRaster raster) state is = absurd (cc)
+quiet (SetScissor rect) state is = absurd (cc)
+quiet (SetBlend blend) state is = absurd (cc)
+quiet (SetFactor colour) state is = absurd (cc)
+quiet (SetDepth depth) state is = absurd (cc)
+quiet (DepthClear depth) state is = refl
+quiet (Draw draw) state is = refl
+quiet (Marker label) state is = refl
+
+stays : (on : Bool) (event : Event) (state : Pipeline) → is_state_event event ≡ false → state_after_event (cond on (Some event) None) state ≡ state
+stays true event state is = quiet event state is
+stays false event state is = refl
+
+no_place : (found : Bool) (place : ℕ) → cond found (place + 1) place ≤ place → found ≡ false
+no_place true place le = absurd (omega arith)
+no_place false place le = refl
+
+quiet_event : (on : Bool) (found : Option Event) (place : ℕ) (state : Pipeline) → place_past_event found place ≤ place
+    → state_after_event (cond on found None) state ≡ state
+quiet_event true None place state le = refl
+quiet_event false None place state le = refl
+quiet_event on (Some event) place state le = stays on event state (no_place (is_state_event event) place le)
+
+-- it leaves the state, whether it is on or off
+pub state_of-quiet : (events : List Event) (flags : List Bool) (k : ℕ) → state_place events (k + 1) ≤ state_place events k
+    → state_of events flags (k + 1) ≡ state_of events flags k
+state_of-quiet events flags k le =
+    let none : state_place events (suc k) ≤ state_place events k = rw add-one at le in
+    rw add-one (quiet_event (unwrap_or (slice_get flags k) false) (slice_get events k) (state_place events k) (state_of events flags k) none)
+
+-- so its flag says nothing of any state
+set_quiet : (events : List Event) (flags flags' : List Bool) (k : ℕ) → state_place events (k + 1) ≤ state_place events k
+    → state_of events flags' k ≡ state_of events flags k
+    → state_of events flags' (suc k) ≡ state_of events flags (suc k)
+set_quiet events flags flags' k le before =
+    let next : state_of events flags' (k + 1) ≡ state_of events flags (k + 1) =
+    state_of-quiet events flags' k le ∙ before ∙ sym (state_of-quiet events flags k le) in
+    rw add-one at next
+
+pub state_of-set_quiet : (events : List Event) (flags : List Bool) (i : ℕ) (on : Bool) (k : ℕ) → state_place events (i + 1) ≤ state_place events i
+    → state_of events (set flags i on) k ≡ state_of events flags k
+state_of-set_quiet events flags i on zero le = refl
+state_of-set_quiet events flags i on (suc k) le =
+    elim (cases_eq k i) [
+      | inl same ↦ set_quiet events flags (set flags i on) k (rw same le) (state_of-set_quiet events flags i on k le)
+      | inr apart ↦ rw (slice_get-set_other flags i k on apart, state_of-set_quiet events flags i on k le) refl
+    ]
+
+-- ---- one step
+
+-- the states of the positions up to the next one, where the event between takes no place
+pub states_kept : (events : List Event) (flags : List Bool) (states : List Pipeline) (k : ℕ) → state_place events (k + 1) ≤ state_place events k
+    → ((j : ℕ) → j ≤ k → slice_get states (state_place events j) ≡ Some (state_of events flags j))
+    → (j : ℕ) → j ≤ k + 1 → slice_get states (state_place events j) ≡ Some (state_of events flags j)
+states_kept events flags states k le before j to =
+    elim (cases_lt j (k + 1)) [
+      | inl below ↦ before j (omega arith)
+      | inr above ↦
+          let same : j ≡ k + 1 = omega arith in
+          let place : state_place events (k + 1) ≡ state_place events k = omega (arith, le, (state_place-next events k).0) in
+          rw same (ap (slice_get states) place ∙ before k (omega arith) ∙ ap (λ (s : Pipeline). Some s) (sym (state_of-quiet events flags k le)))
+    ]
+
+-- and where it takes one
+pub states_grow : (events : List Event) (flags : List Bool) (states : List Pipeline) (k : ℕ) (v : Pipeline)
+    → state_place events (k + 1) < length states → state_place events k < state_place events (k + 1) → v ≡ state_of events flags (k + 1)
+    → ((j : ℕ) → j ≤ k → slice_get states (state_place events j) ≡ Some (state_of events flags j))
+    → (j : ℕ) → j ≤ k + 1 → slice_get (set states (state_place events (k + 1)) v) (state_place events j) ≡ Some (state_of events flags j)
+states_grow events flags states k v lt more is before j to =
+    elim (cases_lt j (k + 1)) [
+      | inl below ↦
+          let earlier : state_place events j ≤ state_place events k = places_rise events j k (omega arith) in
+          slice_get-set_other states (state_place events (k + 1)) (state_place events j) v (λ e. absurd (omega (arith, earlier, more, e)))
+          ∙ before j (omega arith)
+      | inr above ↦
+          let same : j ≡ k + 1 = omega arith in
+          rw same (slice_get-set_same states (state_place events (k + 1)) v lt ∙ ap (λ (s : Pipeline). Some s) is)
+    ]
+
+-- ---- one place more
+
+slice_get-append : {A : Type 0} (xs ys : List A) (i : ℕ) → i < length xs → slice_get (xs ++ ys) i ≡ slice_get xs i
+slice_get-append [] ys i h = absurd (omega arith)
+slice_get-append (x ∷ xs) ys zero h = refl
+slice_get-append (x ∷ xs) ys (suc i) h = slice_get-append xs ys i (omega arith)
+
+slice_get-append_end : {A : Type 0} (xs : List A) (y : A) → slice_get (xs ++ y ∷ []) (length xs) ≡ Some y
+slice_get-append_end [] y = refl
+slice_get-append_end (x ∷ xs) y = slice_get-append_end xs y
+
+pub places_grow : (events : List Event) (places : List ℕ) (k place : ℕ) → length places ≡ k + 1 → place ≡ state_place events (k + 1)
+    → ((j : ℕ) → j ≤ k → slice_get places j ≡ Some (state_place events j))
+    → (j : ℕ) → j ≤ k + 1 → slice_get (places ++ place ∷ []) j ≡ Some (state_place events j)
+places_grow events places k place long is before j to =
+    elim (cases_lt j (k + 1)) [
+      | inl below ↦ slice_get-append places (place ∷ []) j (omega arith) ∙ before j (omega arith)
+      | inr above ↦
+          let same : j ≡ k + 1 = omega arith in
+          rw same (ap (slice_get (places ++ place ∷ [])) (sym long) ∙ slice_get-append_end places place ∙ ap (λ (p : ℕ). Some p) is)
+    ]

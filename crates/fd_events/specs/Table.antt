@@ -1,5 +1,5 @@
 -- Promised. What a table of events is, and its states.
-use Rattle.std.specs.Prelude.{◌≡◌, ℕ, zero, suc, ◌+◌, ◌≤◌, Bool, true, false, List, length, replicate, Option, Some, None, slice_get, slice_set}
+use Rattle.std.specs.Prelude.{◌≡◌, ℕ, zero, suc, ◌≤◌, Bool, true, false, List, length, replicate, Option, Some, None, slice_get, slice_set}
 use Rattle.std.specs.Prelude.{unwrap_or, Result, Ok, Err, IsOk, nat_le, ◌&&◌, ◌⊎◌, All, if◌then◌else◌}
 use Rattle.fd_snap.specs.Limits.{most_pixels}
 use Rattle.fd_events.specs.Limits.{most_events}
@@ -66,11 +66,6 @@ state_of events flags (suc k) = state_after_event (active events flags (suc k)) 
 -- the state at a position, which is the state before the event of the next number
 abbrev pub state_at : Table → ℕ → Pipeline
 state_at t k = state_of t.events t.flags k
-
--- a state is kept for each position
-pub record HasStates (t : Table) (states : List Pipeline) : Type 0 where
-  pub number : length states ≡ length t.events + 1
-  pub each : (k : ℕ) → k ≤ length t.events → slice_get states k ≡ Some (state_at t k)
 
 -- ---- a table's beginning
 

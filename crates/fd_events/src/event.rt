@@ -1,5 +1,6 @@
 ghost use Rattle.std.specs.Prelude.{◌≡◌, ◌≤◌};
 ghost use Rattle.fd_snap.specs.Limits.{most_pixels};
+ghost use Rattle.fd_events.specs.StateList.{is_state_event};
 
 use crate::draw::Draw;
 use crate::label::Label;
@@ -50,6 +51,20 @@ impl Event {
             | Event::SetFactor(_)
             | Event::SetDepth(_)
             | Event::Marker(_) => Reach::nowhere(),
+        }
+    }
+
+    /// Whether the event replaces a part of the pipeline state.
+    pub(crate) fn is_state_event(&self) -> bool
+        ensures { result ≡ is_state_event self.now }
+    {
+        match self {
+            Event::SetRaster(_)
+            | Event::SetScissor(_)
+            | Event::SetBlend(_)
+            | Event::SetFactor(_)
+            | Event::SetDepth(_) => true,
+            Event::Clear(_) | Event::DepthClear(_) | Event::Draw(_) | Event::Marker(_) => false,
         }
     }
 

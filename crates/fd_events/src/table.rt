@@ -1,7 +1,6 @@
-ghost use Rattle.std.specs.Prelude.{◌≡◌, ◌≤◌, ◌+◌, ◌-◌, ◌&&◌, length, ℕ, Some, map, not, slice_get, if◌then◌else◌};
-ghost use Rattle.fd_events.specs.Pipeline.{state_after};
+ghost use Rattle.std.specs.Prelude.{◌≡◌, ◌≤◌, ◌+◌, ◌-◌, ◌&&◌, length, ℕ, Some, map, not};
 ghost use Rattle.std.specs.Prelude.{IfOk};
-ghost use Rattle.fd_events.specs.Table.{state_of};
+ghost use Rattle.fd_events.specs.Table.{is_side};
 ghost use Rattle.fd_snap.specs.Limits.{most_pixels};
 ghost use Rattle.fd_cover.specs.Bounds.{is_empty};
 ghost use Rattle.fd_events.specs.Reach.{box_of, AreReaches};
@@ -11,6 +10,7 @@ use crate::event::Event;
 use crate::index::EventIndex;
 use crate::pipeline::Pipeline;
 use crate::reach::{Reach, meets};
+use crate::state_list::StateList;
 use fd_cover::Bounds;
 use fd_snap::MAX_SIDE;
 use std::alloc::{AllocError, Global};
@@ -42,24 +42,11 @@ impl From<AllocError> for TableFault {
     }
 }
 
-/// The state after an event that may be switched off.
-fn state_past(event: &Event, on: bool, state: Pipeline) -> Pipeline
-    ensures { result ≡ (if on then state_after event.now state else state) }
+/// Whether a target may be so wide or high.
+fn is_side(side: u32) -> bool
+    ensures { result ≡ is_side side }
 {
-    if on { state.after(event) } else { state }
-}
-
-/// Computes the states after a position anew.
-fn recompute(events: &[Event], flags: &[bool], states: &mut [Pipeline], position: usize)
-    requires flags { length flags.now ≡ length events.now }
-    requires states { length states.old ≡ length events.now + 1 }
-    requires within { position ≤ length events.now }
-    requires before { (k : ℕ) → k ≤ position → slice_get states.old k ≡ Some (state_of events.now flags.now k) }
-    ensures { (k : ℕ) → k ≤ length events.now → slice_get states.new k ≡ Some (state_of events.now flags.now k) }
-{
-    for k in position..events.len() {
-        states[k + 1] = state_past(&events[k], flags[k], states[k]);
-    }
+    (1..=MAX_SIDE).contains(&side)
 }
 
 /// Computes the boxes of all draws' triangles and of their groups, and lists these in cells over a target of this size. On want of memory
@@ -121,9 +108,8 @@ pub struct EventTable {
     width: u32,
     height: u32,
     events: Vec<Event>,
-    flags: Vec<bool>,
-    // the state before each event, and the one after the last
-    states: Vec<Pipeline>,
+    // whether each event is switched on, and the states that those make
+    states: StateList,
     // the box of the pixels that each event can write, since the events themselves are large
     reaches: Vec<Reach>,
     // whether each event is switched on and its box has a pixel: each tile asks this of every event
@@ -133,20 +119,21 @@ pub struct EventTable {
 }
 
 impl Model for EventTable {
-    ghost use Rattle.fd_events.specs.Table.{Table, table_of, IsTable, HasStates};
+    ghost use Rattle.fd_events.specs.Table.{Table, table_of, IsTable};
+    ghost use Rattle.fd_events.specs.StateList.{HasStates};
     ghost use Rattle.std.specs.Prelude.{map};
     ghost use Rattle.fd_events.specs.Reach.{box_of, AreReaches, AreWriters};
     ghost use Rattle.fd_events.specs.Index.{IsIndex};
 
     ghost Value = { Table };
 
-    ghost view = { λ t. table_of t.version t.width t.height t.events.items t.flags.items };
+    ghost view = { λ t. table_of t.version t.width t.height t.events.items t.states.flags.items };
 
     ghost invariant = { λ t.
-        IsTable (table_of t.version t.width t.height t.events.items t.flags.items)
-        × HasStates (table_of t.version t.width t.height t.events.items t.flags.items) t.states.items
+        IsTable (table_of t.version t.width t.height t.events.items t.states.flags.items)
+        × HasStates t.events.items t.states
         × AreReaches t.width t.height t.events.items t.reaches.items
-        × AreWriters t.flags.items t.reaches.items t.writers.items
+        × AreWriters t.states.flags.items t.reaches.items t.writers.items
         × IsIndex t.index (map box_of t.reaches.items) };
 }
 
@@ -167,7 +154,7 @@ impl EventTable {
         requires { IsVersion version events.items }
         ensures exact { UnlessMemory result (started version width height events.items) }
     {
-        if !(1..=MAX_SIDE).contains(&width) || !(1..=MAX_SIDE).contains(&height) {
+        if !is_side(width) || !is_side(height) {
             return Err(TableFault::Size);
         }
         if events.len() > MAX_EVENTS as usize {
@@ -188,9 +175,7 @@ impl EventTable {
         requires { IsTable (all_on version width height events.items) }
         ensures { IfOk result (λ table. table ≡ all_on version width height events.items) }
     {
-        let flags = vec![in alloc; true; events.len()]?;
-        let mut states = vec![in alloc; Pipeline::default(); events.len() + 1]?;
-        recompute(&events, &flags, &mut states, 0);
+        let states = StateList::all_on(&events, alloc)?;
         let reaches = reaches_of(&events, width, height, alloc)?;
         let writers = writers_of(&reaches, alloc)?;
         let index = EventIndex::of(&reaches, width, height, alloc)?;
@@ -199,7 +184,6 @@ impl EventTable {
             width,
             height,
             events,
-            flags,
             states,
             reaches,
             writers,
@@ -254,7 +238,7 @@ impl EventTable {
         requires last { number ≤ length self.now.events }
         ensures { flag_at self.now number ≡ Some result }
     {
-        self.flags[number as usize - 1]
+        self.states.is_on(number as usize - 1)
     }
 
     /// The box of the pixels that the event of this number can write: for a clear the whole target, for a draw the box round its
@@ -322,18 +306,17 @@ impl EventTable {
         requires last { number ≤ length self.now.events + 1 }
         ensures { result.now ≡ state_at self.now (number - 1) }
     {
-        &self.states[number as usize - 1]
+        self.states.before(number as usize - 1)
     }
 
-    /// Switches the event of this number on or off, and computes the states after it anew.
+    /// Switches the event of this number on or off, and where it is a state event computes the states after it anew.
     pub fn set_on(&mut self, number: u32, on: bool)
         requires first { 1 ≤ number }
         requires last { number ≤ length self.old.events }
         ensures { self.new ≡ with_flag self.old number on }
     {
         let index = number as usize - 1;
-        self.flags[index] = on;
         self.writers[index] = may_write(on, self.reaches[index]);
-        recompute(&self.events, &self.flags, &mut self.states, index);
+        self.states.set_on(&self.events, index, on);
     }
 }

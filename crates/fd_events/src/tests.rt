@@ -1,3 +1,5 @@
+ghost use Rattle.std.specs.Prelude.{◌≡◌, length};
+
 use super::*;
 use fd_blend::{BlendOp, BlendState, Colour, Factor, Mask, Part};
 use fd_cover::{Bounds, Cull, Depth, Func, Interp, Raster, Rect};
@@ -505,6 +507,46 @@ fn one_triangle(alloc: Global, corners: [(i32, i32); 3]) -> Result<Event, Fail> 
     let mut vertices = Vec::new(alloc);
     push_triangle(&mut vertices, corners)?;
     Ok(Event::Draw(Draw::new(vertices, None, Interp::Flat)?))
+}
+
+/// The factor's level in the state before each of five events, and after the last.
+fn factors(table: &EventTable) -> [u8; 6]
+    requires { length table.now.events ≡ 5 }
+{
+    [
+        table.state_before(1).factor.r,
+        table.state_before(2).factor.r,
+        table.state_before(3).factor.r,
+        table.state_before(4).factor.r,
+        table.state_before(5).factor.r,
+        table.state_before(6).factor.r,
+    ]
+}
+
+#[test]
+fn markers_and_draws_share_the_state_before_them(rt: HostRuntime) -> Result<(), Fail> {
+    let mut events = Vec::new(rt.alloc());
+    events.push(Event::Marker(Label::new(String::new(rt.alloc()))?))?;
+    events.push(Event::SetFactor(grey(1)))?;
+    events.push(one_triangle(rt.alloc(), NEAR_CORNERS)?)?;
+    events.push(Event::SetFactor(grey(2)))?;
+    events.push(Event::DepthClear(7))?;
+    let mut table = EventTable::start(rt.alloc(), 2, 64, 64, events)?;
+    assert!(rt; table.len() == 5);
+    let all = [255, 255, 1, 1, 2, 2];
+    assert_eq!(rt; factors(&table), all);
+    table.set_on(1, false);
+    table.set_on(3, false);
+    assert_eq!(rt; factors(&table), all);
+    table.set_on(2, false);
+    assert_eq!(rt; factors(&table), [255, 255, 255, 255, 2, 2]);
+    table.set_on(4, false);
+    assert_eq!(rt; factors(&table), [255, 255, 255, 255, 255, 255]);
+    table.set_on(2, true);
+    assert_eq!(rt; factors(&table), [255, 255, 1, 1, 1, 1]);
+    table.set_on(4, true);
+    assert_eq!(rt; factors(&table), all);
+    Ok(())
 }
 
 #[test]

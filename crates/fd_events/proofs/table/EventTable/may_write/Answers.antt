@@ -25,10 +25,11 @@ returns c =
     let within : n < length fields.reaches.items =
     omega (arith, last, c.requires.first, length-reaches fields.width fields.height fields.events.items fields.reaches.items c.self.invariant.2) in
     let next : c.args.number ≡ suc n = omega (arith, c.requires.first) in
-    let there = writer_at fields.width fields.height fields.events.items fields.flags.items fields.writers.items fields.reaches.items n c.self.invariant.2
+    let flags = fields.states.flags.items in
+    let there = writer_at fields.width fields.height fields.events.items flags fields.writers.items fields.reaches.items n c.self.invariant.2
     c.self.invariant.3 within in
     let there_too : n < length fields.writers.items = omega (arith, within, c.self.invariant.3.number) in
-    let here : Some c.index.result.now ≡ option_map (may_write fields.width fields.height (is_set fields.flags.items (suc n)))
+    let here : Some c.index.result.now ≡ option_map (may_write fields.width fields.height (is_set flags (suc n)))
     (slice_get fields.events.items n) =
     ap (λ (b : Bool). Some b) c.index.ensures ∙ sym (slice_get-get_or fields.writers.items n c.index.result.now there_too)
     ∙ slice_get-get_or fields.writers.items n false there_too ∙ sym there in
