@@ -1,10 +1,9 @@
 //! The image of a capture at a position.
-ghost use Rattle.std.specs.Prelude.{◌≡◌, ◌≤◌, ℕ, List};
+ghost use Rattle.std.specs.Prelude.{◌≤◌, ℕ, List};
 ghost use Rattle.std.specs.Io.KnownBytes.{Appends};
 ghost use Rattle.fd_cli.specs.Counting.{CountsWriter, EndsFlushed};
 ghost use Rattle.fd_cli.specs.Opening.{RefusesTooLong};
 ghost use Rattle.fd_cli.specs.Listing.{ShowsState, ImagesTable, WritesImage};
-ghost use Rattle.fd_session.specs.Machine.{Jumps};
 
 use crate::ending::Ending;
 use crate::opening::open;
@@ -13,34 +12,6 @@ use fd_pam::{PamFault, Sink, pam_len, write};
 use fd_session::{Answer, Picture, SessionFault};
 use std::alloc::Global;
 use std::thread::Threads;
-
-/// Draws a picture on to a position, part by part where the way is long. The sink is told after each part but the last.
-fn draw_to<T: Threads + Sync, W: Sink>(
-    rt: &T,
-    picture: &mut Picture,
-    to: u32,
-    sink: &mut W,
-) -> Answer
-    requires { picture.old.position ≤ to }
-    ensures jumps { Jumps picture.old to result picture.new }
-    ensures bytes { W.contents sink.new ≡ W.contents sink.old }
-    ensures flushed { W.is_flushed sink.new ≡ W.is_flushed sink.old }
-    ensures failures { W.failure_count sink.new ≡ W.failure_count sink.old }
-{
-    let from = picture.position();
-    loop {
-        let part = picture.go_part(rt, to);
-        let at = picture.position();
-        match part {
-            None => sink.on_the_way(at, to),
-            // the parts before it stay
-            Some(Answer::Refused(SessionFault::Memory)) if at > from => {
-                return Answer::Stopped { at };
-            }
-            Some(answer) => return answer,
-        }
-    }
-}
 
 /// Writes a picture, and flushes.
 fn write_shown<W: Sink>(alloc: Global, picture: &Picture, sink: &mut W) -> Ending
@@ -78,7 +49,7 @@ fn write_table<T: Threads + Sync, W: Sink>(
     let Ok(mut picture) = Picture::start(alloc, table, workers) else {
         return Ending::Memory;
     };
-    match draw_to(rt, &mut picture, to, sink) {
+    match picture.go(rt, to, sink) {
         Answer::Moved { .. } => write_shown(alloc, &picture, sink),
         Answer::Refused(SessionFault::NoSuchPosition) => Ending::NoSuchPosition,
         Answer::Stopped { .. } | Answer::Refused(_) => Ending::Memory,

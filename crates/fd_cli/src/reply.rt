@@ -13,7 +13,6 @@ ghost use Rattle.fd_cli.specs.Text.{answer_line, pixel_line, history_text};
 use crate::command::{Command, CommandFault, read_command};
 use crate::entries::send_entries;
 use crate::events::send_events;
-use crate::far::go;
 use crate::lines::{fault_line, number_line, refusal_line};
 use crate::show::show;
 use crate::text::{pixel_line, state_line};
@@ -112,7 +111,7 @@ fn reply<T: Threads + Sync, W: Sink>(
             Ok(at) => send(sink, sent, number_line(b"at", u64::from(at)).as_slice()),
             Err(fault) => send(sink, sent, refusal_line(fault)),
         },
-        Ok(Command::Goto(to)) => send_answer(go(rt, session, to, sink), sink, sent),
+        Ok(Command::Goto(to)) => send_answer(session.go(rt, to, sink), sink, sent),
         Ok(Command::On(number)) => send_answer(session.switch(rt, number, true), sink, sent),
         Ok(Command::Off(number)) => send_answer(session.switch(rt, number, false), sink, sent),
         Ok(Command::Pixel(x, y)) => send_pixel(session, x, y, sink, sent),

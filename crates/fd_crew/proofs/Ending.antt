@@ -35,15 +35,6 @@ back_more old now next is le goes =
     let at : position next.history ≡ k - 1 = ap (λ (s : Shown). position s.history) (a ∙ b) ∙ position_first (k - 1) old.history (omega arith) in
     (at, (a ∙ b) ∙ ap (λ (n : ℕ). gone_back_to n old) (sym at))
 
--- back to one position, and further back to another
-pub back_on : (old between new : Shown) → between ≡ gone_back_to (position between.history) old → new ≡ gone_back_to (position new.history) between
-    → position new.history ≤ position between.history → new ≡ gone_back_to (position new.history) old
-back_on old between new first second le =
-    let n : ℕ = position new.history in
-    let k : ℕ = position between.history in
-    second ∙ ap (gone_back_to n) first ∙ with_history old (first_frames n (first_frames k old.history)) (first_frames n old.history)
-    (first_first n k old.history le)
-
 -- what stands at i in two lists that go on alike from i
 pub alike_at : {L : Type 0} (old now : List L) (i : ℕ) (x : L) → i < length old → length now ≡ length old → x ≡ get_or now i x → drop i now ≡ drop i old
     → x ≡ get_or old i x

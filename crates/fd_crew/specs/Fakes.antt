@@ -11,7 +11,6 @@ shown_fake at count refused_at =
     record {
       place = record { left = 0; top = 0; width = 0; height = 0 };
       history = record { opening = []; frames = replicate at empty_frame };
-      refusals =
-          count;
+      refusals = count;
       refused_at = refused_at;
     }

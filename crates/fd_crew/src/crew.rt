@@ -176,31 +176,6 @@ fn run_range<R: Threads + Sync, L: Lane, G: Gate, S: Post>(
     seat.join(course.fence, other);
 }
 
-/// Takes one lane back over its last event and what can be passed with it, to this position at most.
-fn step_back<L: Lane>(lane: &mut L, to: u32)
-    requires { to < position (L.shown lane.old).history }
-    ensures moved { L.shown lane.new ≡ gone_back_to (position (L.shown lane.new).history) (L.shown lane.old) }
-    ensures least { to ≤ position (L.shown lane.new).history }
-    ensures less { position (L.shown lane.new).history < position (L.shown lane.old).history }
-    ensures fits { (table : Table) → L.fits lane.old table → L.fits lane.new table }
-{
-    lane.pass_back(to);
-    if lane.position() > to {
-        lane.back();
-    }
-}
-
-/// Takes one lane back to a position.
-pub fn take_back<L: Lane>(lane: &mut L, to: u32)
-    requires { to ≤ position (L.shown lane.old).history }
-    ensures moved { L.shown lane.new ≡ gone_back_to to (L.shown lane.old) }
-    ensures fits { (table : Table) → L.fits lane.old table → L.fits lane.new table }
-{
-    while lane.position() > to {
-        step_back(lane, to);
-    }
-}
-
 /// Takes all lanes back to a position, in the calling thread.
 pub fn run_back<L: Lane>(lanes: &mut [L], to: u32)
     requires { All (λ l. to ≤ position (L.shown l).history) lanes.old }
@@ -208,7 +183,7 @@ pub fn run_back<L: Lane>(lanes: &mut [L], to: u32)
     ensures fits { AllZip (λ x y. (table : Table) → L.fits x table → L.fits y table) lanes.old lanes.new }
 {
     for lane in lanes.iter_mut() {
-        take_back(lane, to);
+        lane.back_to(to);
     }
 }
 

@@ -71,15 +71,15 @@ pub trait Lane: Send {
         ensures moved { shown self.new ≡ gone_back (shown self.old) }
         ensures fits { (table : Table) → fits self.old table → fits self.new table };
 
-    /// Goes back at once over last events that overwrote nothing, to this position at most. A lane that doesn't know any stays.
-    fn pass_back(&mut self, to: u32)
+    /// Goes back to a position. A lane that knows of no shorter way goes event by event.
+    fn back_to(&mut self, to: u32)
         requires { to ≤ position (shown self.old).history }
-        ensures moved { shown self.new ≡ gone_back_to (position (shown self.new).history) (shown self.old) }
-        ensures least { to ≤ position (shown self.new).history }
-        ensures most { position (shown self.new).history ≤ position (shown self.old).history }
+        ensures moved { shown self.new ≡ gone_back_to to (shown self.old) }
         ensures fits { (table : Table) → fits self.old table → fits self.new table }
     {
-        let _at_most = to;
+        while self.position() > to {
+            self.back();
+        }
     }
 }
 

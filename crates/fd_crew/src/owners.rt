@@ -39,7 +39,7 @@ impl Lane for Owner {
         Owner::back(self)
     }
 
-    fn pass_back(&mut self, to: u32) {
-        Owner::pass_back(self, to)
+    fn back_to(&mut self, to: u32) {
+        Owner::back_to(self, to)
     }
 }

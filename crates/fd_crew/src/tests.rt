@@ -2,7 +2,7 @@
 ghost use Rattle.std.specs.Prelude.{◌≡◌, ◌≤◌, length, IfOk};
 ghost use Rattle.fd_owner.specs.History.{position};
 
-use crate::{Free, Gate, Lane, Outcome, run_back, run_forward, run_shared, take_back};
+use crate::{Free, Gate, Lane, Outcome, run_back, run_forward, run_shared};
 use fd_blend::Colour;
 use fd_events::{Event, EventTable, Label};
 use fd_owner::{Owner, Refused};
@@ -103,21 +103,32 @@ impl<'a> Lane for Fake<'a> {
     }
 }
 
-#[test]
-fn a_lane_refuses_once(rt: HostRuntime) -> Result<(), Fail> {
-    let table = markers(rt.alloc(), 9)?;
+/// One of two lanes refuses an event, and goes on when it is asked again.
+fn refuses_once<R: Threads + Sync + Abort>(
+    rt: &R,
+    alloc: Global,
+    table: &EventTable,
+) -> Result<(), Fail>
+    requires { length table.now.events ≡ 9 }
+{
     let mut lanes = [Fake::new(None), Fake::new(Some(3))];
-    let outcome = run_forward(&rt, rt.alloc(), &mut lanes, &table, 9, 2, &Free)?;
+    let outcome = run_forward(rt, alloc, &mut lanes, table, 9, 2, &Free)?;
     assert!(rt; outcome == Outcome::Stopped { at: 2 });
     assert!(rt; lanes[0].position == 2 && lanes[1].position == 2);
     assert!(rt; lanes[0].refusals == 0 && lanes[1].refusals == 1);
     assert!(rt; lanes[1].refused_at == Some(2));
-    let outcome = run_forward(&rt, rt.alloc(), &mut lanes, &table, 9, 2, &Free)?;
+    let outcome = run_forward(rt, alloc, &mut lanes, table, 9, 2, &Free)?;
     assert!(rt; outcome == Outcome::Reached);
     assert!(rt; lanes[0].position == 9 && lanes[1].position == 9);
     run_back(&mut lanes, 4);
     assert!(rt; lanes[0].position == 4 && lanes[1].position == 4);
     Ok(())
+}
+
+#[test]
+fn a_lane_refuses_once(rt: HostRuntime) -> Result<(), Fail> {
+    let table = markers(rt.alloc(), 9)?;
+    refuses_once(&rt, rt.alloc(), &table)
 }
 
 /// Two of three lanes refuse, and so many workers take them.
@@ -355,7 +366,7 @@ fn lanes_may_begin_apart(rt: HostRuntime) -> Result<(), Fail> {
     let outcome = run_shared(&rt, rt.alloc(), &mut lanes, &table, 9, 2, &[], &Free)?;
     assert!(rt; outcome == Outcome::Stopped { at: 5 });
     assert!(rt; lanes.iter().all(|lane| lane.position == 5));
-    take_back(&mut lanes[0], 2);
+    lanes[0].back_to(2);
     assert!(rt; lanes[0].position == 2 && lanes[1].position == 5);
     Ok(())
 }

@@ -6,7 +6,7 @@ use Rattle.std.specs.List.{zip}
 use Rattle.std.proofs.lemmas.Bool.{eq-eqb, ne_eqb, cases_lt, cases_eq}
 use Rattle.std.proofs.lemmas.Bool.Decides.{nat_tests}
 use Rattle.std.proofs.lemmas.List.{append-nil, length_push, length-take, get_or-take, get_or-drop}
-use Rattle.std.proofs.lemmas.List.Elements.{All-nil, All-cons, All-append}
+use Rattle.std.proofs.lemmas.List.Elements.{All-append}
 use Rattle.std.proofs.lemmas.Slice.Zip.{get_or-zip}
 use borrow.Rule.Slice.PartMut.{put_mid}
 use Rattle.fd_blend.specs.declared.channel.Colour.{Colour}
@@ -20,7 +20,7 @@ use Rattle.fd_tile.proofs.Pixels.{length-row_in, row_in-same, row_in-other, left
 use Rattle.fd_undo.specs.Frame.{KeptPixel, kept_at, kept_row, top, older}
 use Rattle.fd_undo.specs.Undo.{Undo, with_kept}
 use Rattle.fd_undo.proofs.KeptAt.{kept_at-append, kept_at-other_row, kept_at-before, kept_at-after, kept_at-inside}
-use Rattle.fd_undo.proofs.Restored.{Inside}
+use Rattle.fd_undo.proofs.Restored.{Inside, kept_row-inside}
 use Rattle.fd_undo.proofs.FrameLemmas.{top-push, older-push}
 use Rattle.fd_undo.proofs.Zips.{length-zip_equal}
 use Rattle.fd_draw.specs.Area.{LiesIn, IsWrittenIn}
@@ -41,6 +41,7 @@ module _ (A B : ℕ → ℕ → Pixel → Pixel) (R S : ℕ → ℕ → Pixel �
       let onto : (x y : ℕ) → Holds t.place x y → Holds t'.place x y = λ x y held. subst (λ p. Holds p x y) (sym first.placed) held in
       record {
         placed = second.placed ∙ first.placed;
+        made = second.made ∙ first.made;
         filled = second.filled;
         below = second.below ∙ first.below;
         begun = second.begun;
@@ -62,6 +63,7 @@ module _ (A B : ℕ → ℕ → Pixel → Pixel) (R S : ℕ → ℕ → Pixel �
       → Paints A R t u t' u' → Paints B S t u t' u'
   Paints-same-here after kept painted = record {
     placed = painted.placed;
+    made = painted.made;
     filled = painted.filled;
     below = painted.below;
     begun = painted.begun;
@@ -80,6 +82,7 @@ module _ (A B : ℕ → ℕ → Pixel → Pixel) (R S : ℕ → ℕ → Pixel �
 pub Paints-nothing : (t : TileImage) (u : Undo) → IsTileImage t → u.frame_left ≡ false → Paints (λ x y c. c) (λ x y c. []) t u t u
 Paints-nothing t u filled begun = record {
   placed = refl;
+  made = refl;
   filled = filled;
   below = refl;
   begun = begun;
@@ -208,16 +211,9 @@ module _ (written : ℕ → ℕ → Bool) (paint : ℕ → ℕ → Pixel → Pix
 
 -- ---- a span that is kept and then written
 
-kept_row-inside : (p : Place) (x y : ℕ) (old : List Pixel) → HasRow p y → p.left ≤ x → x + length old ≤ p.left + p.width → Inside p (kept_row x y old)
-kept_row-inside p x y [] crossed low high = All-nil (λ (k : KeptPixel). Holds p k.x k.y)
-kept_row-inside p x y (c ∷ cs) crossed low high =
-    All-cons (λ (k : KeptPixel). Holds p k.x k.y) (record { x = x; y = y; pixel = c }) (kept_row (x + 1) y cs)
-    (record { from_left = low; to_right = omega arith; from_top = crossed.from_top; to_bottom = crossed.to_bottom })
-    (kept_row-inside p (x + 1) y cs crossed (omega arith) (omega arith))
-
 -- the tile with new colours and depths in row y
 abbrev pub with_rows : TileImage → ℕ → List Colour → List ℕ → TileImage
-with_rows t y cs ds = record { place = t.place; rows = with_row_in t.place t.rows y cs; depths = with_row_in t.place t.depths y ds }
+with_rows t y cs ds = record t { rows = with_row_in t.place t.rows y cs; depths = with_row_in t.place t.depths y ds }
 
 -- what such rows have for column x
 abbrev pub pair_at : TileImage → List Colour → List ℕ → ℕ → Pixel
@@ -299,6 +295,7 @@ module _ (written : ℕ → ℕ → Bool) (paint : ℕ → ℕ → Pixel → Pix
   pub Paints-span : Paints (after_where (in_row written y) paint) (kept_where (in_row written y) keep_each) t u t' u'
   Paints-span = record {
     placed = refl;
+    made = refl;
     filled = record {
       colours = FillsPlace-with_row_in t.place t.rows y filled.colours crossed cs wide;
       depths =
@@ -460,8 +457,8 @@ module _ (paint : ℕ → ℕ → Colour → Colour) (y first last : ℕ) (t : T
       ∙ ap (λ r. put_mid start len (row_of t y) r) (is_painted ∙ ap (λ r. changed_row (λ x c. paint x y c) first (part r)) same') in
       let whole : with_row_left t y (put_mid (first - p.left) (last - p.left - (first - p.left)) lent pixels) ≡ with_rows t y new_row (depth_row_of t y) =
       ap (λ w. with_row_left t y w) left
-      ∙ ap (λ rows. record { place = t.place; rows = rows; depths = t.depths }) (left_row_is t.place t.rows y filled.colours crossed new_row new_wide)
-      ∙ ap (λ depths. record { place = t.place; rows = with_row_in t.place t.rows y new_row; depths = depths })
+      ∙ ap (λ rows. record t { rows = rows }) (left_row_is t.place t.rows y filled.colours crossed new_row new_wide)
+      ∙ ap (λ depths. record t { rows = with_row_in t.place t.rows y new_row; depths = depths })
       (sym (with_row_in-as_it_is t.place t.depths y)) in
       let stack : u'' ≡ with_kept u (kept_row first y old_pixels) =
       is_kept ∙ ap (λ r. with_kept u (kept_row first y (zip (part r) (part deep)))) same

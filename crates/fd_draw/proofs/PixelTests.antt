@@ -1,5 +1,5 @@
 -- A triangle with the depth test on: of each row the pixels that pass, in runs.
-use Rattle.std.proofs.Common.{◌≡◌, ℕ, ◌+◌, ◌-◌, ◌<◌, ◌≤◌, Bool, true, false, ◌||◌, cond, eqb, List, [], length, get_or, map, replicate, refl, sym, ap}
+use Rattle.std.proofs.Common.{◌≡◌, ℕ, ◌+◌, ◌-◌, ◌<◌, ◌≤◌, Bool, true, false, ◌||◌, cond, eqb, List, [], length, get_or, map, refl, sym, ap}
 use Rattle.std.proofs.Common.{◌∙◌, subst, arith, inl, inr, ◌⊎◌, ◌/◌, ◌%◌, ◌^◌}
 use Rattle.std.specs.List.{zip, range_with_len}
 use Rattle.std.proofs.lemmas.List.FromFn.{get_or-map-range_with_len, length-map-range_with_len}
@@ -11,7 +11,6 @@ use Rattle.std.proofs.lemmas.Bool.{eq-eqb, ne_eqb, cases_eq, cases_lt}
 use Rattle.std.proofs.lemmas.Bool.Decides.{nat_tests}
 use Rattle.std.proofs.lemmas.Nat.{pow-add}
 use Rattle.std.proofs.Math.Nat.{div-div-eq-div-mul}
-use Rattle.std.proofs.lemmas.List.{length-replicate, get_or-replicate}
 use Rattle.fd_blend.specs.declared.channel.Colour.{Colour}
 use Rattle.fd_blend.specs.Channel.{fresh}
 use Rattle.fd_cover.specs.declared.shading.Interp.{Interp}
@@ -21,9 +20,9 @@ use Rattle.fd_events.specs.declared.pipeline.Pipeline.{Pipeline}
 use Rattle.fd_events.specs.Draw.{Triangle}
 use Rattle.fd_events.specs.Image.{is_drawn, depth_of as source_depth, pixel_after_triangle, source_of}
 use Rattle.fd_tile.specs.Place.{Holds, HasRow}
-use Rattle.fd_tile.specs.Tile.{Pixel, fresh_pixel, TileImage, IsTileImage, with_row_in, with_row_left, with_depth_row, with_depth_row_left, row_of}
+use Rattle.fd_tile.specs.Tile.{Pixel, fresh_pixel, TileImage, IsTileImage, with_row_in, with_depth_row, with_depth_row_left, row_of}
 use Rattle.fd_tile.specs.Tile.{depth_row_of, colour_in, depth_in, pixel_of}
-use Rattle.fd_tile.proofs.Pixels.{length-row_in, row_in-same, row_in-other, left_row_is, with_row_in-as_it_is, with_depth_row_left_is}
+use Rattle.fd_tile.proofs.Pixels.{length-row_in, row_in-same, row_in-other, with_row_in-as_it_is, with_depth_row_left_is}
 use Rattle.fd_tile.proofs.Pixels.{IsTileImage-with_depth_row}
 use borrow.Rule.Slice.PartMut.{put_mid}
 use Rattle.fd_undo.specs.Frame.{kept_row}
@@ -31,15 +30,18 @@ use Rattle.fd_undo.specs.Undo.{Undo, with_kept}
 use Rattle.fd_tile.specs.declared.place.Place.{Place}
 use Rattle.fd_draw.specs.Demand.{is_reached, pixels_in, spans_in}
 use Rattle.fd_draw.proofs.Counts.{pixels_in-row, spans_in-row, written_in_row-span, in_span-inside, in_span-after, and_false, and_true}
+use Rattle.fd_draw.specs.declared.clear.Clear.{Clear}
 use Rattle.fd_draw.specs.declared.clear.Clear.TheVariants.{Colours, Depths}
-use Rattle.fd_draw.specs.Written.{cleared, kept_by_triangle}
+use Rattle.fd_draw.specs.Written.{as_it_is, cleared, with_cleared, kept_by_triangle}
+use Rattle.fd_tile.proofs.Cut.{FillsPlace-flat}
+use Rattle.fd_undo.proofs.Alike.{value_in-flat}
 use Rattle.fd_draw.specs.Mask.{has_bit}
 use Rattle.fd_draw.specs.Paints.{Paints}
 use Rattle.fd_draw.specs.Span.{IsRowSpan}
 use Rattle.fd_draw.specs.Writing.{StoresDepths, after_where, kept_where, keep_each, columns_between, in_row}
 use Rattle.fd_draw.proofs.Areas.{drawn_reached}
 use Rattle.fd_draw.proofs.Rows.{length-put_mid, before_part, in_part, past_part}
-use Rattle.fd_draw.proofs.Painting.{with_rows, pair_at, Paints-span, Paints-same-here, Paints-nothing, Paints-both, Paints-as}
+use Rattle.fd_draw.proofs.Painting.{with_rows, Paints-span, Paints-same-here, Paints-nothing, Paints-both, Paints-as}
 
 cond_at : {X : Type 0} (b : Bool) (p q other : X) → (b ≡ true → p ≡ q) → cond b p other ≡ cond b q other
 cond_at true p q other same = same refl
@@ -126,6 +128,7 @@ module _ (depths : List ℕ) (x y : ℕ) (t : TileImage) (filled : IsTileImage t
   stored_whole : StoresDepths depths x y t (with_depth_row t y stored_row)
   stored_whole = record {
     placed = refl;
+    made = refl;
     filled = IsTileImage-with_depth_row t y filled crossed stored_row stored_size;
     pixels = λ c r held. pixel_stored c r held (cases_eq r y);
   }
@@ -262,7 +265,7 @@ Paints-untested tri interp s t t' u u' off painted =
     (λ x y held. cond_at (is_reached tri s x y) _ _ _ (λ reached. rw (drawn_off tri s x y (pixel_of t x y).1 off reached) refl))
     painted
 
--- ---- a row that is cleared
+-- ---- a row that is kept
 
 module _ (t : TileImage) (u : Undo) (y : ℕ) (filled : IsTileImage t) (crossed : HasRow t.place y) (begun : u.frame_left ≡ false) where
   whole_row : IsRowSpan (λ _. true) t.place.left (t.place.left + t.place.width) (Some (t.place.left, t.place.left + t.place.width))
@@ -285,60 +288,53 @@ module _ (t : TileImage) (u : Undo) (y : ℕ) (filled : IsTileImage t) (crossed 
   deep_row : length (depth_row_of t y) ≡ t.place.width
   deep_row = length-row_in t.place t.depths y filled.depths crossed
 
-  -- the row was kept, and has new colours and depths
+  -- as the code goes
   module _ (row : List Colour) (deep : List ℕ) (column : ℕ) (u' : Undo) (same : row ≡ row_of t y) (same_deep : deep ≡ depth_row_of t y)
       (at : column ≡ t.place.left)
       (is_kept : u' ≡ with_kept u (kept_row column y (zip row deep))) where
-    Paints-whole_row : (step : Pixel → Pixel) (cs : List Colour) (ds : List ℕ) → length cs ≡ t.place.width → length ds ≡ t.place.width
-        → ((x : ℕ) → Holds t.place x y → pair_at t cs ds x ≡ step (pixel_of t x y))
-        → Paints (after_where (in_row (λ _ _. true) y) (λ _ _. step)) (kept_where (in_row (λ _ _. true) y) keep_each) t u (with_rows t y cs ds) u'
-    Paints-whole_row step cs ds wide long is =
+    pub Paints-kept_row : Paints (after_where (in_row (λ _ _. true) y) as_it_is) (kept_where (in_row (λ _ _. true) y) keep_each) t u t u'
+    Paints-kept_row =
+        let cs : List Colour = row_of t y in
+        let ds : List ℕ = depth_row_of t y in
         let old : List Pixel = zip (row_of t y) (depth_row_of t y) in
         let stack : u' ≡ with_kept u (kept_row t.place.left y (zip (row_of t y) (depth_row_of t y))) =
         is_kept ∙ ap (λ r. with_kept u (kept_row column y (zip r deep))) same ∙ ap (λ d. with_kept u (kept_row column y (zip (row_of t y) d))) same_deep
         ∙ ap (λ k. with_kept u (kept_row k y (zip (row_of t y) (depth_row_of t y)))) at in
-        subst (λ v. Paints (after_where (in_row (λ _ _. true) y) (λ _ _. step)) (kept_where (in_row (λ _ _. true) y) keep_each) t u (with_rows t y cs ds) v)
-        (sym stack)
-        (Paints-span (λ _ _. true) (λ _ _. step) y t.place.left (t.place.left + t.place.width) t u filled crossed begun whole_row cs ds old wide long
+        let tile : with_rows t y (row_of t y) (depth_row_of t y) ≡ t =
+        ap (λ rows. record t { rows = rows; depths = with_row_in t.place t.depths y ds }) (with_row_in-as_it_is t.place t.rows y)
+        ∙ ap (λ depths. record t { depths = depths }) (with_row_in-as_it_is t.place t.depths y) in
+        subst (λ v. Paints (after_where (in_row (λ _ _. true) y) as_it_is) (kept_where (in_row (λ _ _. true) y) keep_each) t u t v) (sym stack)
+        (subst (λ v. Paints (after_where (in_row (λ _ _. true) y) as_it_is) (kept_where (in_row (λ _ _. true) y) keep_each) t u v
+        (with_kept u (kept_row t.place.left y old))) tile
+        (Paints-span (λ _ _. true) as_it_is y t.place.left (t.place.left + t.place.width) t u filled crossed begun whole_row cs ds old wide_row deep_row
         (length-zip_equal (row_of t y) (depth_row_of t y) (deep_row ∙ sym wide_row) ∙ wide_row ∙ omega arith)
         (λ x low high. get_or-zip (row_of t y) (depth_row_of t y) (x - t.place.left) fresh_pixel (omega (arith, wide_row)) (omega (arith, deep_row)))
-        (λ x held apart. absurd (omega (arith, apart, held.from_left, held.to_right)))
-        (λ x held low high. is x held))
+        (λ x held apart. refl)
+        (λ x held low high. refl)))
 
-    pub Paints-clear_colours : (colour : Colour) (lent left : List Colour) → lent ≡ row_of t y → left ≡ replicate (length lent) colour
-        → Paints (after_where (in_row (λ _ _. true) y) (λ _ _. cleared (Colours colour))) (kept_where (in_row (λ _ _. true) y) keep_each) t u
-        (with_row_left t y left) u'
-    Paints-clear_colours colour lent left same_lent is_left =
-        let size : length (replicate t.place.width colour) ≡ t.place.width = length-replicate t.place.width colour in
-        let filled_left : left ≡ replicate t.place.width colour = is_left ∙ ap (λ l. replicate (length l) colour) same_lent
-        ∙ ap (λ n. replicate n colour) wide_row in
-        let whole : with_row_left t y left ≡ with_rows t y (replicate t.place.width colour) (depth_row_of t y) =
-        ap (λ l. with_row_left t y l) filled_left
-        ∙ ap (λ rows. record { place = t.place; rows = rows; depths = t.depths })
-        (left_row_is t.place t.rows y filled.colours crossed (replicate t.place.width colour) size)
-        ∙ ap (λ depths. record { place = t.place; rows = with_row_in t.place t.rows y (replicate t.place.width colour); depths = depths })
-        (sym (with_row_in-as_it_is t.place t.depths y)) in
-        subst (λ v. Paints (after_where (in_row (λ _ _. true) y) (λ _ _. cleared (Colours colour))) (kept_where (in_row (λ _ _. true) y) keep_each) t u v u')
-        (sym whole)
-        (Paints-whole_row (cleared (Colours colour)) (replicate t.place.width colour) (depth_row_of t y) size deep_row
-        (λ x held. ap (λ c. (c, depth_in t x y))
-        (get_or-replicate t.place.width (x - t.place.left) colour fresh (omega (arith, held.from_left, held.to_right)))))
-
-    pub Paints-clear_depths : (depth : ℕ) (lent left : List ℕ) → lent ≡ depth_row_of t y → left ≡ replicate (length lent) depth
-        → Paints (after_where (in_row (λ _ _. true) y) (λ _ _. cleared (Depths depth))) (kept_where (in_row (λ _ _. true) y) keep_each) t u
-        (with_depth_row_left t y left) u'
-    Paints-clear_depths depth lent left same_lent is_left =
-        let size : length (replicate t.place.width depth) ≡ t.place.width = length-replicate t.place.width depth in
-        let filled_left : left ≡ replicate t.place.width depth = is_left ∙ ap (λ l. replicate (length l) depth) same_lent
-        ∙ ap (λ n. replicate n depth) deep_row in
-        let whole : with_depth_row_left t y left ≡ with_rows t y (row_of t y) (replicate t.place.width depth) =
-        ap (λ l. with_depth_row_left t y l) filled_left
-        ∙ ap (λ depths. record { place = t.place; rows = t.rows; depths = depths })
-        (left_row_is t.place t.depths y filled.depths crossed (replicate t.place.width depth) size)
-        ∙ ap (λ rows. record { place = t.place; rows = rows; depths = with_row_in t.place t.depths y (replicate t.place.width depth) })
-        (sym (with_row_in-as_it_is t.place t.rows y)) in
-        subst (λ v. Paints (after_where (in_row (λ _ _. true) y) (λ _ _. cleared (Depths depth))) (kept_where (in_row (λ _ _. true) y) keep_each) t u v u')
-        (sym whole)
-        (Paints-whole_row (cleared (Depths depth)) (row_of t y) (replicate t.place.width depth) wide_row size
-        (λ x held. ap (λ d. (colour_in t x y, d))
-        (get_or-replicate t.place.width (x - t.place.left) depth 65535 (omega (arith, held.from_left, held.to_right)))))
+-- all pixels were kept, and get a clear's colour or depth
+pub Paints-filled : (clear : Clear) (t : TileImage) (u u' : Undo)
+    → Paints (after_where (λ _ _. true) as_it_is) (kept_where (λ _ _. true) keep_each) t u t u'
+    → Paints (λ _ _. cleared clear) keep_each t u (with_cleared clear t) u'
+Paints-filled (Colours colour) t u u' kept = record {
+  placed = refl;
+  made = refl;
+  filled = record { colours = FillsPlace-flat t.place colour kept.filled.colours.placed; depths = kept.filled.depths };
+  below = kept.below;
+  begun = kept.begun;
+  some = kept.some;
+  pixels = λ x y held. ap (λ c. (c, depth_in t x y)) (value_in-flat t.place colour fresh x y kept.filled.colours.placed held);
+  kept = kept.kept;
+  inside = kept.inside;
+}
+Paints-filled (Depths depth) t u u' kept = record {
+  placed = refl;
+  made = refl;
+  filled = record { colours = kept.filled.colours; depths = FillsPlace-flat t.place depth kept.filled.depths.placed };
+  below = kept.below;
+  begun = kept.begun;
+  some = kept.some;
+  pixels = λ x y held. ap (λ d. (colour_in t x y, d)) (value_in-flat t.place depth 65535 x y kept.filled.depths.placed held);
+  kept = kept.kept;
+  inside = kept.inside;
+}

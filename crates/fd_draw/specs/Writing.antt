@@ -40,6 +40,7 @@ pub record WritesRegion (span_count pixel_count : ℕ) (region : ℕ → ℕ →
 -- the pixels of row y from column x on get some depths, and no other pixel changes
 pub record StoresDepths (depths : List ℕ) (x y : ℕ) (t t' : TileImage) : Type 0 where
   pub placed : t'.place ≡ t.place
+  pub made : t'.made ≡ t.made
   pub filled : IsTileImage t'
   pub pixels : (column row : ℕ) → Holds t.place column row
       → pixel_of t' column row

@@ -6,7 +6,7 @@ use Rattle.fd_cover.specs.declared.shading.Interp.{Interp}
 use Rattle.fd_events.specs.declared.pipeline.Pipeline.{Pipeline}
 use Rattle.fd_events.specs.Draw.{Triangle}
 use Rattle.fd_events.specs.Image.{is_drawn, source_of}
-use Rattle.fd_tile.specs.Tile.{Pixel}
+use Rattle.fd_tile.specs.Tile.{Pixel, TileImage, with_colours, with_depths}
 use Rattle.fd_draw.specs.declared.clear.Clear.{Clear}
 use Rattle.fd_draw.specs.declared.clear.Clear.TheVariants.{Colours, Depths}
 
@@ -14,6 +14,15 @@ use Rattle.fd_draw.specs.declared.clear.Clear.TheVariants.{Colours, Depths}
 abbrev pub cleared : Clear → Pixel → Pixel
 cleared (Colours colour) before = (colour, before.1)
 cleared (Depths depth) before = (before.0, depth)
+
+-- the tile with it everywhere
+abbrev pub with_cleared : Clear → TileImage → TileImage
+with_cleared (Colours colour) t = with_colours t colour
+with_cleared (Depths depth) t = with_depths t depth
+
+-- a pixel that stays
+abbrev pub as_it_is : ℕ → ℕ → Pixel → Pixel
+as_it_is x y before = before
 
 -- the colour that a triangle leaves where it is drawn
 abbrev pub colour_blended : Triangle → Interp → Pipeline → ℕ → ℕ → Colour → Colour

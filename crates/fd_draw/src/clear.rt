@@ -1,16 +1,21 @@
 //! A clear: all pixels of a tile, row by row.
-ghost use Rattle.std.specs.Prelude.{◌≤◌, ◌<◌, true};
+ghost use Rattle.std.specs.Prelude.{◌≡◌, ◌≤◌, ◌<◌, true, false, Ok, OnErr, [], ◌∷◌, ◌++◌};
+ghost use Rattle.fd_events.specs.Image.{pixel_after, kept_by};
 ghost use Rattle.fd_tile.specs.Place.{HasRow};
 ghost use Rattle.fd_tile.specs.Tile.{IsTileImage};
+ghost use Rattle.fd_undo.specs.Frame.{IsAlike, top};
+ghost use Rattle.fd_undo.specs.Undo.{without_room};
 ghost use Rattle.fd_draw.specs.Area.{LiesIn, IsWrittenIn};
 ghost use Rattle.fd_draw.specs.Demand.{pixels_in, spans_in};
-ghost use Rattle.fd_draw.specs.Written.{cleared};
+ghost use Rattle.fd_draw.specs.Written.{as_it_is, cleared, with_cleared};
+ghost use Rattle.fd_draw.specs.Paints.{Paints};
 ghost use Rattle.fd_draw.specs.Writing.{HasRoom, WritesRegion, in_row, keep_each};
 
 use fd_blend::Colour;
 use fd_cover::Bounds;
+use fd_events::{Event, Pipeline};
 use fd_tile::Tile;
-use fd_undo::UndoStack;
+use fd_undo::{Full, UndoStack};
 
 /// What a clear gives to each pixel: a colour, or a depth. The other one stays.
 #[derive(Clone, Copy)]
@@ -19,30 +24,72 @@ pub(crate) enum Clear {
     Depths(u16),
 }
 
-/// Keeps and then clears the pixels of row y.
-fn clear_row(clear: Clear, y: u32, tile: &mut Tile, undo: &mut UndoStack)
-    requires filled { IsTileImage tile.old }
-    requires crossed { HasRow tile.old.place y }
-    requires room { HasRoom (spans_in (in_row (λ _ _. true) y) tile.old.place) (pixels_in (in_row (λ _ _. true) y) tile.old.place) undo.old }
-    ensures { WritesRegion (spans_in (in_row (λ _ _. true) y) tile.old.place) (pixels_in (in_row (λ _ _. true) y) tile.old.place) (in_row (λ _ _. true) y) (λ _ _. cleared clear) keep_each tile.old undo.old tile.new undo.new }
+/// Keeps the pixels of row y.
+fn keep_row(y: u32, tile: &Tile, undo: &mut UndoStack)
+    requires made { tile.now.made ≡ true }
+    requires filled { IsTileImage tile.now }
+    requires crossed { HasRow tile.now.place y }
+    requires room { HasRoom (spans_in (in_row (λ _ _. true) y) tile.now.place) (pixels_in (in_row (λ _ _. true) y) tile.now.place) undo.old }
+    ensures { WritesRegion (spans_in (in_row (λ _ _. true) y) tile.now.place) (pixels_in (in_row (λ _ _. true) y) tile.now.place) (in_row (λ _ _. true) y) as_it_is keep_each tile.now undo.old tile.now undo.new }
 {
     let left = tile.place().left;
     undo.keep_known(left, y, tile.row(y), tile.depth_row(y), tile.flat_depth());
+}
+
+/// Keeps the pixels of a box, which has all of the tile.
+fn keep_rows(area: Bounds, tile: &Tile, undo: &mut UndoStack)
+    requires made { tile.now.made ≡ true }
+    requires filled { IsTileImage tile.now }
+    requires inside { LiesIn area tile.now.place }
+    requires whole { IsWrittenIn (λ _ _. true) (λ _ _. true) tile.now.place area }
+    requires room { HasRoom (spans_in (λ _ _. true) tile.now.place) (pixels_in (λ _ _. true) tile.now.place) undo.old }
+    ensures { WritesRegion (spans_in (λ _ _. true) tile.now.place) (pixels_in (λ _ _. true) tile.now.place) (λ _ _. true) as_it_is keep_each tile.now undo.old tile.now undo.new }
+{
+    for y in area.top..area.bottom {
+        keep_row(y, tile, undo);
+    }
+}
+
+/// Gives all pixels a clear's colour, or its depth.
+fn fill(clear: Clear, tile: &mut Tile)
+    ensures { tile.new ≡ with_cleared clear tile.old }
+{
     match clear {
-        Clear::Colours(colour) => tile.row_mut(y).fill(colour),
-        Clear::Depths(depth) => tile.depth_row_mut(y).fill(depth),
+        Clear::Colours(colour) => tile.fill_colours(colour),
+        Clear::Depths(depth) => tile.fill_depths(depth),
     }
 }
 
 /// Keeps and then clears the pixels of a box, which has all of the tile.
 pub(crate) fn clear_rows(clear: Clear, area: Bounds, tile: &mut Tile, undo: &mut UndoStack)
+    requires made { tile.old.made ≡ true }
     requires filled { IsTileImage tile.old }
     requires inside { LiesIn area tile.old.place }
     requires whole { IsWrittenIn (λ _ _. true) (λ _ _. true) tile.old.place area }
     requires room { HasRoom (spans_in (λ _ _. true) tile.old.place) (pixels_in (λ _ _. true) tile.old.place) undo.old }
-    ensures { WritesRegion (spans_in (λ _ _. true) tile.old.place) (pixels_in (λ _ _. true) tile.old.place) (λ _ _. true) (λ _ _. cleared clear) keep_each tile.old undo.old tile.new undo.new }
+    ensures { Paints (λ _ _. cleared clear) keep_each tile.old undo.old tile.new undo.new }
 {
-    for y in area.top..area.bottom {
-        clear_row(clear, y, tile, undo);
-    }
+    keep_rows(area, tile, undo);
+    fill(clear, tile);
+}
+
+/// Draws a clear on a tile whose pixels are known to be alike, and puts a frame on top that keeps them as one colour and one depth. It says
+/// whether that is what was done: of other events and other tiles nothing changes. It makes the room itself, and none is left.
+pub fn clear_alike(event: &Event, tile: &mut Tile, undo: &mut UndoStack) -> Result<bool, Full>
+    ensures drawn { result ≡ Ok true → (state : Pipeline) → Paints (pixel_after event.now state) (kept_by event.now state) tile.old (without_room (undo.old.frames ++ [] ∷ [])) tile.new undo.new }
+    ensures alike { result ≡ Ok true → IsAlike tile.old.place (top undo.new.frames) }
+    ensures not { result ≡ Ok false → (tile.new ≡ tile.old) × (undo.new ≡ undo.old) }
+    ensures full { OnErr result ((tile.new ≡ tile.old) × (undo.new ≡ without_room undo.old.frames)) }
+{
+    let clear = match event {
+        Event::Clear(colour) => Clear::Colours(*colour),
+        Event::DepthClear(depth) => Clear::Depths(*depth),
+        _ => return Ok(false),
+    };
+    let (Some(colour), Some(depth)) = (tile.flat_colour(), tile.flat_depth()) else {
+        return Ok(false);
+    };
+    undo.push_alike(tile.place(), colour, depth)?;
+    fill(clear, tile);
+    Ok(true)
 }

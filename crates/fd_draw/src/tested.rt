@@ -22,6 +22,7 @@ use fd_undo::UndoStack;
 
 /// Stores depths in row y from column x on.
 fn store_depths(depths: &[u16], x: u32, y: u32, tile: &mut Tile)
+    requires made { tile.old.made ≡ true }
     requires filled { IsTileImage tile.old }
     requires crossed { HasRow tile.old.place y }
     requires from_left { tile.old.place.left ≤ x }
@@ -44,6 +45,7 @@ fn draw_run(
     tile: &mut Tile,
     undo: &mut UndoStack,
 )
+    requires made { tile.old.made ≡ true }
     requires brushed { IsBrushed primitive.now state.now }
     requires filled { IsTileImage tile.old }
     requires crossed { HasRow tile.old.place y }
@@ -73,6 +75,7 @@ fn draw_runs(
     tile: &mut Tile,
     undo: &mut UndoStack,
 )
+    requires made { tile.old.made ≡ true }
     requires brushed { IsBrushed primitive.now state.now }
     requires filled { IsTileImage tile.old }
     requires crossed { HasRow tile.old.place y }
@@ -109,6 +112,7 @@ fn draw_row(
     tile: &mut Tile,
     undo: &mut UndoStack,
 )
+    requires made { tile.old.made ≡ true }
     requires brushed { IsBrushed primitive.now state.now }
     requires depth_rows { depth_rows.now ≡ (primitive.now.corners, primitive.now.depths) }
     requires filled { IsTileImage tile.old }
@@ -138,6 +142,7 @@ pub(crate) fn draw_tested(
     tile: &mut Tile,
     undo: &mut UndoStack,
 )
+    requires made { tile.old.made ≡ true }
     requires brushed { IsBrushed primitive.now state.now }
     requires filled { IsTileImage tile.old }
     requires found { IsFoundOn (triangle_of primitive.now) state.now tile.old.place found.now }

@@ -1,6 +1,6 @@
 ghost use Rattle.std.specs.Prelude.{◌≤◌};
 
-use crate::{Demand, Plan, draw, first_listed};
+use crate::{Demand, Plan, clear_alike, draw, first_listed};
 use fd_blend::Colour;
 use fd_cover::{Cull, Depth, Func, Interp, Raster, Rect};
 use fd_events::{Draw, Event, Pipeline, Vertex};
@@ -76,6 +76,9 @@ fn canvas_of(alloc: Global, tile: Tile) -> Canvas {
 /// Draws an event, with room for just what it writes.
 fn draw_with_room(canvas: &mut Canvas, event: &Event, state: &Pipeline) -> Result<(), Fail> {
     let place = canvas.tile.place();
+    if !canvas.tile.is_made() {
+        return Err(Fail::from("no made tile"));
+    }
     let first = first_listed(event, place).ok_or("listed")?;
     let plan = Plan::of(event, state, place, first);
     canvas.undo.reserve(plan.demand.spans, plan.demand.pixels)?;
@@ -197,6 +200,22 @@ fn a_clear_keeps_every_pixel(rt: HostRuntime) -> Result<(), Fail> {
     Ok(())
 }
 
+/// On a tile that isn't made: a frame of one colour and one depth. A draw leaves it to others.
+#[test]
+fn a_clear_of_alike_pixels_keeps_one_colour(rt: HostRuntime) -> Result<(), Fail> {
+    let mut canvas = canvas_of(rt.alloc(), Tile::blank(rt.alloc(), CORNER));
+    let event = triangles(rt.alloc(), &[(LARGE, grey(3), 5)])?;
+    assert!(rt; !clear_alike(&event, &mut canvas.tile, &mut canvas.undo)?);
+    assert!(rt; clear_alike(&Event::Clear(grey(7)), &mut canvas.tile, &mut canvas.undo)?);
+    assert!(rt; clear_alike(&Event::DepthClear(9), &mut canvas.tile, &mut canvas.undo)?);
+    assert!(rt; !canvas.tile.is_made());
+    expect_recorded(&rt, &canvas.undo, 8);
+    expect_pixel(&rt, &canvas.tile, (1, 1), 7, 9);
+    expect_kept(&rt, &canvas.undo, 0, (1, 1), &[0]);
+    expect_kept(&rt, &canvas.undo, 1, (1, 1), &[7]);
+    Ok(())
+}
+
 #[test]
 fn triangles_are_drawn_in_their_order(rt: HostRuntime) -> Result<(), Fail> {
     let list = [(LARGE, grey(3), 5), (CLOCKWISE, grey(4), 6)];
@@ -293,7 +312,7 @@ fn row_of_five(alloc: Global) -> Result<Tile, Fail> {
     };
     let mut tile = Tile::fresh(alloc, place)?;
     for x in [1, 3] {
-        if !tile.place().holds(x, 0) {
+        if !tile.is_made() || !tile.place().holds(x, 0) {
             return Err(Fail::from("no such pixel"));
         }
         tile.set_depth(x, 0, 7);
@@ -361,7 +380,7 @@ fn expect_runs(
     };
     let mut tile = Tile::fresh(alloc, place)?;
     for x in 0..width {
-        assert!(rt; tile.place().holds(x, 0));
+        assert!(rt; tile.is_made() && tile.place().holds(x, 0));
         tile.set_depth(x, 0, 6 + (x % 3) as u16);
     }
     let mut canvas = canvas_of(alloc, tile);

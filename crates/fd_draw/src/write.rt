@@ -87,6 +87,7 @@ pub(crate) fn write_span(
     tile: &mut Tile,
     undo: &mut UndoStack,
 )
+    requires made { tile.old.made ≡ true }
     requires brushed { IsBrushed primitive.now state.now }
     requires filled { IsTileImage tile.old }
     requires crossed { HasRow tile.old.place y }
@@ -120,6 +121,7 @@ fn write_row(
     tile: &mut Tile,
     undo: &mut UndoStack,
 )
+    requires made { tile.old.made ≡ true }
     requires brushed { IsBrushed primitive.now state.now }
     requires found { IsFoundOn (triangle_of primitive.now) state.now tile.old.place found.now }
     requires from_top { found.now.area.top ≤ y }
@@ -142,6 +144,7 @@ fn write_rows(
     tile: &mut Tile,
     undo: &mut UndoStack,
 )
+    requires made { tile.old.made ≡ true }
     requires brushed { IsBrushed primitive.now state.now }
     requires filled { IsTileImage tile.old }
     requires found { IsFoundOn (triangle_of primitive.now) state.now tile.old.place found.now }
@@ -162,6 +165,7 @@ fn draw_primitive(
     tile: &mut Tile,
     undo: &mut UndoStack,
 )
+    requires made { tile.old.made ≡ true }
     requires brushed { IsBrushed primitive.now state.now }
     requires filled { IsTileImage tile.old }
     requires found { IsFoundOn (triangle_of primitive.now) state.now tile.old.place found.now }
@@ -185,6 +189,7 @@ fn draw_found(
     tile: &mut Tile,
     undo: &mut UndoStack,
 )
+    requires made { tile.old.made ≡ true }
     requires triangle { triangle < length (triangles_of draw.now) }
     requires filled { IsTileImage tile.old }
     requires found { IsFoundOn (triangle_at draw.now triangle) state.now tile.old.place found.now }
@@ -213,6 +218,7 @@ fn draw_triangle(
     tile: &mut Tile,
     undo: &mut UndoStack,
 )
+    requires made { tile.old.made ≡ true }
     requires triangle { triangle < length (triangles_of draw.now) }
     requires filled { IsTileImage tile.old }
     requires inside { LiesIn window tile.old.place }
@@ -230,6 +236,7 @@ fn draw_triangle(
 /// Keeps and then writes the pixels at which the triangles of a draw are drawn, one triangle after the other: those that are planned, and
 /// then the rest.
 fn draw_triangles(draw: &Draw, state: &Pipeline, plan: &Plan, tile: &mut Tile, undo: &mut UndoStack)
+    requires made { tile.old.made ≡ true }
     requires begun { undo.old.frame_left ≡ false }
     requires planned { ArePlanned draw.now state.now tile.old.place 0 plan.now.planned.items plan.now.rest }
     requires spans { sum_by (triangle_spans state.now tile.old.place) (triangles_of draw.now) ≤ undo.old.spans_left }
@@ -258,6 +265,7 @@ fn draw_triangles(draw: &Draw, state: &Pipeline, plan: &Plan, tile: &mut Tile, u
 /// Draws an event in a state on a tile, and keeps the pixels that it overwrites in the top frame, which has been begun with
 /// room for them. The plan is the event's.
 pub fn draw(event: &Event, state: &Pipeline, plan: &Plan, tile: &mut Tile, undo: &mut UndoStack)
+    requires made { tile.old.made ≡ true }
     requires begun { undo.old.frame_left ≡ false }
     requires planned { IsPlan plan.now event.now state.now tile.old.place }
     requires spans { event_spans event.now state.now tile.old.place ≤ undo.old.spans_left }

@@ -1,5 +1,5 @@
 -- An owner that forgets what its events overwrote, and how its history goes on.
-use Rattle.std.proofs.Common.{◌≡◌, ℕ, zero, suc, ◌+◌, List, [], ◌∷◌, length, refl, sym, ap, ◌∙◌, subst, arith}
+use Rattle.std.proofs.Common.{◌≡◌, ℕ, zero, suc, ◌+◌, List, [], ◌∷◌, length, refl, sym, ap, ◌∙◌, subst, arith, inl}
 use Rattle.std.specs.Prelude.{map, All}
 use Rattle.std.specs.List.{fold, sum_by, range_with_len}
 use Rattle.std.proofs.lemmas.List.{length-map}
@@ -7,12 +7,12 @@ use Rattle.std.proofs.lemmas.List.Elements.{All-nil, All-cons}
 use Rattle.fd_tile.specs.declared.place.Place.{Place}
 use Rattle.fd_tile.specs.Place.{Holds, over_place}
 use Rattle.fd_tile.specs.Tile.{Pixel, TileImage, pixel_in, pixels_of}
-use Rattle.fd_undo.specs.Frame.{KeptPixel}
+use Rattle.fd_undo.specs.Frame.{all_restored, KeptPixel, IsAlike}
 use Rattle.fd_undo.specs.Undo.{Undo}
 use Rattle.fd_undo.proofs.Restored.{Inside}
 use Rattle.fd_events.specs.Table.{Table}
 use Rattle.fd_owner.specs.History.{Frame, History, position, last_or, last_image, pixel_past, extend_by, pixels_recorded, frame_without_kept, without_past}
-use Rattle.fd_owner.specs.Owner.{all_restored, frames_seen, history_of, IsOwner}
+use Rattle.fd_owner.specs.Owner.{frames_seen, history_of, IsOwner}
 use Rattle.fd_owner.proofs.Histories.{position_extend_by, last_extend}
 use Rattle.fd_owner.proofs.Pictures.{opened, last-frames_seen, map_mapped}
 
@@ -43,9 +43,14 @@ inside-emptied : (p : Place) (frames : List (List KeptPixel)) → All (λ frame.
 inside-emptied p [] = All-nil (λ frame. Inside p frame)
 inside-emptied p (f ∷ frames) = All-cons (λ frame. Inside p frame) [] (emptied frames) (All-nil (λ (k : KeptPixel). Holds p k.x k.y)) (inside-emptied p frames)
 
+alike-emptied : (p : Place) (frames : List (List KeptPixel)) → All (λ frame. IsAlike p frame) (emptied frames)
+alike-emptied p [] = All-nil (λ frame. IsAlike p frame)
+alike-emptied p (f ∷ frames) = All-cons (λ frame. IsAlike p frame) [] (emptied frames) (inl refl) (alike-emptied p frames)
+
 pub IsOwner-emptied : (t : TileImage) (u u' : Undo) → u'.frames ≡ emptied u.frames → IsOwner t u → IsOwner t u'
 IsOwner-emptied t u u' is owner = record {
   inside = subst (λ fs. All (λ frame. Inside t.place frame) fs) (sym is) (inside-emptied t.place u.frames);
+  alike = λ _. subst (λ fs. All (λ frame. IsAlike t.place frame) fs) (sym is) (alike-emptied t.place u.frames);
   fits = omega (arith, ap length is, length-map u.frames (λ (f : List KeptPixel). let none : List KeptPixel = [] in none), owner.fits);
 }
 

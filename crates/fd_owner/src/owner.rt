@@ -1,4 +1,5 @@
-ghost use Rattle.std.specs.Prelude.{◌≡◌, ℕ, ◌+◌, ◌-◌, ◌<◌, ◌≤◌, ◌++◌, [], length, take, map, not, true, false, IsTrue, Some, None, slice_get, IfNone, IfSome, IsOk, OnOk, OnErr};
+ghost use Rattle.std.specs.Prelude.{◌≡◌, ℕ, ◌+◌, ◌-◌, ◌^◌, ◌<◌, ◌≤◌, ◌++◌, [], length, take, map, not, true, false, IsTrue, Some, None, Ok, slice_get};
+ghost use Rattle.std.specs.Prelude.{IfNone, IfSome, IsOk, OnOk, OnErr};
 ghost use Rattle.fd_tile.specs.Place.{Holds, HasRow, IsTilePlace};
 ghost use Rattle.fd_tile.specs.Tile.{FillsPlace, pixels_of, row_in, pixel_in};
 ghost use Rattle.fd_draw.specs.Paints.{Paints};
@@ -11,10 +12,10 @@ ghost use Rattle.fd_cover.specs.Bounds.{is_within};
 
 use fd_blend::Colour;
 use fd_cover::Bounds;
-use fd_draw::Plan;
+use fd_draw::{Demand, Plan};
 use fd_events::EventTable;
 use fd_tile::{Place, Tile};
-use fd_undo::UndoStack;
+use fd_undo::{Full, UndoStack};
 use std::alloc::{AllocError, Global};
 use std::marker::Model;
 use thiserror::Error;
@@ -29,19 +30,21 @@ pub struct Refused;
 pub struct Owner {
     tile: Tile,
     undo: UndoStack,
+    // whether nothing was drawn on the tile at position 0
+    opens_fresh: bool,
     refusals: u64,
     refused_at: Option<u32>,
 }
 
 impl Model for Owner {
-    ghost use Rattle.fd_owner.specs.Owner.{history_of, IsOwner};
+    ghost use Rattle.fd_owner.specs.Owner.{history_of, IsOwner, OpensFresh};
     ghost use Rattle.fd_owner.specs.Shown.{Shown};
 
     ghost Value = { Shown };
 
     ghost view = { λ o. record { place = o.tile.place; history = history_of o.tile o.undo; refusals = o.refusals; refused_at = o.refused_at } };
 
-    ghost invariant = { λ o. IsOwner o.tile o.undo };
+    ghost invariant = { λ o. IsOwner o.tile o.undo × OpensFresh o.opens_fresh o.tile o.undo };
 }
 
 impl Owner {
@@ -49,9 +52,11 @@ impl Owner {
     pub fn of(alloc: Global, tile: Tile) -> Owner
         ensures { result ≡ record { place = tile.place; history = record { opening = pixels_of tile; frames = [] }; refusals = 0; refused_at = None } }
     {
+        let (opens_fresh, _place) = (tile.is_fresh(), tile.place());
         Owner {
             tile,
             undo: UndoStack::new(alloc),
+            opens_fresh,
             refusals: 0,
             refused_at: None,
         }
@@ -177,16 +182,48 @@ impl Owner {
         let len = table.len();
         prove!(position < len);
         let plan = plan_past(table, position, self.tile.place(), first);
-        if self
-            .undo
-            .reserve(plan.demand.spans, plan.demand.pixels)
-            .is_err()
-        {
+        if plan.demand.pixels > 0 && self.clear_next(table, position + 1)? {
+            return Ok(());
+        }
+        self.draw_planned(table, &plan)
+    }
+
+    /// Draws the next event, which is switched on and whose plan this is.
+    fn draw_planned(&mut self, table: &EventTable, plan: &Plan) -> Result<(), Refused>
+        requires below { position self.old.history < length table.now.events }
+        requires on { flag_at table.now (position self.old.history + 1) ≡ Some true }
+        requires planned { IsPlanPast plan.now table.now (position self.old.history) self.old.place }
+        requires spans { plan.now.demand.spans ≡ spans_past table.now (position self.old.history) self.old.place }
+        requires pixels { plan.now.demand.pixels ≡ pixels_past table.now (position self.old.history) self.old.place }
+        ensures ok { OnOk result (self.new ≡ gone_forward table.now self.old) }
+        ensures refused { OnErr result (self.new ≡ refused self.old) }
+        ensures free { plan.now.demand.spans ≡ 0 → plan.now.demand.pixels ≡ 0 → IsOk result }
+    {
+        let position = self.undo.frames() as u32;
+        let (_len, _place) = (table.len(), self.tile.place());
+        if make_room(plan.demand, &mut self.tile, &mut self.undo).is_err() {
             return Err(self.refuse());
         }
         self.undo.begin();
-        draw_past(table, position, &plan, &mut self.tile, &mut self.undo);
+        draw_past(table, position, plan, &mut self.tile, &mut self.undo);
         Ok(())
+    }
+
+    /// Goes through the next event, which has this number and is switched on, where it is a clear and the tile's pixels are known to be alike. It says
+    /// whether it did.
+    fn clear_next(&mut self, table: &EventTable, number: u32) -> Result<bool, Refused>
+        requires next { number ≡ position self.old.history + 1 }
+        requires last { number ≤ length table.now.events }
+        requires on { flag_at table.now number ≡ Some true }
+        ensures drawn { result ≡ Ok true → self.new ≡ gone_forward table.now self.old }
+        ensures not { result ≡ Ok false → self.new ≡ self.old }
+        ensures refused { OnErr result (self.new ≡ refused self.old) }
+    {
+        let (_len, _place) = (table.len(), self.tile.place());
+        match fd_draw::clear_alike(table.event(number), &mut self.tile, &mut self.undo) {
+            Ok(drawn) => Ok(drawn),
+            Err(_) => Err(self.refuse()),
+        }
     }
 
     /// Tells of a step that was refused.
@@ -204,7 +241,21 @@ impl Owner {
         requires { 0 < position self.old.history }
         ensures { self.new ≡ gone_back self.old }
     {
-        self.undo.undo_top(&mut self.tile);
+        self.back_to(self.position() - 1);
+    }
+
+    /// Goes back to a position: frames are put back, and no event is read. Where nothing was drawn on the tile at position 0, and that is the position, no
+    /// frame is.
+    pub fn back_to(&mut self, to: u32)
+        requires { to ≤ position self.old.history }
+        ensures { self.new ≡ gone_back_to to self.old }
+    {
+        if to == 0 && self.opens_fresh {
+            self.undo.clear();
+            self.tile.renew();
+            return;
+        }
+        self.undo.undo_to(to as usize, &mut self.tile);
     }
 
     /// The first position from the owner's own on, and `to` at most, whose next event may write on the tile, as far as boxes and flags tell.
@@ -231,21 +282,12 @@ impl Owner {
         self.undo.pass_to(to as usize);
     }
 
-    /// Goes back at once over last events that overwrote nothing, to this position at most.
-    pub fn pass_back(&mut self, to: u32)
-        requires { to ≤ position self.old.history }
-        ensures moved { self.new ≡ gone_back_to (position self.new.history) self.old }
-        ensures least { to ≤ position self.new.history }
-        ensures most { position self.new.history ≤ position self.old.history }
-    {
-        self.undo.drop_empty(to as usize);
-    }
-
     /// Forgets what all events overwrote, and gives its memory back. The position and the image that is shown stay, and the way back shows that image alone.
     pub fn forget(&mut self)
         ensures { self.new ≡ forgotten self.old }
     {
         self.undo.forget();
+        self.opens_fresh = false;
     }
 }
 
@@ -297,16 +339,33 @@ fn plan_past(table: &EventTable, position: u32, place: Place, first: u32) -> Pla
     Plan::of(event, table.state_before(number), place, first)
 }
 
+/// Takes the memory that an event wants which writes so much on a tile: that of the tile, where it writes any pixel, and that of what it overwrites.
+fn make_room(demand: Demand, tile: &mut Tile, undo: &mut UndoStack) -> Result<(), Full>
+    ensures same { tile.new ≡ record tile.old { made = tile.new.made } }
+    ensures kept { tile.old.made ≡ true → tile.new.made ≡ true }
+    ensures frames { undo.new.frames ≡ undo.old.frames }
+    ensures made { OnOk result (0 < demand.pixels → tile.new.made ≡ true) }
+    ensures room { OnOk result (undo.new ≡ record { frames = undo.old.frames; frame_left = true; spans_left = demand.spans; pixels_left = demand.pixels }) }
+    ensures free { demand.spans ≡ 0 → demand.pixels ≡ 0 → length undo.old.frames + 1 < 2 ^ 64 → IsOk result }
+{
+    if demand.pixels > 0 {
+        tile.make().map_err(|_| Full)?;
+    }
+    undo.reserve(demand.spans, demand.pixels)
+}
+
 /// Draws the event after a position, which is switched on and whose plan this is, and keeps what it overwrites.
 fn draw_past(table: &EventTable, position: u32, plan: &Plan, tile: &mut Tile, undo: &mut UndoStack)
     requires below { position < length table.now.events }
     requires on { flag_at table.now (position + 1) ≡ Some true }
     requires begun { undo.old.frame_left ≡ false }
+    requires made { 0 < plan.now.demand.pixels → tile.old.made ≡ true }
     requires planned { IsPlanPast plan.now table.now position tile.old.place }
     requires most_pixels { plan.now.demand.pixels ≡ pixels_past table.now position tile.old.place }
     requires spans { spans_past table.now position tile.old.place ≤ undo.old.spans_left }
     requires pixels { pixels_past table.now position tile.old.place ≤ undo.old.pixels_left }
-    ensures { Paints (pixel_past table.now position) (kept_past table.now position) tile.old undo.old tile.new undo.new }
+    ensures painted { Paints (pixel_past table.now position) (kept_past table.now position) tile.old undo.old tile.new undo.new }
+    ensures not_made { tile.new.made ≡ false → undo.new ≡ undo.old }
 {
     let (_len, _place) = (table.len(), tile.place());
     // of many small draws most write nothing on a tile

@@ -1,8 +1,10 @@
+ghost use Rattle.std.proofs.Common.{ap};
 ghost use Rattle.std.specs.Prelude.{◌≡◌, ◌<◌, ◌≤◌, ◌+◌, ◌-◌, ◌^◌, ◌||◌, ◌&&◌, ℕ, List, Option, None, Bool, false, length, take, IfOk, OnErr, OnOk, is_ok};
 ghost use Rattle.std.specs.Io.KnownBytes.{Consumes, Appends, Keeps};
 ghost use Rattle.fd_pam.specs.Device.{ReadJudged, WriteJudged};
 ghost use Rattle.fd_pam.specs.Transfer.{Fills, Takes, CountsFailure, PutsOff, PassesOn, Puts};
 
+use fd_session::Progress;
 use std::io;
 use std::io::{Read, Write};
 use thiserror::Error;
@@ -38,14 +40,14 @@ pub trait Source {
 }
 
 /// What bytes go to.
-pub trait Sink {
+pub trait Sink: Progress {
     /// The bytes that it took, where the sink tells them.
     ghost contents: { Self → Option (List ℕ) } = { λ _. None };
 
-    /// How many calls failed, up to the largest `u64`.
     /// All bytes that it took were passed on.
     ghost is_flushed: { Self → Bool };
 
+    /// How many calls failed, up to the largest `u64`.
     ghost failure_count: { Self → ℕ };
 
     /// Takes a front of these bytes, one at least where there are any.
@@ -64,12 +66,9 @@ pub trait Sink {
     fn failures(&self) -> u64
         ensures { result ≡ failure_count self.now };
 
-    /// Is told, between the parts of a long move, at which position it is and to which it goes. It moves no byte, and can't fail.
-    fn on_the_way(&mut self, _at: u32, _to: u32)
-        ensures bytes { contents self.new ≡ contents self.old }
-        ensures flushed { is_flushed self.new ≡ is_flushed self.old }
-        ensures failures { failure_count self.new ≡ failure_count self.old }
-    {}
+    /// To be told of a move moves no byte, and is no call that can fail.
+    ghost only_told: { (a b : Self) → Self.kept a ≡ Self.kept b
+        → (contents a ≡ contents b) × (is_flushed a ≡ is_flushed b) × (failure_count a ≡ failure_count b) };
 }
 
 /// Puts all of the bytes, in as many calls as it takes, and counts those that were sent.
@@ -163,6 +162,12 @@ impl<T: Read> Source for Device<T> {
     }
 }
 
+impl<T: Write> Progress for Device<T> {
+    ghost Kept = { Option (List ℕ) × Bool × ℕ };
+
+    ghost kept = { λ d. (T.contents d.inner, d.flushed, d.failures) };
+}
+
 impl<T: Write> Sink for Device<T> {
     ghost contents = { λ d. T.contents d.inner };
 
@@ -191,4 +196,6 @@ impl<T: Write> Sink for Device<T> {
     fn failures(&self) -> u64 {
         self.failures
     }
+
+    ghost only_told = { λ a b same. (ap (λ k. k.0) same, ap (λ k. k.1) same, ap (λ k. k.2) same) };
 }

@@ -1,6 +1,6 @@
 -- The histories that a table's events give, and what the moves of all owners leave of them.
 use Rattle.std.proofs.Common.{◌≡◌, ℕ, zero, suc, ◌+◌, ◌-◌, ◌*◌, ◌/◌, ◌<◌, ◌≤◌, List, [], ◌∷◌, ◌++◌, length, map, get_or, refl, sym, ap, ◌∙◌, subst, arith}
-use Rattle.std.proofs.Common.{inl, inr, All}
+use Rattle.std.proofs.Common.{inl, inr, false, All}
 use Rattle.std.proofs.lemmas.Bool.{cases_lt}
 use Rattle.std.specs.List.{AllZip, range_with_len}
 use Rattle.std.proofs.lemmas.List.{length-map, get_or-map, map_push}
@@ -9,16 +9,16 @@ use Rattle.std.proofs.lemmas.List.Elements.{All-head, All-tail, All-cons, All-ni
 use Rattle.fd_blend.specs.declared.channel.Colour.{Colour}
 use Rattle.fd_blend.specs.Channel.{fresh}
 use Rattle.fd_tile.specs.declared.place.Place.{Place}
-use Rattle.fd_tile.specs.Place.{Holds, over_place}
-use Rattle.fd_tile.specs.Tile.{Pixel, TileImage, fresh_pixel, painted, pixel_of, pixel_in, pixels_of, row_in}
+use Rattle.fd_tile.specs.Place.{Holds}
+use Rattle.fd_tile.specs.Tile.{Pixel, TileImage, fresh_pixel, painted, pixel_in, pixels_of, row_in}
 use Rattle.fd_tile.specs.Grid.{TargetSize, tile_count, place_of}
-use Rattle.fd_tile.proofs.Pixels.{value_in-over_place, over_place_same, HasRow-from_Holds}
+use Rattle.fd_tile.proofs.Pixels.{HasRow-from_Holds}
 use Rattle.fd_events.specs.Table.{Table, IsTable}
 use Rattle.fd_events.specs.Image.{colour_at, pixel_at}
 use Rattle.fd_owner.specs.History.{History, position, last_image, extend, extend_by, extend_to, first_frames, fresh_history, drawn_history}
 use Rattle.fd_owner.specs.Shown.{Shown, IsInside, gone_back_to}
 use Rattle.fd_owner.proofs.Drawn.{position_drawn, last_drawn, pixel_drawn}
-use Rattle.fd_owner.proofs.Pictures.{map_mapped, row_in-over_place}
+use Rattle.fd_owner.proofs.Pictures.{map_mapped, row_in-over_place, pixels_painted}
 use Rattle.fd_owner.proofs.Histories.{extend_none, first_extend_to}
 use Rattle.std.proofs.Common.{take, drop}
 use Rattle.fd_session.specs.Machine.{State, at_position, Jumps}
@@ -187,6 +187,13 @@ left_down table low old between new from gone =
     let all = all_moved (StandsFrom table low) (StandsAt table low) (λ o p. p ≡ gone_back_to low o) (from_back table low) between new from.stand gone in
     record { places = all.0 ∙ from.places; stand = all.1 }
 
+-- where a run left them
+pub run_left : {E : Type 0} (table : Table) (from to : ℕ) (old new : List Shown) (r : Result Outcome E) → All (StandsFrom table from) old
+    → MatchResult r (λ outcome. GoesOn table from to old new outcome) (λ _. new ≡ old) → IsLeftFrom table (left_position from to r) old new
+run_left table from to old new (Ok Reached) at went = went
+run_left table from to old new (Ok (Stopped stop)) at went = went.2
+run_left table from to old new (Err e) at same = record { places = ap places_of same; stand = subst (All (StandsFrom table from)) (sym same) at }
+
 -- how a run of the crew ends
 pub run_goes : {E : Type 0} (table : Table) (from to : ℕ) (old new : List Shown) (r : Result Outcome E) → All (StandsFrom table from) old
     → MatchResult r (λ outcome. EndsApart (λ o. o) table to old new outcome) (λ _. new ≡ old)
@@ -203,15 +210,9 @@ run_goes table from to old new (Ok (Stopped stop)) at ended =
 run_goes table from to old new (Err e) at ended = ended
 
 -- ---- fresh owners
-pixels_painted : (p : Place) (f : ℕ → ℕ → Pixel) → pixels_of (painted p f) ≡ over_place p f
-pixels_painted p f =
-    over_place_same p (λ x y. pixel_of (painted p f) x y) f
-    (λ x y held. ap (λ (c : Colour). (c, (pixel_of (painted p f) x y).1)) (value_in-over_place p (λ a b. (f a b).0) x y fresh held)
-    ∙ ap (λ (d : ℕ). ((f x y).0, d)) (value_in-over_place p (λ a b. (f a b).1) x y 65535 held))
-
 pub fresh_more : (size : TargetSize) (count : ℕ) (owners : List Shown) (place : Place) (tile : TileImage) (o : Shown) → IsFresh size count owners
     → place ≡ place_of size count → (place.left + place.width ≤ size.width) × (place.top + place.height ≤ size.height)
-    → tile ≡ painted place (λ _ _. fresh_pixel)
+    → tile ≡ record (painted place (λ _ _. fresh_pixel)) { made = false }
     → o ≡ record { place = tile.place; history = record { opening = pixels_of tile; frames = [] }; refusals = 0; refused_at = None }
     → IsFresh size (count + 1) (owners ++ o ∷ [])
 fresh_more size count owners place tile o before is within painted made =

@@ -2,7 +2,6 @@ pub mod Drawing
 pub mod Held
 pub mod Machine
 pub mod Moves
-pub mod Parts
 pub mod Redraw
 pub mod Reversing
 pub mod Switch

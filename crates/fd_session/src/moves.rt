@@ -8,6 +8,7 @@ ghost use Rattle.fd_session.specs.Held.{StandsAt, IsLeftAt};
 ghost use Rattle.fd_session.specs.Moves.{IsFresh, StandsFrom, GoesOn, left_position, StopsBetween};
 
 use crate::estimate::Area;
+use crate::progress::Progress;
 use crate::worth::{MOVE_WORK, Slice, next_slice};
 use fd_crew::{Gate, Outcome, run_back, run_shared};
 use fd_events::EventTable;
@@ -39,13 +40,13 @@ pub(crate) fn lowest_position(owners: &[Owner], most: u32) -> u32
     lowest
 }
 
-/// An owner for each tile of the grid, at position 0.
+/// An owner for each tile of the grid, at position 0. A tile takes its memory when an event first draws on it.
 pub(crate) fn fresh_owners(alloc: Global, grid: &Grid) -> Result<Vec<Owner>, AllocError>
     ensures { IfOk result (λ owners. IsFresh grid.now (tile_count grid.now) owners.items) }
 {
     let mut owners = Vec::with_capacity(alloc, grid.count())?;
     for number in 0..grid.count() {
-        let tile = Tile::fresh(alloc, grid.place(number))?;
+        let tile = Tile::blank(alloc, grid.place(number));
         owners.push(Owner::of(alloc, tile))?;
     }
     Ok(owners)
@@ -56,19 +57,18 @@ pub(crate) fn fresh_owners(alloc: Global, grid: &Grid) -> Result<Vec<Owner>, All
 pub(crate) enum Pace {
     /// All at once, by all workers, among whom the tiles are shared out evenly.
     Whole,
-    /// Slice by slice, each by as many workers as it is worth; where memory runs out, the rest event by event. All that was done stays.
+    /// Slice by slice, each by as many workers as it is worth; where memory runs out, the rest of a slice event by event. All that was done stays.
     Slices,
-    /// Event by event, by one worker, which wants the least memory.
-    Events,
 }
 
 /// How a move forward is handed to the crew.
 #[derive(Clone, Copy)]
-pub(crate) struct Drive {
+pub(crate) struct Drive<'a, G: Gate> {
     pub pace: Pace,
     /// The most that a slice starts.
     pub workers: u32,
     pub alloc: Global,
+    pub gate: &'a G,
 }
 
 /// A move forward, from the lowest position at which an owner stands to another one.
@@ -80,7 +80,7 @@ pub(crate) struct Way {
     pub area: Area,
 }
 
-impl Drive {
+impl<G: Gate> Drive<'_, G> {
     /// The next events of a move that has come to a position.
     fn next(&self, table: &EventTable, at: u32, way: &Way) -> Slice
         requires ahead { at < way.now.to }
@@ -96,7 +96,6 @@ impl Drive {
         match self.pace {
             Pace::Whole => Slice::even(at, to, self.workers),
             Pace::Slices => next_slice(table, at, to, &way.area, self.workers, MOVE_WORK),
-            Pace::Events => Slice::even(at, at + 1, 1),
         }
     }
 }
@@ -104,11 +103,10 @@ impl Drive {
 /// Takes owners on over a slice, or all to the position before the first event that one of them refuses. Those that stand above the slice stay there.
 fn run_on<R: Threads + Sync, G: Gate>(
     rt: &R,
-    alloc: Global,
     owners: &mut [Owner],
     table: &EventTable,
     slice: &Slice,
-    gate: &G,
+    drive: &Drive<'_, G>,
 ) -> Result<Outcome, AllocError>
     requires stand { All (StandsFrom table.now slice.now.from) owners.old }
     requires target { slice.now.end ≤ length table.now.events }
@@ -116,76 +114,84 @@ fn run_on<R: Threads + Sync, G: Gate>(
     ensures { MatchResult result (λ outcome. GoesOn table.now slice.now.from slice.now.end owners.old owners.new outcome) (λ _. owners.new ≡ owners.old) }
 {
     let (end, workers) = (slice.end, slice.workers);
-    run_shared(rt, alloc, owners, table, end, workers, &slice.firsts, gate)
+    run_shared(
+        rt,
+        drive.alloc,
+        owners,
+        table,
+        end,
+        workers,
+        &slice.firsts,
+        drive.gate,
+    )
 }
 
-/// Takes owners on to a position at some pace, or to the one before the first event that one of them refuses. It is refused itself only where no owner
-/// has moved.
-fn go_at_pace<R: Threads + Sync, G: Gate>(
+/// Takes owners on over a slice. Where memory runs out in it the calling thread goes on alone, event by event: each thread wants memory of its own, and
+/// so does a tile that runs ahead.
+fn go_slice<R: Threads + Sync, G: Gate>(
     rt: &R,
     owners: &mut [Owner],
     table: &EventTable,
-    way: &Way,
-    drive: &Drive,
-    gate: &G,
+    slice: &Slice,
+    drive: &Drive<'_, G>,
 ) -> Result<Outcome, AllocError>
-    requires stand { All (StandsFrom table.now way.now.from) owners.old }
-    requires target { (way.now.from ≤ way.now.to) × (way.now.to ≤ length table.now.events) }
-    requires workers { (1 ≤ drive.now.workers) × (drive.now.workers ≤ 64) }
-    ensures { MatchResult result (λ outcome. GoesOn table.now way.now.from way.now.to owners.old owners.new outcome) (λ _. owners.new ≡ owners.old) }
+    requires stand { All (StandsFrom table.now slice.now.from) owners.old }
+    requires target { slice.now.end ≤ length table.now.events }
+    requires workers { (1 ≤ slice.now.workers) × (slice.now.workers ≤ 64) }
+    ensures { MatchResult result (λ outcome. GoesOn table.now slice.now.from slice.now.end owners.old owners.new outcome) (λ _. owners.new ≡ owners.old) }
 {
-    let mut at = way.from;
-    while at < way.to {
-        let slice = drive.next(table, at, way);
-        let run = run_on(rt, drive.alloc, owners, table, &slice, gate);
-        match run {
-            Ok(outcome) => {
-                if let Outcome::Stopped { .. } = outcome {
-                    return Ok(outcome);
-                }
-            }
-            Err(refused) => {
-                if at == way.from {
-                    return Err(refused);
-                }
-                return Ok(Outcome::Stopped { at });
-            }
+    let end = slice.end;
+    let outcome = run_on(rt, owners, table, slice, drive)?;
+    let Outcome::Stopped { mut at } = outcome else {
+        return Ok(outcome);
+    };
+    if drive.pace == Pace::Whole || (slice.workers == 1 && end == at + 1) {
+        return Ok(outcome);
+    }
+    while at < end {
+        let run = run_on(rt, owners, table, &Slice::even(at, at + 1, 1), drive);
+        if left_by(at, at + 1, &run) == at {
+            return Ok(Outcome::Stopped { at });
         }
-        at = slice.end;
+        at += 1;
     }
     Ok(Outcome::Reached)
 }
 
-/// The same. Where memory runs out one worker goes on event by event: each thread wants memory of its own, and so does a tile that runs ahead.
-fn go_on<R: Threads + Sync, G: Gate>(
+/// Takes owners on to a position slice by slice, or to the one before the first event that one of them refuses. It is refused itself only where no owner
+/// has moved. The teller is told after each slice but the last.
+fn go_on<R: Threads + Sync, G: Gate, T: Progress>(
     rt: &R,
     owners: &mut [Owner],
     table: &EventTable,
     way: &Way,
-    drive: &Drive,
-    gate: &G,
+    drive: &Drive<'_, G>,
+    teller: &mut T,
 ) -> Result<Outcome, AllocError>
     requires stand { All (StandsFrom table.now way.now.from) owners.old }
     requires target { (way.now.from ≤ way.now.to) × (way.now.to ≤ length table.now.events) }
     requires workers { (1 ≤ drive.now.workers) × (drive.now.workers ≤ 64) }
-    ensures { MatchResult result (λ outcome. GoesOn table.now way.now.from way.now.to owners.old owners.new outcome) (λ _. owners.new ≡ owners.old) }
+    ensures goes { MatchResult result (λ outcome. GoesOn table.now way.now.from way.now.to owners.old owners.new outcome) (λ _. owners.new ≡ owners.old) }
+    ensures told { T.kept teller.new ≡ T.kept teller.old }
 {
-    let outcome = go_at_pace(rt, owners, table, way, drive, gate)?;
-    let Outcome::Stopped { at } = outcome else {
-        return Ok(outcome);
-    };
-    let slice = drive.next(table, at, way);
-    if drive.pace == Pace::Whole || (slice.workers == 1 && slice.end == at + 1) {
-        return Ok(outcome);
+    let mut at = way.from;
+    while at < way.to {
+        let slice = drive.next(table, at, way);
+        let run = go_slice(rt, owners, table, &slice, drive);
+        let end = left_by(at, slice.end, &run);
+        if end < slice.end {
+            return if at == way.from {
+                run
+            } else {
+                Ok(Outcome::Stopped { at: end })
+            };
+        }
+        at = end;
+        if at < way.to {
+            teller.on_the_way(at, way.to);
+        }
     }
-    let rest = Way { from: at, ..*way };
-    let alone = Drive {
-        pace: Pace::Events,
-        workers: 1,
-        alloc: drive.alloc,
-    };
-    let further = go_at_pace(rt, owners, table, &rest, &alone, gate);
-    Ok(further.unwrap_or(Outcome::Stopped { at }))
+    Ok(Outcome::Reached)
 }
 
 /// The position to which a run forward from one position to another brought the owners.
@@ -201,21 +207,22 @@ pub(crate) fn left_by(from: u32, to: u32, run: &Result<Outcome, AllocError>) -> 
 
 /// Takes owners forward to a position, or to the one before the first event that one of them refuses, and all to that one position: those that stand
 /// above it go back. An `Err` says that none has gone forward.
-pub(crate) fn go_forward<R: Threads + Sync, G: Gate>(
+pub(crate) fn go_forward<R: Threads + Sync, G: Gate, T: Progress>(
     rt: &R,
     owners: &mut [Owner],
     table: &EventTable,
     way: &Way,
-    drive: &Drive,
-    gate: &G,
+    drive: &Drive<'_, G>,
+    teller: &mut T,
 ) -> Result<Outcome, AllocError>
     requires stand { All (StandsFrom table.now way.now.from) owners.old }
     requires target { (way.now.from ≤ way.now.to) × (way.now.to ≤ length table.now.events) }
     requires workers { (1 ≤ drive.now.workers) × (drive.now.workers ≤ 64) }
     ensures between { StopsBetween way.now.from way.now.to result }
     ensures left { IsLeftAt table.now (left_position way.now.from way.now.to result) owners.old owners.new }
+    ensures told { T.kept teller.new ≡ T.kept teller.old }
 {
-    let run = go_on(rt, owners, table, way, drive, gate);
+    let run = go_on(rt, owners, table, way, drive, teller);
     run_back(owners, left_by(way.from, way.to, &run));
     run
 }

@@ -1,19 +1,18 @@
 //! The image of a frame, drawn forward alone.
-ghost use Rattle.std.specs.Prelude.{◌≡◌, ℕ, ◌<◌, ◌≤◌, ◌+◌, length, map, All, IfOk, IfErr};
+ghost use Rattle.std.specs.Prelude.{◌≡◌, ◌<◌, ◌≤◌, ◌+◌, length, map, All, IfOk, IfErr};
 ghost use Rattle.std.specs.List.{range_with_len};
 ghost use Rattle.fd_owner.specs.Shown.{forgotten};
 ghost use Rattle.fd_crew.specs.Lanes.{opening_position};
 ghost use Rattle.fd_session.specs.Drawing.{ShowsAlone, IsDrawnAt};
-ghost use Rattle.fd_session.specs.Moves.{left_position, StopsBetween};
 
 use crate::answer::{Answer, SessionFault};
 use crate::estimate::Area;
-use crate::moves::{common_position, fresh_owners};
+use crate::moves::{common_position, fresh_owners, left_by};
+use crate::progress::Progress;
 use crate::rows::row_from;
-use crate::session::answer_to_jump;
 use crate::worth::{PICTURE_WORK, Slice, next_slice};
 use fd_blend::Colour;
-use fd_crew::{Free, Outcome, run_shared};
+use fd_crew::{Free, run_shared};
 use fd_events::EventTable;
 use fd_owner::Owner;
 use fd_tile::Grid;
@@ -47,8 +46,7 @@ impl Model for Picture {
 
 impl Picture {
     ghost use Rattle.fd_events.specs.Image.{colour_at};
-    ghost use Rattle.fd_session.specs.Machine.{opening, Jumps};
-    ghost use Rattle.fd_session.specs.Parts.{JumpsPart};
+    ghost use Rattle.fd_session.specs.Machine.{opening, at_position, Jumps};
 
     /// The image at position 0, which is drawn by at most so many workers. On want of memory the table is handed back.
     pub fn start(
@@ -73,54 +71,59 @@ impl Picture {
         }
     }
 
-    /// Draws a slice.
-    fn draw<R: Threads + Sync>(&mut self, rt: &R, slice: &Slice) -> Answer
-        requires ahead { self.old.position < slice.now.end }
+    /// Draws a slice, or its front where memory runs out, and gives the position that was reached.
+    fn draw<R: Threads + Sync>(&mut self, rt: &R, slice: &Slice) -> u32
+        requires ahead { self.old.position ≤ slice.now.end }
         requires within { slice.now.end ≤ length self.old.table.events }
         requires workers { (1 ≤ slice.now.workers) × (slice.now.workers ≤ 64) }
-        ensures { Jumps self.old slice.now.end result self.new }
+        ensures on { self.old.position ≤ result }
+        ensures within { result ≤ slice.now.end }
+        ensures drawn { self.new ≡ at_position self.old result }
     {
-        let run = draw_on(rt, self.alloc, &mut self.owners, &self.table, slice);
-        answer_to_jump(slice.end, run)
+        draw_on(rt, self.alloc, &mut self.owners, &self.table, slice)
     }
 
-    /// Draws a slice. Where memory runs out before its first event is drawn, the calling thread draws that one alone: each thread wants memory of its own,
-    /// and so does a tile that runs ahead.
-    fn draw_some<R: Threads + Sync>(&mut self, rt: &R, slice: &Slice) -> Answer
-        requires ahead { self.old.position < slice.now.end }
-        requires within { slice.now.end ≤ length self.old.table.events }
-        requires workers { (1 ≤ slice.now.workers) × (slice.now.workers ≤ 64) }
-        ensures { (end : ℕ) × (self.old.position < end) × (end ≤ slice.now.end) × Jumps self.old end result self.new }
+    /// Draws the next slice of the way to a position, and gives the position that was reached. Where memory runs out before its first event is drawn, the
+    /// calling thread draws that one alone: each thread wants memory of its own, and so does a tile that runs ahead.
+    fn draw_some<R: Threads + Sync>(&mut self, rt: &R, to: u32, area: &Area) -> u32
+        requires ahead { self.old.position < to }
+        requires within { to ≤ length self.old.table.events }
+        ensures on { self.old.position ≤ result }
+        ensures within { result ≤ to }
+        ensures drawn { self.new ≡ at_position self.old result }
     {
         let from = self.position();
-        let answer = self.draw(rt, slice);
-        if self.position() > from {
-            return answer;
+        let slice = next_slice(&self.table, from, to, area, self.workers, PICTURE_WORK);
+        let at = self.draw(rt, &slice);
+        if at > from {
+            return at;
         }
         self.draw(rt, &Slice::even(from, from + 1, 1))
     }
 
-    /// Draws a part of the way to a position, and gives the answer to the jump there where it has ended; else there is more to go. It stops where an event
-    /// is refused memory that is drawn by the calling thread alone.
-    pub fn go_part<R: Threads + Sync>(&mut self, rt: &R, to: u32) -> Option<Answer>
+    /// Draws on to a position, slice by slice. It stops where an event is refused memory that is drawn by the calling thread alone. The teller is told after
+    /// each slice but the last.
+    pub fn go<R: Threads + Sync, T: Progress>(&mut self, rt: &R, to: u32, teller: &mut T) -> Answer
         requires { self.old.position ≤ to }
-        ensures { JumpsPart self.old to result self.new }
+        ensures jumps { Jumps self.old to result self.new }
+        ensures told { T.kept teller.new ≡ T.kept teller.old }
     {
-        if to > self.table.len() {
-            return Some(Answer::Refused(SessionFault::NoSuchPosition));
+        if to > self.table().len() {
+            return Answer::Refused(SessionFault::NoSuchPosition);
         }
-        let from = self.position();
-        if from == to {
-            return Some(Answer::Moved { at: to });
+        let area = Area::of(self.table());
+        let mut at = self.position();
+        while at < to {
+            let end = self.draw_some(rt, to, &area);
+            if end == at {
+                return Answer::Stopped { at };
+            }
+            at = end;
+            if at < to {
+                teller.on_the_way(at, to);
+            }
         }
-        let area = Area::of(&self.table);
-        let slice = next_slice(&self.table, from, to, &area, self.workers, PICTURE_WORK);
-        let answer = self.draw_some(rt, &slice);
-        let at = self.position();
-        if from < at && at < to {
-            return None;
-        }
-        Some(answer)
+        Answer::Moved { at: to }
     }
 
     /// How many events have been gone through.
@@ -151,24 +154,25 @@ impl Picture {
     }
 }
 
-/// Takes all owners on over a slice, or to the position before the first event that one of them refuses, and lets them forget what was overwritten.
+/// Takes all owners on over a slice, or to the position before the first event that one of them refuses, and lets them forget what was overwritten. Gives the
+/// position that was reached.
 fn draw_on<R: Threads + Sync>(
     rt: &R,
     alloc: Global,
     owners: &mut [Owner],
     table: &EventTable,
     slice: &Slice,
-) -> Result<Outcome, AllocError>
+) -> u32
     requires shown { All (ShowsAlone table.now (opening_position owners.old)) owners.old }
     requires target { (opening_position owners.old ≤ slice.now.end) × (slice.now.end ≤ length table.now.events) }
     requires workers { (1 ≤ slice.now.workers) × (slice.now.workers ≤ 64) }
-    ensures between { StopsBetween (opening_position owners.old) slice.now.end result }
-    ensures drawn { IsDrawnAt table.now (left_position (opening_position owners.old) slice.now.end result) owners.old owners.new }
+    ensures between { (opening_position owners.old ≤ result) × (result ≤ slice.now.end) }
+    ensures drawn { IsDrawnAt table.now result owners.old owners.new }
 {
-    let (end, workers) = (slice.end, slice.workers);
+    let (from, end, workers) = (common_position(owners), slice.end, slice.workers);
     let run = run_shared(rt, alloc, owners, table, end, workers, &slice.firsts, &Free);
     forget_all(owners);
-    run
+    left_by(from, end, &run)
 }
 
 /// Lets all owners forget what was overwritten.

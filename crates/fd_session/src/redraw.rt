@@ -9,8 +9,9 @@ ghost use Rattle.fd_session.specs.Switch.{HoldsSwitched, unswitched};
 
 use crate::estimate::Area;
 use crate::moves::{Drive, Way, common_position, go_forward, left_by, lowest_position};
+use crate::progress::Untold;
 use crate::switch::Switch;
-use fd_crew::{Free, take_back};
+use fd_crew::Gate;
 use fd_events::EventTable;
 use fd_owner::Owner;
 use std::thread::Threads;
@@ -25,7 +26,7 @@ fn take_before(owner: &mut Owner, table: &EventTable, switch: &Switch)
     if switch.spares(table, owner) {
         return;
     }
-    take_back(owner, switch.number - 1);
+    owner.back_to(switch.number - 1);
 }
 
 /// Does so with all owners.
@@ -41,13 +42,13 @@ fn take_all_before(owners: &mut [Owner], table: &EventTable, switch: &Switch)
 }
 
 /// Switches an event that the owners have gone through, and draws anew what it can reach, in the end all up to one position. Gives that position.
-pub(crate) fn go_again<R: Threads + Sync>(
+pub(crate) fn go_again<R: Threads + Sync, G: Gate>(
     rt: &R,
     owners: &mut [Owner],
     table: &mut EventTable,
     number: u32,
     on: bool,
-    drive: &Drive,
+    drive: &Drive<'_, G>,
 ) -> u32
     requires stand { All (StandsAt table.old (opening_position owners.old)) owners.old }
     requires number { (1 ≤ number) × (number ≤ opening_position owners.old) }
@@ -67,6 +68,6 @@ pub(crate) fn go_again<R: Threads + Sync>(
         to: position,
         area: Area::round(table, switch.reach),
     };
-    let run = go_forward(rt, owners, table, &way, drive, &Free);
+    let run = go_forward(rt, owners, table, &way, drive, &mut Untold);
     left_by(way.from, way.to, &run)
 }

@@ -6,9 +6,9 @@ ghost use Rattle.fd_session.specs.Moves.{jump_answer};
 use crate::answer::{Answer, SessionFault};
 use crate::estimate::Area;
 use crate::moves::{Drive, Pace, Way, common_position, fresh_owners, go_back, go_forward};
+use crate::progress::{Progress, Untold};
 use crate::redraw::go_again;
 use crate::rows::row_from;
-use crate::worth::{MOVE_WORK, next_slice};
 use fd_blend::Colour;
 use fd_crew::{Free, Gate, Outcome};
 use fd_events::{EventTable, Pipeline};
@@ -46,7 +46,6 @@ impl Model for Session {
 impl Session {
     ghost use Rattle.fd_events.specs.Image.{colour_at};
     ghost use Rattle.fd_events.specs.Table.{state_at, flag_at};
-    ghost use Rattle.fd_session.specs.Parts.{JumpsPart};
     ghost use Rattle.fd_session.specs.Machine.{State, opening, Steps, GoesBack, Jumps, RefusesSwitch, Switches, ShowsPixel, ShowsDepth, ShowsFlag, ShowsHistory, IsState};
 
     /// A session at position 0, whose moves have at most so many workers. On want of memory the table is handed back.
@@ -73,7 +72,7 @@ impl Session {
     }
 
     /// How a move forward at this pace is handed to the crew.
-    fn drive(&self, pace: Pace) -> Drive
+    fn drive<'a, G: Gate>(&self, pace: Pace, gate: &'a G) -> Drive<'a, G>
         ensures some { 1 ≤ result.workers }
         ensures most { result.workers ≤ 64 }
     {
@@ -81,12 +80,21 @@ impl Session {
             pace,
             workers: self.workers,
             alloc: self.alloc,
+            gate,
         }
     }
 
     /// Jumps to a position, forward at this pace.
-    fn jump<R: Threads + Sync, G: Gate>(&mut self, rt: &R, to: u32, pace: Pace, gate: &G) -> Answer
-        ensures { Jumps self.old to result self.new }
+    fn jump<R: Threads + Sync, G: Gate, T: Progress>(
+        &mut self,
+        rt: &R,
+        to: u32,
+        pace: Pace,
+        gate: &G,
+        teller: &mut T,
+    ) -> Answer
+        ensures jumps { Jumps self.old to result self.new }
+        ensures told { T.kept teller.new ≡ T.kept teller.old }
     {
         if to > self.table.len() {
             return Answer::Refused(SessionFault::NoSuchPosition);
@@ -96,10 +104,10 @@ impl Session {
             go_back(&mut self.owners, to);
             return Answer::Moved { at: to };
         }
-        let drive = self.drive(pace);
+        let drive = self.drive(pace, gate);
         let area = Area::of(&self.table);
         let way = Way { from, to, area };
-        let run = go_forward(rt, &mut self.owners, &self.table, &way, &drive, gate);
+        let run = go_forward(rt, &mut self.owners, &self.table, &way, &drive, teller);
         answer_to_jump(to, run)
     }
 
@@ -118,40 +126,22 @@ impl Session {
     pub fn goto<R: Threads + Sync>(&mut self, rt: &R, to: u32) -> Answer
         ensures { Jumps self.old to result self.new }
     {
-        self.jump(rt, to, Pace::Slices, &Free)
+        self.go(rt, to, &mut Untold)
     }
 
-    /// The end of the next slice of a jump. A jump back, or to no position, has one slice.
-    fn next_end(&self, to: u32) -> u32
-        ensures { result ≢ to → (self.now.position < result) × (result < to) × (to ≤ length self.now.table.events) }
+    /// The same. The teller is told after each slice but the last how far the jump has come.
+    pub fn go<R: Threads + Sync, T: Progress>(&mut self, rt: &R, to: u32, teller: &mut T) -> Answer
+        ensures jumps { Jumps self.old to result self.new }
+        ensures told { T.kept teller.new ≡ T.kept teller.old }
     {
-        let from = self.position();
-        if to <= from || to > self.table.len() {
-            return to;
-        }
-        let area = Area::of(&self.table);
-        next_slice(&self.table, from, to, &area, self.workers, MOVE_WORK).end
-    }
-
-    /// Makes a part of a jump, and gives the answer to the jump where it has ended; else there is more to go, from nearer. A part is a slice by estimate.
-    pub fn goto_part<R: Threads + Sync>(&mut self, rt: &R, to: u32) -> Option<Answer>
-        ensures { JumpsPart self.old to result self.new }
-    {
-        let end = self.next_end(to);
-        let answer = self.goto(rt, end);
-        if let Answer::Moved { at } = answer {
-            if at != to {
-                return None;
-            }
-        }
-        Some(answer)
+        self.jump(rt, to, Pace::Slices, &Free, teller)
     }
 
     /// Jumps to a position, by all workers. On the way forward each tile passes the gate before each of its events.
     pub fn goto_gated<R: Threads + Sync, G: Gate>(&mut self, rt: &R, to: u32, gate: &G) -> Answer
         ensures { Jumps self.old to result self.new }
     {
-        self.jump(rt, to, Pace::Whole, gate)
+        self.jump(rt, to, Pace::Whole, gate, &mut Untold)
     }
 
     /// Why an event can't be switched on or off.
@@ -177,7 +167,7 @@ impl Session {
             self.table.set_on(number, on);
             return Answer::Moved { at: position };
         }
-        let drive = self.drive(Pace::Slices);
+        let drive = self.drive(Pace::Slices, &Free);
         let at = go_again(rt, &mut self.owners, &mut self.table, number, on, &drive);
         answer_to_switch(position, at)
     }
@@ -292,7 +282,7 @@ impl Session {
 }
 
 /// The answer to a jump for which the crew ran.
-pub(crate) fn answer_to_jump(to: u32, run: Result<Outcome, AllocError>) -> Answer
+fn answer_to_jump(to: u32, run: Result<Outcome, AllocError>) -> Answer
     ensures { result ≡ jump_answer to run }
 {
     match run {

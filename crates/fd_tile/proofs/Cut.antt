@@ -1,12 +1,12 @@
 -- Rows that stand one after the other in a list.
 use Rattle.std.proofs.Common.{◌≡◌, ℕ, zero, suc, ◌+◌, ◌-◌, ◌*◌, ◌<◌, ◌≤◌, List, [], ◌∷◌, ◌++◌, length, get_or, take, drop, replicate, refl, sym, ap}
-use Rattle.std.proofs.Common.{◌∙◌, arith, append_assoc, length-append, length-drop, Option}
-use Rattle.std.specs.Prelude.{slice_set, All}
+use Rattle.std.proofs.Common.{◌∙◌, arith, append_assoc, length-append, length-drop, Option, Bool, true, false}
+use Rattle.std.specs.Prelude.{slice_set, slice_index_or, unwrap_or, All, if◌then◌else◌}
 use Rattle.std.proofs.Math.Nat.{zero-mul, suc-mul, add-mul, mul-le-mul_right}
 use Rattle.std.proofs.lemmas.Nat.{row_fits}
 use Rattle.std.proofs.lemmas.List.{take_at, drop_at, take-take, take-append-le, drop-append-le, drop-drop, drop-take, length-take-le}
-use Rattle.std.proofs.lemmas.List.{take-append-drop, take-replicate, drop-replicate, with_items_is}
-use Rattle.std.proofs.lemmas.List.Elements.{All-nil, All-cons}
+use Rattle.std.proofs.lemmas.List.{take-append-drop, take-replicate, drop-replicate, length-replicate, with_items_is}
+use Rattle.std.proofs.lemmas.List.Elements.{All-nil, All-cons, All-replicate}
 use Rattle.std.specs.List.{refill, length_refill}
 use Rattle.std.specs.Global.{Vec}
 use Rattle.std.specs.Vec.{with_items}
@@ -15,7 +15,8 @@ use Rattle.fd_tile.specs.Place.{Holds, HasRow, IsTilePlace}
 use Rattle.fd_tile.specs.Part.{part_left}
 use Rattle.fd_blend.specs.declared.channel.Colour.{Colour}
 use Rattle.fd_tile.specs.Tile.{TileImage, FillsPlace, IsTileImage, IsTile, cut_rows, rows_over, row_in, with_row_in, with_row, with_rows_from, row_of}
-use Rattle.fd_tile.specs.Tile.{depth_row_of}
+use Rattle.fd_tile.specs.Tile.{depth_row_of, flat_over, rows_shown, depths_shown}
+use Rattle.fd_blend.specs.Channel.{fresh}
 use Rattle.fd_tile.proofs.Pixels.{HasRow-from_Holds, length-row_of, length-depth_row_of}
 
 -- the list with these items from index i on
@@ -181,13 +182,12 @@ pub rows_within : (p : Place) (size y start count n : ℕ) → size ≡ p.height
 rows_within p size y start count n counted low high begins wide = omega (arith, rows_fit (y - p.top) count p.height p.width (omega arith))
 
 abbrev of_rows : Place → List (List Colour) → List (List ℕ) → TileImage
-of_rows p rows depths = record { place = p; rows = rows; depths = depths }
+of_rows p rows depths = record { place = p; rows = rows; depths = depths; made = true }
 
 pub put_rows_is : (p : Place) (items : List Colour) (depths : List (List ℕ)) (y start count : ℕ) (new : List Colour) → length items ≡ p.height * p.width
     → p.top ≤ y → y + count ≤ p.top + p.height
     → start ≡ (y - p.top) * p.width → length new ≡ count * p.width
-    → record { place = p; rows = rows_over p (pasted_at start new items); depths = depths }
-    ≡ with_rows_from (record { place = p; rows = rows_over p items; depths = depths }) y (cut_rows p.width count new)
+    → of_rows p (rows_over p (pasted_at start new items)) depths ≡ with_rows_from (of_rows p (rows_over p items) depths) y (cut_rows p.width count new)
 put_rows_is p items depths y start zero [] counted low high begins wide = ap (λ l. of_rows p (rows_over p l) depths) (take-append-drop start items)
 put_rows_is p items depths y start zero (c ∷ new) counted low high begins wide = absurd (omega (arith, zero-mul p.width))
 put_rows_is p items depths y start (suc n) new counted low high begins wide =
@@ -226,8 +226,8 @@ module _ (p : Place) (v : Vec Colour) (y start count : ℕ) (new lent left : Lis
       ∙ length-pasted_at start new v.items (rows_within p (length v.items) y start count (length new) counted low high begins wide) ∙ sym v.ok.0)
       ∙ put_is
 
-  pub vec_put_rows_is : (depths : List (List ℕ)) → record { place = p; rows = rows_over p (with_items v put).items; depths = depths }
-      ≡ with_rows_from (record { place = p; rows = rows_over p v.items; depths = depths }) y (cut_rows p.width count new)
+  pub vec_put_rows_is : (depths : List (List ℕ)) → of_rows p (rows_over p (with_items v put).items) depths
+      ≡ with_rows_from (of_rows p (rows_over p v.items) depths) y (cut_rows p.width count new)
   vec_put_rows_is depths = ap (λ l. of_rows p (rows_over p l) depths) items_put ∙ put_rows_is p v.items depths y start count new counted low high begins wide
 
   pub vec_put_counted : length (with_items v put).items ≡ p.height * p.width
@@ -235,12 +235,39 @@ module _ (p : Place) (v : Vec Colour) (y start count : ℕ) (new lent left : Lis
       ∙ length-pasted_at start new v.items (rows_within p (length v.items) y start count (length new) counted low high begins wide) ∙ counted
 
 -- ---- a tile's fields
-pub IsTile-filled : (p : Place) (colours : List Colour) (depths : List ℕ) (flat : Option ℕ) → IsTile p colours depths flat
-    → IsTileImage (record { place = p; rows = rows_over p colours; depths = rows_over p depths })
-IsTile-filled p colours depths flat i = record {
-  colours = FillsPlace-rows_over p colours i.placed i.counted;
-  depths = FillsPlace-rows_over p depths i.placed i.deep_counted;
+pub FillsPlace-flat : {X : Type 0} (p : Place) (value : X) → IsTilePlace p → FillsPlace p (flat_over p value)
+FillsPlace-flat p value placed = record {
+  placed = placed;
+  high = length-replicate p.height (replicate p.width value);
+  wide = All-replicate (λ row. length row ≡ p.width) p.height (replicate p.width value) (length-replicate p.width value);
 }
+
+-- what is listed, or one value everywhere
+pub FillsPlace-shown : {X : Type 0} (p : Place) (made : Bool) (items : List X) (value : X) → IsTilePlace p → (made ≡ true → length items ≡ p.height * p.width)
+    → FillsPlace p (if made then rows_over p items else flat_over p value)
+FillsPlace-shown p true items value placed counted = FillsPlace-rows_over p items placed (counted refl)
+FillsPlace-shown p false items value placed counted = FillsPlace-flat p value placed
+
+pub IsTile-filled : (p : Place) (made : Bool) (colours : List Colour) (depths : List ℕ) (row : List Colour) (is_flat : Bool) (flat : Option ℕ)
+    → IsTile p made colours depths row is_flat flat
+    → IsTileImage (record { place = p; rows = rows_shown made p colours row; depths = depths_shown made p depths flat; made = made })
+IsTile-filled p made colours depths row is_flat flat i = record {
+  colours = FillsPlace-shown p made colours (slice_index_or row 0 fresh) i.placed i.counted;
+  depths = FillsPlace-shown p made depths (unwrap_or flat 65535) i.placed i.deep_counted;
+}
+
+-- one value everywhere, whether it is listed or not
+pub shown_flat : {X : Type 0} (p : Place) (made : Bool) (items : List X) (value : X) → (made ≡ true → items ≡ replicate (p.height * p.width) value)
+    → (if made then rows_over p items else flat_over p value) ≡ flat_over p value
+shown_flat p true items value same = ap (λ l. rows_over p l) (same refl) ∙ cut_rows-replicate p.width p.height value
+shown_flat p false items value same = refl
+
+-- all items of a Vec were given one value
+pub items_filled : {X : Type 0} (v : Vec X) (lent new : List X) (value : X) (n : ℕ) → lent ≡ v.items → new ≡ replicate (length lent) value
+    → length v.items ≡ n → (with_items v new).items ≡ replicate n value
+items_filled v lent new value n read filled counted =
+    let wide : length new ≡ length v.items = ap length filled ∙ length-replicate (length lent) value ∙ ap length read in
+    with_items_is v new (wide ∙ sym v.ok.0) ∙ filled ∙ ap (λ k. replicate k value) (ap length read ∙ counted)
 
 -- a pixel's column lies in its rows
 pub column_within : (t : TileImage) (p : Place) (x y : ℕ) → p ≡ t.place → IsTileImage t → Holds t.place x y → (x - p.left < length (row_of t y))

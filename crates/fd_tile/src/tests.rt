@@ -51,6 +51,39 @@ fn a_fresh_tile_has_no_colour_and_is_deep(rt: HostRuntime) -> Result<(), Fail> {
 }
 
 #[test]
+fn a_blank_tile_is_alike_until_it_is_made(rt: HostRuntime) -> Result<(), Fail> {
+    let place = Place {
+        left: 32,
+        top: 64,
+        width: 5,
+        height: 4,
+    };
+    let mut tile = Tile::blank(rt.alloc(), place);
+    assert!(rt; !tile.is_made());
+    assert_eq!(rt; tile.get(36, 67), NOTHING);
+    assert_eq!(rt; tile.depth(36, 67), 65535);
+    tile.fill_colours(RED);
+    tile.fill_depths(7);
+    assert_eq!(rt; tile.row(66), [RED; 5].as_slice());
+    assert_eq!(rt; tile.flat_colour(), Some(RED));
+    assert_eq!(rt; tile.depth(32, 64), 7);
+    tile.make()?;
+    assert!(rt; tile.is_made());
+    assert_eq!(rt; tile.row(64), [RED; 5].as_slice());
+    assert_eq!(rt; tile.depth_row(67), [7; 5].as_slice());
+    assert_eq!(rt; tile.flat_colour(), Some(RED));
+    tile.set(33, 65, NOTHING);
+    assert_eq!(rt; tile.flat_colour(), None);
+    assert_eq!(rt; tile.row(65), [RED, NOTHING, RED, RED, RED].as_slice());
+    tile.fill_colours(NOTHING);
+    tile.fill_depths(9);
+    assert_eq!(rt; tile.row(66), [NOTHING; 5].as_slice());
+    assert_eq!(rt; tile.depth(36, 67), 9);
+    assert_eq!(rt; tile.flat_depth(), Some(9));
+    Ok(())
+}
+
+#[test]
 fn several_rows_are_put_at_once(rt: HostRuntime) -> Result<(), Fail> {
     let place = Place {
         left: 32,

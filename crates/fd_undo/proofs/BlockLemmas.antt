@@ -1,15 +1,15 @@
 -- Frames between marks.
 use Rattle.std.proofs.Common.{subst, ◌≡◌, ◌≢◌, ℕ, zero, suc, ◌+◌, ◌-◌, ◌^◌, ◌<◌, ◌≤◌, ◌∙◌, List, [], ◌∷◌, ◌++◌, length, get_or, take, drop, refl, sym}
-use Rattle.std.proofs.Common.{ap, arith, length-append, length-drop, cond, eqb}
+use Rattle.std.proofs.Common.{ap, arith, length-drop, cond}
 use Rattle.std.proofs.lemmas.Bool.{eq-eqb, ne_eqb}
-use Rattle.std.proofs.lemmas.List.{length-take, take_all, take-take, drop-take, drop-append-le, take-append-le, get_or_push}
+use Rattle.std.proofs.lemmas.List.{length-take, take_all, take-take, drop-take}
 use Rattle.fd_undo.specs.declared.block.Mark.{Mark}
 use Rattle.fd_undo.specs.Span.{Span}
 use Rattle.fd_undo.specs.Frame.{KeptPixel}
-use Rattle.fd_undo.specs.Rows.{colour_count, depth_count, joined}
-use Rattle.fd_undo.specs.Block.{KeptFrame, no_frame, newest, others, found, Rise, next, marked, AreInOrder, no_mark, number_at, NumbersRise}
+use Rattle.fd_undo.specs.Rows.{Held, colour_count, depth_count, rows_of, joined, KeepsMore}
+use Rattle.fd_undo.specs.Block.{KeptFrame, no_frame, newest, others, keeping_row, found, Rise, next, marked, AreInOrder, no_mark, number_at, NumbersRise}
 use Rattle.fd_undo.proofs.FrameLemmas.{others-push, newest-push, others-newest}
-use Rattle.fd_undo.proofs.RowLemmas.{joined-push}
+use Rattle.fd_undo.proofs.RowLemmas.{length-rows_in}
 
 -- what a frame keeps: the rows from one up to another
 abbrev pub part : ℕ → ℕ → List (List KeptPixel) → List KeptPixel
@@ -132,7 +132,7 @@ one_more marks m spans rows frames at shown =
     ∙ ap (λ k. marked marks rows k ++ record { number = m.number; kept = [] } ∷ []) at
     ∙ ap (λ l. l ++ record { number = m.number; kept = [] } ∷ []) shown
 
--- ---- more is kept in the newest frame
+-- ---- more is kept in the newest frame, behind its mark
 module _ (low : List Mark) (m : Mark) (spans spans' : List Span) (rows rows' : List (List KeptPixel)) (frames : List KeptFrame) (row : List KeptPixel)
     (t : TopFrame low m spans rows frames)
     (same : take m.span spans ≡ take m.span spans') (long : m.span ≤ length spans') (size : length rows' ≡ length spans')
@@ -175,6 +175,34 @@ fewer low m spans left rows rows_left frames t is rows_are =
       subst (λ k. AreInOrder low left k) (sym size) (marks-same low spans left n n t.marks (omega arith) same),
     )
 
+-- the newest frame keeps more
+abbrev pub last_mark : List Mark → Mark
+last_mark marks = get_or marks (length marks - 1) no_mark
+
+module _ (marks : List Mark) (h : Held) (frames : List KeptFrame) (order : AreInOrder marks h.spans (length h.spans))
+    (seen : marked marks (rows_of h) (length h.spans) ≡ frames) (begun : 0 < length frames) where
+  pub some_marks : 0 < length marks
+  some_marks = omega (arith, begun, length-marked marks (rows_of h) (length h.spans), ap length seen)
+
+  split : marks ≡ others marks ++ last_mark marks ∷ []
+  split = others-newest marks no_mark some_marks
+
+  pub newest_frame : TopFrame (others marks) (last_mark marks) h.spans (rows_of h) frames
+  newest_frame = top_frame marks (others marks) (last_mark marks) h.spans (rows_of h) frames split (length-rows_in h.spans h.colours h.depths) order seen
+
+  module _ (n : Held) (row : List KeptPixel) (more : KeepsMore (last_mark marks).span h n row) where
+    pub in_order_grown : AreInOrder marks n.spans (length n.spans)
+    in_order_grown =
+        subst (λ l. AreInOrder l n.spans (length n.spans)) (sym split)
+        (more_marks (others marks) (last_mark marks) h.spans n.spans (rows_of h) (rows_of n) frames row newest_frame (sym more.spans) more.long
+        (length-rows_in n.spans n.colours n.depths) (sym more.low) more.high)
+
+    pub frames_grown : marked marks (rows_of n) (length n.spans) ≡ keeping_row frames row
+    frames_grown =
+        ap (λ l. marked l (rows_of n) (length n.spans)) split
+        ∙ more_frames (others marks) (last_mark marks) h.spans n.spans (rows_of h) (rows_of n) frames row newest_frame (sym more.spans) more.long
+        (length-rows_in n.spans n.colours n.depths) (sym more.low) more.high
+
 -- ---- a frame that is looked for by its number
 pub this_number : (f : KeptFrame) (frames : List KeptFrame) (n : ℕ) → f.number ≡ n → found n (f ∷ frames) ≡ f.kept
 this_number f frames n same = ap (λ b. cond b f.kept (found n frames)) (eq-eqb f.number n same)
@@ -182,28 +210,37 @@ this_number f frames n same = ap (λ b. cond b f.kept (found n frames)) (eq-eqb 
 pub other_number : (f : KeptFrame) (frames : List KeptFrame) (n : ℕ) → f.number ≢ n → found n (f ∷ frames) ≡ found n frames
 other_number f frames n other = ap (λ b. cond b f.kept (found n frames)) (ne_eqb f.number n other)
 
-rise-at : (marks : List Mark) (rows : List (List KeptPixel)) (end i count a : ℕ) → Rise i (marked marks rows end) count → a < length marks
-    → i ≤ number_at marks a
-rise-at [] rows end i count a is within = absurd (omega arith)
-rise-at (m ∷ marks) rows end i count zero is within = is.0
-rise-at (m ∷ marks) rows end i count (suc a) is within =
-    omega (arith, is.0, rise-at marks rows end (m.number + 1) count a is.1 (omega arith))
+rise-place : (frames : List KeptFrame) (i count a : ℕ) → Rise i frames count → a < length frames → i ≤ (get_or frames a no_frame).number
+rise-place [] i count a is within = absurd (omega arith)
+rise-place (f ∷ frames) i count zero is within = is.0
+rise-place (f ∷ frames) i count (suc a) is within = omega (arith, is.0, rise-place frames (f.number + 1) count a is.1 (omega arith))
+
+pub found-place : (frames : List KeptFrame) (i count a : ℕ) → Rise i frames count → a < length frames
+    → found (get_or frames a no_frame).number frames ≡ (get_or frames a no_frame).kept
+found-place [] i count a is within = absurd (omega arith)
+found-place (f ∷ frames) i count zero is within = this_number f frames f.number refl
+found-place (f ∷ frames) i count (suc a) is within =
+    let n : ℕ = (get_or frames a no_frame).number in
+    let later : f.number + 1 ≤ (get_or frames a no_frame).number = rise-place frames (f.number + 1) count a is.1 (omega arith) in
+    other_number f frames n (λ e. absurd (omega (arith, later, e))) ∙ found-place frames (f.number + 1) count a is.1 (omega arith)
+
+-- the frame of the mark at a place
+pub marked-at : (marks : List Mark) (rows : List (List KeptPixel)) (end a : ℕ) → a < length marks
+    → get_or (marked marks rows end) a no_frame ≡ frame (get_or marks a no_mark) (next (drop (suc a) marks) end) rows
+marked-at [] rows end a within = absurd (omega arith)
+marked-at (m ∷ marks) rows end zero within = refl
+marked-at (m ∷ marks) rows end (suc a) within = marked-at marks rows end a (omega arith)
 
 pub marks-rise : (marks : List Mark) (rows : List (List KeptPixel)) (end i count : ℕ) → Rise i (marked marks rows end) count → NumbersRise marks
 marks-rise [] rows end i count is a b before within = absurd (omega arith)
 marks-rise (m ∷ marks) rows end i count is a zero before within = absurd (omega arith)
 marks-rise (m ∷ marks) rows end i count is zero (suc b) before within =
-    omega (arith, rise-at marks rows end (m.number + 1) count b is.1 (omega arith))
+    omega (
+      arith,
+      rise-place (marked marks rows end) (m.number + 1) count b is.1 (omega (arith, within, length-marked marks rows end)),
+      ap (λ (f : KeptFrame). f.number) (marked-at marks rows end b (omega (arith, within))),
+    )
 marks-rise (m ∷ marks) rows end i count is (suc a) (suc b) before within = marks-rise marks rows end (m.number + 1) count is.1 a b (omega arith) (omega arith)
-
-pub found-at : (marks : List Mark) (rows : List (List KeptPixel)) (end i count a : ℕ) → Rise i (marked marks rows end) count → a < length marks
-    → found (number_at marks a) (marked marks rows end) ≡ part (get_or marks a no_mark).span (next (drop (suc a) marks) end) rows
-found-at [] rows end i count a is within = absurd (omega arith)
-found-at (m ∷ marks) rows end i count zero is within = this_number (frame m (next marks end) rows) (marked marks rows end) m.number refl
-found-at (m ∷ marks) rows end i count (suc a) is within =
-    let later : m.number + 1 ≤ number_at marks a = rise-at marks rows end (m.number + 1) count a is.1 (omega arith) in
-    other_number (frame m (next marks end) rows) (marked marks rows end) (number_at marks a) (λ e. absurd (omega (arith, later)))
-    ∙ found-at marks rows end (m.number + 1) count a is.1 (omega arith)
 
 pub found-none : (marks : List Mark) (rows : List (List KeptPixel)) (end n : ℕ) → ((a : ℕ) → a < length marks → number_at marks a ≢ n)
     → found n (marked marks rows end) ≡ []

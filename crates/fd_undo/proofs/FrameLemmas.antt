@@ -1,9 +1,10 @@
 -- The newest of a list, and the pixels of frames.
-use Rattle.std.proofs.Common.{◌≡◌, ℕ, suc, ◌+◌, ◌-◌, ◌<◌, List, [], ◌∷◌, ◌++◌, length, get_or, refl, sym, ap, ◌∙◌, arith}
-use Rattle.std.proofs.lemmas.List.{take_at, get_or_push, take_all, length_push, take_more}
+use Rattle.std.proofs.Common.{◌≡◌, ℕ, zero, suc, ◌+◌, ◌-◌, ◌*◌, ◌<◌, ◌≤◌, List, [], ◌∷◌, ◌++◌, length, get_or, take, refl, sym, ap, ◌∙◌, arith, length-append}
+use Rattle.std.proofs.Math.Nat.{zero-mul, suc-mul}
+use Rattle.std.proofs.lemmas.List.{take_at, get_or_push, take_all, length_push, take_more, take-take, length-take}
 use Rattle.std.proofs.lemmas.List.Sums.{sum_by-cons, sum_by_push}
 use Rattle.fd_tile.specs.Tile.{Pixel}
-use Rattle.fd_undo.specs.Frame.{KeptPixel, kept_row, top, older}
+use Rattle.fd_undo.specs.Frame.{KeptPixel, kept_row, kept_rows, top, older}
 use Rattle.fd_undo.specs.Block.{others}
 use Rattle.fd_undo.specs.Undo.{recorded_in}
 
@@ -28,6 +29,21 @@ top-push xs y = newest-push xs y []
 pub older-top : {X : Type 0} (xs : List (List X)) → 0 < length xs → xs ≡ older xs ++ top xs ∷ []
 older-top xs some = others-newest xs [] some
 
+-- ---- the first of some frames
+abbrev pub IsFront : {X : Type 0} → List X → List X → Type 0
+IsFront xs front = front ≡ take (length front) xs
+
+pub front-front : {X : Type 0} (xs ys zs : List X) → IsFront xs ys → IsFront ys zs → IsFront xs zs
+front-front xs ys zs first second =
+    let short : length zs ≤ length ys = omega (arith, ap length second, length-take (length zs) ys) in
+    second ∙ ap (take (length zs)) first ∙ take-take (length zs) (length ys) xs short
+
+pub front-older : {X : Type 0} (xs : List (List X)) → IsFront xs (older xs)
+front-older xs = ap (λ n. take n xs) {x = length xs - 1} {y = length (older xs)} (omega (arith, length-take (length xs - 1) xs))
+
+pub front-append : {X : Type 0} (xs ys zs : List X) → zs ≡ xs ++ ys → IsFront zs xs
+front-append xs ys zs is = sym (ap (take (length xs)) is ∙ take_at xs ys (length xs) refl)
+
 -- ---- how many pixels are kept
 pub recorded_in-cons : (f : List KeptPixel) (frames : List (List KeptPixel)) → recorded_in (f ∷ frames) ≡ length f + recorded_in frames
 recorded_in-cons f frames = sum_by-cons (λ (ks : List KeptPixel). length ks) f frames
@@ -38,3 +54,18 @@ recorded_in-push frames f = sum_by_push (λ (ks : List KeptPixel). length ks) fr
 pub length-kept_row : (x y : ℕ) (cs : List Pixel) → length (kept_row x y cs) ≡ length cs
 length-kept_row x y [] = refl
 length-kept_row x y (c ∷ cs) = ap (λ n. suc n) (length-kept_row (x + 1) y cs)
+
+-- ---- rows that are alike
+pub length-kept_rows : (x y n : ℕ) (cs : List Pixel) → length (kept_rows x y n cs) ≡ n * length cs
+length-kept_rows x y zero cs = sym (zero-mul (length cs))
+length-kept_rows x y (suc n) cs =
+    omega (
+      arith,
+      length-append (kept_rows x y n cs) (kept_row x (y + n) cs),
+      length-kept_rows x y n cs,
+      length-kept_row x (y + n) cs,
+      suc-mul n (length cs),
+    )
+
+pub kept_rows-one : (x y n : ℕ) (cs : List Pixel) → n ≡ 1 → kept_rows x y n cs ≡ kept_row x y cs
+kept_rows-one x y n cs one = ap (λ k. kept_rows x y k cs) one ∙ ap (λ z. kept_row x z cs) {x = y + 0} {y = y} (omega arith)

@@ -4,7 +4,7 @@ use Rattle.std.proofs.Common.{arith, append_assoc}
 use Rattle.std.specs.Prelude.{slice_set, All}
 use Rattle.std.proofs.lemmas.List.{take_more, take_at, drop_at, set_at, length-take, length-set, length-replicate, drop-drop, take-append-drop}
 use Rattle.std.proofs.lemmas.List.{take-replicate, drop-replicate, replicate-append-replicate}
-use Rattle.std.proofs.lemmas.List.Elements.{All-head, All-tail, All-take, All-drop}
+use Rattle.std.proofs.lemmas.List.Elements.{All-nil, All-cons, All-head, All-tail, All-take, All-drop}
 use borrow.Rule.Slice.PartMut.{put_mid}
 use Rattle.fd_blend.specs.declared.channel.Colour.{Colour}
 use Rattle.fd_tile.specs.declared.place.Place.{Place}
@@ -38,6 +38,10 @@ pub restored-place : (ks : List KeptPixel) (t : TileImage) → (restored ks t).p
 restored-place [] t = refl
 restored-place (k ∷ ks) t = restored-place ks t
 
+pub restored-made : (ks : List KeptPixel) (t : TileImage) → (restored ks t).made ≡ t.made
+restored-made [] t = refl
+restored-made (k ∷ ks) t = restored-made ks t
+
 -- ---- a part of one row
 pub kept_row-within : (p : Place) (x y : ℕ) (old : List Pixel) → Inside p (kept_row x y old) → 0 < length old → x + length old ≤ p.left + p.width
 kept_row-within p x y [] h some = absurd (omega arith)
@@ -53,6 +57,13 @@ kept_row-within p x y (c ∷ d ∷ cs) h some =
       pixel = c;
     }) (kept_row (x + 1) y (d ∷ cs)) h) (omega arith) in
     omega arith
+
+pub kept_row-inside : (p : Place) (x y : ℕ) (old : List Pixel) → HasRow p y → p.left ≤ x → x + length old ≤ p.left + p.width → Inside p (kept_row x y old)
+kept_row-inside p x y [] crossed low high = All-nil (λ (k : KeptPixel). Holds p k.x k.y)
+kept_row-inside p x y (c ∷ cs) crossed low high =
+    All-cons (λ (k : KeptPixel). Holds p k.x k.y) (record { x = x; y = y; pixel = c }) (kept_row (x + 1) y cs)
+    (record { from_left = low; to_right = omega arith; from_top = crossed.from_top; to_bottom = crossed.to_bottom })
+    (kept_row-inside p (x + 1) y cs crossed (omega arith) (omega arith))
 
 pub kept_row-first : (p : Place) (x y : ℕ) (old : List Pixel) → Inside p (kept_row x y old) → 0 < length old → Holds p x y
 kept_row-first p x y [] h some = absurd (omega arith)
@@ -87,19 +98,19 @@ row_step p rows y filled crossed rest j x =
     ap (λ r. with_row_in p (with_row_in p rows y rest) y (slice_set r j x)) (row_in-same p rows y filled crossed rest)
     ∙ with_row_in-twice p rows y filled crossed rest (slice_set rest j x)
 
-abbrev of_rows : Place → List (List Colour) → List (List ℕ) → TileImage
-of_rows p rows depths = record { place = p; rows = rows; depths = depths }
+abbrev of_rows : TileImage → List (List Colour) → List (List ℕ) → TileImage
+of_rows t rows depths = record t { rows = rows; depths = depths }
 
 -- colours and depths that are put back in one row
 restored-kept_row : (t : TileImage) (x y : ℕ) (old : List Colour) (deep : List ℕ) → length deep ≡ length old → IsTileImage t → HasRow t.place y
     → t.place.left ≤ x
     → restored (kept_row x y (zip old deep)) t
-    ≡ of_rows t.place (with_row_in t.place t.rows y (pasted (x - t.place.left) old (row_of t y))) (with_row_in t.place t.depths y
+    ≡ of_rows t (with_row_in t.place t.rows y (pasted (x - t.place.left) old (row_of t y))) (with_row_in t.place t.depths y
     (pasted (x - t.place.left) deep (depth_row_of t y)))
 unfolding pasted
 restored-kept_row t x y [] [] equal filled crossed low =
-    ap (λ rows. of_rows t.place rows t.depths) (sym (with_row_in-as_it_is t.place t.rows y))
-    ∙ ap (λ depths. of_rows t.place (with_row_in t.place t.rows y (row_of t y)) depths) (sym (with_row_in-as_it_is t.place t.depths y))
+    ap (λ rows. of_rows t rows t.depths) (sym (with_row_in-as_it_is t.place t.rows y))
+    ∙ ap (λ depths. of_rows t (with_row_in t.place t.rows y (row_of t y)) depths) (sym (with_row_in-as_it_is t.place t.depths y))
 restored-kept_row t x y [] (d ∷ ds) equal filled crossed low = absurd (omega arith)
 restored-kept_row t x y (c ∷ cs) [] equal filled crossed low = absurd (omega arith)
 restored-kept_row t x y (c ∷ cs) (d ∷ ds) equal filled crossed low =
@@ -108,13 +119,13 @@ restored-kept_row t x y (c ∷ cs) (d ∷ ds) equal filled crossed low =
     let next : x + 1 - t.place.left ≡ x - t.place.left + 1 = omega arith in
     let colours : List Colour = pasted (x - t.place.left + 1) cs (row_of t y) in
     let depths : List ℕ = pasted (x - t.place.left + 1) ds (depth_row_of t y) in
-    let rest : restored (kept_row (x + 1) y (zip cs ds)) t ≡ of_rows t.place (with_row_in t.place t.rows y colours) (with_row_in t.place t.depths y depths) =
+    let rest : restored (kept_row (x + 1) y (zip cs ds)) t ≡ of_rows t (with_row_in t.place t.rows y colours) (with_row_in t.place t.depths y depths) =
     restored-kept_row t (x + 1) y cs ds (omega arith) filled crossed (omega arith)
-    ∙ ap (λ k. of_rows p (with_row_in p t.rows y (pasted k cs (row_of t y))) (with_row_in p t.depths y (pasted k ds (depth_row_of t y)))) next in
+    ∙ ap (λ k. of_rows t (with_row_in p t.rows y (pasted k cs (row_of t y))) (with_row_in p t.depths y (pasted k ds (depth_row_of t y)))) next in
     ap (λ u. with_pixel u x y (c, d)) rest
-    ∙ ap (λ rows. of_rows p rows (with_row_in p (with_row_in p t.depths y depths) y (slice_set (row_in p (with_row_in p t.depths y depths) y) j d)))
+    ∙ ap (λ rows. of_rows t rows (with_row_in p (with_row_in p t.depths y depths) y (slice_set (row_in p (with_row_in p t.depths y depths) y) j d)))
     (row_step p t.rows y filled.colours crossed colours j c)
-    ∙ ap (λ ds. of_rows p (with_row_in p t.rows y (slice_set colours j c)) ds) (row_step p t.depths y filled.depths crossed depths j d)
+    ∙ ap (λ ds. of_rows t (with_row_in p t.rows y (slice_set colours j c)) ds) (row_step p t.depths y filled.depths crossed depths j d)
 
 -- a part of a row that is written over the row as it was read
 part_left : {X : Type 0} (p : Place) (rows : List (List X)) (y x j n : ℕ) (old row now : List X) (other : X) → FillsPlace p rows → HasRow p y
@@ -144,9 +155,9 @@ put_back_row_is t x y j n old row now deep deep_row deep_now equal filled inside
     let first : Holds t.place x y = kept_row-first t.place x y (zip old deep) inside (omega arith) in
     let crossed : HasRow t.place y = record { from_top = first.from_top; to_bottom = first.to_bottom } in
     let within : x + length old ≤ t.place.left + t.place.width = omega (arith, kept_row-within t.place x y (zip old deep) inside (omega arith), long) in
-    ap (λ rows. of_rows p rows (with_row_in p t.depths y (refill (length (row_in p t.depths y)) (row_in p t.depths y) (put_mid j n deep_row deep_now))))
+    ap (λ rows. of_rows t rows (with_row_in p t.depths y (refill (length (row_in p t.depths y)) (row_in p t.depths y) (put_mid j n deep_row deep_now))))
     (part_left p t.rows y x j n old row now fresh filled.colours crossed first.from_left within at count read after)
-    ∙ ap (λ depths. of_rows p (with_row_in p t.rows y (pasted (x - p.left) old (row_of t y))) depths)
+    ∙ ap (λ depths. of_rows t (with_row_in p t.rows y (pasted (x - p.left) old (row_of t y))) depths)
     (part_left p t.depths y x j n deep deep_row deep_now 0 filled.depths crossed first.from_left (omega (
       arith,
       within,
@@ -182,7 +193,7 @@ put_back_row_alike t x y j n depth old row now deep alike filled flat inside som
     let again : pasted (x - p.left) deep (row_in p t.depths y) ≡ row_in p t.depths y =
     ap (λ l. pasted (x - p.left) l (row_in p t.depths y)) alike ∙ ap (λ l. pasted (x - p.left) (replicate (length old) depth) l) deep_row
     ∙ pasted-alike depth (x - p.left) (length old) p.width (omega (arith, within, first.from_left)) ∙ sym deep_row in
-    ap (λ rows. of_rows p rows t.depths) (part_left p t.rows y x j n old row now fresh filled.colours crossed first.from_left within at count read after)
-    ∙ ap (λ depths. of_rows p (with_row_in p t.rows y (pasted (x - p.left) old (row_of t y))) depths)
+    ap (λ rows. of_rows t rows t.depths) (part_left p t.rows y x j n old row now fresh filled.colours crossed first.from_left within at count read after)
+    ∙ ap (λ depths. of_rows t (with_row_in p t.rows y (pasted (x - p.left) old (row_of t y))) depths)
     (sym (ap (λ r. with_row_in p t.depths y r) again ∙ with_row_in-as_it_is p t.depths y))
     ∙ sym (restored-kept_row t x y old deep equal filled crossed first.from_left)

@@ -1,15 +1,16 @@
 -- Rows of spans.
-use Rattle.std.proofs.Common.{◌≡◌, ℕ, zero, suc, ◌+◌, ◌-◌, ◌<◌, ◌≤◌, ◌∙◌, List, [], ◌∷◌, ◌++◌, length, get_or, take, drop, refl, sym, ap, arith}
-use Rattle.std.proofs.Common.{sum_by, length-append, length-drop, append_assoc}
+use Rattle.std.proofs.Common.{◌≡◌, ℕ, zero, suc, ◌+◌, ◌-◌, ◌*◌, ◌<◌, ◌≤◌, ◌∙◌, List, [], ◌∷◌, ◌++◌, length, get_or, take, drop, refl, sym, ap, arith}
+use Rattle.std.proofs.Common.{length-drop, length-append, append_assoc}
 use Rattle.std.proofs.lemmas.List.{drop-append-le, take-append-drop, length-take, drop-drop, append-nil, take_all, drop_all, drop_more}
 use Rattle.std.proofs.lemmas.List.Sums.{sum_by_push, sum_by-cons}
 use Rattle.fd_blend.specs.declared.channel.Colour.{Colour}
 use Rattle.fd_undo.specs.Span.{Span}
 use Rattle.fd_undo.specs.Frame.{KeptPixel}
 use Rattle.fd_undo.specs.Block.{others}
-use Rattle.fd_undo.specs.Rows.{listed_colours, listed_depths, colour_count, depth_count, row_of_span, rows_in, rows_of, joined, newest_row, Held, IsHeld}
-use Rattle.fd_undo.proofs.FrameLemmas.{others-push, newest-push, others-newest}
-use Rattle.fd_undo.proofs.SpanLemmas.{row_of_span-more}
+use Rattle.fd_undo.specs.Rows.{listed_colours, listed_depths, colour_count, depth_count, pixel_count, span_pixels, rows_in, rows_of, joined}
+use Rattle.fd_undo.specs.Rows.{newest_row, Held, IsHeld}
+use Rattle.fd_undo.proofs.FrameLemmas.{others-push, newest-push}
+use Rattle.fd_undo.proofs.SpanLemmas.{span_pixels-more, length-span_pixels}
 
 -- ---- rows one after the other
 pub joined-append : (rows more : List (List KeptPixel)) → joined (rows ++ more) ≡ joined rows ++ joined more
@@ -46,7 +47,7 @@ length-rows_in (s ∷ spans) cs ds = ap (λ n. suc n) (length-rows_in spans (dro
 
 -- the values behind those of some spans are those of the next span
 pub rows_in-push : (spans : List Span) (cs more : List Colour) (ds deep : List ℕ) (s : Span) → colour_count spans ≡ length cs → depth_count spans ≡ length ds
-    → rows_in (spans ++ s ∷ []) (cs ++ more) (ds ++ deep) ≡ rows_in spans cs ds ++ row_of_span s more deep ∷ []
+    → rows_in (spans ++ s ∷ []) (cs ++ more) (ds ++ deep) ≡ rows_in spans cs ds ++ span_pixels s more deep ∷ []
 rows_in-push [] [] more [] deep s counted deep_counted = refl
 rows_in-push [] [] more (d ∷ ds) deep s counted deep_counted = absurd (omega arith)
 rows_in-push [] (c ∷ cs) more ds deep s counted deep_counted = absurd (omega arith)
@@ -57,10 +58,10 @@ rows_in-push (t ∷ spans) cs more ds deep s counted deep_counted =
     let deep_all : listed_depths t + depth_count spans ≡ length ds = sym (depths-cons t spans) ∙ deep_counted in
     let short : listed_colours t ≤ length cs = omega (arith, all) in
     let deep_short : listed_depths t ≤ length ds = omega (arith, deep_all) in
-    ap (λ l. l ∷ rows_in (spans ++ s ∷ []) (drop n (cs ++ more)) (drop m (ds ++ deep))) (row_of_span-more t cs more ds deep short deep_short)
-    ∙ ap (λ l. row_of_span t cs ds ∷ rows_in (spans ++ s ∷ []) l (drop m (ds ++ deep))) (drop-append-le n cs more short)
-    ∙ ap (λ l. row_of_span t cs ds ∷ rows_in (spans ++ s ∷ []) (drop n cs ++ more) l) (drop-append-le m ds deep deep_short)
-    ∙ ap (λ l. row_of_span t cs ds ∷ l)
+    ap (λ l. l ∷ rows_in (spans ++ s ∷ []) (drop n (cs ++ more)) (drop m (ds ++ deep))) (span_pixels-more t cs more ds deep short deep_short)
+    ∙ ap (λ l. span_pixels t cs ds ∷ rows_in (spans ++ s ∷ []) l (drop m (ds ++ deep))) (drop-append-le n cs more short)
+    ∙ ap (λ l. span_pixels t cs ds ∷ rows_in (spans ++ s ∷ []) (drop n cs ++ more) l) (drop-append-le m ds deep deep_short)
+    ∙ ap (λ l. span_pixels t cs ds ∷ l)
     (rows_in-push spans (drop n cs) more (drop m ds) deep s (omega (arith, all, length-drop (listed_colours t) cs)) (omega (
       arith,
       deep_all,
@@ -84,7 +85,7 @@ rows_in-drop (s ∷ spans) cs ds (suc k) =
 pub rows_in-take : (spans : List Span) (cs : List Colour) (ds : List ℕ) (k : ℕ) → rows_in (take k spans) cs ds ≡ take k (rows_in spans cs ds)
 rows_in-take spans cs ds zero = refl
 rows_in-take [] cs ds (suc k) = refl
-rows_in-take (s ∷ spans) cs ds (suc k) = ap (λ l. row_of_span s cs ds ∷ l) (rows_in-take spans (drop (listed_colours s) cs) (drop (listed_depths s) ds) k)
+rows_in-take (s ∷ spans) cs ds (suc k) = ap (λ l. span_pixels s cs ds ∷ l) (rows_in-take spans (drop (listed_colours s) cs) (drop (listed_depths s) ds) k)
 
 -- so many spans have no more values than all
 pub colours-take : (spans : List Span) (k : ℕ) → colour_count (take k spans) + colour_count (drop k spans) ≡ colour_count spans
@@ -99,7 +100,7 @@ depths-take (s ∷ spans) (suc k) = omega (arith, depths-cons s (take k spans), 
 
 -- ---- what is known where the last span was taken off, whose values stand from `start` and `deep_start` on
 pub record Taken (spans low : List Span) (s : Span) (cs : List Colour) (ds : List ℕ) (start deep_start : ℕ) : Type 0 where
-  pub newest : get_or (rows_in spans cs ds) (length spans - 1) [] ≡ row_of_span s (drop start cs) (drop deep_start ds)
+  pub newest : get_or (rows_in spans cs ds) (length spans - 1) [] ≡ span_pixels s (drop start cs) (drop deep_start ds)
   pub rest : rows_in low (take start cs) (take deep_start ds) ≡ take (length spans - 1) (rows_in spans cs ds)
   pub held : IsHeld low (take start cs) (take deep_start ds)
   pub long : length (drop start cs) ≡ listed_colours s
@@ -113,8 +114,8 @@ taken spans low s cs ds start deep_start split is at deep_at =
     let lower : colour_count low ≡ length (take start cs) = omega (arith, sizes, at, length-take start cs) in
     let deep_lower : depth_count low ≡ length (take deep_start ds) = omega (arith, deep_sizes, deep_at, length-take deep_start ds) in
     let front : List (List KeptPixel) = rows_in low (take start cs) (take deep_start ds) in
-    let last : List KeptPixel = row_of_span s (drop start cs) (drop deep_start ds) in
-    let all : rows_in spans cs ds ≡ rows_in low (take start cs) (take deep_start ds) ++ row_of_span s (drop start cs) (drop deep_start ds) ∷ [] =
+    let last : List KeptPixel = span_pixels s (drop start cs) (drop deep_start ds) in
+    let all : rows_in spans cs ds ≡ rows_in low (take start cs) (take deep_start ds) ++ span_pixels s (drop start cs) (drop deep_start ds) ∷ [] =
     ap (λ l. rows_in l cs ds) split
     ∙ ap (λ l. rows_in (low ++ s ∷ []) l ds) (sym (take-append-drop start cs))
     ∙ ap (λ l. rows_in (low ++ s ∷ []) (take start cs ++ drop start cs) l) (sym (take-append-drop deep_start ds))
@@ -140,17 +141,64 @@ newest_is h some =
     ∙ append-nil (newest_row h)
 
 -- more values at the end of the lists change nothing
-pub rows_in-more : (spans : List Span) (cs more : List Colour) (ds : List ℕ) → colour_count spans ≤ length cs → depth_count spans ≤ length ds
-    → rows_in spans (cs ++ more) ds ≡ rows_in spans cs ds
-rows_in-more [] cs more ds fits deep_fits = refl
-rows_in-more (s ∷ spans) cs more ds fits deep_fits =
+rows_in-more : (spans : List Span) (cs more : List Colour) (ds deep : List ℕ) → colour_count spans ≤ length cs → depth_count spans ≤ length ds
+    → rows_in spans (cs ++ more) (ds ++ deep) ≡ rows_in spans cs ds
+rows_in-more [] cs more ds deep fits deep_fits = refl
+rows_in-more (s ∷ spans) cs more ds deep fits deep_fits =
     let n : ℕ = listed_colours s in
     let m : ℕ = listed_depths s in
     let short : listed_colours s ≤ length cs = omega (arith, fits, colours-cons s spans) in
-    let own : row_of_span s (cs ++ more) ds ≡ row_of_span s cs ds =
-    ap (λ l. row_of_span s (cs ++ more) l) (sym (append-nil ds)) ∙ row_of_span-more s cs more ds [] short (omega (arith, deep_fits, depths-cons s spans)) in
-    ap (λ l. l ∷ rows_in spans (drop n (cs ++ more)) (drop m ds)) own
-    ∙ ap (λ l. row_of_span s cs ds ∷ rows_in spans l (drop m ds)) (drop-append-le n cs more short)
-    ∙ ap (λ l. row_of_span s cs ds ∷ l)
-    (rows_in-more spans (drop n cs) more (drop m ds) (omega (arith, fits, colours-cons s spans, length-drop (listed_colours s) cs))
+    let deep_short : listed_depths s ≤ length ds = omega (arith, deep_fits, depths-cons s spans) in
+    ap (λ l. l ∷ rows_in spans (drop n (cs ++ more)) (drop m (ds ++ deep))) (span_pixels-more s cs more ds deep short deep_short)
+    ∙ ap (λ l. span_pixels s cs ds ∷ rows_in spans l (drop m (ds ++ deep))) (drop-append-le n cs more short)
+    ∙ ap (λ l. span_pixels s cs ds ∷ rows_in spans (drop n cs ++ more) l) (drop-append-le m ds deep deep_short)
+    ∙ ap (λ l. span_pixels s cs ds ∷ l)
+    (rows_in-more spans (drop n cs) more (drop m ds) deep (omega (arith, fits, colours-cons s spans, length-drop (listed_colours s) cs))
     (omega (arith, deep_fits, depths-cons s spans, length-drop (listed_depths s) ds)))
+
+-- how many pixels some spans keep
+length-joined : (spans : List Span) (cs : List Colour) (ds : List ℕ) → colour_count spans ≤ length cs → depth_count spans ≤ length ds
+    → length (joined (rows_in spans cs ds)) ≡ pixel_count spans
+length-joined [] cs ds fits deep_fits = refl
+length-joined (s ∷ spans) cs ds fits deep_fits =
+    let later : length (joined (rows_in spans (drop (listed_colours s) cs) (drop (listed_depths s) ds))) ≡ pixel_count spans =
+    length-joined spans (drop (listed_colours s) cs) (drop (listed_depths s) ds)
+    (omega (arith, fits, colours-cons s spans, length-drop (listed_colours s) cs))
+    (omega (arith, deep_fits, depths-cons s spans, length-drop (listed_depths s) ds)) in
+    omega (
+      arith,
+      length-append (span_pixels s cs ds) (joined (rows_in spans (drop (listed_colours s) cs) (drop (listed_depths s) ds))),
+      length-span_pixels s cs ds (omega (arith, fits, colours-cons s spans)) (omega (arith, deep_fits, depths-cons s spans)),
+      later,
+      sum_by-cons (λ (r : Span). r.rows * r.len) s spans,
+    )
+
+-- the same of those from span k on
+pub pixels-from : (h : Held) (k : ℕ) → IsHeld h.spans h.colours h.depths → length (joined (drop k (rows_of h))) ≡ pixel_count (drop k h.spans)
+pixels-from h k held =
+    ap (λ l. length (joined l)) (sym (rows_in-drop h.spans h.colours h.depths k))
+    ∙ length-joined (drop k h.spans) (drop (colour_count (take k h.spans)) h.colours) (drop (depth_count (take k h.spans)) h.depths)
+    (omega (arith, held.colours_counted, colours-take h.spans k, length-drop (colour_count (take k h.spans)) h.colours))
+    (omega (arith, held.depths_counted, depths-take h.spans k, length-drop (depth_count (take k h.spans)) h.depths))
+
+-- the first k spans with their own values
+module _ (spans : List Span) (cs : List Colour) (ds : List ℕ) (k : ℕ) (held : IsHeld spans cs ds) where
+  abbrev own_colours : List Colour
+  own_colours = take (colour_count (take k spans)) cs
+
+  abbrev own_depths : List ℕ
+  own_depths = take (depth_count (take k spans)) ds
+
+  colours_own : colour_count (take k spans) ≡ length own_colours
+  colours_own = omega (arith, colours-take spans k, held.colours_counted, length-take (colour_count (take k spans)) cs)
+
+  depths_own : depth_count (take k spans) ≡ length own_depths
+  depths_own = omega (arith, depths-take spans k, held.depths_counted, length-take (depth_count (take k spans)) ds)
+
+  pub rows_in-cut : rows_in (take k spans) own_colours own_depths ≡ take k (rows_in spans cs ds)
+  rows_in-cut =
+      sym (rows_in-more (take k spans) own_colours (drop (colour_count (take k spans)) cs) own_depths (drop (depth_count (take k spans)) ds)
+      (omega (arith, colours_own)) (omega (arith, depths_own)))
+      ∙ ap (λ l. rows_in (take k spans) l (own_depths ++ drop (depth_count (take k spans)) ds)) (take-append-drop (colour_count (take k spans)) cs)
+      ∙ ap (λ l. rows_in (take k spans) cs l) (take-append-drop (depth_count (take k spans)) ds)
+      ∙ rows_in-take spans cs ds k

@@ -4,7 +4,7 @@ use Rattle.std.proofs.Common.{refl, sym, ap, subst, arith, length-drop, length-a
 use Rattle.std.specs.Prelude.{All, replicate, if◌then◌else◌}
 use Rattle.std.specs.List.{zip}
 use Rattle.std.proofs.Math.Nat.{zero-mul, suc-mul}
-use Rattle.std.proofs.lemmas.List.{drop_all, append-nil, length-take, length-take-le, length-replicate, take-append-drop, get_or-drop, drop-drop}
+use Rattle.std.proofs.lemmas.List.{drop_all, append-nil, length-take, length-take-le, length-replicate, take_all, get_or-drop, drop-drop}
 use Rattle.std.proofs.lemmas.List.Elements.{All-head, All-tail}
 use borrow.Rule.Slice.PartMut.{put_mid}
 use Rattle.fd_blend.specs.declared.channel.Colour.{Colour}
@@ -17,11 +17,11 @@ use Rattle.fd_tile.proofs.Pixels.{length-row_of, with_row_left_is, IsTileImage-w
 use Rattle.fd_undo.specs.Span.{Span}
 use Rattle.fd_undo.specs.Frame.{KeptPixel, kept_row, restored}
 use Rattle.fd_undo.specs.Run.{IsRow, AreRows, AreWholeRows, IsRun}
-use Rattle.fd_undo.specs.Rows.{listed_colours, depths_listed, listed_depths, values_in, colours_in, depths_in, colour_count, depth_count, row_of_span, rows_in}
+use Rattle.fd_undo.specs.Rows.{listed_colours, depths_listed, listed_depths, values_in, depths_in, colour_count, depth_count, span_pixels, rows_in}
 use Rattle.fd_undo.specs.Rows.{rows_of, joined, no_span, Held, IsHeld}
 use Rattle.fd_undo.proofs.Zips.{length-zip_equal}
-use Rattle.fd_undo.proofs.SpanLemmas.{length-row_of_span, row_first}
-use Rattle.fd_undo.proofs.RowLemmas.{colours-cons, depths-cons, colours-take, depths-take, joined-cut, length-rows_in, rows_in-drop, rows_in-take, rows_in-more}
+use Rattle.fd_undo.proofs.SpanLemmas.{span_pixels-one, length-span_pixels, row_first}
+use Rattle.fd_undo.proofs.RowLemmas.{colours-cons, depths-cons, colours-take, depths-take, joined-cut, length-rows_in, rows_in-drop, rows_in-cut}
 use Rattle.fd_undo.proofs.Restored.{Inside, Inside-front, Inside-back, restored-append, kept_row-first, kept_row-within, put_back_row_alike}
 
 -- ---- the values of a row
@@ -33,9 +33,10 @@ row_depths w depth s row = ap (λ (o : Option ℕ). depths_listed o s.len) row.d
 
 -- its pixels, and those of the rows behind it
 row_is : (w depth : ℕ) (s : Span) (cs : List Colour) (ds : List ℕ) → IsRow w depth s → w ≤ length cs
-    → row_of_span s cs ds ≡ kept_row s.x s.y (zip (take w cs) (replicate (length (take w cs)) depth))
+    → span_pixels s cs ds ≡ kept_row s.x s.y (zip (take w cs) (replicate (length (take w cs)) depth))
 row_is w depth s cs ds row fits =
-    ap (λ t. kept_row s.x s.y (zip (if t then replicate s.len (get_or cs 0 fresh) else take s.len cs) (depths_in s ds))) row.coloured
+    span_pixels-one s cs ds row.one
+    ∙ ap (λ t. kept_row s.x s.y (zip (if t then replicate s.len (get_or cs 0 fresh) else take s.len cs) (depths_in s ds))) row.coloured
     ∙ ap (λ n. kept_row s.x s.y (zip (take n cs) (depths_in s ds))) row.wide
     ∙ ap (λ (o : Option ℕ). kept_row s.x s.y (zip (take w cs) (values_in o s.len ds))) row.deep
     ∙ ap (λ n. kept_row s.x s.y (zip (take w cs) (replicate n depth))) (row.wide ∙ sym (length-take-le w cs fits))
@@ -66,11 +67,11 @@ run_pixels w depth y [] cs ds rows size = sym (zero-mul w)
 run_pixels w depth y (s ∷ spans) cs ds (at, row, rows) size =
     let more : suc (length spans) * w ≡ length spans * w + w = suc-mul (length spans) w in
     let rest = run_pixels w depth (y + 1) spans (drop w cs) ds rows (omega (arith, length-drop w cs, size, more)) in
-    let own : length (row_of_span s cs ds) ≡ s.len =
-    length-row_of_span s cs ds (omega (arith, row_colours w depth s row, size, more)) (omega (arith, row_depths w depth s row)) in
+    let own : length (span_pixels s cs ds) ≡ 1 * s.len =
+    length-span_pixels s cs ds (omega (arith, row_colours w depth s row, size, more)) (omega (arith, row_depths w depth s row)) ∙ ap (λ n. n * s.len) row.one in
     omega (
       arith,
-      length-append (row_of_span s cs ds) (joined (rows_in spans (drop (listed_colours s) cs) (drop (listed_depths s) ds))),
+      length-append (span_pixels s cs ds) (joined (rows_in spans (drop (listed_colours s) cs) (drop (listed_depths s) ds))),
       own,
       row.wide,
       ap (λ l. length (joined l)) (rows_behind w depth s spans cs ds row),
@@ -159,11 +160,11 @@ run_held p depth y (s ∷ spans) cs ds some (at, row, rows) size inside any =
     let more : suc (length spans) * p.width ≡ length spans * p.width + p.width = suc-mul (length spans) p.width in
     let behind : List KeptPixel = joined (rows_in spans (drop (listed_colours s) cs) (drop (listed_depths s) ds)) in
     let first : Holds p s.x s.y =
-    row_first s cs ds (omega (arith, row_colours p.width depth s row, size, more)) (omega (arith, row_depths p.width depth s row)) p
+    row_first s cs ds (omega (arith, row_colours p.width depth s row, size, more)) (omega (arith, row_depths p.width depth s row)) p s.y
     (omega (arith, row.wide, some))
-    (Inside-front p (row_of_span s cs ds) behind inside) in
+    (subst (λ ks. Inside p ks) (span_pixels-one s cs ds row.one) (Inside-front p (span_pixels s cs ds) behind inside)) in
     let rest : Inside p (joined (rows_in spans (drop p.width cs) ds)) =
-    subst (λ l. Inside p (joined l)) (rows_behind p.width depth s spans cs ds row) (Inside-back p (row_of_span s cs ds) behind inside) in (
+    subst (λ l. Inside p (joined l)) (rows_behind p.width depth s spans cs ds row) (Inside-back p (span_pixels s cs ds) behind inside) in (
       omega (arith, first.from_top, at),
       lower spans (omega (arith, first.to_bottom, at))
           (λ next. (run_held p depth (y + 1) spans (drop p.width cs) ds some rows (omega (arith, length-drop p.width cs, size, more)) rest next).1),
@@ -226,8 +227,9 @@ run_of t spans cs ds count filled is some few run inside =
           ∙ ap (λ n. with_rows_from t y (cut_rows w n tail)) back_long
           ∙ ap (λ k. with_rows_from t k (cut_rows w count tail)) (sym at)
           ∙ ap (λ n. with_rows_from t (get_or spans left no_span).y (cut_rows w count (drop n cs))) (sym start);
-      rest = sym (rows_in-more front (take (length cs - count * w) cs) (drop (length cs - count * w) cs) ds (omega (arith, front_long)) (omega (arith, depths)))
-          ∙ ap (λ l. rows_in front l ds) (take-append-drop (length cs - count * w) cs) ∙ rows_in-take spans cs ds left;
+      rest = ap (λ n. rows_in front (take n cs) ds) start
+          ∙ ap (λ l. rows_in front (take (colour_count front) cs) l) (sym (take_all (depth_count front) ds (omega (arith, counts.1, depths))))
+          ∙ rows_in-cut spans cs ds left is;
       held = record { colours_counted = front_long; depths_counted = omega (arith, counts.1, depths) };
     }
 

@@ -1,8 +1,9 @@
 -- The values of one span, and what it keeps.
-use Rattle.std.proofs.Common.{Bool, true, false, ◌≡◌, ℕ, ◌+◌, ◌-◌, ◌<◌, ◌≤◌, List, ◌++◌, length, get_or, take, sym, ap, ◌∙◌, refl, arith, Option}
+use Rattle.std.proofs.Common.{Bool, true, false, ◌≡◌, ℕ, ◌+◌, ◌-◌, ◌*◌, ◌<◌, ◌≤◌, List, [], ◌∷◌, ◌++◌, length, get_or, take, sym, ap, ◌∙◌, refl, arith, Option}
 use Rattle.std.proofs.Common.{Some, None, IfSome}
 use Rattle.std.specs.Prelude.{replicate, if◌then◌else◌, IsSomeAnd}
 use Rattle.std.specs.List.{zip}
+use Rattle.std.proofs.Math.Nat.{mul-zero}
 use Rattle.std.proofs.lemmas.List.{length-take, take-append-le, length-replicate, get_or_append_left, get_or-take, take-take, take_all}
 use Rattle.fd_blend.specs.declared.channel.Colour.{Colour}
 use Rattle.fd_blend.specs.Channel.{fresh}
@@ -11,10 +12,10 @@ use Rattle.fd_tile.specs.Place.{Holds}
 use Rattle.fd_tile.specs.Tile.{TileImage, IsTileImage, IsFlat, row_of, with_row_left}
 use borrow.Rule.Slice.PartMut.{put_mid}
 use Rattle.fd_undo.specs.Span.{Span}
-use Rattle.fd_undo.specs.Frame.{kept_row, restored}
-use Rattle.fd_undo.specs.Rows.{listed_colours, colours_in, depths_listed, values_in, listed_depths, depths_in, row_of_span}
+use Rattle.fd_undo.specs.Frame.{KeptPixel, kept_row, kept_rows, restored}
+use Rattle.fd_undo.specs.Rows.{listed_colours, colours_in, depths_listed, values_in, listed_depths, depths_in, row_of_span, span_pixels}
 use Rattle.fd_undo.proofs.Zips.{length-zip_equal}
-use Rattle.fd_undo.proofs.FrameLemmas.{length-kept_row}
+use Rattle.fd_undo.proofs.FrameLemmas.{length-kept_rows, kept_rows-one}
 use Rattle.fd_undo.proofs.Restored.{Inside, kept_row-first, kept_row-within, put_back_row_alike}
 
 -- ---- there is a value for each pixel
@@ -43,13 +44,15 @@ depths_more : (o : Option ℕ) (n : ℕ) (ds new : List ℕ) → depths_listed o
 depths_more (Some d) n ds new fits = refl
 depths_more None n ds new fits = take-append-le n ds new fits
 
-pub row_of_span-more : (s : Span) (cs new : List Colour) (ds deep : List ℕ) → listed_colours s ≤ length cs → listed_depths s ≤ length ds
-    → row_of_span s (cs ++ new) (ds ++ deep) ≡ row_of_span s cs ds
-row_of_span-more s cs new ds deep fits deep_fits =
-    ap (λ l. kept_row s.x s.y (zip l (depths_in s (ds ++ deep)))) (colours_more s.one_colour s.len cs new fits)
-    ∙ ap (λ l. kept_row s.x s.y (zip (colours_in s cs) l)) (depths_more s.same_depth s.len ds deep deep_fits)
+pub span_pixels-more : (s : Span) (cs new : List Colour) (ds deep : List ℕ) → listed_colours s ≤ length cs → listed_depths s ≤ length ds
+    → span_pixels s (cs ++ new) (ds ++ deep) ≡ span_pixels s cs ds
+span_pixels-more s cs new ds deep fits deep_fits =
+    ap (λ l. kept_rows s.x s.y s.rows (zip l (depths_in s (ds ++ deep)))) (colours_more s.one_colour s.len cs new fits)
+    ∙ ap (λ l. kept_rows s.x s.y s.rows (zip (colours_in s cs) l)) (depths_more s.same_depth s.len ds deep deep_fits)
 
--- ---- no more are listed than there are pixels
+-- a span of one row
+pub span_pixels-one : (s : Span) (cs : List Colour) (ds : List ℕ) → s.rows ≡ 1 → span_pixels s cs ds ≡ row_of_span s s.y cs ds
+span_pixels-one s cs ds one = kept_rows-one s.x s.y s.rows (zip (colours_in s cs) (depths_in s ds)) one
 
 -- ---- what is listed of a row gives all of it
 colours_all : (one : Bool) (n : ℕ) (cs : List Colour) → (one ≡ true → (0 < length cs) × (cs ≡ replicate (length cs) (get_or cs 0 fresh))) → n ≡ length cs
@@ -66,7 +69,7 @@ depths_all None n ds alike size = take-take n n ds (omega arith) ∙ take_all n 
 pub row_of_span-listed : (s : Span) (cs : List Colour) (ds : List ℕ)
     → (s.one_colour ≡ true → (0 < length cs) × (cs ≡ replicate (length cs) (get_or cs 0 fresh)))
     → IfSome s.same_depth (λ d. ds ≡ replicate (length ds) d) → s.len ≡ length cs → length ds ≡ length cs
-    → row_of_span s (take (listed_colours s) cs) (take (listed_depths s) ds) ≡ kept_row s.x s.y (zip cs ds)
+    → row_of_span s s.y (take (listed_colours s) cs) (take (listed_depths s) ds) ≡ kept_row s.x s.y (zip cs ds)
 row_of_span-listed s cs ds alike deep_alike size equal =
     ap (λ l. kept_row s.x s.y (zip l (depths_in s (take (listed_depths s) ds)))) (colours_all s.one_colour s.len cs alike size)
     ∙ ap (λ l. kept_row s.x s.y (zip cs l)) (depths_all s.same_depth s.len ds deep_alike (size ∙ sym equal))
@@ -79,29 +82,40 @@ module _ (s : Span) (colours : List Colour) (depths : List ℕ) (fits : listed_c
   pub zipped : length (zip (colours_in s colours) (depths_in s depths)) ≡ s.len
   zipped = length-zip_equal (colours_in s colours) (depths_in s depths) row_deep ∙ length-colours_in s colours fits
 
-  pub length-row_of_span : length (row_of_span s colours depths) ≡ s.len
-  length-row_of_span = length-kept_row s.x s.y (zip (colours_in s colours) (depths_in s depths)) ∙ zipped
+  pub length-span_pixels : length (span_pixels s colours depths) ≡ s.rows * s.len
+  length-span_pixels = length-kept_rows s.x s.y s.rows (zip (colours_in s colours) (depths_in s depths)) ∙ ap (λ n. s.rows * n) zipped
 
-  module _ (p : Place) (some : 0 < s.len) (inside : Inside p (row_of_span s colours depths)) where
-    pub row_first : Holds p s.x s.y
-    row_first = kept_row-first p s.x s.y (zip (colours_in s colours) (depths_in s depths)) inside (omega (arith, zipped, some))
+  module _ (p : Place) (y : ℕ) (some : 0 < s.len) (inside : Inside p (row_of_span s y colours depths)) where
+    pub row_first : Holds p s.x y
+    row_first = kept_row-first p s.x y (zip (colours_in s colours) (depths_in s depths)) inside (omega (arith, zipped, some))
 
     pub row_within : s.x + s.len ≤ p.left + p.width
-    row_within = omega (arith, kept_row-within p s.x s.y (zip (colours_in s colours) (depths_in s depths)) inside (omega (arith, zipped, some)), zipped)
+    row_within = omega (arith, kept_row-within p s.x y (zip (colours_in s colours) (depths_in s depths)) inside (omega (arith, zipped, some)), zipped)
 
--- ---- a span that is as deep as all pixels of the tile: its colours alone are written
-pub put_back_flat : (t : TileImage) (s : Span) (colours : List Colour) (depths : List ℕ) → length colours ≡ listed_colours s
+-- ---- a row that is as deep as all pixels of the tile: its colours alone are written
+pub put_back_flat : (t : TileImage) (s : Span) (y : ℕ) (colours : List Colour) (depths : List ℕ) → length colours ≡ listed_colours s
     → length depths ≡ listed_depths s → 0 < s.len
-    → IsSomeAnd s.same_depth (λ depth. IsFlat t.place t.depths depth) → IsTileImage t → Inside t.place (row_of_span s colours depths)
-    → with_row_left t s.y (put_mid (s.x - t.place.left) s.len (row_of t s.y) (colours_in s colours)) ≡ restored (row_of_span s colours depths) t
-put_back_flat t s colours depths counted deep_counted some deep filled inside = by_depth s.same_depth refl deep
+    → IsSomeAnd s.same_depth (λ depth. IsFlat t.place t.depths depth) → IsTileImage t → Inside t.place (row_of_span s y colours depths)
+    → with_row_left t y (put_mid (s.x - t.place.left) s.len (row_of t y) (colours_in s colours)) ≡ restored (row_of_span s y colours depths) t
+put_back_flat t s y colours depths counted deep_counted some deep filled inside = by_depth s.same_depth refl deep
   where
     by_depth : (o : Option ℕ) → s.same_depth ≡ o → IsSomeAnd o (λ depth. IsFlat t.place t.depths depth)
-        → with_row_left t s.y (put_mid (s.x - t.place.left) s.len (row_of t s.y) (colours_in s colours)) ≡ restored (row_of_span s colours depths) t
+        → with_row_left t y (put_mid (s.x - t.place.left) s.len (row_of t y) (colours_in s colours)) ≡ restored (row_of_span s y colours depths) t
     by_depth None e none = absurd none
     by_depth (Some depth) e flat =
         let old : List Colour = colours_in s colours in
         let size : length (colours_in s colours) ≡ s.len = length-colours_in s colours (omega arith) in
         let alike : depths_in s depths ≡ replicate (length old) depth = ap (λ d. values_in d s.len depths) e ∙ ap (λ n. replicate n depth) (sym size) in
-        put_back_row_alike t s.x s.y (s.x - t.place.left) s.len depth old (row_of t s.y) old (depths_in s depths) alike filled flat inside
+        put_back_row_alike t s.x y (s.x - t.place.left) s.len depth old (row_of t y) old (depths_in s depths) alike filled flat inside
         (omega arith) refl (sym size) refl refl
+
+-- a span of rows without pixels keeps nothing
+pub span_pixels-none : (s : Span) (colours : List Colour) (depths : List ℕ) → length colours ≡ listed_colours s → length depths ≡ listed_depths s → s.len ≡ 0
+    → span_pixels s colours depths ≡ []
+span_pixels-none s colours depths counted deep_counted none =
+    none_of (span_pixels s colours depths)
+    (length-span_pixels s colours depths (omega (arith, counted)) (omega (arith, deep_counted)) ∙ ap (λ n. s.rows * n) none ∙ mul-zero s.rows)
+  where
+    none_of : (ks : List KeptPixel) → length ks ≡ 0 → ks ≡ []
+    none_of [] size = refl
+    none_of (k ∷ ks) size = absurd (omega (arith, size))

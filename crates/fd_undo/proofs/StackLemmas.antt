@@ -4,12 +4,11 @@ use Rattle.std.proofs.Common.{ap, arith, inl, inr, ◌⊎◌, length-append, app
 use Rattle.std.specs.Prelude.{replicate, max}
 use Rattle.std.proofs.lemmas.Bool.{cases_lt, cases_eq, false≢true}
 use Rattle.std.proofs.lemmas.List.{length-replicate, get_or-replicate, replicate-append-replicate, get_or_append_left, get_or-append_right, get_or_past}
-use Rattle.std.proofs.lemmas.Grind.{replicate_next}
 use Rattle.fd_undo.specs.Frame.{KeptPixel, top, older}
 use Rattle.fd_undo.specs.Undo.{recorded_in}
 use Rattle.fd_undo.specs.Block.{KeptFrame, Filled, no_frame, newest, others, found, first_number, Rise}
 use Rattle.fd_undo.specs.Stack.{frames_from, all_stored, HaveFrames, IsUndoStack}
-use Rattle.fd_undo.proofs.FrameLemmas.{others-newest, newest-push, older-push, top-push, older-top, recorded_in-push, recorded_in-cons}
+use Rattle.fd_undo.proofs.FrameLemmas.{others-newest, older-push, top-push, older-top, recorded_in-push, recorded_in-cons}
 use Rattle.fd_undo.proofs.BlockLemmas.{this_number, other_number}
 
 -- ---- the numbers
@@ -179,7 +178,7 @@ missed low (t ∷ frames) number other none is =
     subst (λ l. Rise 0 l number) (sym split) (rise-push 0 (low ++ others all) f number popped.0 (omega (arith, popped.1, other some)))
 
 -- ---- a frame that is looked for by its number
-found-low : (i : ℕ) (stored : List KeptFrame) (count n : ℕ) → Rise i stored count → n < i → found n stored ≡ []
+pub found-low : (i : ℕ) (stored : List KeptFrame) (count n : ℕ) → Rise i stored count → n < i → found n stored ≡ []
 found-low i [] count n is low = refl
 found-low i (t ∷ stored) count n is low =
     other_number t stored n (λ e. absurd (omega (arith, e, is.0))) ∙ found-low (t.number + 1) stored count n is.1 (omega (arith, is.0))

@@ -8,8 +8,8 @@ use Rattle.fd_blend.specs.declared.channel.Colour.{Colour}
 use Rattle.fd_blend.specs.Channel.{fresh}
 use Rattle.fd_tile.specs.Tile.{Pixel, fresh_pixel}
 use Rattle.fd_undo.specs.Span.{Span}
-use Rattle.fd_undo.specs.Frame.{KeptPixel, kept_at}
-use Rattle.fd_undo.specs.Rows.{span_holds, listed_colours, colours_in, listed_depths, depths_in, colour_count, depth_count, row_of_span, rows_in, joined}
+use Rattle.fd_undo.specs.Frame.{kept_at}
+use Rattle.fd_undo.specs.Rows.{span_holds, listed_colours, colours_in, listed_depths, depths_in, colour_count, depth_count, span_pixels, rows_in, joined}
 use Rattle.fd_undo.proofs.KeptAt.{kept_at-append, kept_at-held, kept_at-not_held}
 use Rattle.fd_undo.proofs.SpanLemmas.{length-colours_in, length-depths_in, zipped}
 use Rattle.fd_undo.proofs.RowLemmas.{colours-cons, depths-cons}
@@ -43,12 +43,12 @@ module _ (spans : List Span) (cs : List Colour) (ds : List ℕ) (i first deep x 
 
   -- the span's own, and what follows
   both : kept_from (drop i spans) cs ds first deep x y
-      ≡ kept_at (row_of_span s (drop first cs) (drop deep ds)) x y ++ kept_from (drop (i + 1) spans) cs ds (first + listed_colours s)
+      ≡ kept_at (span_pixels s (drop first cs) (drop deep ds)) x y ++ kept_from (drop (i + 1) spans) cs ds (first + listed_colours s)
       (deep + listed_depths s) x y
   both =
-      let own : List Pixel = kept_at (row_of_span s (drop first cs) (drop deep ds)) x y in
+      let own : List Pixel = kept_at (span_pixels s (drop first cs) (drop deep ds)) x y in
       ap (λ l. kept_from l cs ds first deep x y) parts
-      ∙ kept_at-append (row_of_span s (drop first cs) (drop deep ds))
+      ∙ kept_at-append (span_pixels s (drop first cs) (drop deep ds))
       (joined (rows_in rest (drop (listed_colours s) (drop first cs)) (drop (listed_depths s) (drop deep ds)))) x y
       ∙ ap (λ l. own ++ kept_at (joined (rows_in rest l (drop (listed_depths s) (drop deep ds)))) x y) (drop-drop (listed_colours s) first cs)
       ∙ ap (λ l. own ++ kept_at (joined (rows_in rest (drop (first + listed_colours s) cs) l)) x y) (drop-drop (listed_depths s) deep ds)

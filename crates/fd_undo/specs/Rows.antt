@@ -1,11 +1,11 @@
 -- Working. Spans, and the lists in which the values of their pixels stand.
-use Rattle.std.specs.Prelude.{◌≡◌, ℕ, ◌-◌, ◌==◌, ◌&&◌, nat_le, nat_lt, Bool, false, List, [], ◌∷◌, ◌++◌, length, take, drop}
+use Rattle.std.specs.Prelude.{◌≡◌, ℕ, ◌-◌, ◌*◌, ◌<◌, ◌≤◌, ◌&&◌, nat_le, nat_lt, Bool, false, List, [], ◌∷◌, ◌++◌, length, take, drop}
 use Rattle.std.specs.Prelude.{slice_index_or, if◌then◌else◌, replicate, Option, Some, None}
 use Rattle.std.specs.List.{sum_by, zip}
 use Rattle.fd_blend.specs.declared.channel.Colour.{Colour}
 use Rattle.fd_blend.specs.Channel.{fresh}
-use Rattle.fd_undo.specs.Span.{Span}
-use Rattle.fd_undo.specs.Frame.{KeptPixel, kept_row}
+use Rattle.fd_undo.specs.Span.{Span, IsGrown}
+use Rattle.fd_undo.specs.Frame.{KeptPixel, kept_row, kept_rows}
 
 -- spans, oldest first, their values, and how many more spans, colours and depths have room
 pub record Held : Type 0 where
@@ -18,13 +18,13 @@ pub record Held : Type 0 where
 
 -- a span that nothing rests on
 abbrev pub no_span : Span
-no_span = record { x = 0; y = 0; len = 0; one_colour = false; same_depth = None }
+no_span = record { x = 0; y = 0; len = 0; rows = 1; one_colour = false; same_depth = None }
 
 -- whether pixel (x, y) is one of a span's
 abbrev pub span_holds : Span → ℕ → ℕ → Bool
-span_holds s x y = (s.y == y) && (nat_le s.x x && nat_lt (x - s.x) s.len)
+span_holds s x y = (nat_le s.y y && nat_lt (y - s.y) s.rows) && (nat_le s.x x && nat_lt (x - s.x) s.len)
 
--- how many colours in the list are a span's, and the colours of its pixels: the first one for all, or the next ones
+-- how many colours in the list are a span's, and the colours of each of its rows: the first one for all, or the next ones
 abbrev pub listed_colours : Span → ℕ
 listed_colours s = if s.one_colour then 1 else s.len
 
@@ -53,14 +53,21 @@ colour_count spans = sum_by (λ s. listed_colours s) spans
 abbrev pub depth_count : List Span → ℕ
 depth_count spans = sum_by (λ s. listed_depths s) spans
 
--- what a span keeps, whose values stand first in the lists
-abbrev pub row_of_span : Span → List Colour → List ℕ → List KeptPixel
-row_of_span s colours depths = kept_row s.x s.y (zip (colours_in s colours) (depths_in s depths))
+-- how many pixels some spans have
+abbrev pub pixel_count : List Span → ℕ
+pixel_count spans = sum_by (λ s. s.rows * s.len) spans
+
+-- the pixels of row y of a span, whose values stand first in the lists, and what it keeps
+abbrev pub row_of_span : Span → ℕ → List Colour → List ℕ → List KeptPixel
+row_of_span s y colours depths = kept_row s.x y (zip (colours_in s colours) (depths_in s depths))
+
+abbrev pub span_pixels : Span → List Colour → List ℕ → List KeptPixel
+span_pixels s colours depths = kept_rows s.x s.y s.rows (zip (colours_in s colours) (depths_in s depths))
 
 -- what some spans keep, which take their values in turn
 abbrev pub rows_in : List Span → List Colour → List ℕ → List (List KeptPixel)
 rows_in [] colours depths = []
-rows_in (s ∷ spans) colours depths = row_of_span s colours depths ∷ rows_in spans (drop (listed_colours s) colours) (drop (listed_depths s) depths)
+rows_in (s ∷ spans) colours depths = span_pixels s colours depths ∷ rows_in spans (drop (listed_colours s) colours) (drop (listed_depths s) depths)
 
 abbrev pub rows_of : Held → List (List KeptPixel)
 rows_of h = rows_in h.spans h.colours h.depths
@@ -77,3 +84,16 @@ newest_row h = slice_index_or (rows_of h) (length h.spans - 1) []
 pub record IsHeld (spans : List Span) (colours : List Colour) (depths : List ℕ) : Type 0 where
   pub colours_counted : colour_count spans ≡ length colours
   pub depths_counted : depth_count spans ≡ length depths
+
+-- the spans from one on keep more, and those before it stay
+pub record KeepsMore (first : ℕ) (old new : Held) (more : List KeptPixel) : Type 0 where
+  pub low : take first (rows_of new) ≡ take first (rows_of old)
+  pub high : joined (drop first (rows_of new)) ≡ joined (drop first (rows_of old)) ++ more
+  pub spans : take first new.spans ≡ take first old.spans
+  pub long : first ≤ length new.spans
+
+-- the last span, one of those from this one on, with one row more of this colour
+pub record GrowsBy (first : ℕ) (h : Held) (row : Span) (colour : Colour) (grown : Span) : Type 0 where
+  pub some : first < length h.spans
+  pub grows : IsGrown (slice_index_or h.spans (length h.spans - 1) no_span) row grown
+  pub same : slice_index_or h.colours (length h.colours - 1) fresh ≡ colour

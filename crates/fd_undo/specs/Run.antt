@@ -5,6 +5,7 @@ use Rattle.fd_undo.specs.Span.{Span}
 
 -- it has all pixels of a row, each its own colour in the list, and this one depth
 pub record IsRow (width depth : ℕ) (s : Span) : Type 0 where
+  pub one : s.rows ≡ 1
   pub wide : s.len ≡ width
   pub coloured : s.one_colour ≡ false
   pub deep : s.same_depth ≡ Some depth

@@ -1,19 +1,41 @@
 -- Working. What a contract sees of a span.
-use Rattle.std.specs.Prelude.{ℕ, Bool, Option, refl}
+use Rattle.std.specs.Prelude.{◌≡◌, ℕ, ◌+◌, ◌<◌, Bool, true, List, length, replicate, slice_index_or, IfSome, Option, Some, refl}
+use Rattle.fd_blend.specs.declared.channel.Colour.{Colour}
+use Rattle.fd_blend.specs.Channel.{fresh}
 use Rattle.std.specs.Coded.{Coded, code_by, coded×, coded_ℕ, coded_bool, coded_option}
 
--- pixels of row y from column x on; whether one colour in the stack's list is that of all of them, or there is one for each; and the depth of
--- all of them, unless their depths stand in the stack's list
+-- so many rows from row y on, each with the same pixels from column x on; whether one colour in the stack's list is that of all of them, or there is one
+-- for each pixel of a row; and the depth of all of them, unless the depths of a row stand in the stack's list
 pub record Span : Type 0 where
   pub x : ℕ
   pub y : ℕ
   pub len : ℕ
+  pub rows : ℕ
   pub one_colour : Bool
   pub same_depth : Option ℕ
 
 -- it is stored as the tuple of its fields
 abbrev pub span_code : Coded Span
 span_code =
-    code_by (ℕ × (ℕ × (ℕ × (Bool × Option ℕ)))) (coded× coded_ℕ (coded× coded_ℕ (coded× coded_ℕ (coded× coded_bool (coded_option coded_ℕ)))))
-    (λ s. (s.x, (s.y, (s.len, (s.one_colour, s.same_depth)))))
-    (λ q. record { x = q.0; y = q.1.0; len = q.1.1.0; one_colour = q.1.1.1.0; same_depth = q.1.1.1.1 }) (λ _. refl)
+    code_by (ℕ × (ℕ × (ℕ × (ℕ × (Bool × Option ℕ)))))
+    (coded× coded_ℕ (coded× coded_ℕ (coded× coded_ℕ (coded× coded_ℕ (coded× coded_bool (coded_option coded_ℕ))))))
+    (λ s. (s.x, (s.y, (s.len, (s.rows, (s.one_colour, s.same_depth))))))
+    (λ q. record { x = q.0; y = q.1.0; len = q.1.1.0; rows = q.1.1.1.0; one_colour = q.1.1.1.1.0; same_depth = q.1.1.1.1.1 }) (λ _. refl)
+
+-- a span with one row more, which is as its own ones and lies right below them: all are of one colour and one depth
+pub record IsGrown (s row grown : Span) : Type 0 where
+  pub coloured : s.one_colour ≡ true
+  pub row_coloured : row.one_colour ≡ true
+  pub deep : (depth : ℕ) × (s.same_depth ≡ Some depth) × (row.same_depth ≡ Some depth)
+  pub x : row.x ≡ s.x
+  pub y : row.y ≡ s.y + s.rows
+  pub len : row.len ≡ s.len
+  pub is : grown ≡ record s { rows = s.rows + 1 }
+
+-- the span of one row with these colours and depths
+pub record IsRowOf (colours : List Colour) (depths : List ℕ) (s : Span) : Type 0 where
+  pub equal : length depths ≡ length colours
+  pub one : s.rows ≡ 1
+  pub len : s.len ≡ length colours
+  pub coloured : s.one_colour ≡ true → (0 < length colours) × (colours ≡ replicate (length colours) (slice_index_or colours 0 fresh))
+  pub deep : IfSome s.same_depth (λ depth. depths ≡ replicate (length depths) depth)

@@ -2,16 +2,17 @@ ghost use Rattle.std.specs.Prelude.{◌≡◌, ◌≢◌, ℕ, suc, ◌+◌, ◌
 ghost use Rattle.std.specs.Prelude.{All, None, IfOk, IfSome, true, false};
 ghost use Rattle.std.specs.List.{zip};
 ghost use Rattle.fd_snap.specs.Limits.{most_pixels};
-ghost use Rattle.fd_tile.specs.Place.{Holds};
-ghost use Rattle.fd_undo.specs.Frame.{kept_row, restored};
+ghost use Rattle.fd_tile.specs.Place.{Holds, IsTilePlace};
+ghost use Rattle.fd_undo.specs.Frame.{kept_row, restored, alike, IsAlike, KeepsAll};
 ghost use Rattle.fd_undo.specs.Rows.{colour_count, depth_count, rows_in, joined};
-ghost use Rattle.fd_undo.specs.Block.{KeptFrame, Filled, newest, others, keeping_row, found, first_number, Rise, NumbersRise, no_mark, next};
+ghost use Rattle.fd_undo.specs.Block.{KeptFrame, Filled, no_frame, newest, others, keeping_row, found, first_number, Rise, NumbersRise, no_mark, next};
 
 use crate::room::Room;
 use crate::rows::Rows;
 use crate::span::Span;
+use crate::whole::have_all_rows;
 use fd_blend::Colour;
-use fd_tile::Tile;
+use fd_tile::{Place, Tile};
 use smallvec::SmallVec;
 use std::alloc::{AllocError, Global};
 use std::marker::Model;
@@ -84,14 +85,14 @@ impl Block {
         self.marks.is_empty()
     }
 
-    /// Whether one more frame of so many spans and pixels has room.
-    pub(crate) fn takes(&self, spans: usize, pixels: usize) -> bool
-        ensures { result ≡ true → (0 < self.now.frames_left) × (spans ≤ self.now.spans_left)
-            × (pixels ≤ self.now.colours_left) × (pixels ≤ self.now.depths_left) }
+    /// Whether one more frame of so many spans, colours and depths has room.
+    pub(crate) fn takes(&self, more: Room) -> bool
+        ensures { result ≡ true → (0 < self.now.frames_left) × (more.spans ≤ self.now.spans_left)
+            × (more.colours ≤ self.now.colours_left) × (more.depths ≤ self.now.depths_left) }
     {
         self.marks.len() < self.marks.capacity()
             && is_countable(&self.rows)
-            && self.rows.takes(spans, pixels)
+            && self.rows.takes(more)
     }
 
     /// How many frames, spans, colours and depths it holds.
@@ -118,8 +119,7 @@ impl Block {
         ensures value { result ≡ (newest self.now.frames).number }
         ensures small { result < 2 ^ 32 }
     {
-        let marks = self.marks.as_slice();
-        mark_at(marks, marks.len() - 1).number as usize
+        newest_mark(self.marks.as_slice()).number as usize
     }
 
     /// The number of the oldest frame, or 0.
@@ -168,15 +168,30 @@ impl Block {
         requires bottom { y ≤ most_pixels }
         requires known { IfSome known (λ depth. depths.now ≡ replicate (length depths.now) depth) }
         ensures frames { self.new.frames ≡ keeping_row self.old.frames (kept_row x y (zip old.now depths.now)) }
-        ensures spans_left { self.new.spans_left + 1 ≡ self.old.spans_left }
+        ensures spans_left { self.old.spans_left ≤ self.new.spans_left + 1 }
         ensures colours_left { self.old.colours_left ≤ self.new.colours_left + length old.now }
         ensures depths_left { self.old.depths_left ≤ self.new.depths_left + length depths.now }
     {
-        self.rows.keep(x, y, old, depths, known);
+        let first = newest_mark(self.marks.as_slice()).span as usize;
+        let row = Span::of(x, y, old, depths, known);
+        self.rows.keep(first, row, old, depths);
     }
 
-    /// Writes the newest frame back and drops it, and says how many pixels it kept.
+    /// Keeps a whole place in the newest frame, which is of one colour and one depth.
+    pub(crate) fn keep_alike(&mut self, place: Place, colour: Colour, depth: u16)
+        requires placed { IsTilePlace place }
+        requires begun { 0 < length self.old.frames }
+        requires span { 0 < self.old.spans_left }
+        requires colours { 0 < self.old.colours_left }
+        ensures { self.new.frames ≡ keeping_row self.old.frames (alike place (colour, depth)) }
+    {
+        self.rows.keep_alike(place, colour, depth);
+    }
+
+    /// Writes the newest frame back and drops it, and says how many pixels it kept. On a tile that isn't made it keeps nothing, or all of it, which
+    /// was alike.
     pub(crate) fn undo(&mut self, tile: &mut Tile) -> usize
+        requires alike { tile.old.made ≡ false → IsAlike tile.old.place (newest self.old.frames).kept }
         requires some { 0 < length self.old.frames }
         requires inside { All (λ k. Holds tile.old.place k.x k.y) (newest self.old.frames).kept }
         requires countable { length (newest self.old.frames).kept < 2 ^ 64 }
@@ -185,7 +200,47 @@ impl Block {
         ensures frames { self.new.frames ≡ others self.old.frames }
     {
         let mark = take_last(&mut self.marks);
-        self.rows.undo_to(mark.span as usize, tile)
+        if tile.is_made() {
+            return self.rows.undo_to(mark.span as usize, tile);
+        }
+        self.rows.undo_alike(
+            mark.span as usize,
+            mark.colour as usize,
+            mark.depth as usize,
+            tile,
+        )
+    }
+
+    /// Drops the newest frame, unread, and says how many pixels it kept.
+    pub(crate) fn drop_newest(&mut self) -> usize
+        requires some { 0 < length self.old.frames }
+        requires countable { length (newest self.old.frames).kept < 2 ^ 64 }
+        ensures pixels { result ≡ length (newest self.old.frames).kept }
+        ensures frames { self.new.frames ≡ others self.old.frames }
+    {
+        let mark = take_last(&mut self.marks);
+        self.rows.drop_from(
+            mark.span as usize,
+            mark.colour as usize,
+            mark.depth as usize,
+        )
+    }
+
+    /// The number of the oldest frame from this number on that is seen to keep a whole place.
+    pub(crate) fn first_whole(&self, from: usize, place: Place) -> Option<usize>
+        requires rise { (count : ℕ) × Rise 0 self.now.frames count }
+        ensures { IfSome result (λ n. (from ≤ n) × KeepsAll place (found n self.now.frames)) }
+    {
+        let marks = self.marks.as_slice();
+        let first = marks.partition_point(|mark| (mark.number as usize) < from);
+        for at in first..marks.len() {
+            let number = mark_at(marks, at).number as usize;
+            let (spans, _, _) = self.parts_at(at);
+            if number >= from && have_all_rows(spans, place) {
+                return Some(number);
+            }
+        }
+        None
     }
 
     /// The spans of the frame of this number, and colours and depths that begin with its own.
@@ -195,17 +250,25 @@ impl Block {
         ensures there { IfSome result (λ r. joined (rows_in r.0.now r.1.now r.2.now) ≡ found number self.now.frames) }
         ensures absent { result ≡ None → found number self.now.frames ≡ [] }
     {
+        let place = place_of(self.marks.as_slice(), number)?;
+        Some(self.parts_at(place))
+    }
+
+    /// The same of the frame at a place.
+    fn parts_at(&self, place: usize) -> (&[Span], &[Colour], &[u16])
+        requires { place < length self.now.frames }
+        ensures colours { colour_count result.0.now ≤ length result.1.now }
+        ensures depths { depth_count result.0.now ≤ length result.2.now }
+        ensures there { joined (rows_in result.0.now result.1.now result.2.now) ≡ (slice_index_or self.now.frames place no_frame).kept }
+    {
         let marks = self.marks.as_slice();
-        let place = place_of(marks, number)?;
         let mark = mark_at(marks, place);
         let end = end_of(marks, place, self.rows.len());
-        Some(
-            self.rows.parts(
-                mark.span as usize,
-                end,
-                mark.colour as usize,
-                mark.depth as usize,
-            ),
+        self.rows.parts(
+            mark.span as usize,
+            end,
+            mark.colour as usize,
+            mark.depth as usize,
         )
     }
 }
@@ -232,6 +295,14 @@ fn mark_at(marks: &[Mark], place: usize) -> Mark
     ensures { result ≡ slice_index_or marks.now place no_mark }
 {
     marks[place]
+}
+
+/// The last mark.
+fn newest_mark(marks: &[Mark]) -> Mark
+    requires { 0 < length marks.now }
+    ensures { result ≡ slice_index_or marks.now (length marks.now - 1) no_mark }
+{
+    mark_at(marks, marks.len() - 1)
 }
 
 /// Where the mark of this number is, if there is one.

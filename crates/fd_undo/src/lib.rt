@@ -11,3 +11,4 @@ mod rows;
 mod run;
 mod span;
 mod stack;
+mod whole;

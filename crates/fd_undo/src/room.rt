@@ -1,4 +1,4 @@
-ghost use Rattle.std.specs.Prelude.{◌≡◌, ◌+◌, ◌≤◌};
+ghost use Rattle.std.specs.Prelude.{◌≡◌, ◌+◌, ◌≤◌, true};
 ghost use Rattle.fd_undo.specs.Room.{IsWithin, with_more};
 
 /// A new block has room for so many more colours and depths than its first frame needs, at least: a tile that few events meet takes little memory.
@@ -32,13 +32,35 @@ impl Room {
         }
     }
 
+    /// What one frame of one span needs, which is of one colour and one depth.
+    pub(crate) fn alike() -> Room
+        ensures { result ≡ record { frames = 1; spans = 1; colours = 1; depths = 0 } }
+    {
+        Room {
+            frames: 1,
+            spans: 1,
+            colours: 1,
+            depths: 0,
+        }
+    }
+
+    /// Whether it is for no span and no pixel.
+    pub(crate) fn keeps_nothing(self) -> bool
+        ensures yes { self.spans ≡ 0 → self.colours ≡ 0 → self.depths ≡ 0 → result ≡ true }
+        ensures no { result ≡ true → (self.spans ≡ 0) × (self.colours ≡ 0) × (self.depths ≡ 0) }
+    {
+        self.spans == 0 && self.colours == 0 && self.depths == 0
+    }
+
     /// What a block has room for that begins with such a frame, behind one that holds so much: the frame, and twice what is held. Most frames need few of
     /// the colours that they ask for, so that a frame like the first one has room behind what others kept.
     pub(crate) fn after(self, held: Room) -> Room
         ensures enough { IsWithin self result }
         ensures little { IsWithin result (with_more self 2048) }
     {
-        let colours = room_after(held.colours, self.colours, LEAST_ROOM);
+        // a frame that lists no depth is one of a tile that may stay alike
+        let least = if self.depths == 0 { 0 } else { LEAST_ROOM };
+        let colours = room_after(held.colours, self.colours, least);
         Room {
             frames: room_after(held.frames, self.frames, colours / 64),
             spans: room_after(
@@ -47,7 +69,7 @@ impl Room {
                 (colours / 16).saturating_sub(SPANS_INSIDE),
             ),
             colours,
-            depths: room_after(held.depths, self.depths, LEAST_ROOM),
+            depths: room_after(held.depths, self.depths, least),
         }
     }
 }

@@ -40,7 +40,10 @@ fn last_rows(spans: &[Span], width: usize, depth: u16) -> usize
 fn is_row(span: &Span, width: usize, depth: u16) -> bool
     ensures { result ≡ true → IsRow width depth span.now }
 {
-    span.len() == width && !span.one_colour() && span.same_depth() == Some(depth)
+    span.rows() == 1
+        && span.len() == width
+        && !span.one_colour()
+        && span.same_depth() == Some(depth)
 }
 
 /// The same of the row right above row y.

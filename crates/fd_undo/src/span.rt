@@ -1,17 +1,23 @@
-ghost use Rattle.std.specs.Prelude.{◌≡◌, ◌+◌, ◌<◌, ◌≤◌, length, drop, slice_index_or, replicate, None, IfSome, ℕ, ◌≢◌, true, false};
+ghost use Rattle.std.specs.Prelude.{◌≡◌, ◌+◌, ◌*◌, ◌<◌, ◌≤◌, length, drop, slice_index_or, replicate, Some, None, IfSome, ℕ, ◌≢◌, true, false};
 ghost use Rattle.fd_snap.specs.Limits.{most_pixels};
 ghost use Rattle.fd_blend.specs.Channel.{fresh};
-ghost use Rattle.fd_undo.specs.Packed.{unmarked};
+ghost use Rattle.fd_tile.specs.Place.{IsTilePlace};
+ghost use Rattle.fd_undo.specs.Packed.{unmarked, len_of, rows_of_len};
+ghost use Rattle.fd_undo.specs.Span.{IsGrown, IsRowOf};
 ghost use Rattle.fd_undo.specs.Rows.{span_holds, listed_colours, colours_in, listed_depths, depths_in};
 
 use fd_blend::Colour;
+use fd_tile::Place;
 use std::marker::Model;
 
-/// Added to a span's row where each pixel has a colour in the stack's list, and to its length where each has a depth there.
+/// Added to a span's row where each pixel of a row has a colour in the stack's list, and to its length where each has a depth there.
 const LISTED: u16 = 1 << 15;
 
+/// A length above this one is that of several rows: 32 more for each row but the first, and the pixels of a row but one.
+const LONGEST: u16 = 1 << 14;
+
 /// Neighbouring pixels of a row, whose colours stand in the stack's list: one for all, or one for each. Their one depth is here, or their depths stand in
-/// another list.
+/// another list. The rows below may have the same pixels.
 #[derive(Clone, Copy)]
 pub(crate) struct Span {
     x: u16,
@@ -54,10 +60,10 @@ impl Default for Span {
 impl Span {
     /// The span of row y from column x on. With one colour for all it has one in the stack's list, and else as many as it has pixels; without one depth for
     /// all it has as many of them.
-    pub(crate) fn new(x: u32, y: u32, len: usize, one_colour: bool, same_depth: Option<u16>) -> Span
+    fn new(x: u32, y: u32, len: usize, one_colour: bool, same_depth: Option<u16>) -> Span
         requires right { x + len ≤ most_pixels }
         requires bottom { y ≤ most_pixels }
-        ensures { result ≡ record { x = x; y = y; len = len; one_colour = one_colour; same_depth = same_depth } }
+        ensures { result ≡ record { x = x; y = y; len = len; rows = 1; one_colour = one_colour; same_depth = same_depth } }
     {
         let colour_mark = if one_colour { 0 } else { LISTED };
         let (depth_mark, depth) = match same_depth {
@@ -72,6 +78,39 @@ impl Span {
         }
     }
 
+    /// The span of row y from column x on with these colours and depths, where it may be known that all depths are this one.
+    pub(crate) fn of(x: u32, y: u32, old: &[Colour], depths: &[u16], known: Option<u16>) -> Span
+        requires equal { length depths.now ≡ length old.now }
+        requires right { x + length old.now ≤ most_pixels }
+        requires bottom { y ≤ most_pixels }
+        requires known { IfSome known (λ depth. depths.now ≡ replicate (length depths.now) depth) }
+        ensures column { result.x ≡ x }
+        ensures row { result.y ≡ y }
+        ensures values { IsRowOf old.now depths.now result }
+    {
+        let (one_colour, same_depth) = (is_one_colour(old), known_depth(depths, known));
+        Span::new(x, y, old.len(), one_colour, same_depth)
+    }
+
+    /// The span of a whole place, which is of one colour and this deep. It has one colour in the stack's list.
+    pub(crate) fn whole(place: Place, depth: u16) -> Span
+        requires { IsTilePlace place }
+        ensures { result ≡ record { x = place.left; y = place.top; len = place.width; rows = place.height; one_colour = true; same_depth = Some depth } }
+    {
+        let (len, rows) = (place.width as u16, place.height as u16);
+        let marked_len = if rows == 1 {
+            len
+        } else {
+            LONGEST + 32 * (rows - 1) + (len - 1)
+        };
+        Span {
+            x: place.left as u16,
+            marked_y: place.top as u16,
+            marked_len,
+            depth,
+        }
+    }
+
     /// The column of its first pixel.
     pub(crate) fn x(&self) -> u32
         ensures { result ≡ self.now.x }
@@ -79,18 +118,60 @@ impl Span {
         self.x as u32
     }
 
-    /// Its row.
+    /// Its first row.
     pub(crate) fn y(&self) -> u32
         ensures { result ≡ self.now.y }
     {
         unmarked(self.marked_y) as u32
     }
 
-    /// How many pixels it has.
+    /// How many pixels it has of each row.
     pub(crate) fn len(&self) -> usize
         ensures { result ≡ self.now.len }
     {
-        unmarked(self.marked_len) as usize
+        len_of(unmarked(self.marked_len)) as usize
+    }
+
+    /// How many rows it has.
+    pub(crate) fn rows(&self) -> u32
+        ensures { result ≡ self.now.rows }
+    {
+        rows_of_len(unmarked(self.marked_len)) as u32
+    }
+
+    /// The row below its last one.
+    pub(crate) fn bottom(&self) -> u32
+        ensures { result ≡ self.now.y + self.now.rows }
+    {
+        unmarked(self.marked_y) as u32 + rows_of_len(unmarked(self.marked_len)) as u32
+    }
+
+    /// How many pixels it has.
+    pub(crate) fn pixels(&self) -> usize
+        ensures { result ≡ self.now.rows * self.now.len }
+    {
+        let len = unmarked(self.marked_len);
+        rows_of_len(len) as usize * len_of(len) as usize
+    }
+
+    /// This span with one row more, where that row is as its own ones and lies right below them, and all are of one colour and one depth.
+    pub(crate) fn with_row(&self, row: &Span) -> Option<Span>
+        ensures { IfSome result (λ grown. IsGrown self.now row.now grown) }
+    {
+        if !self.one_colour() || !row.one_colour() || self.x != row.x || self.depth != row.depth {
+            return None;
+        }
+        if self.marked_len >= LISTED || row.marked_len >= LISTED || self.bottom() != row.y() {
+            return None;
+        }
+        let (len, rows) = (len_of(self.marked_len), rows_of_len(self.marked_len));
+        if len != row.marked_len || len < 1 || len > 32 || rows > 31 {
+            return None;
+        }
+        Some(Span {
+            marked_len: LONGEST + 32 * rows + (len - 1),
+            ..*self
+        })
     }
 
     /// Whether one colour in the stack's list is that of all pixels.
@@ -112,7 +193,7 @@ impl Span {
         ensures { result ≡ span_holds self.now x y }
     {
         let left = self.x();
-        self.y() == y && left <= x && ((x - left) as usize) < self.len()
+        self.y() <= y && y < self.bottom() && left <= x && ((x - left) as usize) < self.len()
     }
 
     /// How many colours of the stack's list are the span's.
@@ -169,8 +250,30 @@ fn unmarked(number: u16) -> u16
     }
 }
 
+/// How many pixels of each row a length without its mark says.
+fn len_of(len: u16) -> u16
+    ensures { result ≡ len_of len }
+{
+    if len > LONGEST {
+        (len - LONGEST) % 32 + 1
+    } else {
+        len
+    }
+}
+
+/// How many rows a length without its mark says.
+fn rows_of_len(len: u16) -> u16
+    ensures { result ≡ rows_of_len len }
+{
+    if len > LONGEST {
+        (len - LONGEST) / 32 + 1
+    } else {
+        1
+    }
+}
+
 /// Whether all of these are one colour, and there are any.
-pub(crate) fn is_one_colour(colours: &[Colour]) -> bool
+fn is_one_colour(colours: &[Colour]) -> bool
     ensures alike { result ≡ true → (0 < length colours.now) × (colours.now ≡ replicate (length colours.now) (slice_index_or colours.now 0 fresh)) }
     ensures unlike { result ≡ false → 0 < length colours.now → (colour : Colour) → colours.now ≢ replicate (length colours.now) colour }
 {
@@ -186,7 +289,7 @@ pub(crate) fn is_one_colour(colours: &[Colour]) -> bool
 }
 
 /// The depth that all of these are, if they are all alike.
-pub(crate) fn same_depth(depths: &[u16]) -> Option<u16>
+fn same_depth(depths: &[u16]) -> Option<u16>
     ensures alike { IfSome result (λ depth. depths.now ≡ replicate (length depths.now) depth) }
     ensures unlike { result ≡ None → (depth : ℕ) → depths.now ≢ replicate (length depths.now) depth }
 {
@@ -200,7 +303,7 @@ pub(crate) fn same_depth(depths: &[u16]) -> Option<u16>
 }
 
 /// The same where it may be known already, and then nothing is looked at.
-pub(crate) fn known_depth(depths: &[u16], known: Option<u16>) -> Option<u16>
+fn known_depth(depths: &[u16], known: Option<u16>) -> Option<u16>
     requires { IfSome known (λ depth. depths.now ≡ replicate (length depths.now) depth) }
     ensures alike { IfSome result (λ depth. depths.now ≡ replicate (length depths.now) depth) }
     ensures unlike { result ≡ None → (depth : ℕ) → depths.now ≢ replicate (length depths.now) depth }

@@ -2,6 +2,7 @@
 ghost use Rattle.std.specs.Prelude.{◌≡◌};
 
 use fd_pam::{Failed, Sink};
+use fd_session::Progress;
 use std::io::Write;
 
 /// What is said before the bytes of an image go to a terminal.
@@ -46,6 +47,19 @@ impl<S: Sink, E: Write> Screen<S, E> {
     }
 }
 
+impl<S: Sink, E: Write> Progress for Screen<S, E> {
+    ghost Kept = { S.Kept };
+
+    ghost kept = { λ s. S.kept s.replies };
+
+    fn on_the_way(&mut self, at: u32, to: u32) {
+        if self.shows_moves {
+            let _ = write!(self.errors, "\rframedbg: at {at} of {to}");
+            self.moving = true;
+        }
+    }
+}
+
 impl<S: Sink, E: Write> Sink for Screen<S, E> {
     ghost contents = { λ s. S.contents s.replies };
 
@@ -75,10 +89,5 @@ impl<S: Sink, E: Write> Sink for Screen<S, E> {
         self.replies.failures()
     }
 
-    fn on_the_way(&mut self, at: u32, to: u32) {
-        if self.shows_moves {
-            let _ = write!(self.errors, "\rframedbg: at {at} of {to}");
-            self.moving = true;
-        }
-    }
+    ghost only_told = { λ a b same. S.only_told a.replies b.replies same };
 }

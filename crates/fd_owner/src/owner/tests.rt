@@ -166,6 +166,67 @@ fn a_frame_is_put_back(rt: HostRuntime) -> Result<(), Fail> {
     Ok(())
 }
 
+/// A clear, a draw over half of it, and a clear of depths.
+fn cleared_and_drawn(alloc: Global) -> Result<EventTable, Fail> {
+    let half = (UPPER_LEFT, colour(0, 255, 0, 255), 0);
+    let mut events = Vec::new(alloc);
+    events.push(Event::Clear(colour(255, 0, 0, 255)))?;
+    events.push(flat(alloc, &[half])?)?;
+    events.push(Event::DepthClear(7))?;
+    Ok(EventTable::start(alloc, 2, 2, 2, events)?)
+}
+
+/// A tile that is made when the second event draws on it.
+#[test]
+fn a_tile_is_made_when_it_is_drawn_on(rt: HostRuntime) -> Result<(), Fail> {
+    let alloc = rt.alloc();
+    let table = cleared_and_drawn(alloc)?;
+    let grid = Grid::new(2, 2).ok_or("a grid")?;
+    if grid.count() == 0 {
+        return Err(Fail::from("no tile"));
+    }
+    let mut owner = Owner::of(alloc, Tile::blank(alloc, grid.place(0)));
+    let fresh = (colour(0, 0, 0, 0), 65535);
+    let red = (colour(255, 0, 0, 255), 65535);
+    let green = (colour(0, 255, 0, 255), 65535);
+    forward(&mut owner, &table)?;
+    assert!(rt; !owner.tile.is_made());
+    assert_eq!(rt; shown(&owner), (1, 4, red));
+    forward(&mut owner, &table)?;
+    assert!(rt; owner.tile.is_made());
+    assert_eq!(rt; shown(&owner), (2, 5, green));
+    forward(&mut owner, &table)?;
+    assert_eq!(rt; shown(&owner), (3, 9, (green.0, 7)));
+    back(&mut owner)?;
+    back(&mut owner)?;
+    assert_eq!(rt; shown(&owner), (1, 4, red));
+    back(&mut owner)?;
+    assert_eq!(rt; shown(&owner), (0, 0, fresh));
+    Ok(())
+}
+
+/// At once to the start: the tile gives its memory back.
+#[test]
+fn the_start_of_a_fresh_tile_is_near(rt: HostRuntime) -> Result<(), Fail> {
+    let alloc = rt.alloc();
+    let table = cleared_and_drawn(alloc)?;
+    let grid = Grid::new(2, 2).ok_or("a grid")?;
+    if grid.count() == 0 {
+        return Err(Fail::from("no tile"));
+    }
+    let mut owner = Owner::of(alloc, Tile::fresh(alloc, grid.place(0))?);
+    for _ in 0..3 {
+        forward(&mut owner, &table)?;
+    }
+    owner.back_to(0);
+    assert!(rt; !owner.tile.is_made());
+    assert_eq!(rt; shown(&owner), (0, 0, (colour(0, 0, 0, 0), 65535)));
+    forward(&mut owner, &table)?;
+    forward(&mut owner, &table)?;
+    assert_eq!(rt; shown(&owner), (2, 5, (colour(0, 255, 0, 255), 65535)));
+    Ok(())
+}
+
 /// A nearer triangle, one that it hides, a clear of depths, and the hidden one again.
 fn hidden_and_shown(alloc: Global) -> Result<EventTable, Fail> {
     let depth = Depth {
@@ -227,7 +288,7 @@ fn an_event_switched_off_adds_an_image_and_keeps_nothing(rt: HostRuntime) -> Res
     Ok(())
 }
 
-/// An owner holds no whole copy of an image: there is no field but these four.
+/// An owner holds no whole copy of an image: there is no field but these five.
 #[test]
 fn an_owner_has_no_further_field(rt: HostRuntime) -> Result<(), Fail> {
     let alloc = rt.alloc();
@@ -235,11 +296,14 @@ fn an_owner_has_no_further_field(rt: HostRuntime) -> Result<(), Fail> {
     let Owner {
         tile,
         undo,
+        opens_fresh,
         refusals,
         refused_at,
     } = &owner;
     let tile: &Tile = tile;
     let undo: &UndoStack = undo;
+    let opens_fresh: &bool = opens_fresh;
+    assert!(rt; !*opens_fresh);
     assert_eq!(rt; tile.place().width, 1);
     assert_eq!(rt; undo.frames(), 0);
     assert_eq!(rt; (*refusals, *refused_at), (0, None));

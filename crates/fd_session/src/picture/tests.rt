@@ -1,11 +1,10 @@
 ghost use Rattle.std.specs.Prelude.{◌≤◌};
 
-use crate::tests::frames::grey;
+use crate::tests::frames::{Teller, grey};
 use crate::{Answer, Picture, SessionFault};
 use fd_events::{Event, EventTable};
 use std::alloc::Global;
 use std::test::Fail;
-use std::thread::Threads;
 
 fn picture(
     alloc: Global,
@@ -21,21 +20,6 @@ fn picture(
         Ok(picture) => Ok(picture),
         Err(_) => Err(Fail::from("memory")),
     }
-}
-
-/// Draws a picture on to a position, and gives the number of slices that it took.
-fn draw_to<R: Threads + Sync>(rt: &R, picture: &mut Picture, to: u32) -> Result<u32, Fail> {
-    for slices in 1..=100 {
-        if picture.position() > to {
-            return Err(Fail::from("past the position"));
-        }
-        match picture.go_part(rt, to) {
-            None => {}
-            Some(Answer::Moved { .. }) => return Ok(slices),
-            Some(_) => return Err(Fail::from("memory")),
-        }
-    }
-    Err(Fail::from("too many slices"))
 }
 
 /// How many pixels all owners keep.
@@ -55,16 +39,19 @@ fn a_picture_keeps_nothing(rt: HostRuntime) -> Result<(), Fail> {
         clears.push(Event::Clear(grey(level)))?;
     }
     let mut picture = picture(rt.alloc(), 512, 512, clears, 1)?;
-    let slices = draw_to(&rt, &mut picture, 40)?;
-    assert!(rt; slices > 1);
+    let mut teller = Teller::default();
+    assert!(rt; picture.position() <= 40);
+    assert_eq!(rt; picture.go(&rt, 40, &mut teller), Answer::Moved { at: 40 });
+    assert_eq!(rt; (teller.times, teller.at, teller.to), (2, 34, 40));
     assert_eq!(rt; picture.position(), 40);
     assert_eq!(rt; recorded(&picture), 0);
     assert!(rt; picture.table().width() == 512 && picture.table().height() == 512);
     assert_eq!(rt; picture.row_from(511, 511), [grey(40)].as_slice());
     assert!(rt; picture.position() <= 40);
-    assert_eq!(rt; picture.go_part(&rt, 40), Some(Answer::Moved { at: 40 }));
+    assert_eq!(rt; picture.go(&rt, 40, &mut teller), Answer::Moved { at: 40 });
     assert!(rt; picture.position() <= 41);
     let refused = Answer::Refused(SessionFault::NoSuchPosition);
-    assert_eq!(rt; picture.go_part(&rt, 41), Some(refused));
+    assert_eq!(rt; picture.go(&rt, 41, &mut teller), refused);
+    assert_eq!(rt; teller.times, 2);
     Ok(())
 }

@@ -1,7 +1,7 @@
 //! Frames of the tests.
 ghost use Rattle.std.specs.Prelude.{◌≤◌};
 
-use crate::{Answer, Session, SessionFault};
+use crate::{Answer, Progress, Session, SessionFault};
 use fd_blend::{BlendOp, BlendState, Colour, Factor, Mask, Part};
 use fd_cover::{Cull, Interp, Raster, Rect};
 use fd_events::{Draw, Event, EventTable, Vertex};
@@ -9,6 +9,23 @@ use fd_snap::Pos;
 use std::alloc::Global;
 use std::process::Abort;
 use std::test::Fail;
+
+/// Whom a move tells where it is: how often that was, and what was said last.
+#[derive(Default, Drop)]
+pub(crate) struct Teller {
+    pub times: u32,
+    pub at: u32,
+    pub to: u32,
+}
+
+impl Progress for Teller {
+    ghost kept = { λ _. tt };
+
+    fn on_the_way(&mut self, at: u32, to: u32) {
+        self.times = self.times.saturating_add(1);
+        (self.at, self.to) = (at, to);
+    }
+}
 
 pub(crate) const fn colour(r: u8, g: u8, b: u8, a: u8) -> Colour {
     Colour { r, g, b, a }

@@ -1,5 +1,5 @@
 //! Long moves, which go slice by slice.
-use crate::tests::frames::{expect_moved, expect_pixel, grey, session};
+use crate::tests::frames::{Teller, expect_moved, expect_pixel, grey, session};
 use crate::{Answer, Session, SessionFault};
 use fd_events::Event;
 use std::alloc::Global;
@@ -15,26 +15,17 @@ fn clears(alloc: Global, count: u8) -> Result<Session, Fail> {
 }
 
 #[test]
-fn a_jump_has_parts(rt: HostRuntime) -> Result<(), Fail> {
+fn a_jump_is_told_slice_by_slice(rt: HostRuntime) -> Result<(), Fail> {
     let mut session = clears(rt.alloc(), 150)?;
-    let mut parts: u32 = 0;
-    let mut position = 0;
-    for _ in 0..150 {
-        if let Some(answer) = session.goto_part(&rt, 150) {
-            assert_eq!(rt; answer, Answer::Moved { at: 150 });
-            break;
-        }
-        parts = parts.saturating_add(1);
-        assert!(rt; session.position() > position && session.position() < 150);
-        position = session.position();
-        expect_pixel(&rt, &session, (511, 511), grey(position as u8));
-    }
-    assert_eq!(rt; session.position(), 150);
-    assert!(rt; parts == 2);
-    assert_eq!(rt; session.goto_part(&rt, 7), Some(Answer::Moved { at: 7 }));
+    let mut teller = Teller::default();
+    expect_moved(&rt, session.go(&rt, 150, &mut teller), 150);
+    assert_eq!(rt; (teller.times, teller.at, teller.to), (2, 116, 150));
+    expect_pixel(&rt, &session, (511, 511), grey(150));
+    expect_moved(&rt, session.go(&rt, 7, &mut teller), 7);
     expect_pixel(&rt, &session, (511, 511), grey(7));
     let refused = Answer::Refused(SessionFault::NoSuchPosition);
-    assert_eq!(rt; session.goto_part(&rt, 151), Some(refused));
+    assert_eq!(rt; session.go(&rt, 151, &mut teller), refused);
+    assert_eq!(rt; teller.times, 2);
     expect_moved(&rt, session.goto(&rt, 150), 150);
     expect_pixel(&rt, &session, (511, 511), grey(150));
     Ok(())

@@ -1,4 +1,4 @@
-ghost use Rattle.std.specs.Prelude.{◌≡◌, ◌<◌};
+ghost use Rattle.std.specs.Prelude.{◌≡◌, ◌<◌, true};
 
 use super::new_block;
 use crate::UndoStack;
@@ -46,9 +46,11 @@ fn expect_counts(
 
 /// Draws over a pixel of a small tile.
 fn draw_over(tile: &mut Tile, x: u32, y: u32)
+    requires made { tile.old.made ≡ true }
     requires small { tile.old.place ≡ record { left = 0; top = 0; width = 2; height = 2 } }
     requires inside { (x < 2) × (y < 2) }
-    ensures { tile.new.place ≡ tile.old.place }
+    ensures placed { tile.new.place ≡ tile.old.place }
+    ensures made { tile.new.made ≡ true }
 {
     tile.set(x, y, RED);
     tile.set_depth(x, y, 1000);
@@ -56,7 +58,8 @@ fn draw_over(tile: &mut Tile, x: u32, y: u32)
 
 /// Checks that a small tile is fresh, but for its pixel (1, 0), which is 7 deep.
 fn expect_as_before(rt: &impl Abort, tile: &Tile) -> Result<(), Fail>
-    requires { tile.now.place ≡ record { left = 0; top = 0; width = 2; height = 2 } }
+    requires made { tile.now.made ≡ true }
+    requires small { tile.now.place ≡ record { left = 0; top = 0; width = 2; height = 2 } }
 {
     assert_eq!(rt; tile.row(0), [FRESH, FRESH].as_slice());
     assert_eq!(rt; tile.row(1), [FRESH, FRESH].as_slice());
@@ -201,6 +204,53 @@ fn whole_rows_are_put_back(rt: HostRuntime) -> Result<(), Fail> {
     expect_counts(&rt, &undo, 0, 0)
 }
 
+/// What a clear of depths overwrote on a tile that was flat: after it is put back the tile knows its depth again.
+#[test]
+fn a_flat_depth_comes_back(rt: HostRuntime) -> Result<(), Fail> {
+    let mut tile = Tile::fresh(rt.alloc(), SMALL)?;
+    let mut undo = UndoStack::new(rt.alloc());
+    undo.reserve(2, 4)?;
+    undo.begin();
+    undo.keep(0, 0, &[RED, FRESH], &[DEEP, DEEP]);
+    undo.keep(0, 1, &[FRESH, RED], &[DEEP, DEEP]);
+    tile.fill_depths(7);
+    undo.undo_top(&mut tile);
+    assert_eq!(rt; tile.flat_depth(), Some(DEEP));
+    assert_eq!(rt; tile.row(0), [RED, FRESH].as_slice());
+    assert_eq!(rt; tile.depth_row(1), [DEEP, DEEP].as_slice());
+    Ok(())
+}
+
+/// Rows that are alike are one span; another colour, another depth, a row that lies elsewhere and another frame are not.
+#[test]
+fn rows_that_are_alike_are_one_span(rt: HostRuntime) -> Result<(), Fail> {
+    let mut tile = Tile::fresh(rt.alloc(), SMALL)?;
+    let mut undo = UndoStack::new(rt.alloc());
+    undo.reserve(3, 6)?;
+    undo.begin();
+    undo.keep(0, 0, &[RED, RED], &[7, 7]);
+    undo.keep(0, 1, &[RED, RED], &[7, 7]);
+    assert_eq!(rt; (undo.last.held().spans, undo.last.held().colours), (1, 1));
+    undo.keep(0, 1, &[RED, RED], &[7, 7]);
+    assert_eq!(rt; undo.last.held().spans, 2);
+    undo.reserve(3, 4)?;
+    undo.begin();
+    undo.keep(0, 0, &[RED], &[7]);
+    undo.keep(0, 1, &[FRESH], &[7]);
+    undo.keep(1, 0, &[FRESH], &[8]);
+    assert_eq!(rt; undo.last.held().spans, 5);
+    expect_counts(&rt, &undo, 9, 2)?;
+    assert_eq!(rt; undo.kept(0, 1, 1, 1), Some((RED, 7)));
+    assert_eq!(rt; undo.kept(0, 1, 1, 2), None);
+    undo.undo_top(&mut tile);
+    assert_eq!(rt; tile.row(0), [RED, FRESH].as_slice());
+    assert_eq!(rt; tile.depth_row(0), [7, 8].as_slice());
+    undo.undo_top(&mut tile);
+    assert_eq!(rt; tile.row(1), [RED, RED].as_slice());
+    assert_eq!(rt; tile.depth_row(1), [7, 7].as_slice());
+    expect_counts(&rt, &undo, 0, 0)
+}
+
 /// Two frames of a pixel each, the second of which is in a block of its own: room for many pixels was asked for.
 fn with_two_blocks(alloc: Global) -> Result<UndoStack, Fail> {
     let mut undo = UndoStack::new(alloc);
@@ -222,7 +272,7 @@ fn blocks_are_given_back(rt: HostRuntime) -> Result<(), Fail> {
     assert_eq!(rt; undo.kept(1, 0, 0, 0), None);
     undo.forget();
     assert!(rt; undo.full.capacity() == 0);
-    assert!(rt; !undo.last.takes(1, 1));
+    assert!(rt; !undo.last.takes(Room::needed(1, 1)));
     Ok(())
 }
 
@@ -240,7 +290,7 @@ fn a_block_without_frames_is_given_back(rt: HostRuntime) -> Result<(), Fail> {
     assert!(rt; undo.full.is_empty());
     assert_eq!(rt; undo.last.held().frames, 1);
     undo.undo_top(&mut tile);
-    assert!(rt; !undo.last.takes(1, 1));
+    assert!(rt; !undo.last.takes(Room::needed(1, 1)));
     expect_counts(&rt, &undo, 0, 0)?;
     assert_eq!(rt; tile.row(1), [FRESH, RED].as_slice());
     assert_eq!(rt; tile.depth_row(1), [DEEP, 7].as_slice());
@@ -261,12 +311,102 @@ fn room_that_is_left_is_used(rt: HostRuntime) -> Result<(), Fail> {
 }
 
 #[test]
+fn a_whole_place_is_put_back(rt: HostRuntime) -> Result<(), Fail> {
+    let mut tile = Tile::fresh(rt.alloc(), SMALL)?;
+    let mut undo = UndoStack::new(rt.alloc());
+    undo.push_alike(SMALL, FRESH, DEEP)?;
+    tile.fill_colours(RED);
+    expect_counts(&rt, &undo, 4, 1)?;
+    undo.push_alike(SMALL, RED, DEEP)?;
+    tile.fill_depths(7);
+    expect_counts(&rt, &undo, 8, 2)?;
+    assert_eq!(rt; undo.full.len(), 1);
+    assert_eq!(rt; undo.last.held().spans, 1);
+    assert_eq!(rt; undo.last.held().colours, 1);
+    assert_eq!(rt; undo.last.held().depths, 0);
+    assert_eq!(rt; undo.kept(1, 1, 1, 0), Some((RED, DEEP)));
+    assert_eq!(rt; undo.kept(1, 1, 1, 1), None);
+    undo.undo_top(&mut tile);
+    assert_eq!(rt; tile.row(1), [RED, RED].as_slice());
+    assert_eq!(rt; tile.depth(1, 1), DEEP);
+    undo.undo_top(&mut tile);
+    assert_eq!(rt; tile.row(0), [FRESH, FRESH].as_slice());
+    assert_eq!(rt; tile.row(1), [FRESH, FRESH].as_slice());
+    expect_counts(&rt, &undo, 0, 0)
+}
+
+/// Frames that keep a small tile: one pixel, all of it row by row, nothing, all of it at once, and one pixel.
+#[test]
+fn older_whole_frames_are_put_back_alone(rt: HostRuntime) -> Result<(), Fail> {
+    let mut tile = Tile::fresh(rt.alloc(), SMALL)?;
+    let mut undo = UndoStack::new(rt.alloc());
+    undo.reserve(1, 1)?;
+    undo.begin();
+    undo.keep(0, 0, &[FRESH], &[DEEP]);
+    undo.reserve(2, 4)?;
+    undo.begin();
+    undo.keep(0, 0, &[RED, FRESH], &[DEEP, 7]);
+    undo.keep(0, 1, &[FRESH, FRESH], &[DEEP, DEEP]);
+    undo.reserve(0, 0)?;
+    undo.begin();
+    undo.push_alike(SMALL, RED, 7)?;
+    undo.reserve(1, 1)?;
+    undo.begin();
+    undo.keep(1, 1, &[RED], &[9]);
+    expect_counts(&rt, &undo, 10, 5)?;
+    undo.undo_to(4, &mut tile);
+    expect_counts(&rt, &undo, 9, 4)?;
+    assert_eq!(rt; tile.depth_row(1), [DEEP, 9].as_slice());
+    undo.undo_to(1, &mut tile);
+    expect_counts(&rt, &undo, 1, 1)?;
+    assert_eq!(rt; tile.row(0), [RED, FRESH].as_slice());
+    assert_eq!(rt; tile.depth_row(0), [DEEP, 7].as_slice());
+    assert_eq!(rt; tile.depth_row(1), [DEEP, DEEP].as_slice());
+    undo.undo_to(0, &mut tile);
+    expect_counts(&rt, &undo, 0, 0)?;
+    assert_eq!(rt; tile.row(0), [FRESH, FRESH].as_slice());
+    Ok(())
+}
+
+/// Drops frames of a small tile down to the oldest whole one from this one on, if there are so many.
+fn drop_to_whole(undo: &mut UndoStack, from: usize) {
+    if from <= undo.frames() {
+        undo.drop_to_whole(from, SMALL);
+    }
+}
+
+/// What lies above the oldest whole frame is dropped before anything is put back.
+#[test]
+fn newer_frames_are_dropped_unread(rt: HostRuntime) -> Result<(), Fail> {
+    let mut undo = UndoStack::new(rt.alloc());
+    for _ in 0..3 {
+        undo.push_alike(SMALL, RED, 7)?;
+    }
+    drop_to_whole(&mut undo, 3);
+    expect_counts(&rt, &undo, 12, 3)?;
+    drop_to_whole(&mut undo, 1);
+    expect_counts(&rt, &undo, 8, 2)?;
+    drop_to_whole(&mut undo, 0);
+    expect_counts(&rt, &undo, 4, 1)
+}
+
+#[test]
+fn a_cleared_stack_is_as_a_new_one(rt: HostRuntime) -> Result<(), Fail> {
+    let mut undo = UndoStack::new(rt.alloc());
+    undo.push_alike(SMALL, FRESH, DEEP)?;
+    undo.clear();
+    expect_counts(&rt, &undo, 0, 0)?;
+    assert!(rt; !undo.last.takes(Room::needed(1, 1)));
+    Ok(())
+}
+
+#[test]
 fn few_spans_take_no_memory(rt: HostRuntime) -> Result<(), Fail> {
     let mut undo = UndoStack::new(rt.alloc());
     undo.reserve(8, 0)?;
     assert!(rt; undo.full.capacity() == 0);
-    assert!(rt; undo.last.takes(8, 0));
-    assert!(rt; !undo.last.takes(9, 0));
+    assert!(rt; undo.last.takes(Room::needed(8, 0)));
+    assert!(rt; !undo.last.takes(Room::needed(9, 0)));
     Ok(())
 }
 
@@ -280,7 +420,7 @@ fn a_smaller_block_will_do(rt: HostRuntime) -> Result<(), Fail> {
         depths: 3,
     };
     let block = new_block(rt.alloc(), wanted, needed)?;
-    assert!(rt; block.takes(1, 3));
-    assert!(rt; !block.takes(1, 4));
+    assert!(rt; block.takes(Room::needed(1, 3)));
+    assert!(rt; !block.takes(Room::needed(1, 4)));
     Ok(())
 }

@@ -1,3 +1,6 @@
+ghost use Rattle.std.specs.Prelude.{◌≡◌, ◌≤◌, length, IfOk};
+ghost use Rattle.fd_owner.specs.History.{position};
+
 use crate::tests::captures::{FRESH, MASKED, TWO_CELLS, TWO_TILES, colour, session};
 use fd_capture::{CaptureFault, read};
 use fd_crew::{Free, Outcome, run_forward};
@@ -118,6 +121,47 @@ fn undo_reserve(rt: HostRuntime) -> Result<(), Fail> {
     Ok(())
 }
 
+/// A tile that is made late: nothing changes where there is no memory.
+#[test]
+fn tile_make(rt: HostRuntime) -> Result<(), Fail> {
+    let mut tile = Tile::blank(rt.alloc(), PLACE);
+    tile.fill_colours(colour(1, 2, 3, 4));
+    println!(rt; "ready")?;
+    if tile.make().is_ok() {
+        println!(rt; "told Ok")?;
+    } else {
+        println!(rt; "told Memory")?;
+        assert!(rt; !tile.is_made());
+        assert_eq!(rt; tile.get(31, 0), colour(1, 2, 3, 4));
+        assert!(rt; tile.make().is_ok());
+    }
+    assert!(rt; tile.is_made());
+    assert_eq!(rt; tile.get(31, 0), colour(1, 2, 3, 4));
+    assert_eq!(rt; tile.flat_depth(), Some(65535));
+    Ok(())
+}
+
+#[test]
+fn undo_push_alike(rt: HostRuntime) -> Result<(), Fail> {
+    let deep = Place {
+        left: 0,
+        top: 0,
+        width: 1,
+        height: 32,
+    };
+    let mut undo = UndoStack::new(rt.alloc());
+    println!(rt; "ready")?;
+    if undo.push_alike(deep, FRESH, 65535).is_ok() {
+        println!(rt; "told Ok")?;
+    } else {
+        println!(rt; "told Full")?;
+        assert_eq!(rt; (undo.frames(), undo.recorded()), (0, 0));
+        assert!(rt; undo.push_alike(deep, FRESH, 65535).is_ok());
+    }
+    assert_eq!(rt; (undo.frames(), undo.recorded()), (1, 32));
+    Ok(())
+}
+
 /// What an owner shows: its position, how much it keeps, and its first pixel's colour.
 fn expect_owner(rt: &impl Abort, owner: &Owner, position: u32, recorded: u64, red: u8) {
     assert_eq!(rt; owner.position(), position);
@@ -164,21 +208,60 @@ fn owner_forward(rt: HostRuntime) -> Result<(), Fail> {
     Ok(())
 }
 
+/// An owner whose tile isn't made, over a clear: one record of one colour.
 #[test]
-fn crew_run_forward(rt: HostRuntime) -> Result<(), Fail> {
+fn owner_forward_on_a_blank_tile(rt: HostRuntime) -> Result<(), Fail> {
     let table = read(rt.alloc(), TWO_TILES)?;
-    let last = Place {
-        left: 32,
-        width: 1,
-        ..PLACE
+    let mut owner = Owner::of(rt.alloc(), Tile::blank(rt.alloc(), PLACE));
+    println!(rt; "ready")?;
+    if step(&mut owner, &table)?.is_ok() {
+        println!(rt; "told Ok")?;
+    } else {
+        println!(rt; "told Refused")?;
+        expect_owner(&rt, &owner, 0, 0, 0);
+        assert_eq!(rt; owner.refused_at(), Some(0));
+        assert!(rt; step(&mut owner, &table)?.is_ok());
+    }
+    expect_owner(&rt, &owner, 1, 32, 1);
+    if owner.position() == 0 {
+        return Err(Fail::from("one event"));
+    }
+    owner.back();
+    expect_owner(&rt, &owner, 0, 0, 0);
+    Ok(())
+}
+
+/// The owner of a fresh tile of one row.
+fn owner(alloc: Global, left: u32, width: u32) -> Result<Owner, Fail>
+    requires left { left ≤ 32 }
+    requires width { (1 ≤ width) × (width ≤ 32) }
+    ensures place { IfOk result (λ owner. owner.place ≡ record { left = left; top = 0; width = width; height = 1 }) }
+    ensures opening { IfOk result (λ owner. position owner.history ≡ 0) }
+{
+    let place = Place {
+        left,
+        top: 0,
+        width,
+        height: 1,
     };
-    let mut owners = [
-        Owner::of(rt.alloc(), Tile::fresh(rt.alloc(), PLACE)?),
-        Owner::of(rt.alloc(), Tile::fresh(rt.alloc(), last)?),
-    ];
+    Ok(Owner::of(alloc, Tile::fresh(alloc, place)?))
+}
+
+/// One clear of a target of 33 by 1 pixels, which are two tiles.
+fn two_tiles(alloc: Global) -> Result<EventTable, Fail>
+    ensures { IfOk result (λ table. (table.width ≡ 33) × (table.height ≡ 1) × (length table.events ≡ 1)) }
+{
+    let table = read(alloc, TWO_TILES)?;
     if table.len() != 1 || table.width() != 33 || table.height() != 1 {
         return Err(Fail::from("one event"));
     }
+    Ok(table)
+}
+
+#[test]
+fn crew_run_forward(rt: HostRuntime) -> Result<(), Fail> {
+    let table = two_tiles(rt.alloc())?;
+    let mut owners = [owner(rt.alloc(), 0, 32)?, owner(rt.alloc(), 32, 1)?];
     println!(rt; "ready")?;
     let first = run_forward(&rt, rt.alloc(), &mut owners, &table, 1, 2, &Free);
     match first {

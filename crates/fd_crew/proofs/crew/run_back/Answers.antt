@@ -6,8 +6,8 @@ use Rattle.fd_crew.proofs.Working.{rest_after}
 use Rattle.fd_crew.proofs.Ending.{alike_at, zip_next, zip_whole}
 use Rattle.fd_crew.proofs.crew.run_back.Goals as goal
 
-pub take_back-requires-after_bounds : goal.take_back-requires-after_bounds
-take_back-requires-after_bounds g c κs within =
+pub back_to-requires : goal.back_to-requires
+back_to-requires g c =
     let L : Type 0 = g.row.L.Denot in
     let x : L = get_or c.loop-lane.lanes c.loop-lane.lane-index c.lane-item.result in
     let is = alike_at c.args.lanes.now c.loop-lane.lanes c.loop-lane.lane-index x c.loop-lane-test.true c.loop-lane.auto.lanes
@@ -22,12 +22,12 @@ loop-lane-preserved g c =
     (ap (λ (d : L). get_or c.loop-lane.lanes c.loop-lane.lane-index d) c.lane-item.is) c.loop-lane.invariant.rest in
     record {
       moved = zip_next (λ (x : L) (y : L). g.L.Lane.shown y ≡ gone_back_to c.args.to (g.L.Lane.shown x)) c.args.lanes.now c.loop-lane.lanes
-          c.loop-lane.lane-index x c.take_back.new.lane c.loop-lane-test.true c.loop-lane.auto.lanes is
-          c.loop-lane.invariant.moved c.take_back.ensures.moved;
+          c.loop-lane.lane-index x c.back_to.new.self c.loop-lane-test.true c.loop-lane.auto.lanes is
+          c.loop-lane.invariant.moved c.back_to.ensures.moved;
       fits = zip_next (λ (x : L) (y : L). (table : Table) → g.L.Lane.fits x table → g.L.Lane.fits y table) c.args.lanes.now c.loop-lane.lanes
-          c.loop-lane.lane-index x c.take_back.new.lane c.loop-lane-test.true c.loop-lane.auto.lanes is
-          c.loop-lane.invariant.fits c.take_back.ensures.fits;
-      rest = rest_after c.args.lanes.now c.loop-lane.lanes c.loop-lane.lane-index c.take_back.new.lane c.loop-lane.invariant.rest;
+          c.loop-lane.lane-index x c.back_to.new.self c.loop-lane-test.true c.loop-lane.auto.lanes is
+          c.loop-lane.invariant.fits c.back_to.ensures.fits;
+      rest = rest_after c.args.lanes.now c.loop-lane.lanes c.loop-lane.lane-index c.back_to.new.self c.loop-lane.invariant.rest;
     }
 
 pub returns : goal.returns

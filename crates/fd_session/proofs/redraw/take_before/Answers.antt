@@ -8,8 +8,8 @@ pub returns-then-spares : goal.returns-then-spares
 returns-then-spares c = taken_spared c.args.table.now c.args.switch.now c.args.owner.now c.requires.number.1 (c.spares.ensures c.if-spares.true)
     c.requires.stood
 
-pub take_back-requires-after_bounds : goal.take_back-requires-after_bounds
-take_back-requires-after_bounds c = omega (
+pub back_to-requires : goal.back_to-requires
+back_to-requires c = omega (
   arith,
   c.requires.number.1,
   position_stands (unswitched c.args.table.now c.args.switch.now)
@@ -17,5 +17,5 @@ take_back-requires-after_bounds c = omega (
 )
 
 pub returns : goal.returns
-returns c = taken_back c.args.table.now c.args.switch.now c.args.owner.now c.take_back.new.lane c.requires.number.0 c.requires.number.1 c.requires.stood
-    c.take_back.ensures.moved
+returns c = taken_back c.args.table.now c.args.switch.now c.args.owner.now c.back_to.new.self c.requires.number.0 c.requires.number.1 c.requires.stood
+    c.back_to.ensures

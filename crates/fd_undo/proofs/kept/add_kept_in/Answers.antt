@@ -1,4 +1,4 @@
-use Rattle.std.proofs.Common.{◌≡◌, ◌+◌, ◌-◌, ◌∙◌, ◌++◌, true, false, suc, List, [], ◌∷◌, take, drop, get_or, ℕ, sym, ap, arith, append_assoc}
+use Rattle.std.proofs.Common.{◌≡◌, ◌+◌, ◌-◌, ◌∙◌, ◌++◌, true, false, suc, List, [], ◌∷◌, take, drop, get_or, sym, ap, arith, append_assoc}
 use Rattle.std.proofs.lemmas.Bool.Decides.{nat_tests}
 use Rattle.fd_blend.specs.Channel.{fresh}
 use Rattle.fd_tile.specs.Tile.{Pixel}

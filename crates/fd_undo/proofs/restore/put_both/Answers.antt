@@ -1,4 +1,4 @@
-use Rattle.std.proofs.Common.{◌≡◌, ◌+◌, ◌-◌, ◌<◌, ◌≤◌, ◌∙◌, ℕ, refl, ap, sym, subst, length, take, drop, length-drop, arith}
+use Rattle.std.proofs.Common.{◌≡◌, ◌+◌, ◌-◌, ◌<◌, ◌≤◌, ◌∙◌, ℕ, refl, ap, sym, subst, length, drop, length-drop, arith}
 use Rattle.std.proofs.lemmas.List.{length-take}
 use borrow.Rule.Slice.PartMut.{put_mid}
 use Rattle.fd_tile.specs.declared.place.Place.{Place}
@@ -11,23 +11,24 @@ use Rattle.fd_undo.proofs.Restored.{put_back_row_is}
 use Rattle.fd_undo.proofs.restore.put_both.Goals as goal
 use Rattle.fd_undo.proofs.restore.put_both.Goals.{After-len-len, After-place, After-depth_row_mut-row}
 
-held : (c : After-len-len) → Holds c.args.tile.now.place c.args.span.now.x c.args.span.now.y
-held c = row_first c.args.span.now c.args.colours.now c.args.depths.now (omega arith) (omega arith) c.args.tile.now.place c.requires.some c.requires.inside
+held : (c : After-len-len) → Holds c.args.tile.now.place c.args.span.now.x c.args.y
+held c = row_first c.args.span.now c.args.colours.now c.args.depths.now (omega arith)
+    (omega arith) c.args.tile.now.place c.args.y c.requires.some c.requires.inside
 
-crossed : (c : After-len-len) → HasRow c.args.tile.now.place c.args.span.now.y
-crossed c = HasRow-from_Holds c.args.tile.now.place c.args.span.now.x c.args.span.now.y (held c)
+crossed : (c : After-len-len) → HasRow c.args.tile.now.place c.args.y
+crossed c = HasRow-from_Holds c.args.tile.now.place c.args.span.now.x c.args.y (held c)
 
 within : (c : After-len-len) → c.args.span.now.x + c.args.span.now.len ≤ c.args.tile.now.place.left + c.args.tile.now.place.width
-within c = row_within c.args.span.now c.args.colours.now c.args.depths.now (omega arith) (omega arith) c.args.tile.now.place c.requires.some c.requires.inside
+within c = row_within c.args.span.now c.args.colours.now c.args.depths.now (omega arith)
+    (omega arith) c.args.tile.now.place c.args.y c.requires.some c.requires.inside
 
 -- the row of depths that is written, and where
-read : (c : After-depth_row_mut-row) → c.depth_row_mut-row.result.now ≡ depth_row_of c.args.tile.now c.args.span.now.y
+read : (c : After-depth_row_mut-row) → c.depth_row_mut-row.result.now ≡ depth_row_of c.args.tile.now c.args.y
 read c =
-    c.depth_row_mut-row.ensures.value ∙ ap (λ (t : TileImage). depth_row_of t c.y.result) c.put_colours.ensures.written
-    ∙ ap (λ y. depth_row_of c.args.tile.now y) c.y.ensures
+    c.depth_row_mut-row.ensures.value ∙ ap (λ (t : TileImage). depth_row_of t c.args.y) c.put_colours.ensures.written
 
-wide : (c : After-depth_row_mut-row) → HasRow c.args.tile.now.place c.args.span.now.y → length c.depth_row_mut-row.result.now ≡ c.args.tile.now.place.width
-wide c has = ap length (read c) ∙ length-row_in c.args.tile.now.place c.args.tile.now.depths c.args.span.now.y c.place.ensures.filled.depths has
+wide : (c : After-depth_row_mut-row) → HasRow c.args.tile.now.place c.args.y → length c.depth_row_mut-row.result.now ≡ c.args.tile.now.place.width
+wide c has = ap length (read c) ∙ length-row_in c.args.tile.now.place c.args.tile.now.depths c.args.y c.place.ensures.filled.depths has
 
 start_is : (c : After-place) → c.x.result - c.place.result.left ≡ c.args.span.now.x - c.args.tile.now.place.left
 start_is c = ap (λ x. x - c.place.result.left) c.x.ensures ∙ ap (λ (p : Place). c.args.span.now.x - p.left) c.place.ensures.value
@@ -43,11 +44,10 @@ put_colours-requires-clause-first c = held (goal.at-put_colours-requires-clause-
 pub put_colours-requires-clause-within : goal.put_colours-requires-clause-within
 put_colours-requires-clause-within c = within (goal.at-put_colours-requires-clause-within c).After-len-len
 
-pub depth_row_mut-row-requires : goal.depth_row_mut-row-requires
-depth_row_mut-row-requires c =
+pub depth_row_mut-row-requires-clause-crossed : goal.depth_row_mut-row-requires-clause-crossed
+depth_row_mut-row-requires-clause-crossed c =
     let same : c.put_colours.new.tile.place ≡ c.args.tile.now.place = ap (λ (t : TileImage). t.place) c.put_colours.ensures.written in
-    subst (λ y. HasRow c.put_colours.new.tile.place y) (sym c.y.ensures)
-    (subst (λ p. HasRow p c.args.span.now.y) (sym same) (crossed (goal.at-depth_row_mut-row-requires c).After-len-len))
+    subst (λ p. HasRow p c.args.y) (sym same) (crossed (goal.at-depth_row_mut-row-requires-clause-crossed c).After-len-len)
 
 pub overflow_add-start : goal.overflow_add-start
 overflow_add-start c =
@@ -91,12 +91,12 @@ returns c =
     let some : 0 < length (colours_in c.args.span.now c.args.colours.now) = omega (arith, long, c.requires.some) in
     let count : c.x.result - c.place.result.left + c.len-len.result - (c.x.result - c.place.result.left) ≡ c.args.span.now.len =
     omega (arith, c.len-len.ensures) in
-    let row : TileImage = with_row_left tile s.y (put_mid k s.len (row_of tile s.y) old) in
-    ap (λ t. with_depth_row_left t c.y.result
+    let row : TileImage = with_row_left tile c.args.y (put_mid k s.len (row_of tile c.args.y) old) in
+    ap (λ t. with_depth_row_left t c.args.y
     (put_mid start (start + c.len-len.result - start) c.depth_row_mut-row.result.now c.write_depths.new.row)) c.put_colours.ensures.written
-    ∙ ap (λ n. with_depth_row_left row c.y.result (put_mid start n c.depth_row_mut-row.result.now c.write_depths.new.row)) count
-    ∙ ap (λ j. with_depth_row_left row c.y.result (put_mid j s.len c.depth_row_mut-row.result.now c.write_depths.new.row)) (start_is at.After-place)
-    ∙ ap (λ y. with_depth_row_left row y (put_mid k s.len c.depth_row_mut-row.result.now c.write_depths.new.row)) c.y.ensures
-    ∙ put_back_row_is tile s.x s.y k s.len old (row_of tile s.y) old (depths_in s c.args.depths.now) c.depth_row_mut-row.result.now c.write_depths.new.row
+    ∙ ap (λ n. with_depth_row_left row c.args.y (put_mid start n c.depth_row_mut-row.result.now c.write_depths.new.row)) count
+    ∙ ap (λ j. with_depth_row_left row c.args.y (put_mid j s.len c.depth_row_mut-row.result.now c.write_depths.new.row)) (start_is at.After-place)
+    ∙ put_back_row_is tile s.x c.args.y k s.len old (row_of tile c.args.y) old
+    (depths_in s c.args.depths.now) c.depth_row_mut-row.result.now c.write_depths.new.row
     (row_deep s c.args.colours.now c.args.depths.now (omega arith) (omega arith)) c.place.ensures.filled c.requires.inside
     some refl (sym long) refl refl (read at.After-depth_row_mut-row) c.write_depths.ensures

@@ -1,5 +1,5 @@
-use Rattle.std.proofs.Common.{◌+◌, ◌++◌, [], ◌∙◌, sym, subst, List, ap, arith}
-use Rattle.fd_undo.specs.Block.{KeptFrame, Rise}
+use Rattle.std.proofs.Common.{◌+◌, ◌++◌, [], ◌∙◌, sym, subst, ap, arith}
+use Rattle.fd_undo.specs.Block.{Rise}
 use Rattle.fd_undo.specs.Stack.{frames_from}
 use Rattle.fd_undo.proofs.StackLemmas.{frame_rises, frame_stored, rise-grow, frames-next}
 use Rattle.fd_undo.proofs.stack.begin_stored.Goals as goal

@@ -1,5 +1,5 @@
-use Rattle.std.proofs.Common.{◌≡◌, ◌<◌, ◌+◌, ◌++◌, ◌∷◌, [], ◌∙◌, true, false, sym, subst, refl, List, ℕ, length, ap, arith}
-use Rattle.fd_undo.specs.Frame.{KeptPixel, restored, top, older}
+use Rattle.std.proofs.Common.{◌≡◌, ◌<◌, ◌+◌, ◌++◌, ◌∷◌, [], ◌∙◌, true, false, sym, subst, List, length, ap, arith}
+use Rattle.fd_undo.specs.Frame.{restored, IsAlike, top, older}
 use Rattle.fd_undo.specs.Block.{KeptFrame, newest, others, Rise}
 use Rattle.fd_undo.specs.Stack.{frames_from, stored_in, all_stored}
 use Rattle.fd_undo.proofs.Restored.{Inside}
@@ -53,6 +53,11 @@ returns-then-not-is_newest-clause-tile c =
 pub returns-then-not-is_newest-clause-pixels : goal.returns-then-not-is_newest-clause-pixels
 returns-then-not-is_newest-clause-pixels c =
     omega (arith, ap length (nothing (goal.at-returns-then-not-is_newest-clause-pixels c).After-is_newest c.if-not-is_newest.true))
+
+pub undo-pixels-requires-clause-alike : goal.undo-pixels-requires-clause-alike
+undo-pixels-requires-clause-alike c = λ not.
+    subst (λ l. IsAlike c.args.tile.now.place l)
+    (sym (kept_is (goal.at-undo-pixels-requires-clause-alike c).After-is_newest c.if-not-is_newest.false)) (c.requires.alike not)
 
 pub undo-pixels-requires-clause-inside : goal.undo-pixels-requires-clause-inside
 undo-pixels-requires-clause-inside c =

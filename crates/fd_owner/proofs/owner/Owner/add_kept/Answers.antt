@@ -13,4 +13,4 @@ returns c =
     let last : c.args.event ≤ length u.frames = omega (arith, c.requires.last, position_seen t u _ (ap (λ (s : Shown). s.history) c.self.view_is)) in
     rw (← c.self.view_is)
     (subst (λ (l : List Pixel). OnOk c.add_kept.result (c.add_kept.new.kept.items ≡ c.args.kept.now.items ++ take c.args.count l))
-    (sym (pixels_kept-history_of t u c.args.event c.args.x c.args.y c.self.invariant c.requires.first last)) c.add_kept.ensures)
+    (sym (pixels_kept-history_of t u c.args.event c.args.x c.args.y c.self.invariant.0 c.requires.first last)) c.add_kept.ensures)

@@ -24,8 +24,8 @@ invariant_of-self g c =
     c.self.invariant.valid c.self.invariant.sized
     c.self.inside.owners.len c.args.to c.go_back.new.owners c.self.inside.owners.ok.0 (omega (arith, c.if-to-len.false, c.len.ensures)) left
 
-pub returns-then-to-from : goal.returns-then-to-from
-returns-then-to-from g c =
+pub returns-then-to-from-clause-jumps : goal.returns-then-to-from-clause-jumps
+returns-then-to-from-clause-jumps g c =
     let owners = c.self.inside.owners.items in
     let left : IsLeftAt c.self.inside.table c.args.to owners c.go_back.new.owners =
     subst (λ (l : List Shown). All (StandsAt c.self.inside.table (opening_position l)) l → IsLeftAt c.self.inside.table c.args.to l c.go_back.new.owners)
@@ -60,8 +60,8 @@ invariant_of-self-2 g c =
     c.self.inside.owners.len k new c.self.inside.owners.ok.0
     (omega (arith, within, left_within c.common_position-from.result c.args.to c.go_forward-run.result c.go_forward-run.ensures.between)) left
 
-pub returns : goal.returns
-returns g c =
+pub returns-clause-jumps : goal.returns-clause-jumps
+returns-clause-jumps g c =
     let owners = c.self.inside.owners.items in
     let table = c.self.inside.table in
     let new = c.go_forward-run.new.owners in

@@ -9,7 +9,7 @@ pub bounds-depth_row-column : goal.bounds-depth_row-column
 bounds-depth_row-column c =
     let t = c.self.inside in
     let filled : IsTileImage c.args.self.now = subst (λ (u : TileImage). IsTileImage u) c.self.view_is
-    (IsTile-filled t.place t.colours.items t.depths.items t.flat_depth c.self.invariant) in
+    (IsTile-filled t.place t.made t.colours.items t.depths.items t.row t.is_flat t.flat_depth c.self.invariant) in
     subst (λ n. c.args.x - c.self.inside.place.left < n) (sym (ap length c.depth_row.ensures))
     (column_within c.args.self.now t.place c.args.x c.args.y (ap (λ u. u.place) c.self.view_is) filled c.requires).1
 
@@ -17,7 +17,7 @@ pub returns : goal.returns
 returns c =
     let t = c.self.inside in
     let filled : IsTileImage c.args.self.now = subst (λ (u : TileImage). IsTileImage u) c.self.view_is
-    (IsTile-filled t.place t.colours.items t.depths.items t.flat_depth c.self.invariant) in
+    (IsTile-filled t.place t.made t.colours.items t.depths.items t.row t.is_flat t.flat_depth c.self.invariant) in
     let left : t.place ≡ c.args.self.now.place = ap (λ u. u.place) c.self.view_is in
     let column : ℕ = c.args.x - t.place.left in
     let within : c.args.x - c.self.inside.place.left < length (depth_row_of c.args.self.now c.args.y) =

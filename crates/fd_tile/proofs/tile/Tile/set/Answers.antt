@@ -7,6 +7,6 @@ pub bounds-row_mut-column : goal.bounds-row_mut-column
 bounds-row_mut-column c =
     let t = c.self.inside in
     let filled : IsTileImage c.args.self.now = subst (λ (u : TileImage). IsTileImage u) c.self.view_is
-    (IsTile-filled t.place t.colours.items t.depths.items t.flat_depth c.self.invariant) in
+    (IsTile-filled t.place t.made t.colours.items t.depths.items t.row t.is_flat t.flat_depth c.self.invariant) in
     subst (λ n. c.args.x - c.self.inside.place.left < n) (sym (ap length c.row_mut.ensures.value))
-    (column_within c.args.self.now t.place c.args.x c.args.y (ap (λ u. u.place) c.self.view_is) filled c.requires).0
+    (column_within c.args.self.now t.place c.args.x c.args.y (ap (λ u. u.place) c.self.view_is) filled c.requires.inside).0

@@ -1,4 +1,4 @@
-use Rattle.std.proofs.Common.{◌≡◌, ◌-◌, ◌≤◌, ◌∙◌, sym, ap, List, ℕ, length, take, drop, arith, length-drop}
+use Rattle.std.proofs.Common.{◌≡◌, ◌-◌, ◌∙◌, sym, ap, List, ℕ, length, take, drop, arith, length-drop}
 use Rattle.fd_blend.specs.declared.channel.Colour.{Colour}
 use Rattle.fd_undo.specs.Rows.{Held, rows_in, rows_of, colour_count, depth_count}
 use Rattle.fd_undo.specs.Span.{Span}

@@ -1,9 +1,8 @@
-use Rattle.std.proofs.Common.{◌≡◌, ◌-◌, ◌∙◌, refl, sym, subst, List, ℕ, length, take, drop, ap, arith}
-use Rattle.fd_blend.specs.declared.channel.Colour.{Colour}
+use Rattle.std.proofs.Common.{◌≡◌, ◌-◌, ◌∙◌, sym, subst, List, ℕ, length, take, drop, ap, arith}
 use Rattle.fd_undo.specs.Frame.{KeptPixel, restored}
-use Rattle.fd_undo.specs.Rows.{Held, rows_in, rows_of, row_of_span, newest_row}
+use Rattle.fd_undo.specs.Rows.{Held, rows_in, rows_of, span_pixels, newest_row}
 use Rattle.fd_undo.proofs.Restored.{Inside}
-use Rattle.fd_undo.proofs.SpanLemmas.{length-row_of_span}
+use Rattle.fd_undo.proofs.SpanLemmas.{length-span_pixels}
 use Rattle.fd_undo.proofs.RowLemmas.{Taken, taken, tail_is}
 use Rattle.fd_undo.proofs.rows.Rows.undo.Goals as goal
 use Rattle.fd_undo.proofs.rows.Rows.undo.Goals.{After-listed_depths, After-deref-2}
@@ -18,7 +17,7 @@ known c =
 -- the row that is written back
 abbrev row : (c : After-listed_depths) → List KeptPixel
 row c =
-    row_of_span c.take_last-span.result (drop (c.len.result - c.listed_colours.result) c.self.inside.colours.items)
+    span_pixels c.take_last-span.result (drop (c.len.result - c.listed_colours.result) c.self.inside.colours.items)
     (drop (c.len-2.result - c.listed_depths.result) c.self.inside.depths.items)
 
 row_is : (c : After-listed_depths) → row c ≡ newest_row c.args.self.now
@@ -39,13 +38,13 @@ depths_are c =
     ap (tail (c.len-2.result - c.listed_depths.result)) c.deref-2.ensures.value ∙ tail_is (c.len-2.result - c.listed_depths.result) c.self.inside.depths.items
 
 sliced : (c : After-deref-2) → (d : After-listed_depths)
-    → row_of_span c.take_last-span.result (tail (c.len.result - c.listed_colours.result) c.deref.result.now) (tail
+    → span_pixels c.take_last-span.result (tail (c.len.result - c.listed_colours.result) c.deref.result.now) (tail
     (c.len-2.result - c.listed_depths.result) c.deref-2.result.now)
-    ≡ row_of_span c.take_last-span.result (drop (c.len.result - c.listed_colours.result) c.self.inside.colours.items)
+    ≡ span_pixels c.take_last-span.result (drop (c.len.result - c.listed_colours.result) c.self.inside.colours.items)
     (drop (c.len-2.result - c.listed_depths.result) c.self.inside.depths.items)
 sliced c d =
-    ap (λ l. row_of_span c.take_last-span.result l (tail (c.len-2.result - c.listed_depths.result) c.deref-2.result.now)) (colours_are c)
-    ∙ ap (λ l. row_of_span c.take_last-span.result (drop (c.len.result - c.listed_colours.result) c.self.inside.colours.items) l) (depths_are c)
+    ap (λ l. span_pixels c.take_last-span.result l (tail (c.len-2.result - c.listed_depths.result) c.deref-2.result.now)) (colours_are c)
+    ∙ ap (λ l. span_pixels c.take_last-span.result (drop (c.len.result - c.listed_colours.result) c.self.inside.colours.items) l) (depths_are c)
 
 pub put_back-requires-clause-counted : goal.put_back-requires-clause-counted
 put_back-requires-clause-counted c =
@@ -79,8 +78,8 @@ pub returns-clause-pixels : goal.returns-clause-pixels
 returns-clause-pixels c =
     let at = goal.at-returns-clause-pixels c in
     let t = known at.After-listed_depths in
-    c.len-3.ensures
-    ∙ sym (length-row_of_span c.take_last-span.result (drop (c.len.result - c.listed_colours.result) c.self.inside.colours.items)
+    c.pixels.ensures
+    ∙ sym (length-span_pixels c.take_last-span.result (drop (c.len.result - c.listed_colours.result) c.self.inside.colours.items)
     (drop (c.len-2.result - c.listed_depths.result) c.self.inside.depths.items) (omega (arith, t.long)) (omega (arith, t.deep_long)))
     ∙ ap length (row_is at.After-listed_depths)
 

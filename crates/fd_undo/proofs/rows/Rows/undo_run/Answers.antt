@@ -1,5 +1,4 @@
 use Rattle.std.proofs.Common.{◌≡◌, ◌-◌, ◌*◌, ◌∙◌, sym, subst, List, ℕ, length, get_or, take, drop, ap, arith, length-drop}
-use Rattle.fd_blend.specs.declared.channel.Colour.{Colour}
 use Rattle.fd_tile.specs.declared.place.Place.{Place}
 use Rattle.fd_tile.specs.Tile.{with_rows_from, cut_rows}
 use Rattle.fd_undo.specs.Span.{Span}

@@ -1,7 +1,6 @@
-use Rattle.std.proofs.Common.{◌≡◌, ◌-◌, ◌+◌, ◌<◌, ◌≤◌, ◌∙◌, sym, subst, List, ℕ, length, take, drop, ap, arith, length-drop}
+use Rattle.std.proofs.Common.{◌≡◌, ◌-◌, ◌<◌, ◌≤◌, ◌∙◌, sym, subst, length, take, drop, ap, arith, length-drop}
 use Rattle.std.proofs.lemmas.List.{length-take}
 use Rattle.fd_undo.specs.Frame.{restored}
-use Rattle.fd_undo.specs.Span.{Span}
 use Rattle.fd_undo.specs.Rows.{Held, rows_of, joined, newest_row}
 use Rattle.fd_undo.specs.Run.{IsRun}
 use Rattle.fd_undo.proofs.Restored.{Inside}

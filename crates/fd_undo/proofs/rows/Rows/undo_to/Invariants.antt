@@ -1,4 +1,4 @@
-use Rattle.std.proofs.Common.{◌≡◌, ◌+◌, ◌≤◌, length, take, drop}
+use Rattle.std.proofs.Common.{◌≡◌, ◌+◌, ◌≤◌, true, length, take, drop}
 use Rattle.fd_undo.specs.Frame.{restored}
 use Rattle.fd_undo.specs.Rows.{rows_of, joined}
 use Rattle.fd_undo.proofs.Restored.{Inside}
@@ -7,6 +7,7 @@ use Rattle.fd_undo.proofs.rows.Rows.undo_to.Given as goal
 -- what is left to put back gives what all of it gives
 abbrev pub invariant-loop-self : goal.invariant-loop-self
 invariant-loop-self l = record {
+  made : l.tile.made ≡ true;
   from : l.first ≤ length l.self.spans;
   low : take l.first (rows_of l.self) ≡ take l.first (rows_of l.initial.self);
   spans : take l.first l.self.spans ≡ take l.first l.initial.self.spans;

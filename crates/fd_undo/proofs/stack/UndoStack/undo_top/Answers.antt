@@ -1,5 +1,5 @@
 use Rattle.std.proofs.Common.{◌∙◌, ◌-◌, sym, subst, length, ap, arith}
-use Rattle.fd_undo.specs.Frame.{restored, top, older}
+use Rattle.fd_undo.specs.Frame.{restored, IsAlike, top, older}
 use Rattle.fd_undo.specs.Undo.{Undo, recorded_in, without_room}
 use Rattle.fd_undo.specs.Stack.{all_stored}
 use Rattle.fd_undo.proofs.Restored.{Inside}
@@ -14,6 +14,10 @@ known c =
 
 pub overflow_sub-self : goal.overflow_sub-self
 overflow_sub-self c = omega (arith, (known (goal.at-overflow_sub-self c).After-self).some)
+
+pub take_back-requires-clause-alike : goal.take_back-requires-clause-alike
+take_back-requires-clause-alike c = λ not.
+    subst (λ l. IsAlike c.args.tile.now.place (top l)) (sym (known (goal.at-take_back-requires-clause-alike c).After-self).shown) (c.requires.alike not)
 
 pub take_back-requires-clause-rise : goal.take_back-requires-clause-rise
 take_back-requires-clause-rise c = (known (goal.at-take_back-requires-clause-rise c).After-self).rise

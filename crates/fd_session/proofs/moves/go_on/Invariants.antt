@@ -1,0 +1,16 @@
+use Rattle.std.proofs.Common.{◌≡◌, ◌≤◌, ◌-◌}
+use Rattle.fd_session.specs.Moves.{IsLeftFrom}
+use Rattle.fd_session.proofs.moves.go_on.Given as goal
+
+-- no owner stands lower than where the last slice ended; before the first one they have not changed
+abbrev pub invariant-loop-at : goal.invariant-loop-at
+invariant-loop-at g l = record {
+  left : IsLeftFrom l.table l.at l.fn.owners l.owners;
+  ahead : l.way.from ≤ l.at;
+  high : l.at ≤ l.way.to;
+  unmoved : l.at ≡ l.way.from → l.owners ≡ l.fn.owners;
+  told : g.T.Progress.kept l.teller ≡ g.T.Progress.kept l.fn.teller;
+}
+
+abbrev pub decreases-loop-at : goal.decreases-loop-at
+decreases-loop-at g l = l.way.to - l.at
