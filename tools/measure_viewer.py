@@ -27,9 +27,14 @@ new MutationObserver((_, watch) => { watch.disconnect(); requestAnimationFrame((
   .observe(position, { childList: true });
 document.body.dispatchEvent(new KeyboardEvent("keydown", { key, bubbles: true }));"""
 
-# From a click on the picture to the history that is shown; the place is in pixels of the page
-PICK = """const [x, y, done] = arguments, place = document.getElementById("place"), stage = document.getElementById("stage"), start = performance.now();
-new MutationObserver((_, watch) => { watch.disconnect(); requestAnimationFrame(() => setTimeout(() => done(performance.now() - start))); }).observe(place, { childList: true });
+# From a click on the picture until the pixel's history stands in the page, and until the browser has drawn it in its next frame; the place is in pixels of the page
+PICK = """const [x, y, done] = arguments, place = document.getElementById("place"), stage = document.getElementById("stage"), was = place.textContent, start = performance.now();
+const passed = () => performance.now() - start;
+new MutationObserver((_, watch) => {
+  if (place.textContent === was) return;
+  watch.disconnect();
+  setTimeout(() => { const told = passed(); requestAnimationFrame(() => setTimeout(() => done([told, passed()]))); });
+}).observe(place, { childList: true });
 for (const kind of ["pointerdown", "pointerup"]) stage.dispatchEvent(new PointerEvent(kind, { clientX: x, clientY: y, bubbles: true }));"""
 
 # The slider is dragged from one end to the other, a step each frame of the browser
@@ -90,10 +95,10 @@ def opened(seen, viewer, events):
 
 
 def picked(seen):
-    """The milliseconds until the history of a pixel is there, at places all over the picture; the first one starts a run, and isn't told."""
+    """The milliseconds until the history of a pixel is there, and until it is drawn, at places all over the picture; the first one starts a run, and isn't told."""
     left, top, wide, high = seen.run("const b = document.getElementById('sheet').getBoundingClientRect(); return [b.left, b.top, b.width, b.height]")
     places = [(left + wide * (i * 37 % 97 + 1) / 99, top + high * (i * 61 % 97 + 1) / 99) for i in range(PICKS + 1)]
-    return [seen.run_to_end(PICK, *place) for place in places][1:]
+    return list(zip(*[seen.run_to_end(PICK, *place) for place in places][1:]))
 
 
 def measured(file, events):
@@ -135,7 +140,8 @@ def hands(seen, events):
     before = processor_time()
     film = seen.run_to_end(FILM, FILMED)
     each = 1000 * (processor_time() - before) / max(1, film * FILMED)
-    return {"steps": steps, "film": film, "processor": each, "a pixel in the midst": picked(seen), "scrub": seen.run_to_end(SCRUB, FILMED)}
+    pixel, drawn = picked(seen)
+    return {"times": {**steps, "a pixel in the midst": pixel, "until it is drawn": drawn}, "film": film, "processor": each, "scrub": seen.run_to_end(SCRUB, FILMED)}
 
 
 def main():
@@ -150,11 +156,11 @@ def main():
         found = measured(file, events)
     least = min(found["opened"]) / 1000
     print(f"{events} events, {side}, a load of {os.getloadavg()[0]:.0f}: the program itself {own:.2f} s, opened in {least:.2f} s, so {least - own:.2f} s more")
-    for key, times in {**found["steps"], "a pixel in the midst": found["a pixel in the midst"]}.items():
+    for key, times in found["times"].items():
         print(f"{key}: {min(times):.0f} ms, the middle one {statistics.median(times):.0f} ms")
     print(f"a film: {found['film']:.1f} pictures a second, {found['processor']:.0f} ms of processor time each; the slider dragged: {found['scrub']:.1f}")
-    print(json.dumps({"film": found["film"], "processor": found["processor"], "scrub": found["scrub"], "own": own, "opened": least, "pixel": statistics.median(found["a pixel in the midst"]),
-                      "step": statistics.median(found["steps"]["ArrowLeft"] + found["steps"]["ArrowRight"])}))
+    print(json.dumps({"film": found["film"], "processor": found["processor"], "scrub": found["scrub"], "own": own, "opened": least, "pixel": statistics.median(found["times"]["a pixel in the midst"]),
+                      "step": statistics.median(found["times"]["ArrowLeft"] + found["times"]["ArrowRight"])}))
 
 
 if __name__ == "__main__":

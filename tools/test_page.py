@@ -402,7 +402,7 @@ class Alone(Opened):
 class InChromium(Alone, test_viewer_page.Page):
     # Of the server alone
     test_two_pages_at_once = test_the_file_for_the_browser_leads_to_the_page = test_without_the_token = test_stopped_and_ended = None
-    test_a_long_move_is_stopped = test_a_long_history_is_stopped = None
+    test_a_long_move_is_stopped = test_a_long_history_is_stopped = test_a_look_that_waits_outlasts_a_stop = None
 
     def test_nothing_is_sent(self):
         super().test_nothing_is_sent()

@@ -295,6 +295,41 @@ class Answers(Hands):
                 if key == "Right":
                     self.assertTrue(self.browser.run("return document.querySelector(arguments[0]).marked", self.row(4)))
 
+    def test_entries_follow_the_position(self):
+        """Which entries of the history are ahead, which is the last event's, and which one's triangle is outlined."""
+        rows = ("return [...document.querySelectorAll('#history .entry')].map(e => [+e.dataset.event, e.classList.contains('ahead'), e.getAttribute('aria-selected') === 'true',"
+                "e.classList.contains('outlined')])")
+        with Viewer(HOUSE) as viewer:
+            self.open(viewer)
+            self.at(13)
+            self.click_pixel(50, 50, 96)
+            expected = lambda position, outlined=None: [[n, n > position, n == position, n == outlined] for n in (2, 3, 6, 11)]
+            self.comes(lambda: self.browser.run(rows), expected(13))
+            self.browser.press("Escape", "Left", "Left")
+            self.comes(lambda: self.browser.run(rows), expected(11))
+            self.browser.click("#history [data-event='11']")                # which moves nothing
+            self.comes(lambda: self.browser.run(rows), expected(11, 11))
+            self.choose_entry(6)
+            self.comes(lambda: self.browser.run(rows), expected(6, 6))
+            for key, position, outlined in (("Right", 7, 6), ("End", 13, 6), ("Left", 12, 6), ("Home", 0, None), ("End", 13, None)):
+                self.browser.press("Escape", key)
+                self.at(position)
+                self.comes(lambda: self.browser.run(rows), expected(position, outlined))
+
+    def test_marks_over_the_slider(self):
+        """Of all events, of those that write higher ones, and the highest of those that wrote the chosen pixel."""
+        seen = ("return [13, 8, 3].map(y => { const { width } = document.getElementById('ticks'), row = document.getElementById('ticks').getContext('2d').getImageData(0, y, width, 1).data;"
+                "let count = 0; for (let i = 3; i < row.length; i += 4) count += row[i] > 0 && !(i > 3 && row[i - 4] > 0); return count; })")
+        with Viewer(HOUSE) as viewer:
+            self.open(viewer)
+            self.at(13)
+            writes = sum(event["kind"] in ("clear", "draw", "depth_clear") for event in json.loads(HOUSE.read_bytes())["events"])
+            self.comes(lambda: self.browser.run(seen), [13, writes, 0])
+            for x, y, entries in ((50, 50, 4), (5, 5, 2), (50, 50, 4)):
+                self.click_pixel(x, y, 96)
+                self.comes(lambda: len(self.history()), entries)
+                self.comes(lambda: self.browser.run(seen), [13, writes, entries])
+
     def test_a_film(self):
         """It plays from where the frame stands to its end, by each event, and a key stops it."""
         seen = "new MutationObserver(() => { (window.seen ??= []).push(document.querySelector('#position b').innerText); }).observe(document.getElementById('position'), { childList: true });"
@@ -313,6 +348,34 @@ class Answers(Hands):
             self.browser.press("f")
             self.browser.until("return window.pressed")
             self.assertLess(self.comes_to_rest(each), 13)
+
+    def test_the_slider_is_dragged(self):
+        """Every so many pixels of a large target come meanwhile, the very ones, which the page says; and all of them once the hand rests."""
+        corners = lambda left, top, colour, by=20: vertices((left, top, colour), (left + 70 * by, top, [255, 9, 80, 255]), (left, top + 55 * by, [7, 250, 130, 255]))
+        events = [{"kind": "clear", "color": [20, 30, 40, 255]}] + [{"kind": "draw", "interp": "linear", "vertices": corners(50 * i, 40 * i, [40 * i, 90, 255 - 30 * i, 255])} for i in range(6)]
+        events += [{"kind": "draw", "interp": "linear", "vertices": corners(333 * i, 111 * i, [9, 200, 90, 255], 1)} for i in range(2)]      # small ones, whose pixels alone are asked for
+        drag = ("const [way, done] = arguments, slider = document.getElementById('slider'), image = document.getElementById('image');"
+                "const pixels = () => new Uint32Array(image.getContext('2d').getImageData(0, 0, image.width, image.height).data.buffer);"
+                "const here = () => +document.querySelector('#position b').innerText === way[0], told = () => document.getElementById('difference').innerText;"
+                "const until = (holds, go) => holds() ? go() : setTimeout(() => until(holds, go), 5);"
+                "const drag = () => { slider.value = way[0]; slider.dispatchEvent(new Event('input')); }, hand = setInterval(drag, 20);"        # which trembles until it lets go
+                "const go = () => until(here, () => { if (way.length === 1) return letGo(); way.shift(); drag(); go(); });"
+                "const letGo = () => { clearInterval(hand); const few = [image.width, pixels(), told()];"
+                "  until(() => image.width === 1900, () => { const all = pixels(), every = Math.round(1900 / few[0]);"
+                "    done([few[0], image.width, few[2], told(), few[1].every((word, i) => word === all[Math.floor(i / few[0]) * every * 1900 + i % few[0] * every])]); }); };"
+                "drag(); go();")
+        with tempfile.TemporaryDirectory() as folder, Viewer(file_of(folder, capture_of(1900, 1500, events))) as viewer:
+            self.open(viewer)
+            self.at(9)
+            for way in ([3], [1], [6, 8, 7]):
+                few, all_of_it, told, rest, is_so = self.browser.run_to_end(drag, way)
+                every = {950: "2nd", 634: "3rd", 475: "4th", 380: "5th"}[few]       # as wide as the window lets the picture be
+                self.assertEqual((all_of_it, told), (1900, f"every {every} pixel, while the slider is dragged"))
+                self.assertTrue(is_so)
+                self.assertIn("changed", rest)
+            self.browser.press("Escape", "c")                               # no other look is shown by fewer pixels
+            few, _, told, *_ = self.browser.run_to_end(drag, [5])
+            self.assertEqual((few, "dragged" in told), (1900, False))
 
     def comes_to_rest(self, each):
         """The position, once it stays for longer than some of a film's events last, each so many seconds here."""

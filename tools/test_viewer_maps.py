@@ -179,7 +179,7 @@ class MapsInChromium(Maps):
     def test_no_button_is_lit_over_another_picture(self):
         """While depths are on their way the image is shown, and its own button is lit."""
         go, answer = threading.Event(), Runs.answer
-        slow = lambda runs, lines, window=None, beside=None: (beside and go.wait(120), answer(runs, lines, window, beside))[1]
+        slow = lambda runs, lines, window, beside, *more: (beside and go.wait(120), answer(runs, lines, window, beside, *more))[1]
         with tempfile.TemporaryDirectory() as folder, mock.patch.object(Runs, "answer", slow):
             self.addCleanup(go.set)
             self.shows(slope(64, 48), folder)

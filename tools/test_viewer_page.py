@@ -370,14 +370,21 @@ class Page(Hands):
                 self.at(4)
 
     def test_the_file_for_the_browser_leads_to_the_page(self):
-        with Viewer(HOUSE) as viewer:
-            handover = Handover(viewer.server.address)
-            try:
-                self.browser.open(handover.page.as_uri())
-                self.at(13)
-                self.assertNotIn(viewer.server.token, self.browser.run("return location.href"))
-            finally:
-                handover.close()
+        """The token is gone from the address before the page has a place that it tells there: it is held on its way to the first one."""
+        with tempfile.TemporaryDirectory() as folder:
+            hold, held = (pathlib.Path(folder) / name for name in ("hold", "held"))
+            hold.touch()
+            with Viewer(EXAMPLES / "row01.json", program_of(HOLDING, folder)) as viewer:
+                handover = Handover(viewer.server.address)
+                try:
+                    self.browser.open(handover.page.as_uri())
+                    self.comes(held.exists, True)
+                    self.assertEqual(self.browser.run("return location.href"), viewer.server.origin + "/")
+                finally:
+                    handover.close()
+                hold.unlink()
+                self.stop()
+                self.stopped_at(0)
 
     def test_without_the_token(self):
         with Viewer(HOUSE) as viewer:
@@ -423,9 +430,14 @@ class Page(Hands):
                 self.browser.press("End")
                 self.browser.until("return document.getElementById('stop').getAttribute('aria-disabled') === 'false'")
                 self.assertTrue(self.browser.run("return document.getElementById('busy').checkVisibility()"))
-                self.browser.press("Left")                                  # waits, and is dropped
+                self.browser.press("Left")                                  # a move, a switch and a pixel wait, and are dropped
+                self.browser.click(self.row(2) + " input")
+                self.assertFalse(self.browser.run(f"return document.querySelector(\"{self.row(2)} input\").checked"))
+                self.click_pixel(0, 0, 1)
                 self.stop()
                 self.stopped_at(0)
+                self.assertTrue(self.browser.run(f"return document.querySelector(\"{self.row(2)} input\").checked"))
+                self.assertTrue(self.browser.run("return document.getElementById('history').hidden"))
                 self.assertFalse(self.browser.run("return document.getElementById('busy').checkVisibility()"))
                 self.assertEqual(self.browser.run("return [...document.querySelectorAll('#event-list .off')].map(e => e.dataset.number)"), ["3"])
                 self.assertEqual(viewer.ask("events")[0]["replies"][0], {"text": "events 3 at 0", "lines": ["1 on clear 1 2 3 4", "2 on clear 1 2 3 4", "3 off clear 1 2 3 4"], "left_out": 0})
@@ -444,6 +456,25 @@ class Page(Hands):
                 self.stopped_at(0)
                 asked = self.browser.run("return [...document.querySelectorAll('#log .asked')].map(e => e.innerText)")
                 self.assertEqual(asked, ["goto 3", "off 3", "goto 0", "step", "goto 3", "goto 0"])
+
+    def test_a_look_that_waits_outlasts_a_stop(self):
+        """Or its button would say for ever that it comes."""
+        with tempfile.TemporaryDirectory() as folder:
+            hold, held = (pathlib.Path(folder) / name for name in ("hold", "held"))
+            with Viewer(EXAMPLES / "row01.json", program_of(HOLDING, folder)) as viewer:
+                self.open(viewer)
+                self.at(3)
+                self.browser.press("Escape", "Home")
+                self.at(0)
+                hold.touch()
+                self.browser.press("End")
+                self.comes(held.exists, True)
+                hold.unlink()
+                self.browser.press("o")
+                self.stop()
+                self.stopped_at(0)
+                lit = "return ['aria-checked', 'aria-busy'].map(name => document.querySelector('[data-look=overdraw]').getAttribute(name)).join(' ')"
+                self.comes(lambda: self.browser.run(lit), "true false")
 
     def test_a_long_history_is_stopped(self):
         """The pixel that was chosen stays chosen, with its history."""

@@ -87,7 +87,7 @@ class Doors(unittest.TestCase):
     def test_bodies(self):
         for body in (b"", b"quit\n", b"  quit\n", b"state\nquit", b"a" * 257, b"state\x00\n", b"state\tx\n", b"\xff\n", b"state\n" * 4097):
             self.assertEqual(self.status(body=body), 400, body[:20])
-        for window in ("", "1 2 3", "1 2 3 4 5", "-1 0 2 2", "a 0 1 1", "0 0 1 11111111111"):
+        for window in ("", "1 2 3", "1 2 3 4 5 6", "-1 0 2 2", "a 0 1 1", "0 0 1 11111111111"):
             self.assertEqual(self.status(X_Window=window), 400, window)
         for base in ("", "-1", "a", "1 2", "11111111111"):
             self.assertEqual(self.status(X_Base=base), 400, base)
@@ -240,14 +240,14 @@ class NearPictures(unittest.TestCase):
     def walk(self, file, events, dice, moves):
         """How many of the pictures on a way by chance weren't asked for as a whole; events are switched on it, and parts of the target looked at."""
         capture, near = Capture(file), 0
-        session, own = Session(PROGRAM, str(file), 1, capture.box), Session(PROGRAM, str(file), 1)
+        session, own = Session(PROGRAM, str(file), 1, capture.boxes_between), Session(PROGRAM, str(file), 1)
         self.addCleanup(session.close)
         self.addCleanup(own.close)
         position, window = events, None
         for _ in range(moves):
             position = max(0, min(events, dice.choice((position - 1, position + 1, position + 1, position - 3, position + 5, dice.randrange(events + 1)))))
             if dice.random() < 0.1:
-                window = dice.choice((None, (3, 2, 20, 19), (0, 0, 11, 30)))
+                window = dice.choice((None, (3, 2, 20, 19), (0, 0, 11, 30), (0, 0, 32, 28, 2), (3, 2, 20, 19, 3)))
             number = dice.choice(sorted(session.off)) if session.off and dice.random() < 0.5 else dice.randrange(1, events + 1)
             switch = [b"%s %d" % (b"on" if number in session.off else b"off", number)]
             if dice.random() < 0.1:
@@ -264,7 +264,7 @@ class NearPictures(unittest.TestCase):
     def test_they_are_the_program_s(self):
         dice, near = random.Random(11), 0
         with tempfile.TemporaryDirectory() as folder:
-            for _ in range(12):
+            for _ in range(24):
                 events = [event for event in (chance.event(dice, 32, 28, 2) for _ in range(60)) if event["kind"] != "clear" or dice.random() < 0.2]
                 for event in events:
                     if event["kind"] == "draw" and dice.random() < 0.8:
@@ -278,7 +278,7 @@ class NearPictures(unittest.TestCase):
         events = [{"kind": "clear", "color": [1, 2, 3, 4]}, {"kind": "draw", "interp": "flat", "vertices": corners}]
         with tempfile.TemporaryDirectory() as folder:
             file = file_of(folder, capture_of(9, 9, events))
-            near, own = (Session(PROGRAM, str(file), 1, box) for box in (Capture(file).box, None))
+            near, own = (Session(PROGRAM, str(file), 1, boxes) for boxes in (Capture(file).boxes_between, None))
             for session in (near, own):
                 self.addCleanup(session.close)
                 session.answer([b"off 2"])
@@ -298,6 +298,42 @@ class NearPictures(unittest.TestCase):
             for i, vertex in enumerate(event["vertices"]):
                 vertex.update(x=x + (3 << 16) * (i % 3 == 1), y=y + (3 << 16) * (i % 3 == 2))
 
+    def test_each_pixel_once(self):
+        """Of boxes that meet, lie inside of each other or beside each other, or have no pixels; of a part those that are kept, in lines that fit any pipe."""
+        dice, boxes = random.Random(5), [(0, 0, 9, 3), (2, 1, 5, 2), (9, 0, 11, 2), (20, 0, 20, 9), (3, 3, 4, 3)]
+        for some in [boxes] + [[(x, y, x + dice.randrange(6), y + dice.randrange(4)) for x, y in ((dice.randrange(9), dice.randrange(6)) for _ in range(5))] for _ in range(50)]:
+            inside = {(y, x) for left, top, right, bottom in some for y in range(top, bottom) for x in range(left, right)}
+            for window in ((0, 0, 640, 480), (2, 1, 8, 7), (1, 2, 9, 9, 2), (0, 0, 640, 480, 3)):
+                near = viewer_nearby.Nearby(lambda *_: some)
+                near.keep(1, "", viewer_image.kept_part(640, 480, window), b"")
+                runs, (left, top, right, bottom, every) = near.places(2, (), window), (*window, 1)[:5]
+                lines = list(near.lines(runs))
+                kept = sorted((y, x) for y, x in inside if left <= x < right and top <= y < bottom and (x - left) % every == (y - top) % every == 0)
+                self.assertEqual([line for text, _ in lines for line in text.split(b"\n")], [b"pixel %d %d" % (x, y) for y, x in kept])
+                self.assertEqual([count for _, count in lines], [text.count(b"\n") + 1 for text, _ in lines])
+
+    def test_lines_that_fit_any_pipe(self):
+        """Some at a time, however long a row is; of a target one pixel in so many at most, or the whole image comes."""
+        near = viewer_nearby.Nearby(lambda *_: [(100, 3, 900, 8)])
+        near.keep(1, "", viewer_image.kept_part(1024, 2048, None), b"")
+        lines = list(near.lines(near.places(2, (), None)))
+        self.assertEqual([count for _, count in lines], [256] * 15 + [160])
+        self.assertTrue(all(len(text) < 4096 for text, _ in lines))
+        for side, is_near in ((2000, True), (1999, False)):                 # 4,000 pixels are one in 512, or more
+            near.keep(1, "", viewer_image.kept_part(1024, side, None), b"")
+            self.assertEqual(near.places(2, (), None) is not None, is_near)
+
+    def test_a_run_that_ends_amid_pixels(self):
+        """Its picture isn't put together of fewer."""
+        few = HOLDING.replace('    elif word == "pixel":\n', '    elif word == "pixel" and rest[0] == "7":\n        break\n    elif word == "pixel":\n').replace("pam 69", "pam 321").replace("WIDTH 1\\", "WIDTH 8\\")
+        few = few.replace("HEIGHT 1\\", "HEIGHT 8\\").replace("chr(position) * 4", "chr(position) * 256")
+        with tempfile.TemporaryDirectory() as folder:
+            session = Session(program_of(few, folder), str(HOUSE), 1, lambda *_: [(0, 0, 8, 8)])
+            self.addCleanup(session.close)
+            session.answer([b"goto 1", b"show"])
+            with self.assertRaises(Ended):
+                session.answer([b"goto 2", b"show"])
+
     def test_few_lines_are_asked(self):
         """Of a draw one for each pixel of its box, 32 by 24, and of state events, or of what is off, none at all."""
         with Viewer(HOUSE) as viewer:
@@ -310,27 +346,60 @@ class NearPictures(unittest.TestCase):
             self.assertEqual([lines("off 11", "goto 10"), lines("goto 11"), lines("goto 10")], [1, 0, 0])
             self.assertEqual([lines("on 11", "goto 8"), lines("goto 7"), lines("goto 8")], [1, 0, 0])
 
+    def test_the_triangles_of_a_draw_by_themselves(self):
+        """Of one of two triangles far from each other only their pixels are asked for; of one of many all that lies between."""
+        place = lambda x, y: [{"x": (x + dx) << 16, "y": (y + dy) << 16, "color": [9, 9, 9, 255]} for dx, dy in ((0, 0), (4, 0), (0, 3))]
+        two = {"kind": "draw", "interp": "flat", "vertices": place(2, 1) + place(90, 50)}
+        many = {**two, "vertices": two["vertices"] * 33}
+        with tempfile.TemporaryDirectory() as folder:
+            capture = Capture(file_of(folder, capture_of(96, 64, [two, many])))
+            self.assertEqual(sorted(capture.boxes_between(0, 1)), [(2, 1, 6, 4), (90, 50, 94, 53)])
+            self.assertEqual(capture.boxes_between(1, 2), [(2, 1, 94, 53)])
+            self.assertEqual(capture.boxes_between(0, 2, {1}), [(2, 1, 94, 53)])
+
     def test_another_file(self):
         """Where the file may not be what framedbg has read, nothing is known of its events."""
         with tempfile.TemporaryDirectory() as folder:
             file = file_of(folder, HOUSE.read_text())
             capture = Capture(file)
-            self.assertEqual([capture.box(number) for number in (8, 11)], [(0, 0, 0, 0), (44, 36, 76, 60)])
+            self.assertEqual([capture.boxes_between(*way) for way in ((7, 8), (10, 11), (8, 8))], [[], [(44, 36, 76, 60)], []])
             file.write_text(HOUSE.read_text() + " ")
-            self.assertEqual([capture.box(number) for number in (8, 11)], [None, None])
-            self.assertIsNone(Capture("no capture").box(8))
+            self.assertEqual([capture.boxes_between(*way) for way in ((7, 8), (10, 11))], [None, None])
+            self.assertIsNone(Capture("no capture").boxes_between(7, 8))
 
     def test_a_run_without_lines_left(self):
         """Another stands in its place, with the same events off."""
         with mock.patch.object(viewer_session, "MOST_LINES", 2000), mock.patch.object(viewer_nearby, "MOST_PIXELS", 800), Viewer(HOUSE) as viewer:
             viewer.ask("off 8")
             processes = set()
-            for position in (13, 11, 10, 11, 10, 11):
-                self.assertEqual(viewer.ask(f"goto {position}", "pixel 50 50", "show")[0]["replies"][1]["text"], "pixel 190 60 50 128" if position > 10 else "pixel 60 130 60 255")
+            for *others, position in ((13,), (11,), (10, 11), (10,), (11,), (10,), (11,), (10, 11)):       # each picture beside the last one is 768 lines
+                told = viewer.ask(*(line for other in others for line in (f"goto {other}", "show")), f"goto {position}", "pixel 50 50", "show")[0]["replies"]
+                self.assertEqual(told[-2]["text"], "pixel 190 60 50 128" if position > 10 else "pixel 60 130 60 255")
                 processes.add(viewer.session.run.pid)
                 self.assertLessEqual(viewer.session.lines, 2000)
             self.assertGreater(len(processes), 1)
             self.assertEqual(viewer.ask("state")[0]["switches"], [2, 2])
+
+
+    def test_the_next_run_is_begun_before(self):
+        """It stands where the other one stood, and what was switched meanwhile is switched there too."""
+        with mock.patch.object(viewer_session, "MOST_LINES", 4000), mock.patch.object(viewer_session, "BEGUN_BEFORE", 2000), Viewer(HOUSE) as viewer:
+            session, lines = viewer.session, [f"pixel {i % 96} {i // 96}" for i in range(1500)]
+            viewer.ask("off 8", "off 12", "goto 11")
+            viewer.ask(*lines)
+            self.assertIsNone(session.begun)
+            viewer.ask(*lines)
+            first, begun = session.run.pid, session.begun[0].process.pid
+            viewer.ask("on 12", "off 10", "off 3", "goto 9")
+            self.assertEqual((session.run.pid, session.begun[0].process.pid), (first, begun))
+            told, _ = viewer.ask("goto 13", *lines, "events")
+            self.assertEqual((session.run.pid, session.begun), (begun, None))
+            self.assertEqual([reply["text"] for reply in told["replies"][1:-1]], replies(HOUSE, ["off 3", "off 8", "off 10", "goto 13", *lines])[4:])
+            self.assertEqual([line.split()[0] for line in told["replies"][-1]["lines"] if line.split()[1] == "off"], ["3", "8", "10"])
+            self.assertEqual(told["switches"], [6, 6])
+            viewer.ask(*lines)
+            ended = session.begun[0].process
+        self.assertIsNotNone(ended.poll())
 
 
 class Beside(unittest.TestCase):
@@ -348,6 +417,16 @@ class Beside(unittest.TestCase):
             self.assertEqual([viewer.ask("events")[0]["replies"][0]["text"], *self.ask(viewer, "events"), *self.ask(viewer, "events", run="depths")],
                              ["events 13 at 4", "events 13 at 13", "events 13 at 10"])
 
+    def test_the_last_lines_of_a_call(self):
+        """The page's own run answers the first, and that at the end the others, with what the first switched off."""
+        with Viewer(HOUSE) as viewer:
+            body = b"goto 13\noff 8\ngoto 4\npixel 50 50\ngoto 13\npixel 50 50\n"
+            told = json.loads(viewer.request(body=body, X_End="2")[2].partition(b"\n")[0])
+            self.assertEqual([reply["text"] for reply in told["replies"]], ["at 13", "at 13", "at 4", "pixel 174 205 236 255", "at 13", "pixel 190 60 50 128"])
+            self.assertEqual(told["switches"], [1, 2])
+            self.assertEqual([viewer.ask("events")[0]["replies"][0]["text"], *self.ask(viewer, "events")], ["events 13 at 4", "events 13 at 13"])
+            self.assertEqual(viewer.request(body=b"state\n", X_End="-1")[0], 400)
+
     def test_the_same_events_are_off(self):
         with Viewer(HOUSE) as viewer:
             self.ask(viewer, "goto 13")
@@ -361,7 +440,7 @@ class Beside(unittest.TestCase):
 
     def test_the_bound_on_lines(self):
         """Before a run has no lines left another stands in its place, with the same events off."""
-        with mock.patch.object(viewer_session, "MOST_LINES", 10), Viewer(HOUSE) as viewer:
+        with mock.patch.object(viewer_session, "MOST_LINES", 10), mock.patch.object(viewer_session, "BEGUN_BEFORE", 0), Viewer(HOUSE) as viewer:
             viewer.ask("off 8")
             processes = set()
             for _ in range(4):
@@ -507,11 +586,10 @@ class Rows:
         return next(self.header)
 
     def read(self, size):
-        assert size == 4 * self.side
-        y, self.row = self.row, self.row + 1
-        if y < self.side - 9:
-            return self.blank
-        return b"".join(struct.pack("<HH", x, y) for x in range(self.side))
+        rows, rest = divmod(size, 4 * self.side)
+        assert rest == 0
+        y, self.row = self.row, self.row + rows
+        return b"".join(self.blank if row < self.side - 9 else b"".join(struct.pack("<HH", x, row) for x in range(self.side)) for row in range(y, y + rows))
 
 
 class Parts(unittest.TestCase):
@@ -532,7 +610,9 @@ class Parts(unittest.TestCase):
             part, pixels = self.kept(viewer)
             self.assertEqual((part["columns"], part["rows"], part["every"], pixels), (96, 64, 1, bytes(samples)))
             cases = [(6144, None, 96, 64, 1), (6143, None, 48, 32, 2), (100, None, 12, 8, 8), (6144, (10, 20, 31, 25), 21, 5, 1),
-                     (30, (10, 20, 31, 25), 7, 2, 3), (6144, (90, 60, 200, 200), 6, 4, 1), (6144, (500, 500, 600, 600), 1, 1, 1), (6144, (5, 5, 5, 5), 1, 1, 1)]
+                     (30, (10, 20, 31, 25), 7, 2, 3), (6144, (90, 60, 200, 200), 6, 4, 1), (6144, (500, 500, 600, 600), 1, 1, 1), (6144, (5, 5, 5, 5), 1, 1, 1),
+                     (6144, (0, 0, 96, 64, 3), 32, 22, 3), (6144, (10, 20, 31, 25, 2), 11, 3, 2), (30, (10, 20, 31, 25, 2), 7, 2, 3), (6144, (0, 0, 96, 64, 0), 96, 64, 1),
+                     (6144, (9, 9, 96, 64, 500), 1, 1, 500)]
             for most, window, columns, rows, every in cases:
                 with mock.patch.object(viewer_image, "MOST_PIXELS", most):
                     part, pixels = self.kept(viewer, window)

@@ -151,7 +151,7 @@ class Viewer:
 
     def __init__(self, capture, program=PROGRAM):
         its = Capture(capture)
-        self.session = Session(program, str(capture), 2, its.box if program == PROGRAM else None)
+        self.session = Session(program, str(capture), 2, its.boxes_between if program == PROGRAM else None)
         self.server = Server(self.session, its)
         self.thread = threading.Thread(target=self.server.serve_forever, args=(0.02,))
         self.thread.start()

@@ -74,9 +74,14 @@ const inTurn = job => {
 };
 
 // The replies to some lines, with no other caller's between: { text, lines?, left_out?, image? }. Of an image the part in the window comes.
-// A run beside may answer them, "end" or "depths": it has the same events off, and where it stands is nobody else's
-export const ask = (lines, window = null, name = null) => inTurn(async () => {
-  if (!name) return follow(await main.ask(lines, window));
+// A run beside may answer them, "end" or "depths": it has the same events off, and where it stands is nobody else's. Or it answers more lines after them
+export const ask = (lines, window = null, name = null, atEnd = []) => inTurn(async () => {
+  if (name) return askBeside(name, lines, window);
+  const own = follow(await main.ask(lines, window));
+  return atEnd.length ? [...own, ...await askBeside("end", atEnd, window)] : own;
+});
+
+async function askBeside(name, lines, window) {
   if (!beside.has(name)) beside.set(name, new Runner(started));
   const run = beside.get(name);
   try {
@@ -87,7 +92,7 @@ export const ask = (lines, window = null, name = null) => inTurn(async () => {
     beside.delete(name);
     throw fault;
   }
-});
+}
 
 // Each image has a number, and knows in which rows it differs from the one before it
 function follow(replies) {

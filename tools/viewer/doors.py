@@ -72,8 +72,8 @@ def beside(headers):
     return name
 
 
-def numbers(text, count):
+def numbers(text, *counts):
     words = text.split()
-    if len(words) != count or not all(word.isascii() and word.isdigit() and len(word) <= MAX_NUMBER for word in words):
-        raise Refused(400, f"{count} numbers are wanted")
+    if len(words) not in counts or not all(word.isascii() and word.isdigit() and len(word) <= MAX_NUMBER for word in words):
+        raise Refused(400, f"{counts[0]} numbers are wanted")
     return tuple(map(int, words))

@@ -17,7 +17,7 @@ def widen(pipe):
 
 def read_image(stream, size, window=None):
     """What is kept of a PAM of `size` bytes, and its pixels: (a description, a bytes-like object); None where the stream ends before.
-    The window is (left, top, right, bottom) in pixels of the target."""
+    The window is (left, top, right, bottom) in pixels of the target, and perhaps every how many of them one is kept at most."""
     header = [stream.readline() for _ in range(HEADER_LINES)]
     if not header[-1].endswith(b"\n"):
         return None
@@ -29,10 +29,10 @@ def read_image(stream, size, window=None):
 
 def kept_part(width, height, window):
     """The window cut to the target, and every how many pixels one is kept."""
-    left, top, right, bottom = window or (0, 0, width, height)
+    left, top, right, bottom, *wanted = window or (0, 0, width, height)
     left, top = min(left, width - 1), min(top, height - 1)
     right, bottom = min(max(right, left + 1), width), min(max(bottom, top + 1), height)
-    every = max(1, math.isqrt((right - left) * (bottom - top) // MOST_PIXELS))
+    every = max(1, *wanted, math.isqrt((right - left) * (bottom - top) // MOST_PIXELS))
     while kept(right - left, every) * kept(bottom - top, every) > MOST_PIXELS:
         every += 1
     return {"width": width, "height": height, "left": left, "top": top, "every": every, "most": MOST_PIXELS,
@@ -49,13 +49,14 @@ def read_part(stream, part):
     if every == 1 and part["columns"] == width and part["rows"] == height:
         pixels = stream.read(4 * width * height)
         return pixels if len(pixels) == 4 * width * height else None
-    rows = bytearray()
-    bottom = top + (part["rows"] - 1) * every
-    for y in range(height):
-        row = stream.read(4 * width)
-        if len(row) < 4 * width:
+    rows, y, last = bytearray(), 0, top + (part["rows"] - 1) * every
+    while y < height:
+        count = min(height - y, every) if top <= y <= last else min((top if y < top else height) - y, max(1, PIECE // (4 * width)))
+        strip = stream.read(4 * width * count)
+        if len(strip) < 4 * width * count:
             return None
-        if top <= y <= bottom and (y - top) % every == 0:
-            pixels = memoryview(row).cast("I")[part["left"]:part["left"] + (part["columns"] - 1) * every + 1]
+        if top <= y <= last:                # a kept row, and those up to the next one
+            pixels = memoryview(strip).cast("I")[part["left"]:part["left"] + (part["columns"] - 1) * every + 1]
             rows += pixels[::every].tobytes()
+        y += count
     return rows

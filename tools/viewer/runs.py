@@ -10,8 +10,13 @@ class Runs:
     def __init__(self, session):
         self.session, self.beside, self.lock = session, {}, threading.Lock()
 
-    def answer(self, lines, window=None, beside=None):
-        """The replies to some lines, the images among them, and the count of switches before and after; those beside have the same events off."""
+    def answer(self, lines, window=None, beside=None, ending=0):
+        """The replies to some lines, the images among them, and the count of switches before and after; those beside have the same events off. So many of the
+        last lines are answered by the run at the end."""
+        if ending:
+            own, images, switches = self.answer(lines[:-ending], window, beside)
+            there, more, _ = self.answer(lines[-ending:], window, "end")
+            return own + there, images + more, switches
         if beside is None:
             return self.session.answer(lines, window)
         before, run = self.session.switches, self._run(beside)

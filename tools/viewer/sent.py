@@ -23,7 +23,8 @@ class Sent:
         if number == NUMBER or base != number or part != image:
             return told, data
         bands = changed_rows(data, old, 4 * image["columns"], rows if made_of is old else None)
-        piece = b"".join(data[4 * image["columns"] * first:4 * image["columns"] * (first + count)] for first, count in bands)
+        stride, view = 4 * image["columns"], memoryview(data)
+        piece = b"".join(view[stride * first:stride * (first + count)] for first, count in bands)
         return ({**told, "base": base, "bands": bands, "bytes": len(piece)}, piece) if 2 * len(piece) < len(data) else (told, data)
 
 
@@ -31,10 +32,10 @@ def changed_rows(new, old, stride, rows=None):
     """Bands of rows that differ, of all rows or of some: (the first, how many)."""
     if new is old or rows is None and new == old:
         return []
-    bands = []
+    bands, old = [], memoryview(old)
     for row in range(len(new) // stride) if rows is None else rows:
         at = stride * row
-        if new[at:at + stride] == old[at:at + stride]:
+        if new.startswith(old[at:at + stride], at):         # compares without a copy of either
             continue
         if bands and sum(bands[-1]) == row:
             bands[-1][1] += 1

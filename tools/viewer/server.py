@@ -4,9 +4,9 @@ It listens on 127.0.0.1 and answers what passes the doors (doors.py). Nothing of
 are read once at the start and found by exact name, and a call is a few lines for framedbg's standard input.
 
     POST /commands   lines for framedbg; the answer is a line of JSON, {switches: [before, after], replies: [{text, lines?, left_out?, image?}]},
-                     and then the bytes of the images in their order. The header X-Window, four numbers, names the part of the images that is wanted;
+                     and then the bytes of the images in their order. The header X-Window, four numbers, names the part of the images that is wanted, a fifth every how many pixels;
                      X-Base, the number of the image that came last, has of the next one the changed rows alone, {base, bands: [[first row, rows]]};
-                     X-Run, `end` or `depths`, has a run beside answer them, which stands anywhere and has the same events off
+                     X-Run, `end` or `depths`, has a run beside answer them, which stands anywhere and has the same events off; X-End, a number, has `end` answer so many of the last lines
     POST /triangle   an event's and a triangle's number; the answer is its three corners in pixels, as JSON
     POST /draw       an event's number; the answer is its vertices and indices as the file has them, as JSON
     POST /blame      a picture as PAM, and how far each channel may be off in X-Tolerance; the answer is a line of JSON, who made the image at the end of
@@ -103,9 +103,10 @@ class Handler(http.server.BaseHTTPRequestHandler):
 
     def commands(self, body):
         window = self.headers.get("X-Window")
-        window = None if window is None else doors.numbers(window, 4)
+        window = None if window is None else doors.numbers(window, 4, 5)
         base = doors.numbers(self.headers.get("X-Base", "0"), 1)[0]
-        replies, images, switches = self.server.runs.answer(doors.commands(body), window, doors.beside(self.headers))
+        ending = doors.numbers(self.headers.get("X-End", "0"), 1)[0]
+        replies, images, switches = self.server.runs.answer(doors.commands(body), window, doors.beside(self.headers), ending)
         shown = [reply for reply in replies if "image" in reply]
         sent = self.server.sent.shortened([(reply["image"], data) for reply, data in zip(shown, images)], base)
         for reply, (image, _) in zip(shown, sent):

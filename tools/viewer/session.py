@@ -1,4 +1,5 @@
 """One run of framedbg, driven by its own commands over pipes: a line in, a reply out."""
+import itertools
 import threading
 
 from framedbg_client import Ended
@@ -7,11 +8,13 @@ from framedbg_client.connection import Connection
 from framedbg_client.replies import extent
 
 from .image import read_image, widen
-from .nearby import Nearby
+from .nearby import Nearby, colours_of
 
 MAX_LINE = 256           # bytes of a command, as framedbg has it
 MAX_LISTED = 100_000     # lines of a list that are kept; the rest is read and counted
 MOST_LINES = 1_000_000   # that framedbg answers in a run
+BEGUN_BEFORE = 300_000   # of these are left when the next run is begun beside it
+BEGUN_BYTES = 4096       # of lines that it is given at once: they fit any pipe
 
 
 class Stopped(Ended):
@@ -22,12 +25,13 @@ class Stopped(Ended):
 
 
 class Session:
-    def __init__(self, program, capture, workers, box=None):
-        """`box` gives the box of an event, where the capture's own are known (nearby.py)."""
+    def __init__(self, program, capture, workers, boxes=None):
+        """`boxes` gives the boxes of events, where the capture's own are known (nearby.py)."""
         self.words = program, capture, workers
-        self.nearby = Nearby(box)
+        self.nearby = Nearby(boxes)
         self.lock = threading.Lock()
         self.connection = self.run = None        # to the run, and its process
+        self.begun = None                        # the next run, on its way to where this one stood: a connection, the events that are off there, and how many replies are to come
         self.switches = 0        # how often events were switched, or all of them on by a new start
         self.off, self.flipped = set(), []       # the events that are off, and the switches of the call that is answered
         self.stopping = False
@@ -38,6 +42,7 @@ class Session:
         """Starts the run, or starts it again, at position 0 with all events on."""
         with self.lock:
             self.off.clear()
+            self._drop_begun()
             self._start()
             self.switches += 1
 
@@ -55,7 +60,7 @@ class Session:
         images = []
         with self.lock:
             before = self.switches
-            self._keep_room(len(lines) + self.nearby.most)
+            self._keep_room(len(lines) + lines.count(b"show") * self.nearby.most)
             replies = self._unless_stopped(lambda: self._answer(lines, images, window))
             return replies, images, (before, self.switches)
 
@@ -71,12 +76,13 @@ class Session:
         """Ends the run for good, whatever it is at."""
         self.run.kill()
         with self.lock:
+            self._drop_begun()
             self._close()
 
-    def _start(self):
+    def _start(self, connection=None):
         self._close()
         self.nearby.forget()
-        self.connection, self.lines, self.position = Connection(*self.words), 0, 0
+        self.connection, self.lines, self.position = connection or Connection(*self.words), 0, 0
         self.run = self.connection.process
         widen(self.run.stdout)
 
@@ -89,16 +95,34 @@ class Session:
             self._start_again()
             raise Stopped(ended.said, ended.status) from None
 
-    def _start_again(self):
-        self._start()
+    def _start_again(self, begun=None):
+        """Another run with the same events off: a new one, or one that was begun."""
+        connection, off, count = begun or (None, set(), 0)
+        self._start(connection)
         self.stopping, switches = False, self.switches
-        self._answer([b"off %d" % number for number in sorted(self.off)], [], None)
+        for _ in range(count):
+            self._reply(b"goto", [], None)
+        self.lines, other = count, sorted(off ^ self.off)
+        lines = [b"%s %d" % (b"off" if number in self.off else b"on", number) for number in other]
+        self._answer([b"goto %d" % (other[0] - 1), *lines] if len(other) > 1 else lines, [], None)
         self.switches = switches
 
     def _keep_room(self, count):
-        """Another run with the same events off, where this one has no lines left for so many more. The position may be any then."""
+        """Another run with the same events off, where this one has no lines left for so many more. The position may be any then. It is begun before that, and draws
+        what lies before where this one stands beside it."""
         if self.lines + count > MOST_LINES:
-            self._unless_stopped(self._start_again)
+            begun, self.begun = self.begun, None
+            self._unless_stopped(lambda: self._start_again(begun))
+        elif self.begun is None and self.lines + count > MOST_LINES - BEGUN_BEFORE:
+            lines = [*(b"off %d" % number for number in sorted(self.off)), b"goto %d" % self.position]
+            if len(b" ".join(lines)) < BEGUN_BYTES:
+                self.begun = Connection(*self.words), set(self.off), len(lines)
+                self.begun[0].write(lines)
+
+    def _drop_begun(self):
+        if self.begun:
+            self.begun[0].end(at_once=True)
+        self.begun = None
 
     def _answer(self, lines, images, window):
         """The replies. What the lines switched counts when all of them are answered."""
@@ -117,14 +141,30 @@ class Session:
 
     def _near(self, images, window):
         """The reply to `show` where the picture is near the last one, else None. `since` says of what it was made, and which rows may be others."""
-        places, before = self.nearby.places(self.position, self.off, window), self.nearby.pixels
-        if places is None:
+        runs, before = self.nearby.places(self.position, self.off, window), self.nearby.pixels
+        if runs is None:
             return None
-        lines = [b"pixel %d %d" % (x, y) for y, x in places]
-        replies = [reply["text"] for bundle in bundles(lines) for reply in self._given(bundle, images, window)]
-        pixels, rows = self.nearby.move(self.position, places, replies)
+        pixels, rows = self.nearby.move(self.position, runs, self._colours(self.nearby.lines(runs)))
         images.append(pixels)
         return {"text": self.nearby.text, "image": {**self.nearby.part, "bytes": len(pixels), "since": (before, rows)}}
+
+    def _colours(self, bundles):
+        """What is told of pixels, four bytes each. While that of some is read, the run has the lines of the next already, so neither waits for the other."""
+        colours, asked = bytearray(), []
+        for text, count in bundles:
+            self.connection.write([text])
+            self.lines += count
+            asked.append(count)
+            if len(asked) == 2:
+                colours += self._pixels(asked.pop(0))
+        return colours + self._pixels(*asked) if asked else colours
+
+    def _pixels(self, count):
+        """The replies to so many `pixel` lines as they come: of thousands of them anything else that is done with each takes longer than the program."""
+        told = list(itertools.islice(self.run.stdout, count))
+        if len(told) < count or not told[-1].endswith(b"\n"):
+            raise self.connection.end()
+        return colours_of(told)
 
     def _reply(self, line, images, window):
         first = self.connection.line()

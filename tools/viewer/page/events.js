@@ -154,21 +154,31 @@ function fold(event) {
   list.choose(list.items.findIndex(row => row.event === event));      // also where the frame is still on its way there
 }
 
-// A mark for each event: low for states, higher for draws, highest for those that wrote the chosen pixel
+// A mark for each event: low for states, higher for draws, highest for those that wrote the chosen pixel. The first two are painted anew for other events alone
+const RANKS = [["--line-2", 4, 1], ["--ink-2", 8, 1], ["--accent", 12, 2]], marks = document.createElement("canvas");
+
 export function drawTicks() {
-  const width = ticks.width = ticks.clientWidth, height = ticks.height, at = ticks.getContext("2d"), style = getComputedStyle(ticks);
-  const ranks = [["--line-2", 4, 1], ["--ink-2", 8, 1], ["--accent", 12, 2]];
-  const rank = event => frame.writers.has(event.number) ? 2 : WRITES.has(event.kind) ? 1 : 0;
-  const place = event => Math.round(8 + (width - 16) * event.number / last()) - 1, off = style.getPropertyValue("--off");
-  for (const [i, [name, tall, wide]] of ranks.entries()) {
-    const colour = style.getPropertyValue(name);
-    let x = -1, was = null;
-    for (const event of frame.events) {
-      if (rank(event) !== i || (place(event) === x && event.on === was)) continue;     // one mark for many at one place
-      [x, was] = [place(event), event.on];
-      at.fillStyle = event.on ? colour : off;
-      at.fillRect(x, height - tall, wide, tall);
-    }
+  marks.width = ticks.clientWidth;
+  marks.height = ticks.height;
+  for (const rank of [0, 1]) mark(marks, frame.events.filter(({ kind }) => WRITES.has(kind) === Boolean(rank)), rank);
+  drawWriters();
+}
+
+export function drawWriters() {
+  ticks.width = marks.width;
+  if (marks.width) ticks.getContext("2d").drawImage(marks, 0, 0);
+  mark(ticks, frame.events.filter(({ number }) => frame.writers.has(number)), 2);
+}
+
+function mark(canvas, events, rank) {
+  const { width, height } = canvas, at = canvas.getContext("2d"), style = getComputedStyle(ticks), [name, tall, wide] = RANKS[rank];
+  const place = event => Math.round(8 + (width - 16) * event.number / last()) - 1, colour = style.getPropertyValue(name), off = style.getPropertyValue("--off");
+  let x = -1, was = null;
+  for (const event of events) {
+    if (place(event) === x && event.on === was) continue;     // one mark for many at one place
+    [x, was] = [place(event), event.on];
+    at.fillStyle = event.on ? colour : off;
+    at.fillRect(x, height - tall, wide, tall);
   }
 }
-new ResizeObserver(drawTicks).observe(ticks);
+new ResizeObserver(() => drawTicks()).observe(ticks);

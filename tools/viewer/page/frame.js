@@ -14,6 +14,7 @@ const unset = () => ({
   sources: new Map(),                 // of each event the call of a captured program that it comes from: { event, name, until }
   before: null, after: null,          // the images before the last event and after it
   part: null,                         // the part of a large target that is fetched, else null
+  isDragged: false,                   // the image after it has pixels left out, as a hand is on its way
   states: { with: null, next: null }, // the state that the last event was drawn with, and the one that the next event will meet
   hasDepth: false,
   map: null,                          // depths, verdicts or overdraw here, where they are wanted (maps.js)
@@ -24,8 +25,9 @@ const unset = () => ({
 export const frame = unset();
 
 const IMAGES = 6;                     // positions whose images are kept here
+const REST = 150;                     // milliseconds after which a hand that drags is at rest
 const images = new Map();
-let wanted = null, queue = Promise.resolve(), waiting = 0, round = 0, isReturning = false, show = () => {};
+let wanted = null, rests = 0, queue = Promise.resolve(), waiting = 0, round = 0, isReturning = false, show = () => {};
 
 export const onShow = draw => { show = draw; };
 export const last = () => frame.events.length;
@@ -43,6 +45,7 @@ export function stop() {
   if (!stopped) return;
   round++;
   wanted = null;
+  clearTimeout(rests);
   frame.target = frame.position;
   stopped.catch(fail);
 }
@@ -61,56 +64,62 @@ const goBack = () => inTurn(async () => {
   }
 });
 
-// Of the moves asked for meanwhile only the newest counts
-export function goTo(position) {
+// Of the moves asked for meanwhile only the newest counts. A hand that drags gets every so many pixels of the image after the event, and all once it is at rest
+export function goTo(position, every = 1) {
+  clearTimeout(rests);
+  if (every > 1) rests = setTimeout(() => goTo(frame.target), REST);
   frame.target = Math.max(0, Math.min(last(), position));
   if (wanted === null) {
     inTurn(() => {
-      const to = wanted;
+      const { to, every } = wanted;
       wanted = null;
-      return arrive(to, { [frame.position - 1]: "back", [frame.position]: "", [frame.position + 1]: "step" }[to] ?? `goto ${to}`);
+      return arrive(to, { [frame.position - 1]: "back", [frame.position]: "", [frame.position + 1]: "step" }[to] ?? `goto ${to}`, every);
     });
   }
-  wanted = frame.target;
+  wanted = { to: frame.target, every };
 }
 
-// At a position: the image and the state before its last event, and then its own
-async function arrive(to, told = "") {
-  const found = readArrival(await ask(arrival(to), frame.part));
+// At a position: the image and the state before its last event, and then its own. What waits is asked for before this is drawn
+async function arrive(to, told = "", every = 1) {
+  const isDragged = every > 1, { width, height } = frame.after ?? {};
+  const found = readArrival(await ask(arrival(to, isDragged), isDragged ? [...(frame.part ?? [0, 0, width, height]), every] : frame.part), isDragged);
   if (switchedElsewhere()) return refresh(found.position);
   const { position, stopped } = found;
   tell(told, stopped || found.moved);
   if (stopped) notice(stopped, true);
   frame.position = position;
   frame.before = images.get(position - 1) ?? null;
-  frame.after = images.get(position) ?? null;
+  frame.after = found.dragged ?? images.get(position) ?? null;
+  frame.isDragged = found.dragged !== null;
   frame.states = { with: to > 0 ? found.states[0] : null, next: found.states.at(-1) };
   frame.hasDepth = frame.states.next.depth !== undefined;
   frame.value = found.value;
   if (wanted === null) frame.target = position;
   if (frame.outlined && frame.outlined.event > position) outline(null);
   await drawMap();
-  show("position");
+  if (wanted !== null) setTimeout(() => show("position"));
+  else show("position");
 }
 
-function arrival(to) {
+function arrival(to, isDragged) {
   const lines = [];
   for (const position of to > 0 ? [to - 1, to] : [to]) {
     lines.push(`goto ${position}`, "state");
-    if (!images.has(position)) lines.push("show");
+    if (!images.has(position) && !(isDragged && position < to)) lines.push("show");
   }
   if (frame.pixel) lines.push(`pixel ${frame.pixel.x} ${frame.pixel.y}`);
   return lines;
 }
 
-function readArrival(replies) {
-  const found = { position: frame.position, moved: "", stopped: "", states: [], value: null };
+function readArrival(replies, isDragged) {
+  const found = { position: frame.position, moved: "", stopped: "", states: [], value: null, dragged: null };
   for (const { text, image } of replies) {
     if (isRefusal(text)) found.stopped = text;
     if (positionIn(text) !== null) [found.position, found.moved] = [positionIn(text), text];
     if (text.startsWith("state ")) found.states.push(readState(text));
     if (text.startsWith("pixel ")) found.value = readPixel(text);
-    if (image) keep(found.position, image);
+    if (image && isDragged) found.dragged = image;
+    else if (image) keep(found.position, image);
   }
   return found;
 }
@@ -189,13 +198,15 @@ export const fetchPart = part => inTurn(() => {
   return arrive(frame.position);
 });
 
-// Asks for a map of what is in sight, from now on (maps.js); another look asks for none
-export const wantMap = (look, sight) => inTurn(async () => {
+// Asks for a map of what is in sight, from now on (maps.js); another look asks for none. What is wanted outlasts a stop: then the way back draws it
+export function wantMap(look, sight) {
   setMap(look, sight);
-  if (frame.map?.look === look && !isCoarse(frame, frame.map)) return;       // it is as fine as it can be already
-  await drawMap();
-  show("map");
-});
+  return inTurn(async () => {
+    if (frame.map?.look === look && !isCoarse(frame, frame.map)) return;       // it is as fine as it can be already
+    await drawMap();
+    show("map");
+  });
+}
 
 // The map here: of few pixels at once, and of more in its turn
 async function drawMap() {
@@ -250,19 +261,18 @@ async function askAndTell(lines, untold) {
 }
 
 export const pick = ({ x, y }) => inTurn(() => {
-  outline(null);
+  if (frame.outlined) outline(null);
   return readHistory({ x, y }, true);
 });
 
 // The pixel here, and the whole frame's history, so that it stays while one walks through it. Another page may have moved the run
 async function readHistory({ x, y }, told = false) {
-  const here = `goto ${frame.position}`, pixel = `pixel ${x} ${y}`, history = `history ${x} ${y}`, isAway = frame.position !== last();
-  const [, value, own] = await ask([here, pixel, ...(isAway ? [] : [history])]);
-  const [there, entries] = isAway ? await askEnd([history]) : [null, own];
+  const here = `goto ${frame.position}`, there = `goto ${last()}`, pixel = `pixel ${x} ${y}`, history = `history ${x} ${y}`, isAway = frame.position !== last();
+  const [, value, ...found] = await (isAway ? ask([here, pixel], null, null, [there, history]) : ask([here, pixel, history])), entries = found.at(-1);
   frame.pixel = { x, y };
   if (told) {
     tell(pixel, value.text);
-    if (isAway) tell(there.line, there.text);
+    if (isAway) tell(there, found[0].text);
     tell(history, entries.text);
     if (isAway) tell(here, `at ${frame.position}`);
   }
@@ -278,10 +288,7 @@ async function readHistory({ x, y }, told = false) {
 }
 
 // The replies at the end of the frame, that of the way there before them: by a run that stays there, so that nothing is drawn anew
-export async function askEnd(lines) {
-  const line = `goto ${last()}`, [there, ...replies] = await ask([line, ...lines], null, "end");
-  return [{ line, ...there }, ...replies];
-}
+const askEnd = lines => ask([`goto ${last()}`, ...lines], null, "end");
 
 // An entry's event, and the outline of its triangle as the capture's file has it
 export function goToEntry(entry) {

@@ -1,5 +1,6 @@
 // A list of any length: only the rows in sight stand in the page. The keyboard's focus is the list's own, so it lasts as rows come and go.
-// A row stays as long as its item is the same one and looks the same.
+// A row stays as long as its item is the same one and looks the same. Where it stands and how tall it is are remembered: to ask the browser amid changes
+// has it lay the page out at once, several times for a picture.
 
 export class List {
   constructor(element, rowHeight, row, { onKey = () => {}, look = () => NaN } = {}) {
@@ -10,13 +11,21 @@ export class List {
     this.items = [];
     this.rows = new Map();        // those that stand in the page, by the item's number: { item, look, row }
     this.chosen = -1;             // the item that keys move from
+    this.top = this.height = 0;   // of what is in sight, in pixels of the page
     this.body = element.appendChild(document.createElement("div"));
     this.body.className = "rows";
     element.tabIndex = 0;
-    element.addEventListener("scroll", () => this.draw());
+    element.addEventListener("scroll", () => this.see());
     element.addEventListener("keydown", event => this.press(event, onKey));
     element.addEventListener("click", () => element.focus({ preventScroll: true }));
-    new ResizeObserver(() => this.draw()).observe(element);
+    new ResizeObserver(() => this.see()).observe(element);
+  }
+
+  // Another part is in sight
+  see() {
+    this.top = this.element.scrollTop;
+    this.height = this.element.clientHeight;
+    this.draw();
   }
 
   // Up and down choose rows; onKey(key, item) is told of these, and of what else is pressed, and says whether it took the key
@@ -42,9 +51,9 @@ export class List {
   }
 
   draw() {
-    const { scrollTop, clientHeight } = this.element, before = this.rows;
-    const first = Math.max(0, Math.floor(scrollTop / this.rowHeight) - 5);
-    const last = Math.min(this.items.length, Math.ceil((scrollTop + clientHeight) / this.rowHeight) + 5);
+    const before = this.rows;
+    const first = Math.max(0, Math.floor(this.top / this.rowHeight) - 5);
+    const last = Math.min(this.items.length, Math.ceil((this.top + this.height) / this.rowHeight) + 5);
     this.body.style.height = `${this.items.length * this.rowHeight}px`;
     this.rows = new Map(this.items.slice(first, last).map((item, i) => [first + i, this.rowOf(item, first + i)]));
     for (const [i, { row }] of before) if (this.rows.get(i)?.row !== row) row.remove();
@@ -76,9 +85,11 @@ export class List {
 
   reveal(i) {
     if (i < 0) return;
-    const top = i * this.rowHeight, { scrollTop, clientHeight } = this.element;
-    if (top < scrollTop + this.rowHeight || top + 2 * this.rowHeight > scrollTop + clientHeight) {
-      this.element.scrollTop = top - clientHeight / 2;
+    const top = i * this.rowHeight;
+    if (top < this.top + this.rowHeight || top + 2 * this.rowHeight > this.top + this.height) {
+      this.body.style.height = `${this.items.length * this.rowHeight}px`;
+      this.element.scrollTop = top - this.height / 2;
+      this.top = this.element.scrollTop;
     }
     this.draw();
   }

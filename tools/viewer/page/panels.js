@@ -8,8 +8,11 @@ import { figures, hex } from "./words.js";
 const $ = id => document.getElementById(id);
 const ROW = 26, DEEP_ROW = 40;        // pixels of the page: a row of the history, and one with depths or figures under the colours
 const NARROW = 480;                   // where figures have no room beside their colours
-const history = new List($("history"), ROW, entryRow, { onKey: (key, entry) => /^(ArrowUp|ArrowDown|Enter)$/.test(key) && (goToEntry(entry), true) });
-let shown = -1;
+const history = new List($("history"), ROW, entryRow, {
+  onKey: (key, entry) => /^(ArrowUp|ArrowDown|Enter)$/.test(key) && (goToEntry(entry), true),
+  look: entry => `${Math.sign(entry.event - frame.position)} ${entry === frame.outlined}`,
+});
+let shown = -1, isNarrow = true;
 
 export function drawPixel() {
   const { pixel, value, entries, position } = frame;
@@ -22,8 +25,9 @@ export function drawPixel() {
   $("hex").textContent = hex(value.colour);
   $("depth-here").hidden = value.depth === null;
   $("depth-here").replaceChildren("depth ", element("b", "", String(value.depth)));
-  const deep = entries.some(entry => entry.depth) || $("pixel").clientWidth < NARROW;
+  const deep = entries.some(entry => entry.depth) || isNarrow;
   $("pixel").classList.toggle("deep", deep);
+  if (history.rowHeight !== (deep ? DEEP_ROW : ROW)) history.forget();
   history.rowHeight = deep ? DEEP_ROW : ROW;
   history.show(entries);
   drawSum();
@@ -31,7 +35,10 @@ export function drawPixel() {
   shown = position;
 }
 
-new ResizeObserver(() => drawPixel()).observe($("pixel"));
+new ResizeObserver(() => {
+  isNarrow = $("pixel").clientWidth < NARROW;
+  drawPixel();
+}).observe($("pixel"));
 
 function entryRow(entry) {
   const { event, triangle, verdict, source, before, after, depth } = entry;

@@ -73,6 +73,9 @@ export class Picture {
     this.canvas.classList.toggle("smooth", this.zoom * every < 1);
   }
 
+  // Every how many pixels are as many as the page shows
+  leftOut() { return Math.max(1, Math.round(1 / (this.zoom * devicePixelRatio))); }
+
   // What of the target is in sight: [left, top, right, bottom] in its pixels
   visible() {
     const stage = this.stage.getBoundingClientRect(), sheet = this.sheet.getBoundingClientRect();

@@ -29,10 +29,10 @@ async function call(path, body, headers = {}) {
 }
 
 // The replies to some lines, with no other caller's between: { text, lines?, left_out?, image? }. Of an image the part in the window comes.
-// A run beside may answer them, "end" or "depths": it has the same events off, and where it stands is nobody else's
-export async function ask(lines, window = null, beside = null) {
-  const headers = { "X-Base": newest?.number ?? 0, ...(window && { "X-Window": window.join(" ") }), ...(beside && { "X-Run": beside }) };
-  const bytes = new Uint8Array(await (await call("/commands", lines.join("\n") + "\n", headers)).arrayBuffer());
+// A run beside may answer them, "end" or "depths": it has the same events off, and where it stands is nobody else's. Or it answers more lines after them, in the same call
+export async function ask(lines, window = null, beside = null, atEnd = []) {
+  const headers = { "X-Base": newest?.number ?? 0, ...(window && { "X-Window": window.join(" ") }), ...(beside && { "X-Run": beside }), ...(atEnd.length && { "X-End": atEnd.length }) };
+  const bytes = new Uint8Array(await (await call("/commands", [...lines, ...atEnd, ""].join("\n"), headers)).arrayBuffer());
   const cut = bytes.indexOf(10), told = JSON.parse(new TextDecoder().decode(bytes.subarray(0, cut)));
   let at = cut + 1;
   for (const { image } of told.replies) {

@@ -3,7 +3,7 @@
 import { captureName, firstPlace, onCapture } from "./run.js";
 import { onWorking } from "./working.js";
 import { frame, onShow, inTurn, open, goToPlace, again, last, stop, goTo, neighbour, switchOver, undo, pick, command, fetchPart, wantMap } from "./frame.js";
-import { WRITES, setFilter, foundFirst, listEvents, listWriters, drawEvents, drawTicks } from "./events.js";
+import { WRITES, setFilter, foundFirst, listEvents, listWriters, drawEvents, drawTicks, drawWriters } from "./events.js";
 import { drawPixel } from "./panels.js";
 import { drawState } from "./state.js";
 import { forgetTriangles, redraw, showTriangles } from "./triangles.js";
@@ -28,7 +28,7 @@ import { forget, notice, session } from "./log.js";
 
 const $ = id => document.getElementById(id);
 const picture = new Picture(Object.fromEntries(["stage", "sheet", "grid", "scissor", "cross", "outline", "mark"].map(id => [id, $(id)]).concat([["canvas", $("image")]])));
-const view = { look: "after", held: null, whose: "with", other: null, found: null, hover: null, shown: null, mended: null };
+const view = { look: "after", held: null, whose: "with", other: null, found: null, hover: null, shown: null, mended: null, of: null };
 
 const film = new Film(frame, last, goTo, plays => $("play").setAttribute("aria-pressed", plays));
 
@@ -37,7 +37,8 @@ const film = new Film(frame, last, goTo, plays => $("play").setAttribute("aria-p
 onShow(what => {
   if (what === "events") listEvents(), forgetFindings();
   if (what === "history") listWriters();
-  if (what === "events" || what === "history") drawTicks();
+  if (what === "events") drawTicks();
+  if (what === "history") drawWriters();
   if (what === "outline") return picture.setOutline(frame.corners), drawPixel(), showTriangles(picture);
   drawPosition();
   drawImage();
@@ -64,7 +65,7 @@ function drawImage() {
   const after = look === "mended" ? view.mended : frame.after;
   if (!after) return;
   const other = compared ? view.other : before, comparable = other && isComparable(after, other);
-  view.found = comparable && !map ? difference(after, other, compared ? +$("tolerance").value : 0) : null;
+  view.found = comparable && !map ? differenceOf(after, other, compared ? +$("tolerance").value : 0) : null;
   view.shown = look === "before" && before ? before : look === "other" ? view.other : after;
   picture.show(view.shown, look === "changed" || look === "compared" ? view.found : null);
   if (map) picture.showMap(map, colourOf(map));
@@ -78,14 +79,23 @@ function drawImage() {
   $("comparison").hidden = !compared;
   $("compared-with").textContent = view.other?.name ?? "nothing yet: pin this image, or open or drop one";
   $("difference").title = $("difference").textContent = tellFound(look, compared && other && !comparable);
-  $("part").textContent = tellPart(after);
+  if (!frame.isDragged) $("part").textContent = tellPart(after);      // or the picture would move under the hand
   $("look-depth").hidden = !frame.hasDepth;
   for (const button of document.querySelectorAll("[data-look]")) button.setAttribute("aria-checked", button.dataset.look === look), button.setAttribute("aria-busy", button.dataset.look === view.look && look !== view.look);
   for (const button of document.querySelectorAll("[data-channel]")) button.setAttribute("aria-pressed", picture.channels[button.dataset.channel]);
   drawHover();
 }
 
+// Of the same two images it stays the same: a pixel that is picked changes none
+function differenceOf(after, other, by) {
+  const { of, found } = view;
+  if (found && of.after === after && of.other === other && of.by === by) return found;
+  view.of = { after, other, by };
+  return difference(after, other, by);
+}
+
 function tellFound(look, elsewhere) {
+  if (frame.isDragged) return `${everyOf(frame.after)} pixel, while the slider is dragged`;
   if (elsewhere) return "another part of the target was pinned";
   if (LOOKS.has(look)) return look === "depth" ? tellDepths(frame.map) : frame.map.part.every > 1 ? `of ${everyOf(frame.map.part)} pixel` : "";
   return view.found ? tellDifference(view.found, ["compared", "other", "mended"].includes(look)) : "";
@@ -162,7 +172,7 @@ function compareWith(other) {
   setLook("compared");
 }
 
-const pin = () => frame.after && compareWith({ ...frame.after, name: `position ${frame.position}, pinned` });
+const pin = () => frame.after && !frame.isDragged && compareWith({ ...frame.after, name: `position ${frame.position}, pinned` });
 const load = file => file && readPicture(file).then(compareWith).catch(fault => notice(fault.message, true));
 
 // The next pixel in reading order that differs, after the chosen one and round again
@@ -244,7 +254,8 @@ function listen() {
   };
   for (const [id, doing] of Object.entries(clicks)) $(id).onclick = doing;
   document.addEventListener("pointerdown", event => event.target.closest("#play") || film.stop(), true);
-  $("slider").oninput = () => goTo(+$("slider").value);
+  $("slider").oninput = () => goTo(+$("slider").value, view.look === "after" ? picture.leftOut() : 1);
+  $("slider").onchange = () => frame.isDragged && goTo(+$("slider").value);
   $("filter").oninput = () => setFilter($("filter").value);
   $("filter").onkeydown = event => { if (event.key === "Enter" && foundFirst()) goTo(foundFirst()); };
   $("scissor-shown").onchange = $("tolerance").oninput = drawImage;

@@ -1,4 +1,4 @@
-// What the run is asked, one thing after another. An answer that takes a while can be stopped: then whoever waits for it gets Stopped.
+// What the runs are asked, one thing after another. An answer that takes a while can be stopped: then whoever waits for it gets Stopped.
 
 import { ask as askRun, stop as stopRun, Stopped } from "./run.js";
 
@@ -8,10 +8,10 @@ let asked = null, tell = () => {};
 // Told true where an answer takes a while, and false when it is there
 export const onWorking = told => { tell = told; };
 
-export async function ask(lines, window = null, beside = null) {
+export async function ask(...given) {
   const its = asked = { stopped: false }, late = setTimeout(() => tell(true), A_WHILE);
   try {
-    const replies = await askRun(lines, window, beside);
+    const replies = await askRun(...given);
     if (its.stopped) throw new Stopped();
     return replies;
   } finally {
