@@ -9,18 +9,18 @@ use Rattle.std.proofs.lemmas.Bool.{lt-ltb, or_right}
 use Rattle.std.proofs.KnownBytes.{Appends-nil, Appends-trans}
 use Rattle.fd_events.specs.Table.{Table}
 use Rattle.fd_session.specs.Machine.{State, opening}
-use Rattle.fd_cli.specs.declared.command.Command.TheVariants.{Quit}
-use Rattle.fd_cli.specs.declared.ending.Ending.{Ending}
-use Rattle.fd_cli.specs.declared.ending.Ending.TheVariants.{Done, Capture, NoSuchPosition, Read, Write, TooMuch, Memory}
+use Rattle.fd_words.specs.declared.command.Command.TheVariants.{Quit}
+use Rattle.fd_words.specs.declared.ending.Ending.{Ending}
+use Rattle.fd_words.specs.declared.ending.Ending.TheVariants.{Done, Capture, NoSuchPosition, Read, Write, TooMuch, Memory}
 use Rattle.fd_cli.specs.declared.progress.Progress.{Progress}
-use Rattle.fd_cli.specs.Line.{command_of}
+use Rattle.fd_words.specs.Line.{command_of}
 use Rattle.fd_cli.specs.Run.{Answers}
 use Rattle.fd_cli.specs.Counting.{CountsReader}
 use Rattle.fd_cli.specs.Serving.{Answered, BreaksOff, Replies, Stops, Serves}
 use Rattle.fd_cli.specs.Progress.{IsServing, Advances, AfterBytes, Finishes}
 use Rattle.fd_cli.proofs.LineLemmas.{take_take_append, command_front}
 use Rattle.fd_cli.proofs.Servings.{answered_byte, answered_line}
-use Rattle.fd_pam.proofs.Transfers.{puts_all}
+use Rattle.fd_device.proofs.Transfers.{puts_all}
 
 -- nothing more was written
 same_text : (table : Table) (input text : List ℕ) (lines : List (List ℕ)) (rest : List ℕ) (state : State) → Answered table input text lines rest state

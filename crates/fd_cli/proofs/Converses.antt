@@ -9,13 +9,14 @@ use Rattle.fd_history.specs.History.{history_at}
 use Rattle.fd_session.specs.declared.answer.Answer.TheVariants.{Moved, Refused}
 use Rattle.fd_session.specs.declared.answer.SessionFault.TheVariants.{AtEnd, AtStart, NoSuchPosition, NoSuchEvent, AlreadySo, NoSuchPixel}
 use Rattle.fd_session.specs.Machine.{State}
-use Rattle.fd_cli.specs.declared.command.Command.{Command}
-use Rattle.fd_cli.specs.declared.command.Command.TheVariants.{Step, Back, Goto, On, Off, Pixel, History, State as ShowState, Events, Show, Quit}
-use Rattle.fd_cli.specs.declared.command.CommandFault.{CommandFault}
-use Rattle.fd_cli.specs.declared.command.CommandFault.TheVariants.{Unknown, Arguments, TooLong}
-use Rattle.fd_cli.specs.Line.{command_of}
+use Rattle.fd_words.specs.declared.command.Command.{Command}
+use Rattle.fd_words.specs.declared.command.Command.TheVariants.{Step, Back, Goto, On, Off, Pixel, History, State as ShowState, Events, Show, Quit}
+use Rattle.fd_words.specs.declared.command.CommandFault.{CommandFault}
+use Rattle.fd_words.specs.declared.command.CommandFault.TheVariants.{Unknown, Arguments, TooLong}
+use Rattle.fd_words.specs.Line.{command_of}
 use Rattle.fd_cli.specs.Run.{Answers, NamesMemory}
-use Rattle.fd_cli.specs.Text.{pixel_line, entry_list, state_line, state_text}
+use Rattle.fd_words.specs.Text.{entry_list, state_line}
+use Rattle.fd_cli.specs.ReplyText.{pixel_text, state_text}
 use Rattle.fd_cli.specs.Transcript.{Reply, moved_to, refusal_reply, switched, replied, transcript, TranscriptRuns}
 
 -- ---- which replies name no memory: the third byte tells them from "stopped" and "refused", and the ninth one refusal from another
@@ -108,7 +109,7 @@ outside a b c d is h k = grind (arith, nat_tests)
 
 pixel : (state : State) (x y : ℕ) → Within state → (b : Bool) → has_pixel state x y ≡ b
     → Allowed state (Ok (Pixel x y))
-    (cond b (pixel_line state.table.version (Ok (colour_at state.table state.position x y)) (Ok (stored_at state.table state.position x y)), state)
+    (cond b (pixel_text state.table.version (Ok (colour_at state.table state.position x y)) (Ok (stored_at state.table state.position x y)), state)
     (refusal_reply state NoSuchPixel))
 pixel state x y within true is =
     let there = inside x state.table.width y state.table.height is in (

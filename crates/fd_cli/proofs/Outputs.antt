@@ -7,11 +7,11 @@ use Rattle.std.proofs.lemmas.List.Splits.{slice_split_none, slice_split_at, leng
 use Rattle.std.proofs.lemmas.Bool.Decides.{nat_tests}
 use Rattle.fd_events.specs.Table.{Table}
 use Rattle.fd_session.specs.Machine.{State, opening}
-use Rattle.fd_cli.specs.declared.command.Command.{Command}
-use Rattle.fd_cli.specs.declared.command.Command.TheVariants.{Step, Back, Goto, On, Off, Pixel, History, State as ShowState, Events, Show, Quit}
-use Rattle.fd_cli.specs.declared.command.CommandFault.{CommandFault}
-use Rattle.fd_cli.specs.declared.ending.Ending.TheVariants.{Done, Capture, NoSuchPosition, Read, Write, TooMuch, Memory}
-use Rattle.fd_cli.specs.Line.{HasNoLineFeed, with_line_feed, Cuts, command_of}
+use Rattle.fd_words.specs.declared.command.Command.{Command}
+use Rattle.fd_words.specs.declared.command.Command.TheVariants.{Step, Back, Goto, On, Off, Pixel, History, State as ShowState, Events, Show, Quit}
+use Rattle.fd_words.specs.declared.command.CommandFault.{CommandFault}
+use Rattle.fd_words.specs.declared.ending.Ending.TheVariants.{Done, Capture, NoSuchPosition, Read, Write, TooMuch, Memory}
+use Rattle.fd_words.specs.Line.{HasNoLineFeed, with_line_feed, Cuts, command_of}
 use Rattle.fd_cli.specs.Run.{Answers}
 use Rattle.fd_cli.specs.Serving.{Answered, StopsAtQuit, PassesBound, BreaksOff, BreaksOffWithin, Serves}
 use Rattle.fd_cli.proofs.LineLemmas.{run_push}

@@ -1,7 +1,7 @@
 -- Calls that end before they read or write.
 use Rattle.std.proofs.Common.{ℕ, List, [], Bool, refl}
-use Rattle.fd_cli.specs.declared.ending.Ending.{Ending}
-use Rattle.fd_cli.specs.declared.ending.Ending.TheVariants.{Done, Capture, NoSuchPosition, Read, Write, TooMuch, Memory}
+use Rattle.fd_words.specs.declared.ending.Ending.{Ending}
+use Rattle.fd_words.specs.declared.ending.Ending.TheVariants.{Done, Capture, NoSuchPosition, Read, Write, TooMuch, Memory}
 use Rattle.fd_cli.specs.Opening.{EndsUnread}
 use Rattle.fd_cli.specs.Serving.{ServesCapture}
 

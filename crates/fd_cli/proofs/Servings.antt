@@ -2,8 +2,8 @@
 use Rattle.std.proofs.Common.{◌≢◌, ℕ, ◌<◌, List, [], ◌∷◌, ◌++◌, length, Ok, refl, arith, length-append}
 use Rattle.fd_events.specs.Table.{Table}
 use Rattle.fd_session.specs.Machine.{State, opening}
-use Rattle.fd_cli.specs.declared.command.Command.TheVariants.{Quit}
-use Rattle.fd_cli.specs.Line.{command_of}
+use Rattle.fd_words.specs.declared.command.Command.TheVariants.{Quit}
+use Rattle.fd_words.specs.Line.{command_of}
 use Rattle.fd_cli.specs.Run.{Answers}
 use Rattle.fd_cli.specs.Serving.{Answered}
 use Rattle.fd_cli.proofs.LineLemmas.{all_push, cut_byte, cut_line, run_push}

@@ -3,17 +3,18 @@ use Rattle.std.proofs.Common.{◌≡◌, ℕ, ◌^◌, ◌<◌, ◌≤◌, List,
 use Rattle.std.specs.Prelude.{decimal}
 use Rattle.std.proofs.lemmas.Fmt.{length-decimal-le}
 use Rattle.std.proofs.Math.Nat.{mul-le-mul}
-use Rattle.fd_cli.specs.Limits.{most_reply_bytes}
+use Rattle.fd_words.specs.Limits.{most_reply_bytes}
 use Rattle.fd_snap.specs.Limits.{most_pixels}
 use Rattle.fd_pam.specs.Limits.{most_tuple_bytes}
 use Rattle.fd_pam.specs.Pam.{header, tuples, pam, pam_len}
-use Rattle.fd_pam.specs.Transfer.{Puts}
+use Rattle.fd_device.specs.Transfer.{Puts}
 use Rattle.fd_pam.proofs.Pams.{body_short, length-body, length-header}
-use Rattle.fd_pam.proofs.Transfers.{puts_then, puts_broken}
+use Rattle.fd_device.proofs.Transfers.{puts_then, puts_broken}
 use Rattle.fd_session.specs.Machine.{State}
 use Rattle.fd_session.specs.declared.answer.SessionFault.TheVariants.{Memory}
 use Rattle.fd_cli.specs.Show.{show_text}
-use Rattle.fd_cli.specs.Text.{number_line, refusal_line}
+use Rattle.fd_words.specs.Text.{number_line}
+use Rattle.fd_cli.specs.ReplyText.{refusal_line}
 
 pub length-number_line : (word : List ℕ) (n : ℕ) → n < 2 ^ 64 → length word ≤ 20 → length (number_line word n) ≤ 60
 length-number_line word n fits short =

@@ -12,13 +12,14 @@ use Rattle.fd_session.specs.declared.answer.Answer.TheVariants.{Moved, Stopped, 
 use Rattle.fd_session.specs.declared.answer.SessionFault.{SessionFault}
 use Rattle.fd_session.specs.declared.answer.SessionFault.TheVariants.{AtEnd, AtStart, NoSuchPosition, NoSuchEvent, AlreadySo, NoSuchPixel, Memory}
 use Rattle.fd_session.specs.Machine.{State, at_position, with_flag_at, Steps, GoesBack, Jumps, Switches, ShowsPixel, ShowsDepth, ShowsHistory}
-use Rattle.fd_cli.specs.declared.command.Command.{Command}
-use Rattle.fd_cli.specs.declared.command.Command.TheVariants.{Step, Back, Goto, On, Off, Pixel, History, State as ShowState, Events, Show, Quit}
-use Rattle.fd_cli.specs.declared.command.CommandFault.{CommandFault}
-use Rattle.fd_cli.specs.Line.{command_of}
+use Rattle.fd_words.specs.declared.command.Command.{Command}
+use Rattle.fd_words.specs.declared.command.Command.TheVariants.{Step, Back, Goto, On, Off, Pixel, History, State as ShowState, Events, Show, Quit}
+use Rattle.fd_words.specs.declared.command.CommandFault.{CommandFault}
+use Rattle.fd_words.specs.Line.{command_of}
 use Rattle.fd_cli.specs.Run.{Answers, Run, NamesMemory}
 use Rattle.fd_cli.specs.Show.{show_text}
-use Rattle.fd_cli.specs.Text.{number_line, refusal_line, answer_line, back_line, pixel_line, entry_list, history_text}
+use Rattle.fd_words.specs.Text.{number_line, entry_list}
+use Rattle.fd_cli.specs.ReplyText.{refusal_line, answer_line, back_line, pixel_text, history_text}
 use Rattle.fd_cli.specs.Transcript.{Reply, moved_to, refusal_reply, switched, at_pixel, replied, transcript, WritesUpToMemory, WritesTranscript}
 
 -- the reply and the state are these
@@ -135,13 +136,13 @@ hidden : (old : State) (x y : ℕ) (text : List ℕ) (r : Reply) → (x < old.ta
 hidden old x y text r none e = no _ _ _ r (outside x y _ _ none) e
 
 pixel_or : (old : State) (x y : ℕ) (colour : Result Colour SessionFault) (depth : Result ℕ SessionFault) (text : List ℕ) (new : State)
-    → ShowsPixel old x y colour → ShowsDepth old x y depth → text ≡ pixel_line old.table.version colour depth → new ≡ old
+    → ShowsPixel old x y colour → ShowsDepth old x y depth → text ≡ pixel_text old.table.version colour depth → new ≡ old
     → Is text new (replied old (Ok (Pixel x y)))
 pixel_or old x y (Ok colour) (Ok depth) text new h e is same =
     shown old x y _ (text, new) h.0 h.1
     (pair text _ new old
-    (is ∙ ap (λ c. pixel_line old.table.version (Ok c) (Ok depth)) h.2
-    ∙ ap (λ d. pixel_line old.table.version (Ok (colour_at old.table old.position x y)) (Ok d)) e.2) same)
+    (is ∙ ap (λ c. pixel_text old.table.version (Ok c) (Ok depth)) h.2
+    ∙ ap (λ d. pixel_text old.table.version (Ok (colour_at old.table old.position x y)) (Ok d)) e.2) same)
 pixel_or old x y (Ok colour) (Err fault) text new h e is same = hidden old x y _ (text, new) e.1 (pair text _ new old (is ∙ ap refusal_line e.0) same)
 pixel_or old x y (Err fault) depth text new h e is same = hidden old x y _ (text, new) h.1 (pair text _ new old (is ∙ ap refusal_line h.0) same)
 

@@ -22,14 +22,16 @@ use Rattle.fd_session.specs.declared.answer.Answer.{Answer}
 use Rattle.fd_session.specs.declared.answer.Answer.TheVariants.{Moved, Stopped, Refused}
 use Rattle.fd_session.specs.declared.answer.SessionFault.{SessionFault}
 use Rattle.fd_session.specs.Machine.{State, opening, at_position, with_flag_at, Steps, GoesBack, Jumps, Switches, ShowsPixel, ShowsDepth, ShowsHistory}
-use Rattle.fd_cli.specs.declared.command.Command.{Command}
-use Rattle.fd_cli.specs.declared.command.Command.TheVariants.{Step, Back, Goto, On, Off, Pixel, History, State as ShowState, Events, Show, Quit}
-use Rattle.fd_cli.specs.declared.command.CommandFault.{CommandFault}
-use Rattle.fd_cli.specs.Line.{command_of}
+use Rattle.fd_words.specs.declared.command.Command.{Command}
+use Rattle.fd_words.specs.declared.command.Command.TheVariants.{Step, Back, Goto, On, Off, Pixel, History, State as ShowState, Events, Show, Quit}
+use Rattle.fd_words.specs.declared.command.CommandFault.{CommandFault}
+use Rattle.fd_words.specs.Line.{command_of}
 use Rattle.fd_cli.specs.Run.{Answers, Run}
 use Rattle.fd_cli.specs.Show.{show_text}
-use Rattle.fd_cli.specs.Text.{pixel_line, state_line, state_text, event_words, event_line, event_lines, event_list, events_head, entry_line, entry_list}
-use Rattle.fd_cli.specs.Text.{history_text, number_line}
+use Rattle.fd_words.specs.Text.{state_line, event_words, event_line, event_lines, event_list, events_head, entry_line, entry_list}
+use Rattle.fd_cli.specs.ReplyText.{pixel_text, state_text}
+use Rattle.fd_words.specs.Text.{number_line}
+use Rattle.fd_cli.specs.ReplyText.{history_text}
 use Rattle.fd_cli.specs.VersionOne as one
 
 -- a state of version 1
@@ -88,23 +90,23 @@ answered (Ok Quit) old new text h first = same_table old new h.1 first
 -- ---- the same texts
 
 module _ (state : State) (first : IsFirst state) where
-  pixel_text : (colour : Colour) (depth : ℕ) → pixel_line state.table.version (Ok colour) (Ok depth) ≡ one.pixel_line (Ok colour)
-  pixel_text colour depth = ap (λ v. pixel_line v (Ok colour) (Ok depth)) first.0
+  pixel_same : (colour : Colour) (depth : ℕ) → pixel_text state.table.version (Ok colour) (Ok depth) ≡ one.pixel_text (Ok colour)
+  pixel_same colour depth = ap (λ v. pixel_text v (Ok colour) (Ok depth)) first.0
 
   pixel_to : (x y : ℕ) (colour : Result Colour SessionFault) (depth : Result ℕ SessionFault) → ShowsPixel state x y colour → ShowsDepth state x y depth
-      → one.ShowsPixel state x y colour × (pixel_line state.table.version colour depth ≡ one.pixel_line colour)
-  pixel_to x y (Ok c) (Ok d) shows deep = ((shows.0, shows.1, shows.2 ∙ colours_same state.table state.position x y first.1), pixel_text c d)
+      → one.ShowsPixel state x y colour × (pixel_text state.table.version colour depth ≡ one.pixel_text colour)
+  pixel_to x y (Ok c) (Ok d) shows deep = ((shows.0, shows.1, shows.2 ∙ colours_same state.table state.position x y first.1), pixel_same c d)
   pixel_to x y (Ok c) (Err fault) shows deep = absurd (deep.1 shows.0 shows.1)
   pixel_to x y (Err fault) depth shows deep = (shows, refl)
 
   pixel_from : (x y : ℕ) (colour : Result Colour SessionFault) → one.ShowsPixel state x y colour
       → (depth : Result ℕ SessionFault) × ShowsPixel state x y colour × ShowsDepth state x y depth
-      × (pixel_line state.table.version colour depth ≡ one.pixel_line colour)
+      × (pixel_text state.table.version colour depth ≡ one.pixel_text colour)
   pixel_from x y (Ok c) shows = (
     Ok (stored_at state.table state.position x y),
     (shows.0, shows.1, shows.2 ∙ sym (colours_same state.table state.position x y first.1)),
     (shows.0, shows.1, refl),
-    pixel_text c (stored_at state.table state.position x y),
+    pixel_same c (stored_at state.table state.position x y),
   )
   pixel_from x y (Err fault) shows = (Err fault, shows, shows, refl)
 

@@ -1,7 +1,7 @@
 -- A run in which no reply tells of a want of memory writes the whole transcript.
 use Rattle.std.proofs.Common.{◌≡◌, ℕ, List, [], ◌∷◌, ◌++◌, ap, ◌∙◌, subst, inl, inr}
 use Rattle.fd_session.specs.Machine.{State}
-use Rattle.fd_cli.specs.Line.{command_of}
+use Rattle.fd_words.specs.Line.{command_of}
 use Rattle.fd_cli.specs.Run.{Run, NamesMemory, RunWithoutMemory}
 use Rattle.fd_cli.specs.Transcript.{Reply, replied, transcript, left_by, WithoutMemoryWritesAll}
 use Rattle.fd_cli.proofs.Transcripts.{OrMemory, answer_or}

@@ -1,8 +1,8 @@
 -- Promised. What a call does to the failure counts of its reader and its writer, by how it ends, and whether all that it wrote was passed on.
 use Rattle.std.specs.Prelude.{◌≡◌, ℕ, Bool, true, false}
-use Rattle.fd_pam.specs.Transfer.{CountsFailure}
-use Rattle.fd_cli.specs.declared.ending.Ending.{Ending}
-use Rattle.fd_cli.specs.declared.ending.Ending.TheVariants.{Done, Capture, NoSuchPosition, Read, Write, TooMuch, Memory}
+use Rattle.fd_device.specs.Transfer.{CountsFailure}
+use Rattle.fd_words.specs.declared.ending.Ending.{Ending}
+use Rattle.fd_words.specs.declared.ending.Ending.TheVariants.{Done, Capture, NoSuchPosition, Read, Write, TooMuch, Memory}
 
 -- Only a write fault changes the writer's count, by one failure.
 abbrev pub CountsWriter : Ending → ℕ → ℕ → Type 0

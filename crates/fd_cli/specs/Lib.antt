@@ -1,13 +1,9 @@
-pub mod Limits
 pub mod Show
-pub mod Sending
-pub mod Line
-pub mod Text
+pub mod ReplyText
 pub mod Run
 pub mod Opening
 pub mod Serving
 pub mod Progress
-pub mod Report
 pub mod Listing
 pub mod Counting
 pub mod Transcript

@@ -4,10 +4,10 @@ use Rattle.fd_capture.specs.Capture.{capture_of}
 use Rattle.fd_events.specs.Table.{Table}
 use Rattle.fd_pam.specs.Pam.{pam}
 use Rattle.fd_session.specs.Machine.{State, opening, at_position}
-use Rattle.fd_cli.specs.declared.ending.Ending.{Ending}
-use Rattle.fd_cli.specs.declared.ending.Ending.TheVariants.{Done, Capture, NoSuchPosition, Read, Write, TooMuch, Memory}
+use Rattle.fd_words.specs.declared.ending.Ending.{Ending}
+use Rattle.fd_words.specs.declared.ending.Ending.TheVariants.{Done, Capture, NoSuchPosition, Read, Write, TooMuch, Memory}
 use Rattle.fd_cli.specs.Opening.{EndsUnread}
-use Rattle.fd_cli.specs.Text.{event_list}
+use Rattle.fd_words.specs.Text.{event_list}
 
 -- The whole text was written, or a front of it.
 abbrev pub WritesText : List ℕ → List ℕ → Ending → Type 0

@@ -4,8 +4,8 @@ use Rattle.fd_capture.specs.Capture.{capture_of}
 use Rattle.fd_capture.specs.Limits.{most_bytes}
 use Rattle.fd_capture.specs.declared.fault.CaptureFault.TheVariants as fault
 use Rattle.fd_events.specs.Table.{Table}
-use Rattle.fd_cli.specs.declared.ending.Ending.{Ending}
-use Rattle.fd_cli.specs.declared.ending.Ending.TheVariants.{Done, Capture, NoSuchPosition, Read, Write, TooMuch, Memory}
+use Rattle.fd_words.specs.declared.ending.Ending.{Ending}
+use Rattle.fd_words.specs.declared.ending.Ending.TheVariants.{Done, Capture, NoSuchPosition, Read, Write, TooMuch, Memory}
 
 -- The capture is refused for its first fault, or memory was wanted.
 abbrev pub EndsUnread : List ℕ → Ending → Type 0

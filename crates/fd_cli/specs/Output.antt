@@ -4,12 +4,12 @@ use Rattle.std.specs.List.{slice_split}
 use Rattle.fd_events.specs.Table.{Table}
 use Rattle.fd_capture.specs.Capture.{capture_of}
 use Rattle.fd_session.specs.Machine.{opening}
-use Rattle.fd_cli.specs.declared.command.Command.{Command}
-use Rattle.fd_cli.specs.declared.command.Command.TheVariants.{Quit}
-use Rattle.fd_cli.specs.declared.command.CommandFault.{CommandFault}
-use Rattle.fd_cli.specs.declared.ending.Ending.{Ending}
-use Rattle.fd_cli.specs.declared.ending.Ending.TheVariants.{Done, Capture, NoSuchPosition, Read, Write, TooMuch, Memory}
-use Rattle.fd_cli.specs.Line.{command_of, has_no_byte}
+use Rattle.fd_words.specs.declared.command.Command.{Command}
+use Rattle.fd_words.specs.declared.command.Command.TheVariants.{Quit}
+use Rattle.fd_words.specs.declared.command.CommandFault.{CommandFault}
+use Rattle.fd_words.specs.declared.ending.Ending.{Ending}
+use Rattle.fd_words.specs.declared.ending.Ending.TheVariants.{Done, Capture, NoSuchPosition, Read, Write, TooMuch, Memory}
+use Rattle.fd_words.specs.Line.{command_of, has_no_byte}
 use Rattle.fd_cli.specs.Serving.{ServesCapture}
 use Rattle.fd_cli.specs.Transcript.{transcript, WritesUpToMemory}
 

@@ -1,15 +1,15 @@
 -- Promised. What the program does once its words are read: what it takes of the input, what it writes, what it says of its ending, and its status.
 use Rattle.std.specs.Prelude.{◌≡◌, ℕ, ◌≤◌, ◌<◌, List, [], length, Option, Bool, false}
 use Rattle.std.specs.Io.KnownBytes.{Consumes, Appends}
-use Rattle.fd_pam.specs.Transfer.{Puts, CountsFailure}
-use Rattle.fd_cli.specs.declared.ending.Ending.{Ending}
+use Rattle.fd_device.specs.Transfer.{Puts, CountsFailure}
+use Rattle.fd_words.specs.declared.ending.Ending.{Ending}
 use Rattle.fd_cli.specs.declared.program.Request.{Request}
 use Rattle.fd_cli.specs.declared.program.Request.TheVariants.{Run, Image, Events}
 use Rattle.fd_cli.specs.Counting.{CountsReader, CountsWriter, EndsFlushed}
 use Rattle.fd_cli.specs.Listing.{WritesImage, ListsEvents}
 use Rattle.fd_cli.specs.Opening.{RefusesTooLong}
 use Rattle.fd_cli.specs.Output.{Outputs}
-use Rattle.fd_cli.specs.Report.{status_of, report_of}
+use Rattle.fd_words.specs.Report.{status_of, report_of}
 use Rattle.fd_cli.specs.Serving.{ServesCapture}
 
 -- the number of workers is from 1 to 64

@@ -1,9 +1,9 @@
 -- Working. How far a run has come.
 use Rattle.std.specs.Prelude.{◌≡◌, ℕ, ◌≤◌, ◌*◌, List, ◌++◌, Result, Ok, Err, Option, true, length, take}
 use Rattle.std.specs.Io.KnownBytes.{Appends}
-use Rattle.fd_cli.specs.Limits.{most_reply_bytes}
+use Rattle.fd_words.specs.Limits.{most_reply_bytes}
 use Rattle.fd_events.specs.Table.{Table}
-use Rattle.fd_cli.specs.declared.ending.Ending.{Ending}
+use Rattle.fd_words.specs.declared.ending.Ending.{Ending}
 use Rattle.fd_cli.specs.declared.progress.Progress.{Progress}
 use Rattle.fd_cli.specs.Serving.{Answered, Stops, Serves}
 

@@ -1,17 +1,17 @@
 -- Promised. What a run of the program takes and writes, by how it ends.
 use Rattle.std.specs.Prelude.{◌≡◌, ◌≢◌, ℕ, ◌<◌, ◌≤◌, List, [], ◌∷◌, ◌++◌, Result, Ok, Bool, true, codes, length, Option, ◌⊎◌}
 use Rattle.std.specs.List.{AllByRecursion}
-use Rattle.fd_cli.specs.Limits.{most_reply_bytes}
+use Rattle.fd_words.specs.Limits.{most_reply_bytes}
 use Rattle.fd_events.specs.Table.{Table}
 use Rattle.fd_session.specs.Machine.{State, opening}
-use Rattle.fd_cli.specs.declared.command.Command.{Command}
-use Rattle.fd_cli.specs.declared.command.Command.TheVariants.{Quit}
-use Rattle.fd_cli.specs.declared.command.CommandFault.{CommandFault}
-use Rattle.fd_cli.specs.declared.ending.Ending.{Ending}
-use Rattle.fd_cli.specs.declared.ending.Ending.TheVariants.{Done, Capture, NoSuchPosition, Read, Write, TooMuch, Memory}
-use Rattle.fd_cli.specs.Line.{Cuts, command_of}
+use Rattle.fd_words.specs.declared.command.Command.{Command}
+use Rattle.fd_words.specs.declared.command.Command.TheVariants.{Quit}
+use Rattle.fd_words.specs.declared.command.CommandFault.{CommandFault}
+use Rattle.fd_words.specs.declared.ending.Ending.{Ending}
+use Rattle.fd_words.specs.declared.ending.Ending.TheVariants.{Done, Capture, NoSuchPosition, Read, Write, TooMuch, Memory}
+use Rattle.fd_words.specs.Line.{Cuts, command_of}
 use Rattle.fd_cli.specs.Run.{Answers, Run}
-use Rattle.fd_pam.specs.Transfer.{Puts}
+use Rattle.fd_device.specs.Transfer.{Puts}
 use Rattle.fd_cli.specs.Opening.{EndsUnread}
 use Rattle.fd_capture.specs.Capture.{capture_of}
 

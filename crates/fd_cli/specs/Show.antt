@@ -2,7 +2,7 @@
 use Rattle.std.specs.Prelude.{ℕ, List, ◌++◌, codes}
 use Rattle.fd_pam.specs.Pam.{pam, pam_len}
 use Rattle.fd_session.specs.Machine.{State}
-use Rattle.fd_cli.specs.Text.{number_line}
+use Rattle.fd_words.specs.Text.{number_line}
 
 -- the image file's length on a line, and then the file
 abbrev pub show_text : State → List ℕ

@@ -7,13 +7,14 @@ use Rattle.fd_history.specs.History.{history_at}
 use Rattle.fd_session.specs.declared.answer.SessionFault.{SessionFault}
 use Rattle.fd_session.specs.declared.answer.SessionFault.TheVariants.{AtEnd, AtStart, NoSuchPosition, NoSuchEvent, AlreadySo, NoSuchPixel}
 use Rattle.fd_session.specs.Machine.{State, at_position, with_flag_at}
-use Rattle.fd_cli.specs.declared.command.Command.{Command}
-use Rattle.fd_cli.specs.declared.command.Command.TheVariants.{Step, Back, Goto, On, Off, Pixel, History, State as ShowState, Events, Show, Quit}
-use Rattle.fd_cli.specs.declared.command.CommandFault.{CommandFault}
-use Rattle.fd_cli.specs.Line.{command_of}
+use Rattle.fd_words.specs.declared.command.Command.{Command}
+use Rattle.fd_words.specs.declared.command.Command.TheVariants.{Step, Back, Goto, On, Off, Pixel, History, State as ShowState, Events, Show, Quit}
+use Rattle.fd_words.specs.declared.command.CommandFault.{CommandFault}
+use Rattle.fd_words.specs.Line.{command_of}
 use Rattle.fd_cli.specs.Run.{Run, NamesMemory, RunWithoutMemory}
 use Rattle.fd_cli.specs.Show.{show_text}
-use Rattle.fd_cli.specs.Text.{number_line, refusal_line, fault_line, pixel_line, state_text, events_text, entry_list}
+use Rattle.fd_words.specs.Text.{number_line, fault_line, entry_list}
+use Rattle.fd_cli.specs.ReplyText.{refusal_line, pixel_text, state_text, events_text}
 
 -- a reply, and the state that it leaves
 abbrev pub Reply : Type 0
@@ -45,7 +46,7 @@ replied state (Ok Back) = if nat_lt 0 state.position then moved_to state (state.
 replied state (Ok (Goto to)) = if nat_le to (length state.table.events) then moved_to state to else refusal_reply state NoSuchPosition
 replied state (Ok (On number)) = switched state number true (flag_at state.table number)
 replied state (Ok (Off number)) = switched state number false (flag_at state.table number)
-replied state (Ok (Pixel x y)) = at_pixel state x y (pixel_line state.table.version (Ok (colour_at state.table state.position x y))
+replied state (Ok (Pixel x y)) = at_pixel state x y (pixel_text state.table.version (Ok (colour_at state.table state.position x y))
     (Ok (stored_at state.table state.position x y)))
 replied state (Ok (History x y)) = at_pixel state x y (entry_list state.table.version (history_at state.table state.position x y))
 replied state (Ok ShowState) = (state_text state, state)

@@ -5,11 +5,12 @@ ghost use Rattle.fd_cli.specs.Counting.{CountsWriter, EndsFlushed};
 ghost use Rattle.fd_cli.specs.Opening.{RefusesTooLong};
 ghost use Rattle.fd_cli.specs.Listing.{ShowsState, ImagesTable, WritesImage};
 
-use crate::ending::Ending;
 use crate::opening::open;
+use fd_device::Sink;
 use fd_events::EventTable;
-use fd_pam::{PamFault, Sink, pam_len, write};
+use fd_pam::{PamFault, pam_len, write};
 use fd_session::{Answer, Picture, SessionFault};
+use fd_words::Ending;
 use std::alloc::Global;
 use std::thread::Threads;
 

@@ -1,18 +1,17 @@
 //! The list of a capture's events.
 ghost use Rattle.std.specs.Prelude.{◌≡◌, ◌<◌, ◌+◌, ◌^◌, ℕ, List, is_ok, OnOk, true};
 ghost use Rattle.std.specs.Io.KnownBytes.{Appends};
-ghost use Rattle.fd_cli.specs.Limits.{most_reply_bytes};
+ghost use Rattle.fd_words.specs.Limits.{most_reply_bytes};
 ghost use Rattle.fd_cli.specs.Opening.{RefusesTooLong};
 ghost use Rattle.fd_cli.specs.Listing.{WritesText, ListsEvents};
-ghost use Rattle.fd_cli.specs.Text.{event_list};
-ghost use Rattle.fd_pam.specs.Transfer.{Puts, CountsFailure};
+ghost use Rattle.fd_words.specs.Text.{event_list};
+ghost use Rattle.fd_device.specs.Transfer.{Puts, CountsFailure};
 ghost use Rattle.fd_cli.specs.Counting.{CountsWriter, EndsFlushed};
 
-use crate::ending::Ending;
-use crate::events::send_events;
 use crate::opening::open;
+use fd_device::{Failed, Sink};
 use fd_events::EventTable;
-use fd_pam::{Failed, Sink};
+use fd_words::{Ending, send_events};
 use std::alloc::Global;
 
 /// Sends the list of a table's events at position 0, and flushes.

@@ -3,9 +3,9 @@ ghost use Rattle.std.specs.Prelude.{◌≡◌, ◌<◌, length, Err};
 ghost use Rattle.fd_capture.specs.Limits.{most_bytes};
 ghost use Rattle.fd_cli.specs.Opening.{Opens};
 
-use crate::ending::Ending;
 use fd_capture::{CaptureFault, read};
 use fd_events::EventTable;
+use fd_words::Ending;
 use std::alloc::Global;
 
 /// The table of a capture, or how a call on it ends.

@@ -5,11 +5,11 @@ ghost use Rattle.fd_cli.specs.Counting.{CountsReader, CountsWriter, EndsFlushed}
 ghost use Rattle.fd_cli.specs.Opening.{RefusesTooLong};
 ghost use Rattle.fd_cli.specs.Program.{AsksWorkers, Does, Performs, shown};
 
-use crate::ending::Ending;
 use crate::imaging::image;
 use crate::list::list_events;
 use crate::serving::serve;
-use fd_pam::{Sink, Source};
+use fd_device::{Sink, Source};
+use fd_words::Ending;
 use std::alloc::Global;
 use std::thread::Threads;
 

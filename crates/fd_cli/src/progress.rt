@@ -1,13 +1,13 @@
 //! A run, byte by byte of its input.
 ghost use Rattle.std.specs.Prelude.{◌≡◌, ◌<◌, ◌+◌, ◌^◌, ◌⊎◌, ℕ, [], ◌∷◌, Err, OnOk, IfErr};
-ghost use Rattle.fd_cli.specs.Limits.{most_reply_bytes};
+ghost use Rattle.fd_words.specs.Limits.{most_reply_bytes};
 ghost use Rattle.fd_cli.specs.Counting.{CountsWriter, StaysFlushed, EndsFlushed};
 
-use crate::ending::Ending;
 use crate::reply::answer;
 use arrayvec::ArrayVec;
-use fd_pam::Sink;
+use fd_device::Sink;
 use fd_session::Session;
+use fd_words::Ending;
 use std::alloc::Global;
 use std::thread::Threads;
 

@@ -1,23 +1,23 @@
 //! The replies to commands.
 ghost use Rattle.std.specs.Prelude.{◌≡◌, ℕ, ◌<◌, ◌≤◌, ◌+◌, ◌^◌, ◌↔◌, List, Result, Ok, IsTrue, IfOk, OnOk, length, is_ok, true};
-ghost use Rattle.fd_cli.specs.Limits.{most_reply_bytes};
+ghost use Rattle.fd_words.specs.Limits.{most_reply_bytes};
 ghost use Rattle.fd_blend.specs.declared.channel.Colour.{Colour};
 ghost use Rattle.fd_history.specs.declared.entry.Entry.{Entry};
 ghost use Rattle.fd_session.specs.Machine.{ShowsPixel, ShowsDepth, ShowsHistory};
 ghost use Rattle.fd_session.specs.declared.answer.SessionFault.{SessionFault};
-ghost use Rattle.fd_cli.specs.Line.{command_of};
-ghost use Rattle.fd_pam.specs.Transfer.{Puts, CountsFailure};
+ghost use Rattle.fd_words.specs.Line.{command_of};
+ghost use Rattle.fd_device.specs.Transfer.{Puts, CountsFailure};
 ghost use Rattle.fd_cli.specs.Serving.{Replies};
-ghost use Rattle.fd_cli.specs.Text.{answer_line, pixel_line, history_text};
+ghost use Rattle.fd_cli.specs.ReplyText.{answer_line, pixel_text, history_text};
 
-use crate::command::{Command, CommandFault, read_command};
-use crate::entries::send_entries;
-use crate::events::send_events;
-use crate::lines::{fault_line, number_line, refusal_line};
+use crate::refusal::refusal_line;
 use crate::show::show;
-use crate::text::{pixel_line, state_line};
-use fd_pam::{Failed, Sink, send};
+use fd_device::{Failed, Sink, send};
 use fd_session::{Answer, Session};
+use fd_words::{
+    Command, CommandFault, fault_line, number_line, pixel_line, read_command, send_entries,
+    send_events, state_line,
+};
 use std::alloc::Global;
 use std::thread::Threads;
 
@@ -51,8 +51,8 @@ fn send_pixel<W: Sink>(
 ) -> Result<(), Failed>
     requires { sent.old + 256 < 2 ^ 64 }
     ensures puts { (colour : Result Colour SessionFault) × (depth : Result ℕ SessionFault) × ShowsPixel session.now x y colour × ShowsDepth session.now x y depth
-        × (length (pixel_line session.now.table.version colour depth) ≤ 256)
-        × Puts (W.contents sink.old) (W.contents sink.new) sent.old sent.new (pixel_line session.now.table.version colour depth) (is_ok result) }
+        × (length (pixel_text session.now.table.version colour depth) ≤ 256)
+        × Puts (W.contents sink.old) (W.contents sink.new) sent.old sent.new (pixel_text session.now.table.version colour depth) (is_ok result) }
     ensures failures { CountsFailure (W.failure_count sink.old) (W.failure_count sink.new) (is_ok result) }
 {
     let colour = session.pixel(x, y);

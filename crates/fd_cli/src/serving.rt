@@ -5,13 +5,13 @@ ghost use Rattle.fd_cli.specs.Opening.{RefusesTooLong};
 ghost use Rattle.fd_cli.specs.Serving.{Serves, ServesCapture};
 ghost use Rattle.fd_cli.specs.Counting.{CountsReader, CountsWriter, EndsFlushed};
 
-use crate::ending::Ending;
 use crate::opening::open;
 use crate::progress::{MAX_BYTES, Progress};
 use arrayvec::ArrayVec;
+use fd_device::{Sink, Source};
 use fd_events::EventTable;
-use fd_pam::{Sink, Source};
 use fd_session::Session;
+use fd_words::Ending;
 use std::alloc::Global;
 use std::thread::Threads;
 

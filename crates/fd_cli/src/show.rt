@@ -1,18 +1,21 @@
 //! The reply to `show`.
 ghost use Rattle.std.specs.Prelude.{codes, string_bytes, IfOk, ◌≡◌, ◌<◌, ◌≤◌, ◌+◌, ◌^◌, ◌⊎◌, ℕ, List, length, is_ok};
-ghost use Rattle.fd_cli.specs.Limits.{most_reply_bytes};
+ghost use Rattle.fd_words.specs.Limits.{most_reply_bytes};
 ghost use Rattle.fd_snap.specs.Limits.{most_pixels};
 ghost use Rattle.fd_pam.specs.Limits.{most_tuple_bytes};
 ghost use Rattle.fd_pam.specs.Pam.{header, pam_len, tuples};
-ghost use Rattle.fd_pam.specs.Transfer.{Puts, CountsFailure};
+ghost use Rattle.fd_device.specs.Transfer.{Puts, CountsFailure};
 ghost use Rattle.fd_session.specs.declared.answer.SessionFault.TheVariants.{Memory};
 ghost use Rattle.fd_cli.specs.Show.{show_text};
-ghost use Rattle.fd_cli.specs.Text.{number_line, refusal_line};
+ghost use Rattle.fd_words.specs.Text.{number_line};
+ghost use Rattle.fd_cli.specs.ReplyText.{refusal_line};
 
-use crate::lines::{number_line, refusal_line};
+use crate::refusal::refusal_line;
 use arrayvec::ArrayVec;
-use fd_pam::{Failed, PamFault, Sink, header, pam_len, send, write_body};
+use fd_device::{Failed, Sink, send};
+use fd_pam::{PamFault, header, pam_len, write_body};
 use fd_session::{Session, SessionFault};
+use fd_words::number_line;
 use std::alloc::{AllocError, Global};
 
 /// The width and the height of the session's target.

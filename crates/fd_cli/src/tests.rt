@@ -3,9 +3,9 @@ use crate::tests::captures::{
     MASKED_AND_SCISSORED, NO_EVENTS, ONE_CLEAR, TWO_TRIANGLES,
 };
 use crate::tests::devices::{Limited, Pieces};
-use crate::{Command, CommandFault, Ending, image, list_events, read_command, serve};
+use crate::{Ending, image, list_events, serve};
 use fd_capture::CaptureFault;
-use fd_pam::{Device, Sink};
+use fd_device::{Device, Sink};
 use std::alloc::Global;
 use std::process::Abort;
 use std::test::Fail;
@@ -193,34 +193,6 @@ fn malicious_command_lines(rt: HostRuntime) -> Result<(), Fail> {
 }
 
 #[test]
-fn lines_and_their_commands(rt: HostRuntime) {
-    for (line, command) in [
-        (b"  step  \r".as_slice(), Ok(Command::Step)),
-        (b"back".as_slice(), Ok(Command::Back)),
-        (b"goto 4294967295".as_slice(), Ok(Command::Goto(u32::MAX))),
-        (b"on 0000000001".as_slice(), Ok(Command::On(1))),
-        (b"off 0".as_slice(), Ok(Command::Off(0))),
-        (b"pixel  1   2".as_slice(), Ok(Command::Pixel(1, 2))),
-        (b"history 3 4".as_slice(), Ok(Command::History(3, 4))),
-        (b"state".as_slice(), Ok(Command::State)),
-        (b"events".as_slice(), Ok(Command::Events)),
-        (b"show".as_slice(), Ok(Command::Show)),
-        (b"quit\r".as_slice(), Ok(Command::Quit)),
-        (b"   ".as_slice(), Err(CommandFault::Unknown)),
-        (b"undo 1".as_slice(), Err(CommandFault::Unknown)),
-        (b"quit\r\r".as_slice(), Err(CommandFault::Unknown)),
-        (b"goto".as_slice(), Err(CommandFault::Arguments)),
-        (b"goto +1".as_slice(), Err(CommandFault::Arguments)),
-        (b"goto 1\t".as_slice(), Err(CommandFault::Arguments)),
-        (b"pixel 1".as_slice(), Err(CommandFault::Arguments)),
-        (b"pixel 1 2 3".as_slice(), Err(CommandFault::Arguments)),
-        (b"state 0".as_slice(), Err(CommandFault::Arguments)),
-    ] {
-        assert!(rt; read_command(line) == command);
-    }
-}
-
-#[test]
 fn the_event_list_shows_flags(rt: HostRuntime) {
     let switched =
         b"at 0\nevents 5 at 0\n1 on raster none 0 1\n2 on scissor 0 0 1 1\n3 off blend 0 ONE ZERO ADD ONE ZERO ADD 5\n4 on clear 9 9 9 9\n5 on draw 1 flat\n";
@@ -353,82 +325,4 @@ fn image_at_a_position(rt: HostRuntime) {
     assert_eq!(rt; ended, Ending::Capture(CaptureFault::NotCapture));
     assert_eq!(rt; sink.failures(), 0);
     assert_eq!(rt; sink.into_inner().bytes.len(), 0);
-}
-
-#[test]
-fn endings_and_their_lines(rt: HostRuntime) {
-    for (ending, status, line) in [
-        (Ending::Done, 0, b"".as_slice()),
-        (
-            Ending::Capture(CaptureFault::BadField { number: 1 }),
-            2,
-            b"framedbg: capture refused 8 bad field 1\n".as_slice(),
-        ),
-        (
-            Ending::Capture(CaptureFault::UnknownEvent { number: 65_536 }),
-            2,
-            b"framedbg: capture refused 7 unknown event 65536\n".as_slice(),
-        ),
-        (
-            Ending::Capture(CaptureFault::TooLong),
-            2,
-            b"framedbg: capture refused 1 too long\n".as_slice(),
-        ),
-        (
-            Ending::Capture(CaptureFault::NotJson),
-            2,
-            b"framedbg: capture refused 2 not json\n".as_slice(),
-        ),
-        (
-            Ending::Capture(CaptureFault::NotCapture),
-            2,
-            b"framedbg: capture refused 3 not a capture\n".as_slice(),
-        ),
-        (
-            Ending::Capture(CaptureFault::Version),
-            2,
-            b"framedbg: capture refused 4 version\n".as_slice(),
-        ),
-        (
-            Ending::Capture(CaptureFault::Size),
-            2,
-            b"framedbg: capture refused 5 size\n".as_slice(),
-        ),
-        (
-            Ending::Capture(CaptureFault::TooMany),
-            2,
-            b"framedbg: capture refused 6 too many events\n".as_slice(),
-        ),
-        (
-            Ending::Capture(CaptureFault::Memory),
-            5,
-            b"framedbg: memory\n".as_slice(),
-        ),
-        (
-            Ending::NoSuchPosition,
-            1,
-            b"framedbg: no such position\n".as_slice(),
-        ),
-        (Ending::Read, 3, b"framedbg: read fault\n".as_slice()),
-        (
-            Ending::Write { sent: 8 },
-            3,
-            b"framedbg: write fault after 8 bytes\n".as_slice(),
-        ),
-        (Ending::TooMuch, 4, b"framedbg: too much input\n".as_slice()),
-        (Ending::Memory, 5, b"framedbg: memory\n".as_slice()),
-    ] {
-        let mut sink = Device::new(Limited::of(rt.alloc(), 100, 6));
-        assert_eq!(rt; ending.status(), status);
-        assert!(rt; ending.report(&mut sink).is_ok());
-        let written = sink.into_inner();
-        assert_eq!(rt; written.bytes.as_slice(), line);
-        assert_eq!(rt; written.flushes, 0);
-        let mut full = Device::new(Limited::of(rt.alloc(), 3, 2));
-        assert!(rt; ending.report(&mut full).is_err() != line.is_empty());
-        assert_eq!(rt;
-            full.into_inner().bytes.as_slice(),
-            &line[..line.len().min(3)]
-        );
-    }
 }

@@ -30,6 +30,17 @@ pub enum Outcome {
     Stopped { at: u32 },
 }
 
+/// A run forward: through the events of which table, to which position, and by how many workers.
+#[derive(Clone, Copy)]
+pub struct Run<'a> {
+    pub table: &'a EventTable,
+    pub target: u32,
+    /// From 1 to 64.
+    pub workers: u32,
+    /// The lane at which each worker is to begin. Where there is none for a worker, the lanes are shared out evenly.
+    pub firsts: &'a [usize],
+}
+
 /// What all workers of a run share.
 #[derive(Clone, Copy)]
 struct Course<'a, G: Gate> {
@@ -187,9 +198,9 @@ pub fn run_back<L: Lane>(lanes: &mut [L], to: u32)
     }
 }
 
-/// Takes all lanes forward to the target, each worker those from the lane of its own number in `firsts` up to the next worker's first one. Where `firsts`
-/// has no lane for a worker, or one that lies among another worker's, the lanes are shared out by the workers that are left. A lane that stands above the
-/// target stays there. Where a lane refuses, all lanes end at the least position at which one refused, those above it too. An `Err` says that there was no
+/// Takes all lanes forward to the run's target, each worker those from the lane of its own number in `firsts` up to the next worker's first one. Where
+/// `firsts` has no lane for a worker, or one that lies among another worker's, the lanes are shared out by the workers that are left. A lane that stands
+/// above the target stays there. Where a lane refuses, all lanes end at the least position at which one refused, those above it too. An `Err` says that there was no
 /// memory for the fence; then no lane has moved.
 ///
 /// So it ends for every number of workers, however the lanes are shared out, and every schedule. Which lanes refuse may differ from run to run, as memory may.
@@ -198,28 +209,25 @@ pub fn run_shared<R: Threads + Sync, L: Lane, G: Gate>(
     rt: &R,
     alloc: Global,
     lanes: &mut [L],
-    table: &EventTable,
-    target: u32,
-    workers: u32,
-    firsts: &[usize],
+    run: &Run<'_>,
     gate: &G,
 ) -> Result<Outcome, AllocError>
-    requires target { target ≤ length table.now.events }
-    requires workers { (1 ≤ workers) × (workers ≤ 64) }
-    requires fits { All (λ l. L.fits l table.now) lanes.old }
-    ensures ended { MatchResult result (λ outcome. EndsApart L.shown table.now target lanes.old lanes.new outcome) (λ _. lanes.new ≡ lanes.old) }
-    ensures fits { All (λ l. L.fits l table.now) lanes.new }
+    requires target { run.now.target ≤ length run.now.table.now.events }
+    requires workers { (1 ≤ run.now.workers) × (run.now.workers ≤ 64) }
+    requires fits { All (λ l. L.fits l run.now.table.now) lanes.old }
+    ensures ended { MatchResult result (λ outcome. EndsApart L.shown run.now.table.now run.now.target lanes.old lanes.new outcome) (λ _. lanes.new ≡ lanes.old) }
+    ensures fits { All (λ l. L.fits l run.now.table.now) lanes.new }
 {
-    let (fence, mut seat) = Fence::raise(alloc, target, workers)?;
-    let part = Part::whole(workers, firsts);
+    let (fence, mut seat) = Fence::raise(alloc, run.target, run.workers)?;
+    let part = Part::whole(run.workers, run.firsts);
     let course = Course {
         fence: &fence,
         gate,
-        table,
+        table: run.table,
     };
     run_range(rt, &course, &part, &mut seat, lanes);
     let at = fence.close(seat) as u32;
-    if at == target {
+    if at == run.target {
         return Ok(Outcome::Reached);
     }
     run_back(lanes, at);
@@ -243,5 +251,11 @@ pub fn run_forward<R: Threads + Sync, L: Lane, G: Gate>(
     ensures ended { MatchResult result (λ outcome. EndsAs L.shown table.now target lanes.old lanes.new outcome) (λ _. lanes.new ≡ lanes.old) }
     ensures fits { All (λ l. L.fits l table.now) lanes.new }
 {
-    run_shared(rt, alloc, lanes, table, target, workers, &[], gate)
+    let run = Run {
+        table,
+        target,
+        workers,
+        firsts: &[],
+    };
+    run_shared(rt, alloc, lanes, &run, gate)
 }

@@ -2,7 +2,7 @@
 ghost use Rattle.std.specs.Prelude.{◌≡◌, ◌≤◌, length, IfOk};
 ghost use Rattle.fd_owner.specs.History.{position};
 
-use crate::{Free, Gate, Lane, Outcome, run_back, run_forward, run_shared};
+use crate::{Free, Gate, Lane, Outcome, Run, run_back, run_forward, run_shared};
 use fd_blend::Colour;
 use fd_events::{Event, EventTable, Label};
 use fd_owner::{Owner, Refused};
@@ -297,7 +297,13 @@ fn a_worker_begins_at_the_lane_that_it_is_given(rt: HostRuntime) -> Result<(), F
         Fake::new(None),
         Fake::new(None),
     ];
-    let outcome = run_shared(&rt, rt.alloc(), &mut lanes, &table, 1, 2, &[0, 1], &gate)?;
+    let run = Run {
+        table: &table,
+        target: 1,
+        workers: 2,
+        firsts: &[0, 1],
+    };
+    let outcome = run_shared(&rt, rt.alloc(), &mut lanes, &run, &gate)?;
     assert!(rt; outcome == Outcome::Reached && gate.gave_up.load(Ordering::SeqCst) == 0);
     assert!(rt;
         lanes
@@ -333,7 +339,13 @@ fn four_workers_begin_at_the_lanes_that_they_are_given(rt: HostRuntime) -> Resul
         Fake::new(None),
     ];
     let firsts = [0, 1, 2, 3];
-    let outcome = run_shared(&rt, rt.alloc(), &mut lanes, &table, 1, 4, &firsts, &gate)?;
+    let run = Run {
+        table: &table,
+        target: 1,
+        workers: 4,
+        firsts: &firsts,
+    };
+    let outcome = run_shared(&rt, rt.alloc(), &mut lanes, &run, &gate)?;
     assert!(rt; outcome == Outcome::Reached && gate.gave_up.load(Ordering::SeqCst) == 0);
     Ok(())
 }
@@ -348,7 +360,13 @@ fn all_go<R: Threads + Sync + Abort>(
     requires { length table.now.events ≡ 9 }
 {
     let mut lanes = [Fake::new(None), Fake::new(None), Fake::new(Some(4))];
-    let outcome = run_shared(rt, alloc, &mut lanes, table, 9, 3, firsts, &Free)?;
+    let run = Run {
+        table: table,
+        target: 9,
+        workers: 3,
+        firsts: firsts,
+    };
+    let outcome = run_shared(rt, alloc, &mut lanes, &run, &Free)?;
     assert!(rt; outcome == Outcome::Stopped { at: 3 });
     assert!(rt; lanes.iter().all(|lane| lane.position == 3));
     Ok(())
@@ -360,10 +378,22 @@ fn lanes_may_begin_apart(rt: HostRuntime) -> Result<(), Fail> {
     let table = markers(rt.alloc(), 9)?;
     let mut lanes = [Fake::new(None), Fake::new(Some(6)), Fake::new(None)];
     lanes[2].position = 7;
-    let outcome = run_shared(&rt, rt.alloc(), &mut lanes, &table, 3, 2, &[], &Free)?;
+    let run = Run {
+        table: &table,
+        target: 3,
+        workers: 2,
+        firsts: &[],
+    };
+    let outcome = run_shared(&rt, rt.alloc(), &mut lanes, &run, &Free)?;
     assert!(rt; outcome == Outcome::Reached);
     assert!(rt; lanes[0].position == 3 && lanes[1].position == 3 && lanes[2].position == 7);
-    let outcome = run_shared(&rt, rt.alloc(), &mut lanes, &table, 9, 2, &[], &Free)?;
+    let run = Run {
+        table: &table,
+        target: 9,
+        workers: 2,
+        firsts: &[],
+    };
+    let outcome = run_shared(&rt, rt.alloc(), &mut lanes, &run, &Free)?;
     assert!(rt; outcome == Outcome::Stopped { at: 5 });
     assert!(rt; lanes.iter().all(|lane| lane.position == 5));
     lanes[0].back_to(2);

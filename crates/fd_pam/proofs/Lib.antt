@@ -1,3 +1,2 @@
 pub mod Pams
 pub mod RowPieces
-pub mod Transfers

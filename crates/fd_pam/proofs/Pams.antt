@@ -15,10 +15,10 @@ use Rattle.fd_session.specs.Machine.{State}
 use Rattle.fd_snap.specs.Limits.{most_pixels}
 use Rattle.fd_pam.specs.Limits.{most_tuple_bytes}
 use Rattle.fd_pam.specs.Pam.{header, tuple, tuples}
-use Rattle.fd_pam.specs.Transfer.{Puts}
+use Rattle.fd_device.specs.Transfer.{Puts}
 use Rattle.fd_pam.specs.declared.writer.TheConstants.{CHUNK_LEN}
 use Rattle.fd_pam.proofs.RowPieces.{row_in_image}
-use Rattle.fd_pam.proofs.Transfers.{puts_whole, puts_then, puts_broken, puts_all}
+use Rattle.fd_device.proofs.Transfers.{puts_whole, puts_then, puts_broken, puts_all}
 
 pub length-tuples : (colours : List Colour) → length (flat_map tuple colours) ≡ 4 * length colours
 length-tuples [] = omega arith

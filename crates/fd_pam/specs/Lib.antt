@@ -1,4 +1,3 @@
 pub mod Limits
-pub mod Device
 pub mod Pam
-pub mod Transfer
+pub mod Writes

@@ -4,11 +4,12 @@ ghost use Rattle.std.specs.Io.KnownBytes.{Appends};
 ghost use Rattle.fd_pam.specs.Limits.{most_tuple_bytes};
 ghost use Rattle.fd_pam.specs.Pam.{header, pam_len, tuple, tuples, pam};
 ghost use Rattle.fd_pam.specs.declared.writer.TheConstants.{CHUNK_LEN, FULL_CHUNK_LEN};
-ghost use Rattle.fd_pam.specs.Transfer.{Puts, Writes, CountsFailure, CountsWrite};
+ghost use Rattle.fd_device.specs.Transfer.{Puts, CountsFailure};
+ghost use Rattle.fd_pam.specs.Writes.{Writes, CountsWrite};
 
-use crate::device::{Failed, Sink, send};
 use arrayvec::ArrayVec;
 use fd_blend::Colour;
+use fd_device::{Failed, Sink, send};
 use fd_session::Shows;
 use itoa::Buffer;
 use std::alloc::{AllocError, Global};

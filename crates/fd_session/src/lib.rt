@@ -3,7 +3,6 @@
 
 pub use answer::{Answer, SessionFault};
 pub use picture::Picture;
-pub use progress::Progress;
 pub use session::Session;
 pub use shows::Shows;
 
@@ -12,7 +11,6 @@ mod estimate;
 pub mod laws;
 mod moves;
 mod picture;
-mod progress;
 mod redraw;
 mod rows;
 mod session;

@@ -8,9 +8,9 @@ ghost use Rattle.fd_session.specs.Held.{StandsAt, IsLeftAt};
 ghost use Rattle.fd_session.specs.Moves.{IsFresh, StandsFrom, GoesOn, left_position, StopsBetween};
 
 use crate::estimate::Area;
-use crate::progress::Progress;
 use crate::worth::{MOVE_WORK, Slice, next_slice};
-use fd_crew::{Gate, Outcome, run_back, run_shared};
+use fd_crew::{Gate, Outcome, Run, run_back, run_shared};
+use fd_device::Progress;
 use fd_events::EventTable;
 use fd_owner::Owner;
 use fd_tile::{Grid, Tile};
@@ -113,17 +113,7 @@ fn run_on<R: Threads + Sync, G: Gate>(
     requires workers { (1 ≤ slice.now.workers) × (slice.now.workers ≤ 64) }
     ensures { MatchResult result (λ outcome. GoesOn table.now slice.now.from slice.now.end owners.old owners.new outcome) (λ _. owners.new ≡ owners.old) }
 {
-    let (end, workers) = (slice.end, slice.workers);
-    run_shared(
-        rt,
-        drive.alloc,
-        owners,
-        table,
-        end,
-        workers,
-        &slice.firsts,
-        drive.gate,
-    )
+    run_shared(rt, drive.alloc, owners, &slice.run(table), drive.gate)
 }
 
 /// Takes owners on over a slice. Where memory runs out in it the calling thread goes on alone, event by event: each thread wants memory of its own, and

@@ -8,11 +8,11 @@ ghost use Rattle.fd_session.specs.Drawing.{ShowsAlone, IsDrawnAt};
 use crate::answer::{Answer, SessionFault};
 use crate::estimate::Area;
 use crate::moves::{common_position, fresh_owners, left_by};
-use crate::progress::Progress;
 use crate::rows::row_from;
 use crate::worth::{PICTURE_WORK, Slice, next_slice};
 use fd_blend::Colour;
 use fd_crew::{Free, run_shared};
+use fd_device::Progress;
 use fd_events::EventTable;
 use fd_owner::Owner;
 use fd_tile::Grid;
@@ -169,10 +169,10 @@ fn draw_on<R: Threads + Sync>(
     ensures between { (opening_position owners.old ≤ result) × (result ≤ slice.now.end) }
     ensures drawn { IsDrawnAt table.now result owners.old owners.new }
 {
-    let (from, end, workers) = (common_position(owners), slice.end, slice.workers);
-    let run = run_shared(rt, alloc, owners, table, end, workers, &slice.firsts, &Free);
+    let from = common_position(owners);
+    let run = run_shared(rt, alloc, owners, &slice.run(table), &Free);
     forget_all(owners);
-    left_by(from, end, &run)
+    left_by(from, slice.end, &run)
 }
 
 /// Lets all owners forget what was overwritten.

@@ -9,9 +9,9 @@ ghost use Rattle.fd_session.specs.Switch.{HoldsSwitched, unswitched};
 
 use crate::estimate::Area;
 use crate::moves::{Drive, Way, common_position, go_forward, left_by, lowest_position};
-use crate::progress::Untold;
 use crate::switch::Switch;
 use fd_crew::Gate;
+use fd_device::Untold;
 use fd_events::EventTable;
 use fd_owner::Owner;
 use std::thread::Threads;

@@ -2,6 +2,7 @@
 ghost use Rattle.std.specs.Prelude.{◌≡◌, ◌<◌, ◌≤◌, length};
 
 use crate::estimate::{Area, Estimate, Firsts};
+use fd_crew::Run;
 use fd_events::EventTable;
 
 /// The work that a worker must have to be worth its thread, in nanoseconds: a thread takes 30 to 50 microseconds to start.
@@ -45,6 +46,20 @@ impl Slice {
             end,
             workers,
             firsts: Firsts::new(),
+        }
+    }
+
+    /// How the crew goes through these events of a table.
+    pub(crate) fn run<'a>(&'a self, table: &'a EventTable) -> Run<'a>
+        ensures table { result.table.now ≡ table.now }
+        ensures target { result.target ≡ self.now.end }
+        ensures workers { result.workers ≡ self.now.workers }
+    {
+        Run {
+            table,
+            target: self.end,
+            workers: self.workers,
+            firsts: &self.firsts,
         }
     }
 }

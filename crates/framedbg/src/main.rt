@@ -7,7 +7,7 @@ ghost use Rattle.fd_cli.specs.Program.{AsksWorkers};
 use clap::error::ErrorKind;
 use clap::{ArgMatches, Error};
 use fd_cli::{Devices, Ending, Request, perform};
-use fd_pam::{Device, send};
+use fd_device::{Device, send};
 use screen::Screen;
 use std::alloc::Global;
 use std::io::{IsTerminal, Read};

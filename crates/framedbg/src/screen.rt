@@ -1,8 +1,7 @@
 //! Replies that may go to a terminal, and what somebody there is told beside them.
 ghost use Rattle.std.specs.Prelude.{◌≡◌};
 
-use fd_pam::{Failed, Sink};
-use fd_session::Progress;
+use fd_device::{Failed, Progress, Sink};
 use std::io::Write;
 
 /// What is said before the bytes of an image go to a terminal.

@@ -2,7 +2,7 @@
 #![tactic(auto)]
 
 use fd_cli::{Ending, serve};
-use fd_pam::Device;
+use fd_device::Device;
 use std::rt::Files;
 use std::thread::Threads;
 use std::{fs, io};

@@ -1,7 +1,7 @@
 use crate::tests::captures::ONE_CLEAR;
 use crate::tests::devices::{Again, Asking, Flushing, Interrupted, Limited, Pieces, Repeats};
 use crate::{Ending, image, list_events, serve};
-use fd_pam::{Device, Sink, Source};
+use fd_device::{Device, Sink, Source};
 use std::alloc::Global;
 use std::cell::Cell;
 use std::process::Abort;

@@ -4,7 +4,7 @@ ghost use Rattle.fd_cli.specs.Program.{AsksWorkers};
 use crate::tests::captures::ONE_CLEAR;
 use crate::tests::devices::{Limited, Pieces};
 use crate::{Devices, Request, perform};
-use fd_pam::Device;
+use fd_device::Device;
 use std::alloc::Global;
 use std::process::Abort;
 use std::thread::Threads;

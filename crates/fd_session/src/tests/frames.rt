@@ -1,9 +1,10 @@
 //! Frames of the tests.
 ghost use Rattle.std.specs.Prelude.{◌≤◌};
 
-use crate::{Answer, Progress, Session, SessionFault};
+use crate::{Answer, Session, SessionFault};
 use fd_blend::{BlendOp, BlendState, Colour, Factor, Mask, Part};
 use fd_cover::{Cull, Interp, Raster, Rect};
+use fd_device::Progress;
 use fd_events::{Draw, Event, EventTable, Vertex};
 use fd_snap::Pos;
 use std::alloc::Global;

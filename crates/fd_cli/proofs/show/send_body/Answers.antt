@@ -1,7 +1,7 @@
 use Rattle.std.proofs.Common.{◌≡◌, ◌+◌, ◌*◌, ap, sym, length, arith, true}
 use Rattle.fd_pam.specs.Pam.{tuples}
 use Rattle.fd_pam.proofs.Pams.{body_short, length-body}
-use Rattle.fd_pam.proofs.Transfers.{puts_whole, puts_from_front}
+use Rattle.fd_device.proofs.Transfers.{puts_whole, puts_from_front}
 use Rattle.fd_cli.proofs.show.send_body.Goals as goal
 
 pub overflow_add-sent-in-Err-Write : goal.overflow_add-sent-in-Err-Write

@@ -1,6 +1,6 @@
 use Rattle.std.proofs.Common.{◌∙◌, ap, length, arith}
 use Rattle.std.proofs.lemmas.Result.{err_from_is_err_and}
-use Rattle.fd_pam.proofs.Transfers.{puts_all}
+use Rattle.fd_device.proofs.Transfers.{puts_all}
 use Rattle.fd_cli.proofs.Shows.{shows_line, shows_header, shows_body, parts_short}
 use Rattle.fd_cli.proofs.show.show.Goals as goal
 

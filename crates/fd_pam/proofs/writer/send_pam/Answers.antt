@@ -1,5 +1,5 @@
 use Rattle.fd_pam.specs.Pam.{tuples}
-use Rattle.fd_pam.proofs.Transfers.{puts_then}
+use Rattle.fd_device.proofs.Transfers.{puts_then}
 use Rattle.fd_pam.proofs.writer.send_pam.Goals as goal
 
 pub returns-clause-puts : goal.returns-clause-puts

@@ -13,7 +13,7 @@ returns g c =
     let from : ℕ = opening_position c.args.owners.now in
     let run = c.run_shared-run.result in
     let drew = run_draws table end c.args.owners.now c.run_shared-run.new.lanes c.forget_all.new.owners run c.requires.shown c.requires.target.0
-    c.run_shared-run.ensures.ended c.forget_all.ensures in
+    (rw (c.run.ensures.table, c.run.ensures.target) at c.run_shared-run.ensures.ended) c.forget_all.ensures in
     let is : c.left_by.result ≡ left_position from end run = c.left_by.ensures ∙ ap (λ (k : ℕ). left_position k end run) c.common_position-from.ensures in
     record {
       between = (omega (arith, is, left_after from end run drew.0), omega (arith, is, left_within from end run drew.0));

@@ -1,9 +1,9 @@
 use Rattle.std.proofs.Common.{◌≡◌, ◌⊎◌, ◌≤◌, ℕ, ◌∙◌, ap, inl, inr, sym, arith, refl}
 use Rattle.std.proofs.lemmas.Bool.{false≢true}
 use Rattle.arrayvec.specs.ArrayVec.{ArrayVec}
-use Rattle.fd_cli.specs.Line.{command_of}
+use Rattle.fd_words.specs.Line.{command_of}
 use Rattle.fd_cli.proofs.LineLemmas.{push_front}
-use Rattle.fd_pam.proofs.Transfers.{puts_all}
+use Rattle.fd_device.proofs.Transfers.{puts_all}
 use Rattle.fd_cli.proofs.Advancing.{advance_past, advance_byte, advance_fault, advance_quit, advance_line}
 use Rattle.fd_cli.proofs.progress.Progress.take_byte.Goals as goal
 use Rattle.fd_cli.proofs.progress.Progress.take_byte.Goals.{then-self-ge-MAX_BYTES-via-then-self-ge-MAX_BYTES}

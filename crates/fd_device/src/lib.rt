@@ -1,0 +1,10 @@
+//! What bytes come from and go to, and who is told how far a move has come.
+#![tactic(auto)]
+
+pub use device::{Device, Failed, Sink, Source, send};
+pub use progress::{Progress, Untold};
+
+mod device;
+mod progress;
+#[cfg(test)]
+mod tests;

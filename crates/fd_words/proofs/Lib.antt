@@ -1,0 +1,4 @@
+pub mod Gathering
+pub mod Words
+pub mod EventLines
+pub mod Numbers

@@ -1,0 +1,5 @@
+pub mod Limits
+pub mod Line
+pub mod Text
+pub mod Sending
+pub mod Report
