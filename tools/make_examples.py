@@ -3,6 +3,7 @@
 
 Run it at the repository's root after an edit here. Nothing of the program's own output goes into these files.
 """
+import argparse
 import json
 import math
 import pathlib
@@ -213,6 +214,7 @@ def gallery():
 
 
 def main():
+    argparse.ArgumentParser(description=__doc__).parse_args()
     small_captures()
     small_sessions()
     depth_captures()
@@ -228,4 +230,5 @@ def main():
     hides_in_any_order()
 
 
-main()
+if __name__ == "__main__":
+    main()

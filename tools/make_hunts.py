@@ -2,12 +2,10 @@
 """make_hunts: writes examples/hunts/: captures with a planted bug and mended, the sessions that find the bugs, and the images, and by reference.py
 what each session must be answered with.
 
-    tools/make_hunts.py [NAME .. | --lists]
-
 Run it at the repository's root, after make_examples.py, whose list of sessions it adds its own to. Nothing of the program's own output goes into
-these files. The images take some minutes: reference.py works pixel by pixel. With names, only those frames' sessions are answered anew; with --lists
-none are, and the lists alone are written.
+these files. The images take some minutes: reference.py works pixel by pixel.
 """
+import argparse
 import concurrent.futures
 import pathlib
 import subprocess
@@ -61,12 +59,19 @@ def add_to_list(path, lines):
     path.write_text("".join(line + "\n" for line in [*kept, *lines]))
 
 
+def words():
+    parser = argparse.ArgumentParser(description=__doc__, formatter_class=argparse.RawDescriptionHelpFormatter)
+    parser.add_argument("names", metavar="NAME", nargs="*", help="a frame whose sessions alone are answered anew")
+    parser.add_argument("--lists", action="store_true", help="answers no session anew, and writes the lists alone")
+    return parser.parse_args()
+
+
 def main():
+    asked = words()
     HUNTS.mkdir(exist_ok=True)
-    wanted, sessions = set(sys.argv[1:]), []
     made = [(make.__name__, write_frame(make)) for make in FRAMES]
     with concurrent.futures.ThreadPoolExecutor(PROCESSES) as pool:
-        jobs = [pool.submit(answer, *session) for name, some in made for session in some if not wanted or name in wanted]
+        jobs = [pool.submit(answer, *session) for name, some in made for session in some if not asked.lists and (not asked.names or name in asked.names)]
         for job in jobs:
             job.result()
     sessions = [session for _, some in made for session in some]

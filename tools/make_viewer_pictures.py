@@ -1,5 +1,6 @@
 #!/usr/bin/env python3
 """make_viewer_pictures: the pictures of the viewer in docs/images, from Chromium. The program must be built."""
+import argparse
 import pathlib
 import sys
 import tempfile
@@ -55,6 +56,7 @@ def page_alone(page):
 
 
 def main():
+    argparse.ArgumentParser(description=__doc__).parse_args()
     if not browser.is_installed():
         sys.exit("make_viewer_pictures: Chromium and chromedriver aren't installed")
     page = browser.Browser(1320, 880)
