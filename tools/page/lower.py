@@ -1,11 +1,10 @@
 #!/usr/bin/env python3
 """lower: the program framedbg, proved and lowered by rattle for x86-64, as LLVM's text.
 
-    tools/page/lower.py FOLDER
-
 rattle hands its module to the clang of the toolchain that it is given, and keeps nothing. So it is given the kit's, but for a clang that first
-copies the module aside and then does its work. The kit, and the program as it was built, stay as they are. FOLDER gets framedbg.ll.
+copies the module aside and then does its work. The kit, and the program as it was built, stay as they are.
 """
+import argparse
 import importlib
 import pathlib
 import sys
@@ -36,7 +35,9 @@ def keeping_kit(folder, kept):
 
 
 def main():
-    folder = pathlib.Path(sys.argv[1]).resolve()
+    words = argparse.ArgumentParser(description=__doc__, formatter_class=argparse.RawDescriptionHelpFormatter)
+    words.add_argument("folder", metavar="FOLDER", type=pathlib.Path, help="gets framedbg.ll")
+    folder = words.parse_args().folder.resolve()
     kept = folder / "kept.bc"
     sys.path.insert(0, str(kit.folder() / "bin"))
     rtlib = importlib.import_module("rtlib")
@@ -49,4 +50,5 @@ def main():
             "-o", folder / "framedbg.ll")
 
 
-main()
+if __name__ == "__main__":
+    main()
