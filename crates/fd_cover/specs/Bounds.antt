@@ -1,5 +1,5 @@
 -- Working. Boxes of pixels, and the box round the corners of a triangle.
-use Rattle.std.specs.Prelude.{ℕ, ◌+◌, ◌/◌, min, max, ℤ, pos, negsuc, Bool, ◌&&◌, ◌||◌, nat_le, nat_lt, IsTrue, if◌then◌else◌}
+use Rattle.std.specs.Prelude.{ℕ, ◌+◌, ◌-◌, ◌*◌, ◌/◌, min, max, ℤ, pos, negsuc, Bool, ◌&&◌, ◌||◌, nat_le, nat_lt, IsTrue, if◌then◌else◌}
 use Rattle.std.specs.Int.{int_min, int_max}
 use Rattle.std.specs.Ordering.{int_eq}
 use Rattle.fd_cover.specs.declared.bounds.Bounds.{Bounds}
@@ -73,3 +73,11 @@ joined_box a b =
       right = max a.right b.right;
       bottom = max a.bottom b.bottom;
     })
+
+-- the pixels that both hold
+abbrev pub shared_box : Bounds → Bounds → Bounds
+shared_box a b = record { left = max a.left b.left; top = max a.top b.top; right = min a.right b.right; bottom = min a.bottom b.bottom }
+
+-- how many pixels the box holds: a side that ends before it begins counts as 0
+abbrev pub pixel_count : Bounds → ℕ
+pixel_count box = (box.bottom - box.top) * (box.right - box.left)

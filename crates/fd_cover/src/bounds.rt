@@ -1,5 +1,5 @@
-ghost use Rattle.std.specs.Prelude.{◌≡◌, ℕ, ℤ, IsTrue};
-ghost use Rattle.fd_cover.specs.Bounds.{is_within, is_empty, HoldsCovered, HoldsBoth, IsSmallest, corner_box, bounds_of, least, greatest, first_from, past, joined_box};
+ghost use Rattle.std.specs.Prelude.{◌≡◌, ℕ, ℤ, IsTrue, ◌&&◌, not, false};
+ghost use Rattle.fd_cover.specs.Bounds.{is_within, is_empty, HoldsCovered, HoldsBoth, IsSmallest, corner_box, bounds_of, least, greatest, first_from, past, joined_box, shared_box, pixel_count};
 
 use crate::triangle::Tri;
 
@@ -112,5 +112,38 @@ impl Bounds {
                 bottom: self.bottom.max(other.bottom),
             }
         }
+    }
+
+    /// The pixels that both hold.
+    pub fn meet(self, other: Bounds) -> Bounds
+        ensures value { result ≡ shared_box self other }
+        ensures holds { (x y : ℕ) → is_within result x y ≡ (is_within self x y && is_within other x y) }
+    {
+        Bounds {
+            left: self.left.max(other.left),
+            top: self.top.max(other.top),
+            right: self.right.min(other.right),
+            bottom: self.bottom.min(other.bottom),
+        }
+    }
+
+    /// Whether there is a pixel that both hold. Where one of the two holds none at all, it may be true too.
+    pub fn meets(self, other: Bounds) -> bool
+        ensures apart { IsTrue (not result) → (x y : ℕ) → IsTrue (is_within other x y) → is_within self x y ≡ false }
+        ensures together { IsTrue result → is_empty self ≡ false → is_empty other ≡ false → is_empty (shared_box self other) ≡ false }
+    {
+        // no comparison waits for another, since none of them could be foretold
+        (other.left < self.right)
+            & (other.top < self.bottom)
+            & (self.left < other.right)
+            & (self.top < other.bottom)
+    }
+
+    /// How many pixels it holds.
+    pub fn count(self) -> usize
+        ensures { result ≡ pixel_count self }
+    {
+        self.bottom.saturating_sub(self.top) as usize
+            * self.right.saturating_sub(self.left) as usize
     }
 }

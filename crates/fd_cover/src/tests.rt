@@ -212,6 +212,9 @@ fn bounds_of_triangles(rt: HostRuntime) -> Result<(), Fail> {
         }
     );
     assert_eq!(rt; strip.join(Bounds::empty()), strip);
+    let both = square.join(strip);
+    assert!(rt; both.meets(strip) && both.meet(strip) == strip && strip.count() == 4);
+    assert!(rt; !strip.meets(square) && strip.meet(square).count() == 0);
     assert!(rt; strip.holds(1, 3) && !strip.holds(2, 3) && !strip.holds(0, 2));
     Ok(())
 }
