@@ -2,7 +2,6 @@ ghost use Rattle.std.specs.Prelude.{◌≡◌, ◌+◌, ◌-◌, ◌*◌, ◌/�
 
 use crate::finder::Finder;
 use crate::list::TriangleList;
-use crate::reach::meets;
 use fd_blend::Colour;
 use fd_cover::{Bounds, Interp, Raster, Tri};
 use fd_snap::Pos;
@@ -218,7 +217,7 @@ impl Draw {
     fn begins_far_group(&self, triangle: u32, window: Bounds) -> bool
         ensures { IsTrue result → CoverNone window (triangles_of self.now) triangle (triangle + group_size) }
     {
-        triangle % GROUP_LEN == 0 && !meets(self.group_bounds(triangle / GROUP_LEN), window)
+        triangle % GROUP_LEN == 0 && !self.group_bounds(triangle / GROUP_LEN).meets(window)
     }
 
     /// Computes the boxes of the groups and of the triangles, and lists these in cells over a target of this size. On want of memory

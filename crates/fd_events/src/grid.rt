@@ -115,7 +115,7 @@ impl Grid {
         requires { IsGrid self }
         ensures { result ≡ cell_count self }
     {
-        (self.area.bottom - self.area.top) as usize * (self.area.right - self.area.left) as usize
+        self.area.count()
     }
 
     /// The place of a cell among all, row by row.
@@ -136,13 +136,7 @@ impl Grid {
         requires { IsGrid self }
         ensures { IsPartUnder self result bounds }
     {
-        let under = cells_under(bounds, self.shift);
-        Bounds {
-            left: under.left.max(self.area.left),
-            top: under.top.max(self.area.top),
-            right: under.right.min(self.area.right),
-            bottom: under.bottom.min(self.area.bottom),
-        }
+        cells_under(bounds, self.shift).meet(self.area)
     }
 
     /// The side of a cell, in pixels.
@@ -321,13 +315,13 @@ impl Cells {
         requires boxes { AreTriangleBoxes boxes.now (triangles_of list.now) }
         ensures { IfOk result (λ cells. IfSome cells (λ cells. ListTriangles cells (triangles_of list.now))) }
     {
-        let part = Bounds {
-            left: bounds.left,
-            top: bounds.top,
-            right: bounds.right.min(width),
-            bottom: bounds.bottom.min(height),
+        let target = Bounds {
+            left: 0,
+            top: 0,
+            right: width,
+            bottom: height,
         };
-        Cells::over(part, list, boxes, alloc)
+        Cells::over(bounds.meet(target), list, boxes, alloc)
     }
 
     /// The numbers that the cell lists in which a window lies, where it lies in one.

@@ -1,5 +1,4 @@
-ghost use Rattle.std.specs.Prelude.{◌≡◌, ◌≤◌, ℕ, IsTrue, not, false};
-ghost use Rattle.fd_cover.specs.Bounds.{is_within};
+ghost use Rattle.std.specs.Prelude.{◌≡◌, ◌≤◌};
 ghost use Rattle.fd_snap.specs.Limits.{most_pixels};
 
 use fd_cover::Bounds;
@@ -75,15 +74,4 @@ impl Reach {
             bottom: self.bottom as u32,
         }
     }
-}
-
-/// Whether a box holds a pixel of a window.
-pub(crate) fn meets(reach: Bounds, window: Bounds) -> bool
-    ensures { IsTrue (not result) → (x y : ℕ) → IsTrue (is_within window x y) → is_within reach x y ≡ false }
-{
-    // no comparison waits for another, since none of them could be foretold
-    (window.left < reach.right)
-        & (window.top < reach.bottom)
-        & (reach.left < window.right)
-        & (reach.top < window.bottom)
 }

@@ -9,7 +9,7 @@ ghost use Rattle.fd_events.specs.declared.table.TableFault.TheVariants.{Memory};
 use crate::event::Event;
 use crate::index::EventIndex;
 use crate::pipeline::Pipeline;
-use crate::reach::{Reach, meets};
+use crate::reach::Reach;
 use crate::state_list::StateList;
 use fd_cover::Bounds;
 use fd_snap::MAX_SIDE;
@@ -297,7 +297,7 @@ impl EventTable {
     {
         let _len = self.len();
         let number = position + 1;
-        self.may_write(number) && meets(self.reach(number), window)
+        self.may_write(number) && self.reach(number).meets(window)
     }
 
     /// The state before the event of this number, or after the last event.

@@ -10,6 +10,6 @@ returns-then-triangle-eq0 c = λ far i t from to at x y within.
     let whole : group_size * (c.args.triangle / group_size) ≡ c.args.triangle = omega (arith, c.if-triangle-eq0.true) in
     let low : group_size * (c.args.triangle / group_size) ≤ i = omega (arith, whole, from) in
     let high : i < group_size * (c.args.triangle / group_size) + group_size = omega (arith, whole, to) in
-    let outside : is_within c.group_bounds.result x y ≡ false = c.meets.ensures far x y within in
+    let outside : is_within c.group_bounds.result x y ≡ false = c.meets.ensures.apart far x y within in
     false_from_ne_true (covers t.corners x y) (λ covered. both_ways (is_within c.group_bounds.result x y) outside
     (c.group_bounds.ensures.covered i t low high at x y covered))
