@@ -79,5 +79,5 @@ abbrev pub shared_box : Bounds → Bounds → Bounds
 shared_box a b = record { left = max a.left b.left; top = max a.top b.top; right = min a.right b.right; bottom = min a.bottom b.bottom }
 
 -- how many pixels the box holds: a side that ends before it begins counts as 0
-abbrev pub pixel_count : Bounds → ℕ
-pixel_count box = (box.bottom - box.top) * (box.right - box.left)
+abbrev pub pixels_of_box : Bounds → ℕ
+pixels_of_box box = (box.bottom - box.top) * (box.right - box.left)

@@ -1,5 +1,5 @@
 ghost use Rattle.std.specs.Prelude.{◌≡◌, ℕ, ℤ, IsTrue, ◌&&◌, not, false};
-ghost use Rattle.fd_cover.specs.Bounds.{is_within, is_empty, HoldsCovered, HoldsBoth, IsSmallest, corner_box, bounds_of, least, greatest, first_from, past, joined_box, shared_box, pixel_count};
+ghost use Rattle.fd_cover.specs.Bounds.{is_within, is_empty, HoldsCovered, HoldsBoth, IsSmallest, corner_box, bounds_of, least, greatest, first_from, past, joined_box, shared_box, pixels_of_box};
 
 use crate::triangle::Tri;
 
@@ -141,7 +141,7 @@ impl Bounds {
 
     /// How many pixels it holds.
     pub fn count(self) -> usize
-        ensures { result ≡ pixel_count self }
+        ensures { result ≡ pixels_of_box self }
     {
         self.bottom.saturating_sub(self.top) as usize
             * self.right.saturating_sub(self.left) as usize

@@ -4,6 +4,7 @@ ghost use Rattle.std.specs.Prelude.{◌<◌, ◌≤◌, length};
 use arrayvec::ArrayVec;
 use fd_cover::Bounds;
 use fd_events::{Draw, Event, EventTable, GROUP_LEN};
+use fd_snap::MAX_SIDE;
 use fd_tile::TILE_SIDE;
 
 /// The work of writing a pixel and keeping what it was, in nanoseconds. This and what follows is what `make bench` has measured.
@@ -21,8 +22,8 @@ const TRIANGLE_WORK: usize = 450;
 /// The work of passing over a triangle that lies beside the tile, in nanoseconds.
 const PASSED_WORK: usize = 60;
 
-/// The most rows of tiles that there are: those of a target of 16,384 rows of pixels.
-const MOST_ROWS: usize = 512;
+/// The most rows of tiles that there are.
+const MOST_ROWS: usize = (MAX_SIDE / TILE_SIDE) as usize;
 
 /// The number of the tile at which each worker begins, or of none where that does not matter.
 pub(crate) type Firsts = ArrayVec<usize, 64>;
@@ -58,16 +59,6 @@ impl Area {
             bounds,
         }
     }
-
-    /// What it has in common with a box.
-    fn common(&self, bounds: &Bounds) -> Bounds {
-        Bounds {
-            left: self.bounds.left.max(bounds.left),
-            top: self.bounds.top.max(bounds.top),
-            right: self.bounds.right.min(bounds.right),
-            bottom: self.bounds.bottom.min(bounds.bottom),
-        }
-    }
 }
 
 /// How many tiles lie between two edges, the first and the last of them perhaps in part.
@@ -75,13 +66,6 @@ fn tiles_between(first: u32, past: u32) -> usize
     ensures { result ≤ 134217728 }
 {
     past.div_ceil(TILE_SIDE).saturating_sub(first / TILE_SIDE) as usize
-}
-
-/// How many pixels a box holds.
-fn pixels_of(bounds: &Bounds) -> usize {
-    let columns = bounds.right.saturating_sub(bounds.left);
-    let rows = bounds.bottom.saturating_sub(bounds.top);
-    columns as usize * rows as usize
 }
 
 /// How many tiles so many pixels fill.
@@ -127,9 +111,9 @@ impl<'a> Estimate<'a> {
     }
 
     /// Adds the work of the pixels of a box, and of so much more for each tile's worth of them.
-    fn add_pixels(&mut self, bounds: &Bounds, of_a_tile: usize) {
-        let reached = self.area.common(bounds);
-        let pixels = pixels_of(&reached);
+    fn add_pixels(&mut self, bounds: Bounds, of_a_tile: usize) {
+        let reached = self.area.bounds.meet(bounds);
+        let pixels = reached.count();
         let written = pixels.saturating_mul(PIXEL_WORK);
         let work = tiles_of(pixels).saturating_mul(of_a_tile);
         self.add(&reached, work.saturating_add(written));
@@ -141,11 +125,11 @@ impl<'a> Estimate<'a> {
         let groups = draw.triangles().div_ceil(GROUP_LEN);
         if groups as usize <= self.area.tiles {
             for triangle in 0..draw.triangles() {
-                self.add_pixels(&draw.triangle_bounds(triangle), TRIANGLE_WORK);
+                self.add_pixels(draw.triangle_bounds(triangle), TRIANGLE_WORK);
             }
         } else {
             for group in 0..groups {
-                self.add_pixels(&draw.group_bounds(group), GROUP_LEN as usize * PASSED_WORK);
+                self.add_pixels(draw.group_bounds(group), GROUP_LEN as usize * PASSED_WORK);
             }
         }
     }
@@ -158,8 +142,8 @@ impl<'a> Estimate<'a> {
         let steps = self.area.tiles.saturating_mul(STEP_WORK);
         self.alike = self.alike.saturating_add(steps);
         self.work = self.work.saturating_add(steps);
-        let reached = self.area.common(&table.reach(number));
-        let pixels = pixels_of(&reached);
+        let reached = self.area.bounds.meet(table.reach(number));
+        let pixels = reached.count();
         if pixels == 0 || !table.is_on(number) {
             return;
         }
