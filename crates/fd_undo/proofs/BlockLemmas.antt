@@ -7,6 +7,7 @@ use Rattle.fd_undo.specs.declared.block.Mark.{Mark}
 use Rattle.fd_undo.specs.Span.{Span}
 use Rattle.fd_undo.specs.Frame.{KeptPixel}
 use Rattle.fd_undo.specs.Rows.{Held, colour_count, depth_count, rows_of, joined, KeepsMore}
+use Rattle.fd_undo.specs.Parts.{IsCut, cut_of}
 use Rattle.fd_undo.specs.Block.{KeptFrame, no_frame, newest, others, keeping_row, found, Rise, next, marked, AreInOrder, no_mark, number_at, NumbersRise}
 use Rattle.fd_undo.proofs.FrameLemmas.{others-push, newest-push, others-newest}
 use Rattle.fd_undo.proofs.RowLemmas.{length-rows_in}
@@ -255,3 +256,14 @@ pub mark-at : (marks : List Mark) (spans : List Span) (end a : ℕ) → AreInOrd
 mark-at [] spans end a is within = absurd (omega arith)
 mark-at (m ∷ marks) spans end zero is within = (record { number = is.0; colour = is.2; depth = is.3 }, is.1, next-within marks spans end is.4)
 mark-at (m ∷ marks) spans end (suc a) is within = mark-at marks spans end a is.4 (omega arith)
+
+pub next-at : (marks : List Mark) (a end : ℕ) → a < length marks → next (drop a marks) end ≡ (get_or marks a no_mark).span
+next-at [] a end within = absurd (omega arith)
+next-at (m ∷ marks) zero end within = refl
+next-at (m ∷ marks) (suc a) end within = next-at marks a end (omega arith)
+
+pub cut-at : (marks : List Mark) (spans : List Span) (a : ℕ) → AreInOrder marks spans (length spans) → a < length marks
+    → IsCut (cut_of (get_or marks a no_mark)) spans
+cut-at marks spans a is within =
+    let at = mark-at marks spans (length spans) a is within in
+    record { within = omega (arith, at.1, at.2); colour = at.0.colour; depth = at.0.depth }

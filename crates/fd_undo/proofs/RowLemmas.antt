@@ -1,14 +1,16 @@
 -- Rows of spans.
-use Rattle.std.proofs.Common.{◌≡◌, ℕ, zero, suc, ◌+◌, ◌-◌, ◌*◌, ◌<◌, ◌≤◌, ◌∙◌, List, [], ◌∷◌, ◌++◌, length, get_or, take, drop, refl, sym, ap, arith}
+use Rattle.std.proofs.Common.{◌≡◌, ℕ, zero, suc, ◌+◌, ◌-◌, ◌*◌, ◌≤◌, ◌∙◌, List, [], ◌∷◌, ◌++◌, length, get_or, take, drop, refl, sym, ap, arith}
 use Rattle.std.proofs.Common.{length-drop, length-append, append_assoc}
-use Rattle.std.proofs.lemmas.List.{drop-append-le, take-append-drop, length-take, drop-drop, append-nil, take_all, drop_all, drop_more}
+use Rattle.std.proofs.lemmas.List.{drop-append-le, take-append-drop, length-take, take-take, drop-take, drop-drop, append-nil, take_all}
 use Rattle.std.proofs.lemmas.List.Sums.{sum_by_push, sum_by-cons}
 use Rattle.fd_blend.specs.declared.channel.Colour.{Colour}
 use Rattle.fd_undo.specs.Span.{Span}
 use Rattle.fd_undo.specs.Frame.{KeptPixel}
 use Rattle.fd_undo.specs.Block.{others}
 use Rattle.fd_undo.specs.Rows.{listed_colours, listed_depths, colour_count, depth_count, pixel_count, span_pixels, rows_in, rows_of, joined}
-use Rattle.fd_undo.specs.Rows.{newest_row, Held, IsHeld}
+use Rattle.fd_undo.specs.Rows.{Held, IsHeld}
+use Rattle.fd_undo.specs.declared.parts.Cut.{Cut}
+use Rattle.fd_undo.specs.Parts.{IsCut}
 use Rattle.fd_undo.proofs.FrameLemmas.{others-push, newest-push}
 use Rattle.fd_undo.proofs.SpanLemmas.{span_pixels-more, length-span_pixels}
 
@@ -19,14 +21,6 @@ joined-append (r ∷ rows) more = ap (λ l. r ++ l) (joined-append rows more) �
 
 pub joined-push : (rows : List (List KeptPixel)) (row : List KeptPixel) → joined (rows ++ row ∷ []) ≡ joined rows ++ row
 joined-push rows row = joined-append rows (row ∷ []) ∙ ap (λ l. joined rows ++ l) (append-nil row)
-
--- the rows from one on, cut at another
-pub joined-cut : (rows : List (List KeptPixel)) (first n : ℕ) → first ≤ n → n ≤ length rows
-    → joined (drop first rows) ≡ joined (drop first (take n rows)) ++ joined (drop n rows)
-joined-cut rows first n low high =
-    ap (λ l. joined (drop first l)) (sym (take-append-drop n rows))
-    ∙ ap joined (drop-append-le first (take n rows) (drop n rows) (omega (arith, low, high, length-take n rows)))
-    ∙ joined-append (drop first (take n rows)) (drop n rows)
 
 -- ---- the values of some spans
 pub colours-cons : (s : Span) (spans : List Span) → colour_count (s ∷ spans) ≡ listed_colours s + colour_count spans
@@ -132,14 +126,6 @@ taken spans low s cs ds start deep_start split is at deep_at =
 pub tail_is : {V : Type 0} (start : ℕ) (values : List V) → take (length values - start) (drop start values) ≡ drop start values
 tail_is start values = take_all (length values - start) (drop start values) (omega (arith, length-drop start values))
 
--- the newest row is the last one
-pub newest_is : (h : Held) → 0 < length h.spans → joined (drop (length h.spans - 1) (rows_of h)) ≡ newest_row h
-newest_is h some =
-    let count : length (rows_of h) ≡ length h.spans = length-rows_in h.spans h.colours h.depths in
-    ap joined (drop_more (rows_of h) (length h.spans - 1) [] (omega (arith, count, some)))
-    ∙ ap (λ l. newest_row h ++ joined l) (drop_all (length h.spans - 1 + 1) (rows_of h) (omega (arith, count, some)))
-    ∙ append-nil (newest_row h)
-
 -- more values at the end of the lists change nothing
 rows_in-more : (spans : List Span) (cs more : List Colour) (ds deep : List ℕ) → colour_count spans ≤ length cs → depth_count spans ≤ length ds
     → rows_in spans (cs ++ more) (ds ++ deep) ≡ rows_in spans cs ds
@@ -202,3 +188,77 @@ module _ (spans : List Span) (cs : List Colour) (ds : List ℕ) (k : ℕ) (held 
       ∙ ap (λ l. rows_in (take k spans) l (own_depths ++ drop (depth_count (take k spans)) ds)) (take-append-drop (colour_count (take k spans)) cs)
       ∙ ap (λ l. rows_in (take k spans) cs l) (take-append-drop (depth_count (take k spans)) ds)
       ∙ rows_in-take spans cs ds k
+
+-- ---- the spans from one place up to another, with their own values
+module _ (spans : List Span) (cs : List Colour) (ds : List ℕ) (first end : Cut) (held : IsHeld spans cs ds) (ordered : first.span ≤ end.span)
+    (low : IsCut first spans) (high : IsCut end spans) where
+  abbrev between : List Span
+  between = take (end.span - first.span) (drop first.span spans)
+
+  between_is : drop first.span (take end.span spans) ≡ take (end.span - first.span) (drop first.span spans)
+  between_is =
+      ap (λ n. drop first.span (take n spans)) {x = end.span} {y = first.span + (end.span - first.span)} (omega (arith, ordered))
+      ∙ drop-take first.span (end.span - first.span) spans
+
+  pub colours_between : (first.colour + colour_count (take (end.span - first.span) (drop first.span spans)) ≡ end.colour) × (end.colour ≤ length cs)
+  colours_between = (
+    omega (
+      arith,
+      low.colour,
+      high.colour,
+      colours-take (take end.span spans) first.span,
+      ap colour_count (take-take first.span end.span spans ordered),
+      ap colour_count between_is,
+    ),
+    omega (arith, high.colour, colours-take spans end.span, held.colours_counted),
+  )
+
+  pub depths_between : (first.depth + depth_count (take (end.span - first.span) (drop first.span spans)) ≡ end.depth) × (end.depth ≤ length ds)
+  depths_between = (
+    omega (
+      arith,
+      low.depth,
+      high.depth,
+      depths-take (take end.span spans) first.span,
+      ap depth_count (take-take first.span end.span spans ordered),
+      ap depth_count between_is,
+    ),
+    omega (arith, high.depth, depths-take spans end.span, held.depths_counted),
+  )
+
+  tails_held : IsHeld (drop first.span spans) (drop first.colour cs) (drop first.depth ds)
+  tails_held = record {
+    colours_counted = omega (arith, colours-take spans first.span, low.colour, held.colours_counted, length-drop first.colour cs);
+    depths_counted = omega (arith, depths-take spans first.span, low.depth, held.depths_counted, length-drop first.depth ds);
+  }
+
+  pub held_between : IsHeld between (take (end.colour - first.colour) (drop first.colour cs)) (take (end.depth - first.depth) (drop first.depth ds))
+  held_between = record {
+    colours_counted = omega (
+      arith,
+      colours_between.0,
+      colours_between.1,
+      length-drop first.colour cs,
+      length-take (end.colour - first.colour) (drop first.colour cs),
+    );
+    depths_counted = omega (
+      arith,
+      depths_between.0,
+      depths_between.1,
+      length-drop first.depth ds,
+      length-take (end.depth - first.depth) (drop first.depth ds),
+    );
+  }
+
+  pub rows_between : rows_in between (take (end.colour - first.colour) (drop first.colour cs)) (take (end.depth - first.depth) (drop first.depth ds))
+      ≡ take (end.span - first.span) (drop first.span (rows_in spans cs ds))
+  rows_between =
+      let n : ℕ = end.span - first.span in
+      ap (λ k. rows_in between (take k (drop first.colour cs)) (take (end.depth - first.depth) (drop first.depth ds)))
+      {x = end.colour - first.colour} {y = colour_count between} (omega (arith, colours_between.0))
+      ∙ ap (λ k. rows_in between (take (colour_count between) (drop first.colour cs)) (take k (drop first.depth ds)))
+      {x = end.depth - first.depth} {y = depth_count between} (omega (arith, depths_between.0))
+      ∙ rows_in-cut (drop first.span spans) (drop first.colour cs) (drop first.depth ds) n tails_held
+      ∙ ap (λ k. take n (rows_in (drop first.span spans) (drop k cs) (drop first.depth ds))) low.colour
+      ∙ ap (λ k. take n (rows_in (drop first.span spans) (drop (colour_count (take first.span spans)) cs) (drop k ds))) low.depth
+      ∙ ap (λ l. take n l) (rows_in-drop spans cs ds first.span)

@@ -1,10 +1,10 @@
 -- Whole rows that are put back at once.
 use Rattle.std.proofs.Common.{◌≡◌, ℕ, suc, ◌+◌, ◌-◌, ◌*◌, ◌<◌, ◌≤◌, ◌∙◌, List, [], ◌∷◌, ◌++◌, length, get_or, take, drop, Option}
-use Rattle.std.proofs.Common.{refl, sym, ap, subst, arith, length-drop, length-append}
+use Rattle.std.proofs.Common.{refl, sym, ap, subst, arith, length-drop}
 use Rattle.std.specs.Prelude.{All, replicate, if◌then◌else◌}
 use Rattle.std.specs.List.{zip}
 use Rattle.std.proofs.Math.Nat.{zero-mul, suc-mul}
-use Rattle.std.proofs.lemmas.List.{drop_all, append-nil, length-take, length-take-le, length-replicate, take_all, get_or-drop, drop-drop}
+use Rattle.std.proofs.lemmas.List.{drop_all, append-nil, length-take-le, length-replicate, take-append-drop}
 use Rattle.std.proofs.lemmas.List.Elements.{All-head, All-tail}
 use borrow.Rule.Slice.PartMut.{put_mid}
 use Rattle.fd_blend.specs.declared.channel.Colour.{Colour}
@@ -16,12 +16,12 @@ use Rattle.fd_tile.proofs.Cut.{cut_rows-wide, length-cut_rows}
 use Rattle.fd_tile.proofs.Pixels.{length-row_of, with_row_left_is, IsTileImage-with_row}
 use Rattle.fd_undo.specs.Span.{Span}
 use Rattle.fd_undo.specs.Frame.{KeptPixel, kept_row, restored}
-use Rattle.fd_undo.specs.Run.{IsRow, AreRows, AreWholeRows, IsRun}
+use Rattle.fd_undo.specs.Run.{IsRow, AreRows, IsRun}
 use Rattle.fd_undo.specs.Rows.{listed_colours, depths_listed, listed_depths, values_in, depths_in, colour_count, depth_count, span_pixels, rows_in}
-use Rattle.fd_undo.specs.Rows.{rows_of, joined, no_span, Held, IsHeld}
+use Rattle.fd_undo.specs.Rows.{joined, no_span, IsHeld}
 use Rattle.fd_undo.proofs.Zips.{length-zip_equal}
-use Rattle.fd_undo.proofs.SpanLemmas.{span_pixels-one, length-span_pixels, row_first}
-use Rattle.fd_undo.proofs.RowLemmas.{colours-cons, depths-cons, colours-take, depths-take, joined-cut, length-rows_in, rows_in-drop, rows_in-cut}
+use Rattle.fd_undo.proofs.SpanLemmas.{span_pixels-one, row_first}
+use Rattle.fd_undo.proofs.RowLemmas.{colours-cons, depths-cons, joined-append}
 use Rattle.fd_undo.proofs.Restored.{Inside, Inside-front, Inside-back, restored-append, kept_row-first, kept_row-within, put_back_row_alike}
 
 -- ---- the values of a row
@@ -59,24 +59,6 @@ run_counts w depth y (s ∷ spans) (at, row, rows) =
         row_depths w depth s row,
         rest.1,
       ),
-    )
-
-run_pixels : (w depth y : ℕ) (spans : List Span) (cs : List Colour) (ds : List ℕ) → AreRows w depth y spans → length cs ≡ length spans * w
-    → length (joined (rows_in spans cs ds)) ≡ length spans * w
-run_pixels w depth y [] cs ds rows size = sym (zero-mul w)
-run_pixels w depth y (s ∷ spans) cs ds (at, row, rows) size =
-    let more : suc (length spans) * w ≡ length spans * w + w = suc-mul (length spans) w in
-    let rest = run_pixels w depth (y + 1) spans (drop w cs) ds rows (omega (arith, length-drop w cs, size, more)) in
-    let own : length (span_pixels s cs ds) ≡ 1 * s.len =
-    length-span_pixels s cs ds (omega (arith, row_colours w depth s row, size, more)) (omega (arith, row_depths w depth s row)) ∙ ap (λ n. n * s.len) row.one in
-    omega (
-      arith,
-      length-append (span_pixels s cs ds) (joined (rows_in spans (drop (listed_colours s) cs) (drop (listed_depths s) ds))),
-      own,
-      row.wide,
-      ap (λ l. length (joined l)) (rows_behind w depth s spans cs ds row),
-      rest,
-      more,
     )
 
 -- ---- rows of a tile
@@ -179,77 +161,43 @@ run_first : (w depth y : ℕ) (spans : List Span) → AreRows w depth y spans �
 run_first w depth y [] rows any = absurd (omega arith)
 run_first w depth y (s ∷ spans) (at, row, rows) any = at
 
--- ---- what is known where the last so many spans are such rows
-pub record Run (t : TileImage) (spans : List Span) (cs : List Colour) (ds : List ℕ) (count : ℕ) : Type 0 where
-  pub wide : count * t.place.width ≤ length cs
-  pub from_top : t.place.top ≤ (get_or spans (length spans - count) no_span).y
-  pub to_bottom : (get_or spans (length spans - count) no_span).y + count ≤ t.place.top + t.place.height
-  pub pixels : length (joined (drop (length spans - count) (rows_in spans cs ds))) ≡ count * t.place.width
-  pub written : restored (joined (drop (length spans - count) (rows_in spans cs ds))) t
-      ≡ with_rows_from t (get_or spans (length spans - count) no_span).y (cut_rows t.place.width count (drop (length cs - count * t.place.width) cs))
-  pub rest : rows_in (take (length spans - count) spans) (take (length cs - count * t.place.width) cs) ds ≡ take (length spans - count) (rows_in spans cs ds)
-  pub held : IsHeld (take (length spans - count) spans) (take (length cs - count * t.place.width) cs) ds
+-- ---- what is known where all spans are such rows
+pub record Run (t : TileImage) (spans : List Span) (cs : List Colour) (ds : List ℕ) : Type 0 where
+  pub from_top : t.place.top ≤ (get_or spans 0 no_span).y
+  pub to_bottom : (get_or spans 0 no_span).y + length spans ≤ t.place.top + t.place.height
+  pub wide : length cs ≡ length spans * t.place.width
+  pub written : restored (joined (rows_in spans cs ds)) t ≡ with_rows_from t (get_or spans 0 no_span).y (cut_rows t.place.width (length spans) cs)
 
-pub run_of : (t : TileImage) (spans : List Span) (cs : List Colour) (ds : List ℕ) (count : ℕ) → IsTileImage t → IsHeld spans cs ds → 0 < count
-    → count ≤ length spans → IsRun t spans count
-    → Inside t.place (joined (drop (length spans - count) (rows_in spans cs ds))) → Run t spans cs ds count
-run_of t spans cs ds count filled is some few run inside =
+pub run_of : (t : TileImage) (spans : List Span) (cs : List Colour) (ds : List ℕ) → IsTileImage t → IsHeld spans cs ds → 0 < length spans → IsRun t spans
+    → Inside t.place (joined (rows_in spans cs ds)) → Run t spans cs ds
+run_of t spans cs ds filled is some run inside =
     let w : ℕ = t.place.width in
-    let left : ℕ = length spans - count in
-    let front : List Span = take left spans in
-    let back : List Span = drop left spans in
     let y : ℕ = run.rows.y in
-    let rows : AreRows t.place.width run.depth run.rows.y (drop (length spans - count) spans) = run.rows.rows in
-    let back_long : length (drop (length spans - count) spans) ≡ count = omega (arith, length-drop (length spans - count) spans, few) in
-    let counts = run_counts w run.depth y back rows in
-    let size : length back * w ≡ count * w = ap (λ n. n * w) back_long in
-    let colours : colour_count front + colour_count back ≡ length cs = colours-take spans left ∙ is.colours_counted in
-    let depths : depth_count front + depth_count back ≡ length ds = depths-take spans left ∙ is.depths_counted in
-    let start : length cs - count * t.place.width ≡ colour_count front = omega (arith, counts.0, size, colours) in
-    let tail : List Colour = drop (colour_count front) cs in
-    let deep : List ℕ = drop (depth_count front) ds in
-    let tail_long : length tail ≡ length back * w = omega (arith, length-drop (colour_count front) cs, counts.0, colours) in
-    let back_is : rows_in back tail deep ≡ drop left (rows_in spans cs ds) = rows_in-drop spans cs ds left in
-    let own : Inside t.place (joined (rows_in back tail deep)) = subst (λ l. Inside t.place (joined l)) (sym back_is) inside in
-    let any : 0 < length back = omega (arith, back_long, some) in
-    let bounds : (t.place.top ≤ y) × (y + length back ≤ t.place.top + t.place.height) =
-    run_held t.place run.depth y back tail deep filled.colours.placed.wide rows tail_long own any in
-    let at : (get_or spans left no_span).y ≡ y =
-    ap (λ k. (get_or spans k no_span).y) {x = left} {y = left + 0} (omega arith) ∙ ap (λ (s : Span). s.y) (sym (get_or-drop left spans 0 no_span))
-    ∙ run_first w run.depth y back rows any in
-    let front_long : colour_count front ≡ length (take (length cs - count * w) cs) = omega (arith, start, colours, length-take (length cs - count * w) cs) in
+    let rows : AreRows t.place.width run.depth run.rows.y spans = run.rows.rows in
+    let wide : length cs ≡ length spans * t.place.width = sym is.colours_counted ∙ (run_counts w run.depth y spans rows).0 in
+    let bounds : (t.place.top ≤ run.rows.y) × (run.rows.y + length spans ≤ t.place.top + t.place.height) =
+    run_held t.place run.depth y spans cs ds filled.colours.placed.wide rows wide inside some in
+    let at : (get_or spans 0 no_span).y ≡ run.rows.y = run_first w run.depth y spans rows some in
     record {
-      wide = omega (arith, counts.0, size, colours);
       from_top = omega (arith, bounds.0, at);
-      to_bottom = omega (arith, bounds.1, at, back_long);
-      pixels = ap (λ l. length (joined l)) (sym back_is) ∙ run_pixels w run.depth y back tail deep rows tail_long ∙ size;
-      written = ap (λ l. restored (joined l) t) (sym back_is) ∙ rows_restored t run.depth y back tail deep filled run.flat rows tail_long bounds.0 bounds.1 own
-          ∙ ap (λ n. with_rows_from t y (cut_rows w n tail)) back_long
-          ∙ ap (λ k. with_rows_from t k (cut_rows w count tail)) (sym at)
-          ∙ ap (λ n. with_rows_from t (get_or spans left no_span).y (cut_rows w count (drop n cs))) (sym start);
-      rest = ap (λ n. rows_in front (take n cs) ds) start
-          ∙ ap (λ l. rows_in front (take (colour_count front) cs) l) (sym (take_all (depth_count front) ds (omega (arith, counts.1, depths))))
-          ∙ rows_in-cut spans cs ds left is;
-      held = record { colours_counted = front_long; depths_counted = omega (arith, counts.1, depths) };
+      to_bottom = omega (arith, bounds.1, at);
+      wide = wide;
+      written = rows_restored t run.depth y spans cs ds filled run.flat rows wide bounds.0 bounds.1 inside
+          ∙ ap (λ k. with_rows_from t k (cut_rows w (length spans) cs)) (sym at);
     }
 
--- rows among the last spans are rows among all
-pub run_on : (t : TileImage) (spans : List Span) (first count : ℕ) → IsRun t (drop first spans) count → count ≤ length (drop first spans) → 0 < count
-    → IsRun t spans count
-run_on t spans first count run few some =
-    let whole : length (drop first spans) ≡ length spans - first = length-drop first spans in
-    record {
-      depth = run.depth;
-      flat = run.flat;
-      rows = subst (λ l. AreWholeRows t.place.width run.depth l)
-          (drop-drop (length (drop first spans) - count) first spans
-          ∙ ap (λ n. drop n spans) {x = first + (length (drop first spans) - count)} {y = length spans - count} (omega (arith, whole, few, some)))
-          run.rows;
-    }
+-- how many values the last so many spans have, where they are such rows
+pub last_counts : (t : TileImage) (spans : List Span) (count : ℕ) → count ≤ length spans → IsRun t (drop (length spans - count) spans)
+    → (colour_count (drop (length spans - count) spans) ≡ count * t.place.width) × (depth_count (drop (length spans - count) spans) ≡ 0)
+last_counts t spans count few run =
+    let w : ℕ = t.place.width in
+    let last : List Span = drop (length spans - count) spans in
+    let size : length (drop (length spans - count) spans) ≡ count = omega (arith, length-drop (length spans - count) spans, few) in
+    let counts = run_counts w run.depth run.rows.y last run.rows.rows in
+    (counts.0 ∙ ap (λ n. n * w) size, counts.1)
 
--- what is behind a span lies in a place where what is behind an older one does
-pub inside_behind : (p : Place) (h : Held) (first n : ℕ) → first ≤ n → n ≤ length h.spans → Inside p (joined (drop first (rows_of h)))
-    → Inside p (joined (drop n (rows_of h)))
-inside_behind p h first n low high inside =
-    Inside-back p (joined (drop first (take n (rows_of h)))) (joined (drop n (rows_of h)))
-    (subst (λ l. Inside p l) (joined-cut (rows_of h) first n low (omega (arith, high, length-rows_in h.spans h.colours h.depths))) inside)
+-- what is behind a row lies in a place where all rows do
+pub inside_behind : (p : Place) (rows : List (List KeptPixel)) (n : ℕ) → Inside p (joined rows) → Inside p (joined (drop n rows))
+inside_behind p rows n inside =
+    Inside-back p (joined (take n rows)) (joined (drop n rows))
+    (subst (λ l. Inside p l) (ap joined (sym (take-append-drop n rows)) ∙ joined-append (take n rows) (drop n rows)) inside)

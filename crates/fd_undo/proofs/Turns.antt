@@ -13,62 +13,59 @@ use Rattle.fd_undo.specs.Rows.{span_holds, listed_colours, colours_in, listed_de
 use Rattle.fd_undo.proofs.KeptAt.{kept_at-append, kept_at-held, kept_at-not_held}
 use Rattle.fd_undo.proofs.SpanLemmas.{length-colours_in, length-depths_in, zipped}
 use Rattle.fd_undo.proofs.RowLemmas.{colours-cons, depths-cons}
+use Rattle.fd_undo.specs.declared.parts.Parts.{Parts}
 
--- what spans keep of a pixel, whose values stand from these places of the lists on
-abbrev pub kept_from : List Span → List Colour → List ℕ → ℕ → ℕ → ℕ → ℕ → List Pixel
-kept_from spans cs ds first deep x y = kept_at (joined (rows_in spans (drop first cs) (drop deep ds))) x y
+-- what spans from place i on keep of a pixel, whose values stand from these places of the lists on
+abbrev pub kept_from : Parts → ℕ → ℕ → ℕ → ℕ → ℕ → List Pixel
+kept_from p i first deep x y = kept_at (joined (rows_in (drop i p.spans.now) (drop first p.colours.now) (drop deep p.depths.now))) x y
 
-module _ (spans : List Span) (cs : List Colour) (ds : List ℕ) (i first deep x y : ℕ) (s : Span) (within : i < length spans) (read : s ≡ get_or spans i s)
-    (fits : first + colour_count (drop i spans) ≤ length cs) (deep_fits : deep + depth_count (drop i spans) ≤ length ds) where
-  abbrev rest : List Span
-  rest = drop (i + 1) spans
+module _ (p : Parts) (i first deep x y : ℕ) (s : Span) (within : i < length p.spans.now) (read : s ≡ get_or p.spans.now i s)
+    (fits : first + colour_count (drop i p.spans.now) ≤ length p.colours.now)
+    (deep_fits : deep + depth_count (drop i p.spans.now) ≤ length p.depths.now) where
+  parts : drop i p.spans.now ≡ s ∷ drop (i + 1) p.spans.now
+  parts = drop_more p.spans.now i s within ∙ ap (λ (t : Span). t ∷ drop (i + 1) p.spans.now) (sym read)
 
-  parts : drop i spans ≡ s ∷ drop (i + 1) spans
-  parts = drop_more spans i s within ∙ ap (λ (t : Span). t ∷ drop (i + 1) spans) (sym read)
+  pub next_fits : first + listed_colours s + colour_count (drop (i + 1) p.spans.now) ≤ length p.colours.now
+  next_fits = omega (arith, fits, ap colour_count parts, colours-cons s (drop (i + 1) p.spans.now))
 
-  pub next_fits : first + listed_colours s + colour_count (drop (i + 1) spans) ≤ length cs
-  next_fits = omega (arith, fits, ap colour_count parts, colours-cons s (drop (i + 1) spans))
+  pub next_deep_fits : deep + listed_depths s + depth_count (drop (i + 1) p.spans.now) ≤ length p.depths.now
+  next_deep_fits = omega (arith, deep_fits, ap depth_count parts, depths-cons s (drop (i + 1) p.spans.now))
 
-  pub next_deep_fits : deep + listed_depths s + depth_count (drop (i + 1) spans) ≤ length ds
-  next_deep_fits = omega (arith, deep_fits, ap depth_count parts, depths-cons s (drop (i + 1) spans))
+  abbrev cs : List Colour
+  cs = drop first p.colours.now
 
-  coloured : listed_colours s ≤ length (drop first cs)
-  coloured = omega (arith, next_fits, length-drop first cs)
+  abbrev ds : List ℕ
+  ds = drop deep p.depths.now
 
-  deepened : listed_depths s ≤ length (drop deep ds)
-  deepened = omega (arith, next_deep_fits, length-drop deep ds)
+  coloured : listed_colours s ≤ length (drop first p.colours.now)
+  coloured = omega (arith, next_fits, length-drop first p.colours.now)
 
-  long : length (zip (colours_in s (drop first cs)) (depths_in s (drop deep ds))) ≡ s.len
-  long = zipped s (drop first cs) (drop deep ds) coloured deepened
+  deepened : listed_depths s ≤ length (drop deep p.depths.now)
+  deepened = omega (arith, next_deep_fits, length-drop deep p.depths.now)
 
   -- the span's own, and what follows
-  both : kept_from (drop i spans) cs ds first deep x y
-      ≡ kept_at (span_pixels s (drop first cs) (drop deep ds)) x y ++ kept_from (drop (i + 1) spans) cs ds (first + listed_colours s)
-      (deep + listed_depths s) x y
+  both : kept_from p i first deep x y ≡ kept_at (span_pixels s cs ds) x y ++ kept_from p (i + 1) (first + listed_colours s) (deep + listed_depths s) x y
   both =
-      let own : List Pixel = kept_at (span_pixels s (drop first cs) (drop deep ds)) x y in
-      ap (λ l. kept_from l cs ds first deep x y) parts
-      ∙ kept_at-append (span_pixels s (drop first cs) (drop deep ds))
-      (joined (rows_in rest (drop (listed_colours s) (drop first cs)) (drop (listed_depths s) (drop deep ds)))) x y
-      ∙ ap (λ l. own ++ kept_at (joined (rows_in rest l (drop (listed_depths s) (drop deep ds)))) x y) (drop-drop (listed_colours s) first cs)
-      ∙ ap (λ l. own ++ kept_at (joined (rows_in rest (drop (first + listed_colours s) cs) l)) x y) (drop-drop (listed_depths s) deep ds)
+      let rest : List Span = drop (i + 1) p.spans.now in
+      let own : List Pixel = kept_at (span_pixels s cs ds) x y in
+      ap (λ l. kept_at (joined (rows_in l cs ds)) x y) parts
+      ∙ kept_at-append (span_pixels s cs ds) (joined (rows_in rest (drop (listed_colours s) cs) (drop (listed_depths s) ds))) x y
+      ∙ ap (λ l. own ++ kept_at (joined (rows_in rest l (drop (listed_depths s) ds))) x y) (drop-drop (listed_colours s) first p.colours.now)
+      ∙ ap (λ l. own ++ kept_at (joined (rows_in rest (drop (first + listed_colours s) p.colours.now) l)) x y) (drop-drop (listed_depths s) deep p.depths.now)
 
-  pub turn-held : span_holds s x y ≡ true → kept_from (drop i spans) cs ds first deep x y
-      ≡ (get_or (colours_in s (drop first cs)) (x - s.x) fresh, get_or (depths_in s (drop deep ds)) (x - s.x) 65535)
-      ∷ kept_from (drop (i + 1) spans) cs ds (first + listed_colours s) (deep + listed_depths s) x y
+  pub turn-held : span_holds s x y ≡ true → kept_from p i first deep x y
+      ≡ (get_or (colours_in s cs) (x - s.x) fresh, get_or (depths_in s ds) (x - s.x) 65535)
+      ∷ kept_from p (i + 1) (first + listed_colours s) (deep + listed_depths s) x y
   turn-held held =
       let column : x - s.x < s.len = grind (arith, nat_tests) in
-      let colours : List Colour = colours_in s (drop first cs) in
-      let depths : List ℕ = depths_in s (drop deep ds) in
-      let later : List Pixel = kept_from rest cs ds (first + listed_colours s) (deep + listed_depths s) x y in
       both
-      ∙ ap (λ l. l ++ later)
-      (kept_at-held s (zip colours depths) x y long held
-      ∙ ap (λ p. p ∷ []) (get_or-zip colours depths (x - s.x) fresh_pixel (omega (arith, column, length-colours_in s (drop first cs) coloured))
-      (omega (arith, column, length-depths_in s (drop deep ds) deepened))))
+      ∙ ap (λ l. l ++ kept_from p (i + 1) (first + listed_colours s) (deep + listed_depths s) x y)
+      (kept_at-held s (zip (colours_in s cs) (depths_in s ds)) x y (zipped s cs ds coloured deepened) held
+      ∙ ap (λ q. q ∷ []) (get_or-zip (colours_in s cs) (depths_in s ds) (x - s.x) fresh_pixel (omega (arith, column, length-colours_in s cs coloured))
+      (omega (arith, column, length-depths_in s ds deepened))))
 
-  pub turn-not_held : span_holds s x y ≡ false → kept_from (drop i spans) cs ds first deep x y
-      ≡ kept_from (drop (i + 1) spans) cs ds (first + listed_colours s) (deep + listed_depths s) x y
+  pub turn-not_held : span_holds s x y ≡ false → kept_from p i first deep x y
+      ≡ kept_from p (i + 1) (first + listed_colours s) (deep + listed_depths s) x y
   turn-not_held not =
-      both ∙ ap (λ l. l ++ kept_from rest cs ds (first + listed_colours s) (deep + listed_depths s) x y)
-      (kept_at-not_held s (zip (colours_in s (drop first cs)) (depths_in s (drop deep ds))) x y long not)
+      both ∙ ap (λ l. l ++ kept_from p (i + 1) (first + listed_colours s) (deep + listed_depths s) x y)
+      (kept_at-not_held s (zip (colours_in s cs) (depths_in s ds)) x y (zipped s cs ds coloured deepened) not)

@@ -1,5 +1,5 @@
 -- Frames that keep a whole place.
-use Rattle.std.proofs.Common.{◌≡◌, ℕ, zero, suc, ◌<◌, ◌≤◌, true, List, [], ◌∷◌, length, get_or, take, drop, refl, subst, ap, Option, Some, None, arith}
+use Rattle.std.proofs.Common.{◌≡◌, ℕ, zero, suc, ◌<◌, ◌≤◌, true, List, [], ◌∷◌, length, get_or, drop, refl, subst, ap, Option, Some, None, arith}
 use Rattle.std.proofs.Common.{length-append, length-drop}
 use Rattle.std.proofs.lemmas.Bool.Decides.{nat_tests}
 use Rattle.std.specs.List.{zip}
@@ -11,11 +11,10 @@ use Rattle.fd_undo.specs.Frame.{KeptPixel, kept_at, KeepsAll}
 use Rattle.fd_undo.specs.Rows.{no_span, span_holds, listed_colours, colours_in, listed_depths, depths_in, colour_count, depth_count, span_pixels}
 use Rattle.fd_undo.specs.Rows.{rows_in, joined}
 use Rattle.fd_undo.specs.Block.{KeptFrame, found}
-use Rattle.fd_undo.specs.Rows.{Held, IsHeld, rows_of}
 use Rattle.fd_undo.specs.Whole.{HasWholeRow, AnyHasRow, HaveAllRows}
 use Rattle.fd_undo.proofs.KeptAt.{kept_at-append, kept_at-held}
 use Rattle.fd_undo.proofs.SpanLemmas.{zipped}
-use Rattle.fd_undo.proofs.RowLemmas.{colours-cons, depths-cons, colours-take, depths-take, rows_in-drop}
+use Rattle.fd_undo.proofs.RowLemmas.{colours-cons, depths-cons}
 
 -- a pixel that one of the spans has is kept
 kept-by_span : (spans : List Span) (cs : List Colour) (ds : List ℕ) (i x y : ℕ) → colour_count spans ≤ length cs → depth_count spans ≤ length ds
@@ -53,14 +52,6 @@ keeps-all p spans cs ds fits deep all x y held =
     let has : span_holds (get_or spans i no_span) x y ≡ true =
     grind (arith, nat_tests, is.x, is.len, is.from, is.to, held.from_left, held.to_right) in
     kept-by_span spans cs ds i x y fits deep row.1 has
-
--- the same of the spans from k on
-pub keeps-from : (p : Place) (h : Held) (k : ℕ) → IsHeld h.spans h.colours h.depths → HaveAllRows p (drop k h.spans) → KeepsAll p (joined (drop k (rows_of h)))
-keeps-from p h k held all =
-    subst (λ l. KeepsAll p (joined l)) (rows_in-drop h.spans h.colours h.depths k)
-    (keeps-all p (drop k h.spans) (drop (colour_count (take k h.spans)) h.colours) (drop (depth_count (take k h.spans)) h.depths)
-    (omega (arith, held.colours_counted, colours-take h.spans k, length-drop (colour_count (take k h.spans)) h.colours))
-    (omega (arith, held.depths_counted, depths-take h.spans k, length-drop (depth_count (take k h.spans)) h.depths)) all)
 
 -- what is found in a block is found among all
 pub keeps-found : (from : ℕ) (p : Place) (some all : List KeptFrame) (r : Option ℕ) → ((n : ℕ) → 0 < length (found n some) → found n some ≡ found n all)

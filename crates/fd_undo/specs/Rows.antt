@@ -77,9 +77,6 @@ abbrev pub joined : List (List KeptPixel) → List KeptPixel
 joined [] = []
 joined (row ∷ rows) = row ++ joined rows
 
-abbrev pub newest_row : Held → List KeptPixel
-newest_row h = slice_index_or (rows_of h) (length h.spans - 1) []
-
 -- the lists have the values of the spans, and no more
 pub record IsHeld (spans : List Span) (colours : List Colour) (depths : List ℕ) : Type 0 where
   pub colours_counted : colour_count spans ≡ length colours

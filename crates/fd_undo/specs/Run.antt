@@ -1,5 +1,5 @@
 -- Working. Spans that are whole rows of a tile.
-use Rattle.std.specs.Prelude.{◌≡◌, ℕ, ◌+◌, ◌-◌, List, [], ◌∷◌, length, drop, Some, false}
+use Rattle.std.specs.Prelude.{◌≡◌, ℕ, ◌+◌, List, [], ◌∷◌, Some, false}
 use Rattle.fd_tile.specs.Tile.{TileImage, IsFlat}
 use Rattle.fd_undo.specs.Span.{Span}
 
@@ -20,8 +20,8 @@ pub record AreWholeRows (width depth : ℕ) (spans : List Span) : Type 0 where
   pub y : ℕ
   pub rows : AreRows width depth y spans
 
--- the last so many spans are rows of the tile, and as deep as all its pixels
-pub record IsRun (t : TileImage) (spans : List Span) (count : ℕ) : Type 0 where
+-- they are rows of the tile, and as deep as all its pixels
+pub record IsRun (t : TileImage) (spans : List Span) : Type 0 where
   pub depth : ℕ
   pub flat : IsFlat t.place t.depths depth
-  pub rows : AreWholeRows t.place.width depth (drop (length spans - count) spans)
+  pub rows : AreWholeRows t.place.width depth spans

@@ -1,18 +1,19 @@
 ghost use Rattle.std.specs.Prelude.{◌≡◌, ◌≢◌, ℕ, suc, ◌+◌, ◌-◌, ◌^◌, ◌<◌, ◌≤◌, [], ◌∷◌, ◌++◌, length, drop, replicate, slice_index_or};
-ghost use Rattle.std.specs.Prelude.{All, None, IfOk, IfSome, true, false};
+ghost use Rattle.std.specs.Prelude.{None, IfOk, IfSome, true, false};
 ghost use Rattle.std.specs.List.{zip};
 ghost use Rattle.fd_snap.specs.Limits.{most_pixels};
-ghost use Rattle.fd_tile.specs.Place.{Holds, IsTilePlace};
-ghost use Rattle.fd_undo.specs.Frame.{kept_row, restored, alike, IsAlike, KeepsAll};
-ghost use Rattle.fd_undo.specs.Rows.{colour_count, depth_count, rows_in, joined};
-ghost use Rattle.fd_undo.specs.Block.{KeptFrame, Filled, no_frame, newest, others, keeping_row, found, first_number, Rise, NumbersRise, no_mark, next};
+ghost use Rattle.fd_tile.specs.Place.{IsTilePlace};
+ghost use Rattle.fd_undo.specs.Frame.{kept_row, alike, KeepsAll};
+ghost use Rattle.fd_undo.specs.Parts.{AreParts, IsCut, kept_in_parts};
+ghost use Rattle.fd_undo.specs.Block.{KeptFrame, Filled, no_frame, newest, others, keeping_row, found, first_number, Rise, NumbersRise, AreInOrder, no_mark, next};
 
+use crate::parts::{Cut, Parts};
 use crate::room::Room;
 use crate::rows::Rows;
 use crate::span::Span;
 use crate::whole::have_all_rows;
 use fd_blend::Colour;
-use fd_tile::{Place, Tile};
+use fd_tile::Place;
 use smallvec::SmallVec;
 use std::alloc::{AllocError, Global};
 use std::marker::Model;
@@ -27,6 +28,21 @@ pub(crate) struct Mark {
     span: u32,
     colour: u32,
     depth: u32,
+}
+
+impl Mark {
+    ghost use Rattle.fd_undo.specs.Parts.{cut_of};
+
+    /// Where its frame begins.
+    fn cut(self) -> Cut
+        ensures { result ≡ cut_of self }
+    {
+        Cut {
+            span: self.span as usize,
+            colour: self.colour as usize,
+            depth: self.depth as usize,
+        }
+    }
 }
 
 /// Frames that follow one another, in lists that were made with room and never grow.
@@ -188,29 +204,6 @@ impl Block {
         self.rows.keep_alike(place, colour, depth);
     }
 
-    /// Writes the newest frame back and drops it, and says how many pixels it kept. On a tile that isn't made it keeps nothing, or all of it, which
-    /// was alike.
-    pub(crate) fn undo(&mut self, tile: &mut Tile) -> usize
-        requires alike { tile.old.made ≡ false → IsAlike tile.old.place (newest self.old.frames).kept }
-        requires some { 0 < length self.old.frames }
-        requires inside { All (λ k. Holds tile.old.place k.x k.y) (newest self.old.frames).kept }
-        requires countable { length (newest self.old.frames).kept < 2 ^ 64 }
-        ensures tile { tile.new ≡ restored (newest self.old.frames).kept tile.old }
-        ensures pixels { result ≡ length (newest self.old.frames).kept }
-        ensures frames { self.new.frames ≡ others self.old.frames }
-    {
-        let mark = take_last(&mut self.marks);
-        if tile.is_made() {
-            return self.rows.undo_to(mark.span as usize, tile);
-        }
-        self.rows.undo_alike(
-            mark.span as usize,
-            mark.colour as usize,
-            mark.depth as usize,
-            tile,
-        )
-    }
-
     /// Drops the newest frame, unread, and says how many pixels it kept.
     pub(crate) fn drop_newest(&mut self) -> usize
         requires some { 0 < length self.old.frames }
@@ -219,11 +212,7 @@ impl Block {
         ensures frames { self.new.frames ≡ others self.old.frames }
     {
         let mark = take_last(&mut self.marks);
-        self.rows.drop_from(
-            mark.span as usize,
-            mark.colour as usize,
-            mark.depth as usize,
-        )
+        self.rows.drop_from(mark.cut())
     }
 
     /// The number of the oldest frame from this number on that is seen to keep a whole place.
@@ -235,41 +224,36 @@ impl Block {
         let first = marks.partition_point(|mark| (mark.number as usize) < from);
         for at in first..marks.len() {
             let number = mark_at(marks, at).number as usize;
-            let (spans, _, _) = self.parts_at(at);
-            if number >= from && have_all_rows(spans, place) {
+            if number >= from && have_all_rows(self.parts_at(at).spans, place) {
                 return Some(number);
             }
         }
         None
     }
 
-    /// The spans of the frame of this number, and colours and depths that begin with its own.
-    pub(crate) fn parts_of(&self, number: usize) -> Option<(&[Span], &[Colour], &[u16])>
+    /// What the frame of this number keeps.
+    pub(crate) fn parts_of(&self, number: usize) -> Option<Parts<'_>>
         requires { (count : ℕ) × Rise 0 self.now.frames count }
-        ensures within { IfSome result (λ r. (colour_count r.0.now ≤ length r.1.now) × (depth_count r.0.now ≤ length r.2.now)) }
-        ensures there { IfSome result (λ r. joined (rows_in r.0.now r.1.now r.2.now) ≡ found number self.now.frames) }
+        ensures whole { IfSome result AreParts }
+        ensures there { IfSome result (λ parts. kept_in_parts parts ≡ found number self.now.frames) }
         ensures absent { result ≡ None → found number self.now.frames ≡ [] }
     {
+        if self.is_newest(number) {
+            return Some(self.parts_at(self.marks.len() - 1));
+        }
         let place = place_of(self.marks.as_slice(), number)?;
         Some(self.parts_at(place))
     }
 
     /// The same of the frame at a place.
-    fn parts_at(&self, place: usize) -> (&[Span], &[Colour], &[u16])
+    fn parts_at(&self, place: usize) -> Parts<'_>
         requires { place < length self.now.frames }
-        ensures colours { colour_count result.0.now ≤ length result.1.now }
-        ensures depths { depth_count result.0.now ≤ length result.2.now }
-        ensures there { joined (rows_in result.0.now result.1.now result.2.now) ≡ (slice_index_or self.now.frames place no_frame).kept }
+        ensures whole { AreParts result }
+        ensures there { kept_in_parts result ≡ (slice_index_or self.now.frames place no_frame).kept }
     {
         let marks = self.marks.as_slice();
-        let mark = mark_at(marks, place);
-        let end = end_of(marks, place, self.rows.len());
-        self.rows.parts(
-            mark.span as usize,
-            end,
-            mark.colour as usize,
-            mark.depth as usize,
-        )
+        let end = end_of(marks, place, &self.rows);
+        self.rows.parts(mark_at(marks, place).cut(), end)
     }
 }
 
@@ -317,13 +301,15 @@ fn place_of(marks: &[Mark], number: usize) -> Option<usize>
 }
 
 /// Where the frame of a mark ends: where the next one begins, or at the end.
-fn end_of(marks: &[Mark], place: usize, end: usize) -> usize
-    requires { place < length marks.now }
-    ensures { result ≡ next (drop (suc place) marks.now) end }
+fn end_of(marks: &[Mark], place: usize, rows: &Rows) -> Cut
+    requires within { place < length marks.now }
+    requires order { AreInOrder marks.now rows.now.spans (length rows.now.spans) }
+    ensures span { result.span ≡ next (drop (suc place) marks.now) (length rows.now.spans) }
+    ensures cut { IsCut result rows.now.spans }
 {
     if place + 1 < marks.len() {
-        marks[place + 1].span as usize
+        mark_at(marks, place + 1).cut()
     } else {
-        end
+        rows.end()
     }
 }

@@ -5,6 +5,7 @@ pub use stack::{Full, UndoStack};
 
 mod block;
 mod kept;
+mod parts;
 mod restore;
 mod room;
 mod rows;

@@ -1,16 +1,118 @@
-ghost use Rattle.std.specs.Prelude.{◌≡◌, ◌+◌, ◌-◌, ◌<◌, ◌≤◌, length, All, IsSomeAnd, replicate, true};
+ghost use Rattle.std.specs.Prelude.{◌≡◌, ℕ, ◌+◌, ◌-◌, ◌<◌, ◌≤◌, ◌⊎◌, length, take, drop, All, IsSomeAnd, replicate, true, false};
 ghost use borrow.Rule.Slice.PartMut.{put_mid};
 ghost use Rattle.fd_tile.specs.Place.{Holds};
-ghost use Rattle.fd_tile.specs.Tile.{row_of, with_row_left, IsFlat, IsTileImage};
-ghost use Rattle.fd_undo.specs.Frame.{restored};
-ghost use Rattle.fd_undo.specs.Rows.{listed_colours, colours_in, listed_depths, depths_in, row_of_span, span_pixels};
+ghost use Rattle.fd_tile.specs.Tile.{row_of, with_row_left, with_depths, IsFlat, IsTileImage};
+ghost use Rattle.fd_undo.specs.Frame.{restored, IsAlike};
+ghost use Rattle.fd_undo.specs.Rows.{listed_colours, colours_in, listed_depths, depths_in, row_of_span, span_pixels, joined};
+ghost use Rattle.fd_undo.specs.Parts.{AreParts, rows_in_parts, kept_in_parts};
+ghost use Rattle.fd_undo.specs.Run.{IsRun};
+ghost use Rattle.fd_undo.specs.Whole.{HaveAllRows};
 
-use crate::span::Span;
+use crate::kept::kept_in;
+use crate::parts::Parts;
+use crate::run::last_run;
+use crate::span::{Span, last_of};
+use crate::whole::have_all_rows;
 use fd_blend::Colour;
 use fd_tile::{Tile, fill};
 
+/// Writes what some spans keep back, the last kept first. On a tile that isn't made they keep nothing, or all of it, which was alike.
+pub(crate) fn put_frame(parts: Parts<'_>, tile: &mut Tile)
+    requires whole { AreParts parts }
+    requires alike { tile.old.made ≡ false → IsAlike tile.old.place (kept_in_parts parts) }
+    requires inside { All (λ k. Holds tile.old.place k.x k.y) (kept_in_parts parts) }
+    ensures { tile.new ≡ restored (kept_in_parts parts.entry) tile.old }
+{
+    if tile.is_made() {
+        level(parts.spans, tile);
+        put_spans(parts, tile);
+    } else {
+        put_alike(parts, tile);
+    }
+}
+
+/// The same of spans that keep nothing of the tile, or all of it, which was alike.
+fn put_alike(parts: Parts<'_>, tile: &mut Tile)
+    requires whole { AreParts parts }
+    requires alike { IsAlike tile.old.place (kept_in_parts parts) }
+    ensures { tile.new ≡ restored (kept_in_parts parts.entry) tile.old }
+{
+    let place = tile.place();
+    if let Some((colour, depth)) = kept_in(parts, place.left, place.top, 0) {
+        tile.fill_colours(colour);
+        tile.fill_depths(depth);
+    }
+}
+
+/// Where some spans have all rows of a tile all its pixels are made as deep as the first of them: those that are so deep then need their colours alone, and
+/// the tile knows of its depth.
+fn level(spans: &[Span], tile: &mut Tile)
+    ensures levelled { (tile.new ≡ tile.old) ⊎ ((depth : ℕ) × (tile.new ≡ with_depths tile.old depth) × HaveAllRows tile.old.place spans.now) }
+    ensures filled { IsTileImage tile.old }
+{
+    let place = tile.place();
+    if let [first, ..] = spans {
+        if let Some(deep) = first.same_depth() {
+            if have_all_rows(spans, place) {
+                tile.fill_depths(deep);
+            }
+        }
+    }
+}
+
+/// Writes what some spans keep back on a tile that is made.
+fn put_spans(parts: Parts<'_>, tile: &mut Tile)
+    requires made { tile.old.made ≡ true }
+    requires whole { AreParts parts }
+    requires inside { All (λ k. Holds tile.old.place k.x k.y) (kept_in_parts parts) }
+    ensures { tile.new ≡ restored (kept_in_parts parts.entry) tile.old }
+{
+    let mut left = parts;
+    while !left.spans.is_empty() {
+        left = put_last(left, tile);
+    }
+}
+
+/// Writes the last span back, with those before it that go back at once, and gives those that are left.
+fn put_last<'a>(parts: Parts<'a>, tile: &mut Tile) -> Parts<'a>
+    requires made { tile.old.made ≡ true }
+    requires whole { AreParts parts }
+    requires some { 0 < length parts.spans.now }
+    requires inside { All (λ k. Holds tile.old.place k.x k.y) (kept_in_parts parts) }
+    ensures whole { AreParts result }
+    ensures fewer { length result.spans.now < length parts.entry.spans.now }
+    ensures rows { rows_in_parts result ≡ take (length result.spans.now) (rows_in_parts parts.entry) }
+    ensures tile { tile.new ≡ restored (joined (drop (length result.spans.now) (rows_in_parts parts.entry))) tile.old }
+{
+    let width = tile.place().width as usize;
+    let run = last_run(parts.spans, tile);
+    if run > 0 {
+        let (rest, rows) = parts.split_last(run, run * width, 0);
+        put_rows(rows, tile);
+        return rest;
+    }
+    let span = last_of(parts.spans);
+    let (rest, last) = parts.split_last(1, span.listed_colours(), span.listed_depths());
+    put_back(tile, &span, last.colours, last.depths);
+    rest
+}
+
+/// Writes whole rows of the tile back, all at once.
+fn put_rows(rows: Parts<'_>, tile: &mut Tile)
+    requires made { tile.old.made ≡ true }
+    requires filled { IsTileImage tile.old }
+    requires whole { AreParts rows }
+    requires some { 0 < length rows.spans.now }
+    requires run { IsRun tile.old rows.spans.now }
+    requires inside { All (λ k. Holds tile.old.place k.x k.y) (kept_in_parts rows) }
+    ensures { tile.new ≡ restored (kept_in_parts rows.entry) tile.old }
+{
+    let y = rows.spans[0].y();
+    tile.put_rows(y, rows.spans.len() as u32, rows.colours);
+}
+
 /// Writes the colours and depths of a span back.
-pub(crate) fn put_back(tile: &mut Tile, span: &Span, colours: &[Colour], depths: &[u16])
+fn put_back(tile: &mut Tile, span: &Span, colours: &[Colour], depths: &[u16])
     requires made { tile.old.made ≡ true }
     requires counted { length colours.now ≡ listed_colours span.now }
     requires depths_counted { length depths.now ≡ listed_depths span.now }

@@ -1,24 +1,19 @@
-ghost use Rattle.std.specs.Prelude.{◌≡◌, ℕ, ◌+◌, ◌-◌, ◌^◌, ◌<◌, ◌≤◌, ◌⊎◌, [], ◌∷◌, ◌++◌, length, take, drop, replicate, All, IfOk, IfSome, slice_index_or, true};
+ghost use Rattle.std.specs.Prelude.{◌≡◌, ℕ, ◌+◌, ◌-◌, ◌^◌, ◌<◌, ◌≤◌, [], ◌∷◌, ◌++◌, length, take, drop, IfOk, IfSome, slice_index_or, true};
 ghost use Rattle.std.specs.List.{zip};
 ghost use Rattle.fd_undo.specs.Span.{IsRowOf};
 ghost use Rattle.fd_blend.specs.Channel.{fresh};
 ghost use Rattle.fd_snap.specs.Limits.{most_pixels};
-ghost use Rattle.fd_tile.specs.Place.{Holds, IsTilePlace};
-ghost use Rattle.fd_undo.specs.Frame.{kept_row, restored, alike, IsAlike};
-ghost use Rattle.fd_undo.specs.Rows.{listed_colours, listed_depths, colour_count, depth_count, pixel_count, rows_in, rows_of, joined, newest_row, no_span};
+ghost use Rattle.fd_tile.specs.Place.{IsTilePlace};
+ghost use Rattle.fd_undo.specs.Frame.{kept_row, alike};
+ghost use Rattle.fd_undo.specs.Rows.{colour_count, depth_count, pixel_count, rows_of, joined, no_span};
 ghost use Rattle.fd_undo.specs.Rows.{KeepsMore, GrowsBy};
-ghost use Rattle.fd_undo.specs.Run.{IsRun};
-ghost use Rattle.fd_undo.specs.Whole.{HaveAllRows};
-ghost use Rattle.fd_tile.specs.Tile.{IsTileImage, with_depths};
+ghost use Rattle.fd_undo.specs.Parts.{AreParts, IsCut, rows_in_parts};
 
-use crate::kept::kept_in;
-use crate::restore::put_back;
+use crate::parts::{Cut, Parts, part};
 use crate::room::{Room, SPANS_INSIDE};
-use crate::run::last_run;
-use crate::span::Span;
-use crate::whole::have_all_rows;
+use crate::span::{Span, last_of};
 use fd_blend::Colour;
-use fd_tile::{Place, Tile};
+use fd_tile::Place;
 use smallvec::SmallVec;
 use std::alloc::{AllocError, Global};
 use std::marker::Model;
@@ -162,197 +157,47 @@ impl Rows {
         self.spans.push_reserved(Span::whole(place, depth));
     }
 
-    /// Writes the newest span back and drops it, and says how many pixels it had.
-    pub(crate) fn undo(&mut self, tile: &mut Tile) -> usize
-        requires made { tile.old.made ≡ true }
-        requires some { 0 < length self.old.spans }
-        requires inside { All (λ k. Holds tile.old.place k.x k.y) (newest_row self.old) }
-        ensures tile { tile.new ≡ restored (newest_row self.old) tile.old }
-        ensures pixels { result ≡ length (newest_row self.old) }
-        ensures rows { rows_of self.new ≡ take (length self.old.spans - 1) (rows_of self.old) }
-        ensures spans { self.new.spans ≡ take (length self.old.spans - 1) self.old.spans }
+    /// The place behind all spans.
+    pub(crate) fn end(&self) -> Cut
+        ensures value { result ≡ record { span = length self.now.spans; colour = length self.now.colours; depth = length self.now.depths } }
+        ensures cut { IsCut result self.now.spans }
     {
-        let span = take_last(&mut self.spans);
-        let start = self.colours.len() - span.listed_colours();
-        let first_depth = self.depths.len() - span.listed_depths();
-        put_back(
-            tile,
-            &span,
-            &self.colours[start..],
-            &self.depths[first_depth..],
-        );
-        self.colours.truncate(start);
-        self.depths.truncate(first_depth);
-        span.pixels()
-    }
-
-    /// Writes the newest so many spans back, which are whole rows of the tile, drops them, and says how many pixels they had.
-    fn undo_run(&mut self, count: usize, tile: &mut Tile) -> usize
-        requires made { tile.old.made ≡ true }
-        requires some { 0 < count }
-        requires few { count ≤ length self.old.spans }
-        requires run { IsRun tile.old self.old.spans count }
-        requires inside { All (λ k. Holds tile.old.place k.x k.y) (joined (drop (length self.old.spans - count) (rows_of self.old))) }
-        ensures tile { tile.new ≡ restored (joined (drop (length self.old.spans - count) (rows_of self.old))) tile.old }
-        ensures pixels { result ≡ length (joined (drop (length self.old.spans - count) (rows_of self.old))) }
-        ensures rows { rows_of self.new ≡ take (length self.old.spans - count) (rows_of self.old) }
-        ensures spans { self.new.spans ≡ take (length self.old.spans - count) self.old.spans }
-    {
-        let left = self.spans.len() - count;
-        let end = self.colours.len();
-        let pixels = count * tile.place().width as usize;
-        let start = end - pixels;
-        let y = row_at(self.spans.as_slice(), left);
-        tile.put_rows(y, count as u32, &self.colours[start..]);
-        self.colours.truncate(start);
-        self.spans.truncate(left);
-        pixels
-    }
-
-    /// Writes the newest span back, with those before it down to the first one that go back at once, drops them, and says how many pixels they had.
-    fn undo_some(&mut self, first: usize, tile: &mut Tile) -> usize
-        requires made { tile.old.made ≡ true }
-        requires some { first < length self.old.spans }
-        requires inside { All (λ k. Holds tile.old.place k.x k.y) (joined (drop first (rows_of self.old))) }
-        ensures fewer { length self.new.spans < length self.old.spans }
-        ensures from { first ≤ length self.new.spans }
-        ensures tile { tile.new ≡ restored (joined (drop (length self.new.spans) (rows_of self.old))) tile.old }
-        ensures pixels { result ≡ length (joined (drop (length self.new.spans) (rows_of self.old))) }
-        ensures rows { rows_of self.new ≡ take (length self.new.spans) (rows_of self.old) }
-        ensures spans { self.new.spans ≡ take (length self.new.spans) self.old.spans }
-    {
-        let run = last_run(&self.spans.as_slice()[first..], tile);
-        if run > 0 {
-            self.undo_run(run, tile)
-        } else {
-            self.undo(tile)
+        Cut {
+            span: self.spans.len(),
+            colour: self.colours.len(),
+            depth: self.depths.len(),
         }
     }
 
-    /// Writes the spans from this one on back, the newest first, drops them, and says how many pixels they had.
-    pub(crate) fn undo_to(&mut self, first: usize, tile: &mut Tile) -> usize
-        requires made { tile.old.made ≡ true }
-        requires some { first ≤ length self.old.spans }
-        requires inside { All (λ k. Holds tile.old.place k.x k.y) (joined (drop first (rows_of self.old))) }
-        requires countable { length (joined (drop first (rows_of self.old))) < 2 ^ 64 }
-        ensures tile { tile.new ≡ restored (joined (drop first (rows_of self.old))) tile.old }
-        ensures pixels { result ≡ length (joined (drop first (rows_of self.old))) }
-        ensures rows { rows_of self.new ≡ take first (rows_of self.old) }
-        ensures spans { self.new.spans ≡ take first self.old.spans }
+    /// Drops the spans behind a place, unread, and says how many pixels they had.
+    pub(crate) fn drop_from(&mut self, first: Cut) -> usize
+        requires first { IsCut first self.old.spans }
+        requires countable { length (joined (drop first.span (rows_of self.old))) < 2 ^ 64 }
+        ensures pixels { result ≡ length (joined (drop first.span (rows_of self.old))) }
+        ensures rows { rows_of self.new ≡ take first.span (rows_of self.old) }
+        ensures spans { self.new.spans ≡ take first.span self.old.spans }
     {
-        level(&self.spans.as_slice()[first..], tile);
-        let mut pixels = 0;
-        while self.len() > first {
-            pixels += self.undo_some(first, tile);
-        }
+        let pixels = pixels_in(&self.spans.as_slice()[first.span..]);
+        self.spans.truncate(first.span);
+        self.colours.truncate(first.colour);
+        self.depths.truncate(first.depth);
         pixels
     }
 
-    /// The same for spans that keep nothing of the tile, or all of it, which was alike. Their values stand from these places on.
-    pub(crate) fn undo_alike(
-        &mut self,
-        first: usize,
-        first_colour: usize,
-        first_depth: usize,
-        tile: &mut Tile,
-    ) -> usize
-        requires some { first ≤ length self.old.spans }
-        requires coloured { first_colour ≡ colour_count (take first self.old.spans) }
-        requires deep { first_depth ≡ depth_count (take first self.old.spans) }
-        requires alike { IsAlike tile.old.place (joined (drop first (rows_of self.old))) }
-        requires countable { length (joined (drop first (rows_of self.old))) < 2 ^ 64 }
-        ensures tile { tile.new ≡ restored (joined (drop first (rows_of self.old))) tile.old }
-        ensures pixels { result ≡ length (joined (drop first (rows_of self.old))) }
-        ensures rows { rows_of self.new ≡ take first (rows_of self.old) }
-        ensures spans { self.new.spans ≡ take first self.old.spans }
+    /// The spans from one place up to another.
+    pub(crate) fn parts(&self, first: Cut, end: Cut) -> Parts<'_>
+        requires ordered { first.span ≤ end.span }
+        requires first { IsCut first self.now.spans }
+        requires end { IsCut end self.now.spans }
+        ensures whole { AreParts result }
+        ensures rows { rows_in_parts result ≡ take (end.span - first.span) (drop first.span (rows_of self.now)) }
     {
-        let place = tile.place();
-        let (spans, colours, depths) = self.parts(first, self.len(), first_colour, first_depth);
-        let pixel = kept_in(spans, colours, depths, place.left, place.top, 0);
-        let pixels = self.drop_from(first, first_colour, first_depth);
-        if let Some((colour, depth)) = pixel {
-            tile.fill_colours(colour);
-            tile.fill_depths(depth);
-        }
-        pixels
-    }
-
-    /// Drops the spans from this one on, unread, and says how many pixels they had. Their values stand from these places on.
-    pub(crate) fn drop_from(
-        &mut self,
-        first: usize,
-        first_colour: usize,
-        first_depth: usize,
-    ) -> usize
-        requires some { first ≤ length self.old.spans }
-        requires coloured { first_colour ≡ colour_count (take first self.old.spans) }
-        requires deep { first_depth ≡ depth_count (take first self.old.spans) }
-        requires countable { length (joined (drop first (rows_of self.old))) < 2 ^ 64 }
-        ensures pixels { result ≡ length (joined (drop first (rows_of self.old))) }
-        ensures rows { rows_of self.new ≡ take first (rows_of self.old) }
-        ensures spans { self.new.spans ≡ take first self.old.spans }
-    {
-        let pixels = pixels_in(&self.spans.as_slice()[first..]);
-        self.spans.truncate(first);
-        self.colours.truncate(first_colour);
-        self.depths.truncate(first_depth);
-        pixels
-    }
-
-    /// The spans from one up to another, and colours and depths that begin with theirs.
-    pub(crate) fn parts(
-        &self,
-        first: usize,
-        end: usize,
-        first_colour: usize,
-        first_depth: usize,
-    ) -> (&[Span], &[Colour], &[u16])
-        requires ordered { first ≤ end }
-        requires within { end ≤ length self.now.spans }
-        requires coloured { first_colour ≡ colour_count (take first self.now.spans) }
-        requires deep { first_depth ≡ depth_count (take first self.now.spans) }
-        ensures rows { rows_in result.0.now result.1.now result.2.now ≡ take (end - first) (drop first (rows_of self.now)) }
-        ensures colours { colour_count result.0.now ≤ length result.1.now }
-        ensures depths { depth_count result.0.now ≤ length result.2.now }
-    {
-        (
-            &self.spans.as_slice()[first..end],
-            &self.colours[first_colour..],
-            &self.depths[first_depth..],
-        )
-    }
-}
-
-/// The row of the span at a place.
-fn row_at(spans: &[Span], place: usize) -> u32
-    requires { place < length spans.now }
-    ensures { result ≡ (slice_index_or spans.now place no_span).y }
-{
-    spans[place].y()
-}
-
-/// Where some spans have all rows of a tile all its pixels are made as deep as the first of them: those that are so deep then need their colours alone, and
-/// the tile knows of its depth.
-fn level(spans: &[Span], tile: &mut Tile)
-    ensures levelled { (tile.new ≡ tile.old) ⊎ ((depth : ℕ) × (tile.new ≡ with_depths tile.old depth) × HaveAllRows tile.old.place spans.now) }
-    ensures filled { IsTileImage tile.old }
-{
-    let place = tile.place();
-    if let [first, ..] = spans {
-        if let Some(deep) = first.same_depth() {
-            if have_all_rows(spans, place) {
-                tile.fill_depths(deep);
-            }
+        Parts {
+            spans: part(self.spans.as_slice(), first.span, end.span),
+            colours: part(&self.colours, first.colour, end.colour),
+            depths: part(&self.depths, first.depth, end.depth),
         }
     }
-}
-
-/// The last of some spans.
-fn last_of(spans: &[Span]) -> Span
-    requires { 0 < length spans.now }
-    ensures { result ≡ slice_index_or spans.now (length spans.now - 1) no_span }
-{
-    spans[spans.len() - 1]
 }
 
 /// How many pixels some spans have.

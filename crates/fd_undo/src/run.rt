@@ -9,7 +9,7 @@ use fd_tile::Tile;
 pub(crate) fn last_run(spans: &[Span], tile: &Tile) -> usize
     requires { 0 < length spans.now }
     ensures few { result ≤ length spans.now }
-    ensures run { 0 < result → IsRun tile.now spans.now result }
+    ensures run { 0 < result → IsRun tile.now (drop (length spans.now - result) spans.now) }
 {
     match tile.flat_depth() {
         Some(depth) => last_rows(spans, tile.place().width as usize, depth),

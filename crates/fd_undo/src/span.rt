@@ -1,10 +1,10 @@
-ghost use Rattle.std.specs.Prelude.{◌≡◌, ◌+◌, ◌*◌, ◌<◌, ◌≤◌, length, drop, slice_index_or, replicate, Some, None, IfSome, ℕ, ◌≢◌, true, false};
+ghost use Rattle.std.specs.Prelude.{◌≡◌, ◌+◌, ◌-◌, ◌*◌, ◌<◌, ◌≤◌, length, drop, slice_index_or, replicate, Some, None, IfSome, ℕ, ◌≢◌, true, false};
 ghost use Rattle.fd_snap.specs.Limits.{most_pixels};
 ghost use Rattle.fd_blend.specs.Channel.{fresh};
 ghost use Rattle.fd_tile.specs.Place.{IsTilePlace};
 ghost use Rattle.fd_undo.specs.Packed.{unmarked, len_of, rows_of_len};
 ghost use Rattle.fd_undo.specs.Span.{IsGrown, IsRowOf};
-ghost use Rattle.fd_undo.specs.Rows.{span_holds, listed_colours, colours_in, listed_depths, depths_in};
+ghost use Rattle.fd_undo.specs.Rows.{no_span, span_holds, listed_colours, colours_in, listed_depths, depths_in};
 
 use fd_blend::Colour;
 use fd_tile::Place;
@@ -237,6 +237,14 @@ impl Span {
             None => depths[first + column],
         }
     }
+}
+
+/// The last of some spans.
+pub(crate) fn last_of(spans: &[Span]) -> Span
+    requires { 0 < length spans.now }
+    ensures { result ≡ slice_index_or spans.now (length spans.now - 1) no_span }
+{
+    spans[spans.len() - 1]
 }
 
 /// A row or a length without its mark.

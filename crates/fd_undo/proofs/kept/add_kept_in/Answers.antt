@@ -11,34 +11,32 @@ use Rattle.fd_undo.proofs.kept.add_kept_in.Goals.{then-holds+in_ok-push, else-ho
 pub loop-span-preserved : goal.loop-span-preserved
 loop-span-preserved c =
     let l = c.loop-span in
+    let p = c.args.parts in
     let s : Span = c.span-item.result in
-    let cs = c.args.colours.now in
-    let ds = c.args.depths.now in
-    let rest : List Span = drop (l.span-index + 1) c.args.spans.now in
-    let later : List Pixel =
-    kept_from rest cs ds (l.first_colour + listed_colours s) (l.first_depth + listed_depths s) c.args.x c.args.y in
-    let colours = colours_in s (drop l.first_colour c.args.colours.now) in
-    let depths = depths_in s (drop l.first_depth c.args.depths.now) in
+    let next = l.span-index + 1 in
+    let first = l.first_colour + listed_colours s in
+    let deep = l.first_depth + listed_depths s in
+    let later : List Pixel = kept_from p next first deep c.args.x c.args.y in
+    let colours = colours_in s (drop l.first_colour p.colours.now) in
+    let depths = depths_in s (drop l.first_depth p.depths.now) in
     let own : Pixel = (get_or colours (c.args.x - s.x) fresh, get_or depths (c.args.x - s.x) 65535) in
-    let counted = next_fits c.args.spans.now c.args.colours.now c.args.depths.now l.span-index l.first_colour l.first_depth c.args.x c.args.y s
-    c.loop-span-test.true c.span-item.is l.invariant.fits l.invariant.deep_fits in
-    let deep_counted = next_deep_fits c.args.spans.now c.args.colours.now c.args.depths.now l.span-index l.first_colour l.first_depth c.args.x c.args.y s
-    c.loop-span-test.true c.span-item.is l.invariant.fits l.invariant.deep_fits in
+    let counted = next_fits p l.span-index l.first_colour l.first_depth c.args.x c.args.y s c.loop-span-test.true c.span-item.is
+    l.invariant.fits l.invariant.deep_fits in
+    let deep_counted = next_deep_fits p l.span-index l.first_colour l.first_depth c.args.x c.args.y s c.loop-span-test.true c.span-item.is
+    l.invariant.fits l.invariant.deep_fits in
     record {
       fits = omega (arith, counted, c.listed_colours-first_colour.ensures);
       deep_fits = omega (arith, deep_counted, c.listed_depths-first_depth.ensures);
       same =
           ap (λ n. c.if-holds.kept.items ++ take c.if-holds.left
-          (kept_from rest cs ds (l.first_colour + n) (l.first_depth + c.listed_depths-first_depth.result) c.args.x c.args.y))
-          c.listed_colours-first_colour.ensures
-          ∙ ap (λ n. c.if-holds.kept.items ++ take c.if-holds.left
-          (kept_from rest cs ds (l.first_colour + listed_colours s) (l.first_depth + n) c.args.x c.args.y))
+          (kept_from p next (l.first_colour + n) (l.first_depth + c.listed_depths-first_depth.result) c.args.x c.args.y)) c.listed_colours-first_colour.ensures
+          ∙ ap (λ n. c.if-holds.kept.items ++ take c.if-holds.left (kept_from p next first (l.first_depth + n) c.args.x c.args.y))
           c.listed_depths-first_depth.ensures
           ∙ elim c.if-holds.branch [
             | then-holds+in_ok-push w ↦
                 let some : l.left ≡ suc (l.left - 1) = grind (arith, nat_tests, c.if-left-eq0.false) in
                 let held : span_holds s c.args.x c.args.y ≡ true = sym c.holds.ensures ∙ w.if-holds.true in
-                let here = turn-held c.args.spans.now c.args.colours.now c.args.depths.now l.span-index l.first_colour l.first_depth c.args.x c.args.y s
+                let here = turn-held p l.span-index l.first_colour l.first_depth c.args.x c.args.y s
                 c.loop-span-test.true c.span-item.is l.invariant.fits l.invariant.deep_fits held in
                 let read : Pixel = (w.colour-colour.result, w.depth-depth.result) in
                 let pixel : read ≡ own =
@@ -49,13 +47,13 @@ loop-span-preserved c =
                 ∙ ap (λ v. v.items ++ take (l.left - 1) later) w.kept-is
                 ∙ ap (λ ps. ps ++ take (l.left - 1) later) w.in_ok-push.ensures.items
                 ∙ append_assoc l.kept.items (read ∷ []) (take (l.left - 1) later)
-                ∙ ap (λ p. l.kept.items ++ p ∷ take (l.left - 1) later) pixel
+                ∙ ap (λ q. l.kept.items ++ q ∷ take (l.left - 1) later) pixel
                 ∙ ap (λ n. l.kept.items ++ take n (own ∷ later)) (sym some)
                 ∙ ap (λ ps. l.kept.items ++ take l.left ps) (sym here)
                 ∙ l.invariant.same
             | else-holds w ↦
                 let apart : span_holds s c.args.x c.args.y ≡ false = sym c.holds.ensures ∙ w.if-holds.false in
-                let here = turn-not_held c.args.spans.now c.args.colours.now c.args.depths.now l.span-index l.first_colour l.first_depth c.args.x c.args.y s
+                let here = turn-not_held p l.span-index l.first_colour l.first_depth c.args.x c.args.y s
                 c.loop-span-test.true c.span-item.is l.invariant.fits l.invariant.deep_fits apart in
                 ap (λ n. c.if-holds.kept.items ++ take n later) w.left-is
                 ∙ ap (λ v. v.items ++ take l.left later) w.kept-is

@@ -12,57 +12,55 @@ use Rattle.fd_undo.proofs.kept.kept_in.Goals.{then-holds+else-left-eq0, else-hol
 pub returns-then-left-eq0 : goal.returns-then-left-eq0
 returns-then-left-eq0 c =
     let l = c.loop-span in
+    let p = c.args.parts in
     let s : Span = c.span-item.result in
-    let cs = c.args.colours.now in
-    let ds = c.args.depths.now in
     let held : span_holds s c.args.x c.args.y ≡ true = sym c.holds.ensures ∙ c.if-holds.true in
     let zero_left : l.left ≡ 0 = grind (arith, nat_tests) in
-    let colours = colours_in s (drop l.first_colour c.args.colours.now) in
-    let depths = depths_in s (drop l.first_depth c.args.depths.now) in
+    let colours = colours_in s (drop l.first_colour p.colours.now) in
+    let depths = depths_in s (drop l.first_depth p.depths.now) in
     ap (λ colour. Some (colour, c.depth-depth.result)) (c.colour-colour.ensures ∙ ap (λ k. get_or colours (c.args.x - k) fresh) c.x.ensures)
     ∙ ap (λ depth. Some (get_or colours (c.args.x - s.x) fresh, depth)) (c.depth-depth.ensures ∙ ap (λ k. get_or depths (c.args.x - k) 65535) c.x.ensures)
     ∙ sym (ap (λ ps. slice_get ps 0)
-    (turn-held c.args.spans.now c.args.colours.now c.args.depths.now l.span-index l.first_colour l.first_depth c.args.x c.args.y s
-    c.loop-span-test.true c.span-item.is l.invariant.fits l.invariant.deep_fits held))
-    ∙ ap (λ k. slice_get (kept_from (drop l.span-index c.args.spans.now) cs ds l.first_colour l.first_depth c.args.x c.args.y) k) (sym zero_left)
+    (turn-held p l.span-index l.first_colour l.first_depth c.args.x c.args.y s c.loop-span-test.true c.span-item.is l.invariant.fits
+    l.invariant.deep_fits held))
+    ∙ ap (λ k. slice_get (kept_from p l.span-index l.first_colour l.first_depth c.args.x c.args.y) k) (sym zero_left)
     ∙ l.invariant.same
 
 pub loop-span-preserved : goal.loop-span-preserved
 loop-span-preserved c =
     let l = c.loop-span in
+    let p = c.args.parts in
     let s : Span = c.span-item.result in
-    let cs = c.args.colours.now in
-    let ds = c.args.depths.now in
-    let rest : List Span = drop (l.span-index + 1) c.args.spans.now in
-    let later : List Pixel =
-    kept_from rest cs ds (l.first_colour + listed_colours s) (l.first_depth + listed_depths s) c.args.x c.args.y in
-    let counted = next_fits c.args.spans.now c.args.colours.now c.args.depths.now l.span-index l.first_colour l.first_depth c.args.x c.args.y s
-    c.loop-span-test.true c.span-item.is l.invariant.fits l.invariant.deep_fits in
-    let deep_counted = next_deep_fits c.args.spans.now c.args.colours.now c.args.depths.now l.span-index l.first_colour l.first_depth c.args.x c.args.y s
-    c.loop-span-test.true c.span-item.is l.invariant.fits l.invariant.deep_fits in
+    let next = l.span-index + 1 in
+    let first = l.first_colour + listed_colours s in
+    let deep = l.first_depth + listed_depths s in
+    let later : List Pixel = kept_from p next first deep c.args.x c.args.y in
+    let counted = next_fits p l.span-index l.first_colour l.first_depth c.args.x c.args.y s c.loop-span-test.true c.span-item.is
+    l.invariant.fits l.invariant.deep_fits in
+    let deep_counted = next_deep_fits p l.span-index l.first_colour l.first_depth c.args.x c.args.y s c.loop-span-test.true c.span-item.is
+    l.invariant.fits l.invariant.deep_fits in
     record {
       fits = omega (arith, counted, c.listed_colours-first_colour.ensures);
       deep_fits = omega (arith, deep_counted, c.listed_depths-first_depth.ensures);
       same =
-          ap (λ n. slice_get (kept_from rest cs ds (l.first_colour + n) (l.first_depth + c.listed_depths-first_depth.result) c.args.x c.args.y) c.if-holds.left)
+          ap (λ n. slice_get (kept_from p next (l.first_colour + n) (l.first_depth + c.listed_depths-first_depth.result) c.args.x c.args.y) c.if-holds.left)
           c.listed_colours-first_colour.ensures
-          ∙ ap (λ n. slice_get (kept_from rest cs ds (l.first_colour + listed_colours s) (l.first_depth + n) c.args.x c.args.y) c.if-holds.left)
-          c.listed_depths-first_depth.ensures
+          ∙ ap (λ n. slice_get (kept_from p next first (l.first_depth + n) c.args.x c.args.y) c.if-holds.left) c.listed_depths-first_depth.ensures
           ∙ elim c.if-holds.branch [
             | then-holds+else-left-eq0 w ↦
                 let some : l.left ≡ suc (l.left - 1) = grind (arith, nat_tests, w.if-left-eq0.false) in
                 let held : span_holds s c.args.x c.args.y ≡ true = sym c.holds.ensures ∙ w.if-holds.true in
-                let here = turn-held c.args.spans.now c.args.colours.now c.args.depths.now l.span-index l.first_colour l.first_depth c.args.x c.args.y s
+                let here = turn-held p l.span-index l.first_colour l.first_depth c.args.x c.args.y s
                 c.loop-span-test.true c.span-item.is l.invariant.fits l.invariant.deep_fits held in
                 ap (λ k. slice_get later k) w.left-is
                 ∙ sym (ap (λ ps. slice_get ps l.left) here ∙ ap (λ k. slice_get ((
-                  get_or (colours_in s (drop l.first_colour c.args.colours.now)) (c.args.x - s.x) fresh,
-                  get_or (depths_in s (drop l.first_depth c.args.depths.now)) (c.args.x - s.x) 65535,
+                  get_or (colours_in s (drop l.first_colour p.colours.now)) (c.args.x - s.x) fresh,
+                  get_or (depths_in s (drop l.first_depth p.depths.now)) (c.args.x - s.x) 65535,
                 ) ∷ later) k) some)
                 ∙ l.invariant.same
             | else-holds w ↦
                 let apart : span_holds s c.args.x c.args.y ≡ false = sym c.holds.ensures ∙ w.if-holds.false in
-                let here = turn-not_held c.args.spans.now c.args.colours.now c.args.depths.now l.span-index l.first_colour l.first_depth c.args.x c.args.y s
+                let here = turn-not_held p l.span-index l.first_colour l.first_depth c.args.x c.args.y s
                 c.loop-span-test.true c.span-item.is l.invariant.fits l.invariant.deep_fits apart in
                 ap (λ k. slice_get later k) w.left-is ∙ sym (ap (λ ps. slice_get ps l.left) here) ∙ l.invariant.same
           ];

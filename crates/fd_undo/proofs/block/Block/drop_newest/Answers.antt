@@ -1,10 +1,12 @@
-use Rattle.std.proofs.Common.{◌≡◌, ◌∙◌, sym, length, take, ap, arith}
-use Rattle.fd_undo.specs.Rows.{Held, rows_of}
-use Rattle.fd_undo.specs.Block.{KeptFrame, Filled, marked, AreInOrder, others}
+use Rattle.std.proofs.Common.{◌≡◌, ◌∙◌, sym, subst, length, drop, take, ap, arith}
+use Rattle.fd_undo.specs.declared.parts.Cut.{Cut}
+use Rattle.fd_undo.specs.Rows.{Held, rows_of, joined}
+use Rattle.fd_undo.specs.Parts.{IsCut}
+use Rattle.fd_undo.specs.Block.{KeptFrame, Filled, newest, marked, AreInOrder, others}
 use Rattle.fd_undo.proofs.RowLemmas.{length-rows_in}
 use Rattle.fd_undo.proofs.BlockLemmas.{TopFrame, top_frame, fewer}
 use Rattle.fd_undo.proofs.block.Block.drop_newest.Goals as goal
-use Rattle.fd_undo.proofs.block.Block.drop_newest.Goals.{After-take_last-mark}
+use Rattle.fd_undo.proofs.block.Block.drop_newest.Goals.{After-take_last-mark, After-cut}
 
 top : (c : After-take_last-mark)
     → TopFrame c.take_last-mark.new.marks.items c.take_last-mark.result c.self.inside.rows.spans (rows_of c.self.inside.rows) c.args.self.now.frames
@@ -14,22 +16,21 @@ top c =
     (rows_of h) c.args.self.now.frames c.take_last-mark.ensures.items
     (length-rows_in h.spans h.colours h.depths) c.self.invariant (ap (λ (h : Filled). h.frames) c.self.view_is)
 
-pub drop_from-requires-clause-some : goal.drop_from-requires-clause-some
-drop_from-requires-clause-some c = (top (goal.at-drop_from-requires-clause-some c).After-take_last-mark).within
+pub drop_from-requires-clause-first : goal.drop_from-requires-clause-first
+drop_from-requires-clause-first c =
+    let t = top (goal.at-drop_from-requires-clause-first c).After-take_last-mark in
+    subst (λ k. IsCut k c.self.inside.rows.spans) (sym c.cut.ensures) (record { within = t.within; colour = t.mark.colour; depth = t.mark.depth })
 
-pub drop_from-requires-clause-coloured : goal.drop_from-requires-clause-coloured
-drop_from-requires-clause-coloured c = (top (goal.at-drop_from-requires-clause-coloured c).After-take_last-mark).mark.colour
-
-pub drop_from-requires-clause-deep : goal.drop_from-requires-clause-deep
-drop_from-requires-clause-deep c = (top (goal.at-drop_from-requires-clause-deep c).After-take_last-mark).mark.depth
+-- what goes
+gone : (c : After-cut) → TopFrame c.take_last-mark.new.marks.items c.take_last-mark.result c.self.inside.rows.spans (rows_of c.self.inside.rows)
+    c.args.self.now.frames → joined (drop c.cut.result.span (rows_of c.self.inside.rows)) ≡ (newest c.args.self.now.frames).kept
+gone c t =
+    ap (λ (k : Cut). joined (drop k.span (rows_of c.self.inside.rows))) c.cut.ensures ∙ ap (λ (f : KeptFrame). f.kept) (sym t.newest_is)
 
 pub drop_from-requires-clause-countable : goal.drop_from-requires-clause-countable
 drop_from-requires-clause-countable c =
-    omega (
-      arith,
-      c.requires.countable,
-      ap (λ (f : KeptFrame). length f.kept) (top (goal.at-drop_from-requires-clause-countable c).After-take_last-mark).newest_is,
-    )
+    let at = goal.at-drop_from-requires-clause-countable c in
+    omega (arith, c.requires.countable, ap length (gone at.After-cut (top at.After-take_last-mark)))
 
 -- what is left where the spans from the mark on are gone
 left : (c : After-take_last-mark) → (g : Held) → g.spans ≡ take c.take_last-mark.result.span c.self.inside.rows.spans
@@ -42,12 +43,17 @@ left c g spans rows =
     (f.1, f.2)
 
 pub invariant_of-self : goal.invariant_of-self
-invariant_of-self c = (left (goal.at-invariant_of-self c).After-take_last-mark c.drop_from.new.self c.drop_from.ensures.spans c.drop_from.ensures.rows).1
+invariant_of-self c = (left (goal.at-invariant_of-self c).After-take_last-mark c.drop_from.new.self
+    (c.drop_from.ensures.spans ∙ ap (λ (k : Cut). take k.span c.self.inside.rows.spans) c.cut.ensures)
+    (c.drop_from.ensures.rows ∙ ap (λ (k : Cut). take k.span (rows_of c.self.inside.rows)) c.cut.ensures)).1
 
 pub returns-clause-pixels : goal.returns-clause-pixels
 returns-clause-pixels c =
-    c.drop_from.ensures.pixels ∙ ap (λ (f : KeptFrame). length f.kept) (sym (top (goal.at-returns-clause-pixels c).After-take_last-mark).newest_is)
+    let at = goal.at-returns-clause-pixels c in
+    c.drop_from.ensures.pixels ∙ ap length (gone at.After-cut (top at.After-take_last-mark))
 
 pub returns-clause-frames : goal.returns-clause-frames
 returns-clause-frames c =
-    (left (goal.at-returns-clause-frames c).After-take_last-mark c.drop_from.new.self c.drop_from.ensures.spans c.drop_from.ensures.rows).0
+    (left (goal.at-returns-clause-frames c).After-take_last-mark c.drop_from.new.self
+    (c.drop_from.ensures.spans ∙ ap (λ (k : Cut). take k.span c.self.inside.rows.spans) c.cut.ensures)
+    (c.drop_from.ensures.rows ∙ ap (λ (k : Cut). take k.span (rows_of c.self.inside.rows)) c.cut.ensures)).0

@@ -40,6 +40,7 @@ returns-then-have_all_rows c =
       subst (λ ks. KeepsAll c.args.place ks)
           (c.parts_at.ensures.there ∙ sym (found-place frames 0 c.requires.rise.0 c.loop-at.at c.requires.rise.1 (framed d))
           ∙ ap (λ n. found n frames) (number_is d))
-          (keeps-all c.args.place r.0.now r.1.now r.2.now c.parts_at.ensures.colours c.parts_at.ensures.depths
+          (keeps-all c.args.place r.spans.now r.colours.now r.depths.now (omega (arith, c.parts_at.ensures.whole.colours_counted))
+          (omega (arith, c.parts_at.ensures.whole.depths_counted))
           (c.have_all_rows.ensures c.if-have_all_rows.true)),
     )

@@ -6,28 +6,29 @@ use Rattle.fd_undo.proofs.rows.Rows.drop_from.Goals.{After-truncate-3, After-as_
 
 -- the lists without the frame
 rows_left : (c : After-truncate-3) → rows_in c.truncate.new.self.items c.truncate-2.new.self.items c.truncate-3.new.self.items
-    ≡ take c.args.first (rows_of c.args.self.now)
+    ≡ take c.args.first.span (rows_of c.args.self.now)
 rows_left c =
     let s = c.self.inside in
-    let n : ℕ = c.args.first in
+    let n : ℕ = c.args.first.span in
     ap (λ l. rows_in l c.truncate-2.new.self.items c.truncate-3.new.self.items) c.truncate.ensures.items
     ∙ ap (λ l. rows_in (take n s.spans.items) l c.truncate-3.new.self.items) c.truncate-2.ensures.items
-    ∙ ap (λ l. rows_in (take n s.spans.items) (take c.args.first_colour s.colours.items) l) c.truncate-3.ensures.items
-    ∙ ap (λ k. rows_in (take n s.spans.items) (take k s.colours.items) (take c.args.first_depth s.depths.items))
-    (c.requires.coloured ∙ ap (λ (h : Held). colour_count (take n h.spans)) (sym c.self.view_is))
+    ∙ ap (λ l. rows_in (take n s.spans.items) (take c.args.first.colour s.colours.items) l) c.truncate-3.ensures.items
+    ∙ ap (λ k. rows_in (take n s.spans.items) (take k s.colours.items) (take c.args.first.depth s.depths.items))
+    (c.requires.first.colour ∙ ap (λ (h : Held). colour_count (take n h.spans)) (sym c.self.view_is))
     ∙ ap (λ k. rows_in (take n s.spans.items) (take (colour_count (take n s.spans.items)) s.colours.items) (take k s.depths.items))
-    (c.requires.deep ∙ ap (λ (h : Held). depth_count (take n h.spans)) (sym c.self.view_is))
+    (c.requires.first.depth ∙ ap (λ (h : Held). depth_count (take n h.spans)) (sym c.self.view_is))
     ∙ rows_in-cut s.spans.items s.colours.items s.depths.items n c.self.invariant
     ∙ ap (λ (h : Held). take n (rows_of h)) c.self.view_is
 
 -- how many pixels go
-gone : (c : After-as_slice) → pixel_count (take (length c.as_slice.result.now - c.args.first) (drop c.args.first c.as_slice.result.now))
-    ≡ length (joined (drop c.args.first (rows_of c.args.self.now)))
+gone : (c : After-as_slice) → pixel_count (take (length c.as_slice.result.now - c.args.first.span) (drop c.args.first.span c.as_slice.result.now))
+    ≡ length (joined (drop c.args.first.span (rows_of c.args.self.now)))
 gone c =
     let h : Held = c.args.self.now in
-    ap pixel_count (ap (λ l. take (length l - c.args.first) (drop c.args.first l)) c.as_slice.ensures ∙ tail_is c.args.first c.self.inside.spans.items)
-    ∙ ap (λ (g : Held). pixel_count (drop c.args.first g.spans)) c.self.view_is
-    ∙ sym (pixels-from h c.args.first (subst (λ (g : Held). IsHeld g.spans g.colours g.depths) c.self.view_is c.self.invariant))
+    ap (λ l. pixel_count (take (length l - c.args.first.span) (drop c.args.first.span l))) c.as_slice.ensures
+    ∙ ap pixel_count (tail_is c.args.first.span c.self.inside.spans.items)
+    ∙ ap (λ (g : Held). pixel_count (drop c.args.first.span g.spans)) c.self.view_is
+    ∙ sym (pixels-from h c.args.first.span (subst (λ (g : Held). IsHeld g.spans g.colours g.depths) c.self.view_is c.self.invariant))
 
 pub pixels_in-pixels-requires : goal.pixels_in-pixels-requires
 pixels_in-pixels-requires c = omega (arith, gone (goal.at-pixels_in-pixels-requires c).After-as_slice, c.requires.countable)

@@ -1,68 +1,65 @@
-use Rattle.std.proofs.Common.{◌≡◌, ◌-◌, ◌∙◌, sym, ap, List, ℕ, length, take, drop, arith, length-drop}
-use Rattle.fd_blend.specs.declared.channel.Colour.{Colour}
-use Rattle.fd_undo.specs.Rows.{Held, rows_in, rows_of, colour_count, depth_count}
-use Rattle.fd_undo.specs.Span.{Span}
-use Rattle.fd_undo.proofs.RowLemmas.{rows_in-drop, rows_in-take, colours-take, depths-take, tail_is}
+use Rattle.std.proofs.Common.{◌≡◌, ◌-◌, ◌∙◌, ap, subst, sym, take, drop, arith}
+use Rattle.fd_undo.specs.Parts.{IsCut}
+use Rattle.fd_undo.specs.Rows.{Held, IsHeld, rows_in, rows_of}
+use Rattle.fd_undo.proofs.RowLemmas.{colours_between, depths_between, held_between, rows_between}
 use Rattle.fd_undo.proofs.rows.Rows.parts.Goals as goal
-use Rattle.fd_undo.proofs.rows.Rows.parts.Goals.{After-deref-2}
+use Rattle.fd_undo.proofs.rows.Rows.parts.Goals.{After-part, After-part-3}
 
--- where the slices of the lists begin
-coloured : (c : After-deref-2) → take (length c.deref.result.now - c.args.first_colour) (drop c.args.first_colour c.deref.result.now)
-    ≡ drop (colour_count (take c.args.first c.self.inside.spans.items)) c.self.inside.colours.items
-coloured c =
-    ap (λ l. take (length l - c.args.first_colour) (drop c.args.first_colour l)) c.deref.ensures.value
-    ∙ tail_is c.args.first_colour c.self.inside.colours.items
-    ∙ ap (λ n. drop n c.self.inside.colours.items) (c.requires.coloured ∙ sym (ap (λ (h : Held). colour_count (take c.args.first h.spans)) c.self.view_is))
+low : (c : After-part) → IsCut c.args.first c.self.inside.spans.items
+low c = subst (λ (h : Held). IsCut c.args.first h.spans) (sym c.self.view_is) c.requires.first
 
-deepened : (c : After-deref-2) → take (length c.deref-2.result.now - c.args.first_depth) (drop c.args.first_depth c.deref-2.result.now)
-    ≡ drop (depth_count (take c.args.first c.self.inside.spans.items)) c.self.inside.depths.items
-deepened c =
-    ap (λ l. take (length l - c.args.first_depth) (drop c.args.first_depth l)) c.deref-2.ensures.value
-    ∙ tail_is c.args.first_depth c.self.inside.depths.items
-    ∙ ap (λ n. drop n c.self.inside.depths.items) (c.requires.deep ∙ sym (ap (λ (h : Held). depth_count (take c.args.first h.spans)) c.self.view_is))
+high : (c : After-part) → IsCut c.args.end c.self.inside.spans.items
+high c = subst (λ (h : Held). IsCut c.args.end h.spans) (sym c.self.view_is) c.requires.end
+
+pub part-requires-2-clause-ordered : goal.part-requires-2-clause-ordered
+part-requires-2-clause-ordered c =
+    let d = (goal.at-part-requires-2-clause-ordered c).After-part in
+    let s = c.self.inside in
+    omega (
+      arith,
+      (colours_between s.spans.items s.colours.items s.depths.items c.args.first c.args.end c.self.invariant c.requires.ordered (low d) (high d)).0,
+    )
+
+pub part-requires-3-clause-ordered : goal.part-requires-3-clause-ordered
+part-requires-3-clause-ordered c =
+    let d = (goal.at-part-requires-3-clause-ordered c).After-part in
+    let s = c.self.inside in
+    omega (
+      arith,
+      (depths_between s.spans.items s.colours.items s.depths.items c.args.first c.args.end c.self.invariant c.requires.ordered (low d) (high d)).0,
+    )
+
+-- the slices
+spans_are : (c : After-part-3) → c.part.result.now ≡ take (c.args.end.span - c.args.first.span) (drop c.args.first.span c.self.inside.spans.items)
+spans_are c = c.part.ensures ∙ ap (λ l. take (c.args.end.span - c.args.first.span) (drop c.args.first.span l)) c.as_slice.ensures
+
+colours_are : (c : After-part-3) → c.part-2.result.now ≡ take (c.args.end.colour - c.args.first.colour) (drop c.args.first.colour c.self.inside.colours.items)
+colours_are c = c.part-2.ensures ∙ ap (λ l. take (c.args.end.colour - c.args.first.colour) (drop c.args.first.colour l)) c.deref.ensures.value
+
+depths_are : (c : After-part-3) → c.part-3.result.now ≡ take (c.args.end.depth - c.args.first.depth) (drop c.args.first.depth c.self.inside.depths.items)
+depths_are c = c.part-3.ensures ∙ ap (λ l. take (c.args.end.depth - c.args.first.depth) (drop c.args.first.depth l)) c.deref-2.ensures.value
+
+pub returns-clause-whole : goal.returns-clause-whole
+returns-clause-whole c =
+    let at = goal.at-returns-clause-whole c in
+    let e = at.After-part-3 in
+    let s = c.self.inside in
+    subst (λ l. IsHeld l c.part-2.result.now c.part-3.result.now) (sym (spans_are e))
+    (subst (λ l. IsHeld (take (c.args.end.span - c.args.first.span) (drop c.args.first.span s.spans.items)) l c.part-3.result.now) (sym (colours_are e))
+    (subst (λ l. IsHeld (take (c.args.end.span - c.args.first.span) (drop c.args.first.span s.spans.items))
+    (take (c.args.end.colour - c.args.first.colour) (drop c.args.first.colour s.colours.items)) l) (sym (depths_are e))
+    (held_between s.spans.items s.colours.items s.depths.items c.args.first c.args.end c.self.invariant c.requires.ordered (low at.After-part)
+    (high at.After-part))))
 
 pub returns-clause-rows : goal.returns-clause-rows
 returns-clause-rows c =
-    let at = (goal.at-returns-clause-rows c).After-deref-2 in
-    let n = c.args.end - c.args.first in
-    let spans : List Span = c.self.inside.spans.items in
-    let cs : List Colour = c.self.inside.colours.items in
-    let ds : List ℕ = c.self.inside.depths.items in
-    let k = c.args.first in
-    let low : List Span = take c.args.first c.self.inside.spans.items in
-    let part : List Span = take n (drop k spans) in
-    ap (λ l. rows_in (take n (drop k l)) (take (length c.deref.result.now - c.args.first_colour) (drop c.args.first_colour c.deref.result.now))
-    (take (length c.deref-2.result.now - c.args.first_depth) (drop c.args.first_depth c.deref-2.result.now))) c.as_slice.ensures
-    ∙ ap (λ l. rows_in part l (take (length c.deref-2.result.now - c.args.first_depth) (drop c.args.first_depth c.deref-2.result.now))) (coloured at)
-    ∙ ap (λ l. rows_in part (drop (colour_count low) cs) l) (deepened at)
-    ∙ rows_in-take (drop k spans) (drop (colour_count low) cs) (drop (depth_count low) ds) n
-    ∙ ap (λ l. take n l) (rows_in-drop spans cs ds k)
-    ∙ ap (λ (h : Held). take n (drop k (rows_of h))) c.self.view_is
-
-pub returns-clause-colours : goal.returns-clause-colours
-returns-clause-colours c =
-    let at = (goal.at-returns-clause-colours c).After-deref-2 in
-    let spans : List Span = c.self.inside.spans.items in
-    omega (
-      arith,
-      ap length (coloured at),
-      length-drop (colour_count (take c.args.first spans)) c.self.inside.colours.items,
-      ap (λ l. colour_count (take (c.args.end - c.args.first) (drop c.args.first l))) c.as_slice.ensures,
-      colours-take spans c.args.first,
-      colours-take (drop c.args.first spans) (c.args.end - c.args.first),
-      c.self.invariant.colours_counted,
-    )
-
-pub returns-clause-depths : goal.returns-clause-depths
-returns-clause-depths c =
-    let at = (goal.at-returns-clause-depths c).After-deref-2 in
-    let spans : List Span = c.self.inside.spans.items in
-    omega (
-      arith,
-      ap length (deepened at),
-      length-drop (depth_count (take c.args.first spans)) c.self.inside.depths.items,
-      ap (λ l. depth_count (take (c.args.end - c.args.first) (drop c.args.first l))) c.as_slice.ensures,
-      depths-take spans c.args.first,
-      depths-take (drop c.args.first spans) (c.args.end - c.args.first),
-      c.self.invariant.depths_counted,
-    )
+    let at = goal.at-returns-clause-rows c in
+    let e = at.After-part-3 in
+    let s = c.self.inside in
+    ap (λ l. rows_in l c.part-2.result.now c.part-3.result.now) (spans_are e)
+    ∙ ap (λ l. rows_in (take (c.args.end.span - c.args.first.span) (drop c.args.first.span s.spans.items)) l c.part-3.result.now) (colours_are e)
+    ∙ ap (λ l. rows_in (take (c.args.end.span - c.args.first.span) (drop c.args.first.span s.spans.items))
+    (take (c.args.end.colour - c.args.first.colour) (drop c.args.first.colour s.colours.items)) l) (depths_are e)
+    ∙ rows_between s.spans.items s.colours.items s.depths.items c.args.first c.args.end c.self.invariant c.requires.ordered (low at.After-part)
+    (high at.After-part)
+    ∙ ap (λ (h : Held). take (c.args.end.span - c.args.first.span) (drop c.args.first.span (rows_of h))) c.self.view_is

@@ -2,7 +2,7 @@ use Rattle.std.proofs.Common.{◌≡◌, ◌+◌, ◌∙◌, ap, sym, subst, Lis
 use Rattle.std.specs.Prelude.{IfSome}
 use Rattle.fd_undo.specs.Frame.{KeptPixel}
 use Rattle.fd_undo.specs.Undo.{Undo}
-use Rattle.fd_undo.specs.Rows.{rows_in, joined}
+use Rattle.fd_undo.specs.Parts.{kept_in_parts}
 use Rattle.fd_undo.specs.Block.{found}
 use Rattle.fd_undo.specs.Stack.{all_stored}
 use Rattle.fd_undo.proofs.StackLemmas.{found-frames}
@@ -20,7 +20,7 @@ found_is c =
 
 pub returns-clause-there : goal.returns-clause-there
 returns-clause-there c =
-    let P : List KeptPixel → Type 0 = λ v. IfSome c.parts_of.result (λ r. joined (rows_in r.0.now r.1.now r.2.now) ≡ v) in
+    let P : List KeptPixel → Type 0 = λ v. IfSome c.parts_of.result (λ parts. kept_in_parts parts ≡ v) in
     subst P (found_is (goal.at-returns-clause-there c).After-block_of) c.parts_of.ensures.there
 
 pub returns-clause-absent : goal.returns-clause-absent

@@ -1,7 +1,7 @@
 use Rattle.std.proofs.Common.{inr, subst}
 use Rattle.fd_tile.specs.declared.place.Place.{Place}
 use Rattle.fd_undo.specs.Whole.{HaveAllRows}
-use Rattle.fd_undo.proofs.rows.level.Goals as goal
+use Rattle.fd_undo.proofs.restore.level.Goals as goal
 
 pub returns-then-have_all_rows-clause-levelled : goal.returns-then-have_all_rows-clause-levelled
 returns-then-have_all_rows-clause-levelled c =
