@@ -22,12 +22,16 @@ total_same f g a (suc n) same =
     let rest : total f (a + 1) n ≡ total g (a + 1) n = total_same f g (a + 1) n (λ k low high. same k (omega arith) (omega arith)) in
     omega (arith, here, rest)
 
+pub total_constant : (c a n : ℕ) → total (λ _. c) a n ≡ n * c
+total_constant c a zero =
+    let none : total (λ _. c) a 0 ≡ 0 = refl in
+    omega (arith, none)
+total_constant c a (suc n) =
+    let rest : total (λ _. c) (a + 1) n ≡ n * c = total_constant c (a + 1) n in
+    grind (arith, rest)
+
 pub total_nothing : (f : ℕ → ℕ) (a n : ℕ) → ((k : ℕ) → a ≤ k → k < a + n → f k ≡ 0) → total f a n ≡ 0
-total_nothing f a zero none = refl
-total_nothing f a (suc n) none =
-    let here : f a ≡ 0 = none a (omega arith) (omega arith) in
-    let rest : total f (a + 1) n ≡ 0 = total_nothing f (a + 1) n (λ k low high. none k (omega arith) (omega arith)) in
-    omega (arith, here, rest)
+total_nothing f a n none = total_same f (λ _. 0) a n none ∙ total_constant 0 a n ∙ omega arith
 
 pub total_split : (f : ℕ → ℕ) (a n m : ℕ) → total f a (n + m) ≡ total f a n + total f (a + n) m
 total_split f a zero m =
@@ -61,14 +65,6 @@ total_more f y bottom below = ap (λ n. total f y n) {x = bottom - y} {y = suc (
 
 pub total_none : (f : ℕ → ℕ) (y bottom : ℕ) → bottom ≤ y → total f y (bottom - y) ≡ 0
 total_none f y bottom past = ap (λ n. total f y n) {x = bottom - y} {y = 0} (omega arith)
-
-pub total_constant : (c a n : ℕ) → total (λ _. c) a n ≡ n * c
-total_constant c a zero =
-    let none : total (λ _. c) a 0 ≡ 0 = refl in
-    omega (arith, none)
-total_constant c a (suc n) =
-    let rest : total (λ _. c) (a + 1) n ≡ n * c = total_constant c (a + 1) n in
-    grind (arith, rest)
 
 -- ---- the pixels of a row
 

@@ -24,9 +24,9 @@ use Rattle.fd_undo.proofs.Restored.{Inside, kept_row-inside}
 use Rattle.fd_undo.proofs.FrameLemmas.{top-push, older-push}
 use Rattle.fd_undo.proofs.Zips.{length-zip_equal}
 use Rattle.fd_draw.specs.Area.{LiesIn, IsWrittenIn}
-use Rattle.fd_draw.specs.Writing.{WritesRegion, after_where, kept_where, keep_each, columns_between, in_row}
+use Rattle.fd_draw.specs.Writing.{HasSpan, WritesRegion, after_where, kept_where, keep_each, columns_between, in_row}
 use Rattle.fd_draw.specs.Paints.{Paints}
-use Rattle.fd_draw.specs.Row.{changed_row}
+use Rattle.fd_draw.specs.Written.{as_it_is}
 use Rattle.fd_draw.specs.Span.{IsRowSpan, in_span}
 use Rattle.fd_draw.proofs.Areas.{outside_row, outside_column, within_from}
 use Rattle.fd_draw.proofs.Counts.{in_span-inside, in_span-before, in_span-after, and_false, and_true}
@@ -96,10 +96,7 @@ Paints-nothing t u filled begun = record {
 
 two_pixels : (b e : Bool) (paint : Pixel → Pixel) (c : Pixel) → (b && e) ≡ false → cond e (paint (cond b (paint c) c)) (cond b (paint c) c)
     ≡ cond (b || e) (paint c) c
-two_pixels true true paint c apart = absurd (cc)
-two_pixels true false paint c apart = refl
-two_pixels false true paint c apart = refl
-two_pixels false false paint c apart = refl
+two_pixels b e paint c h = grind arith
 
 two_kept : (b e : Bool) (paint : Pixel → Pixel) (keep : Pixel → List Pixel) (c : Pixel) → (b && e) ≡ false → cond b (keep c) []
     ++ cond e (keep (cond b (paint c) c)) [] ≡ cond (b || e) (keep c) []
@@ -155,16 +152,10 @@ abbrev pub above : (ℕ → ℕ → Bool) → ℕ → ℕ → ℕ → Bool
 above written row x y = nat_lt y row && written x y
 
 apart_rows : (l e w : Bool) → (l && e) ≡ false → ((l && w) && (e && w)) ≡ false
-apart_rows true true w h = absurd (cc)
-apart_rows true false true h = refl
-apart_rows true false false h = refl
-apart_rows false e w h = refl
+apart_rows l e w h = grind arith
 
 joined_rows : (l e n w : Bool) → n ≡ (l || e) → (n && w) ≡ ((l && w) || (e && w))
-joined_rows true e n true h = rw h refl
-joined_rows true true n false h = rw h refl
-joined_rows true false n false h = rw h refl
-joined_rows false e n w h = rw h refl
+joined_rows l e n w h = grind arith
 
 row_apart : (y row : ℕ) → (nat_lt y row && eqb y row) ≡ false
 row_apart y row = grind (arith, nat_tests)
@@ -201,114 +192,54 @@ module _ (written : ℕ → ℕ → Bool) (paint : ℕ → ℕ → Pixel → Pix
 
     all_above : (row x y : ℕ) → box.bottom ≤ row → Holds t.place x y → (y < row) ⊎ (row ≤ y) → above written row x y ≡ written x y
     all_above row x y last held (inl low) = let here : nat_lt y row ≡ true = grind (arith, nat_tests) in rw here refl
-    all_above row x y last held (inr past) =
-        and_false (nat_lt y row) (written x y) (grind (arith, nat_tests)) ∙ sym (outside x y held (inr (omega arith)))
+    all_above row x y last held (inr past) = and_false (nat_lt y row) (written x y) (grind (arith, nat_tests)) ∙ sym (outside x y held (inr (omega arith)))
 
     pub Paints-last : (row : ℕ) (t' : TileImage) (u u' : Undo) → box.bottom ≤ row → Paints (after_where (above written row) paint)
         (kept_where (above written row) keep) t u t' u'
         → Paints (after_where written paint) (kept_where written keep) t u t' u'
     Paints-last row t' u u' last = Paints-as paint keep (above written row) written t t' u u' (λ x y held. all_above row x y last held (cases_lt y row))
 
--- ---- a span that is kept and then written
+-- ---- a span that is kept
 
--- the tile with new colours and depths in row y
-abbrev pub with_rows : TileImage → ℕ → List Colour → List ℕ → TileImage
-with_rows t y cs ds = record t { rows = with_row_in t.place t.rows y cs; depths = with_row_in t.place t.depths y ds }
-
--- what such rows have for column x
-abbrev pub pair_at : TileImage → List Colour → List ℕ → ℕ → Pixel
-pair_at t cs ds x = (get_or cs (x - t.place.left) fresh, get_or ds (x - t.place.left) 65535)
-
--- the pixels of row y from `first` to before `last` are kept, and the row then has these colours and depths
-module _ (written : ℕ → ℕ → Bool) (paint : ℕ → ℕ → Pixel → Pixel) (y first last : ℕ) (t : TileImage) (u : Undo) (filled : IsTileImage t)
-    (crossed : HasRow t.place y)
-    (begun : u.frame_left ≡ false) (span : IsRowSpan (λ x. written x y) t.place.left (t.place.left + t.place.width) (Some (first, last)))
-    (cs : List Colour) (ds : List ℕ) (old : List Pixel) (wide : length cs ≡ t.place.width) (deep : length ds ≡ t.place.width) (long : length old ≡ last - first)
-    (was : (x : ℕ) → first ≤ x → x < last → get_or old (x - first) fresh_pixel ≡ pixel_of t x y)
-    (beside : (x : ℕ) → Holds t.place x y → (x < first) ⊎ (last ≤ x) → pair_at t cs ds x ≡ pixel_of t x y)
-    (within : (x : ℕ) → Holds t.place x y → first ≤ x → x < last → pair_at t cs ds x ≡ paint x y (pixel_of t x y)) where
-  abbrev pub t' : TileImage
-  t' = with_rows t y cs ds
-
-  abbrev pub u' : Undo
-  u' = with_kept u (kept_row first y old)
-
-  kept' : (x z : ℕ) → kept_at (top u'.frames) x z ≡ kept_at (top u.frames) x z ++ kept_at (kept_row first y old) x z
-  kept' x z =
-      ap (λ ks. kept_at ks x z) (top-push (older u.frames) (top u.frames ++ kept_row first y old))
-      ∙ kept_at-append (top u.frames) (kept_row first y old) x z
-
-  -- which pixels of the row those are
-  in_this_row : (x : ℕ) → Holds t.place x y → in_row written y x y ≡ in_span (Some (first, last)) x
-  in_this_row x held = ap (λ b. b && written x y) (eq-eqb y y refl) ∙ span.same x held.from_left held.to_right
-
-  pixel_of' : (x : ℕ) → pixel_of t' x y ≡ pair_at t cs ds x
-  pixel_of' x =
-      ap (λ r. (get_or r (x - t.place.left) fresh, depth_in t' x y)) (row_in-same t.place t.rows y filled.colours crossed cs)
-      ∙ ap (λ r. (get_or cs (x - t.place.left) fresh, get_or r (x - t.place.left) 65535)) (row_in-same t.place t.depths y filled.depths crossed ds)
-
-  other_pixel : (x z : ℕ) → Holds t.place x z → z ≢ y → pixel_of t' x z ≡ pixel_of t x z
-  other_pixel x z held other =
-      ap (λ r. (get_or r (x - t.place.left) fresh, depth_in t' x z)) (row_in-other t.place t.rows y filled.colours crossed cs z held.from_top other)
-      ∙ ap (λ r. (colour_in t x z, get_or r (x - t.place.left) 65535)) (row_in-other t.place t.depths y filled.depths crossed ds z held.from_top other)
-
-  -- what becomes of a pixel, and what is kept of it
+module _ (y first last : ℕ) (t : TileImage) (u : Undo) (is : HasSpan first last y t) (old : List Pixel) (long : length old ≡ last - first)
+    (was : (x : ℕ) → first ≤ x → x < last → get_or old (x - first) fresh_pixel ≡ pixel_of t x y) where
+  -- what is kept of a pixel
   abbrev Right : ℕ → ℕ → Type 0
-  Right x z = (pixel_of t' x z ≡ after_where (in_row written y) paint x z (pixel_of t x z))
-      × (kept_at (kept_row first y old) x z ≡ kept_where (in_row written y) keep_each x z (pixel_of t x z))
+  Right x z = kept_at (kept_row first y old) x z ≡ kept_where (in_row (columns_between first last) y) keep_each x z (pixel_of t x z)
 
-  untouched : (x z : ℕ) → in_row written y x z ≡ false → pixel_of t' x z ≡ pixel_of t x z → kept_at (kept_row first y old) x z ≡ [] → Right x z
-  untouched x z none same empty = (
-    same ∙ sym (ap (λ b. cond b (paint x z (pixel_of t x z)) (pixel_of t x z)) none),
-    empty ∙ sym (ap (λ b. cond b (pixel_of t x z ∷ []) []) none),
-  )
+  none : (x z : ℕ) → in_row (columns_between first last) y x z ≡ false → kept_at (kept_row first y old) x z ≡ [] → Right x z
+  none x z out empty = empty ∙ sym (ap (λ b. cond b (pixel_of t x z ∷ []) []) out)
 
-  before_it : (x : ℕ) → Holds t.place x y → x < first → Right x y
-  before_it x held low =
-      untouched x y (in_this_row x held ∙ in_span-before first last x low) (pixel_of' x ∙ beside x held (inl low)) (kept_at-before first y x y old low)
+  this_row : (x : ℕ) → (x < first) ⊎ (first ≤ x) → (x < last) ⊎ (last ≤ x) → Right x y
+  this_row x (inl low) high = none x y (grind (arith, nat_tests)) (kept_at-before first y x y old low)
+  this_row x (inr low) (inr high) = none x y (grind (arith, nat_tests)) (kept_at-after first y x y old (omega (arith, long, is.some)))
+  this_row x (inr low) (inl high) =
+      let yes : in_row (columns_between first last) y x y ≡ true = grind (arith, nat_tests) in
+      kept_at-inside first y x old low (omega (arith, long)) ∙ ap (λ c. c ∷ []) (was x low high) ∙ sym (ap (λ b. cond b (pixel_of t x y ∷ []) []) yes)
 
-  after_it : (x : ℕ) → Holds t.place x y → last ≤ x → Right x y
-  after_it x held high =
-      untouched x y (in_this_row x held ∙ in_span-after first last x high) (pixel_of' x ∙ beside x held (inr high))
-      (kept_at-after first y x y old (omega (arith, long, span.bounds.1)))
+  each : (x z : ℕ) → (z ≡ y) ⊎ (z ≡ y → ⊥) → Right x z
+  each x z (inr other) =
+      none x z (and_false (eqb z y) (columns_between first last x z) (ne_eqb z y other)) (kept_at-other_row first y x z old (λ e. other (sym e)))
+  each x z (inl same) = subst (λ k. Right x k) (sym same) (this_row x (cases_lt x first) (cases_lt x last))
 
-  in_it : (x : ℕ) → Holds t.place x y → first ≤ x → x < last → Right x y
-  in_it x held low high =
-      let yes : in_row written y x y ≡ true = in_this_row x held ∙ in_span-inside first last x low high in (
-        pixel_of' x ∙ within x held low high ∙ sym (ap (λ b. cond b (paint x y (pixel_of t x y)) (pixel_of t x y)) yes),
-        kept_at-inside first y x old low (omega (arith, long, span.bounds.1))
-            ∙ ap (λ c. c ∷ []) (was x low high)
-            ∙ sym (ap (λ b. cond b (pixel_of t x y ∷ []) []) yes),
-      )
+  either : (b : Bool) (c : Pixel) → c ≡ cond b c c
+  either b c = grind arith
 
-  this_row : (x : ℕ) → Holds t.place x y → (x < first) ⊎ (first ≤ x) → (x < last) ⊎ (last ≤ x) → Right x y
-  this_row x held (inl low) high = before_it x held low
-  this_row x held (inr low) (inl high) = in_it x held low high
-  this_row x held (inr low) (inr high) = after_it x held high
-
-  each : (x z : ℕ) → Holds t.place x z → (z ≡ y) ⊎ (z ≡ y → ⊥) → Right x z
-  each x z held (inr other) =
-      untouched x z (and_false (eqb z y) (written x z) (ne_eqb z y other)) (other_pixel x z held other)
-      (kept_at-other_row first y x z old (λ e. other (sym e)))
-  each x z held (inl same) = subst (λ k. Right x k) (sym same) (this_row x (subst (λ k. Holds t.place x k) same held) (cases_lt x first) (cases_lt x last))
-
-  pub Paints-span : Paints (after_where (in_row written y) paint) (kept_where (in_row written y) keep_each) t u t' u'
-  Paints-span = record {
+  Paints-span : u.frame_left ≡ false → Paints (after_where (in_row (columns_between first last) y) as_it_is)
+      (kept_where (in_row (columns_between first last) y) keep_each) t u t (with_kept u (kept_row first y old))
+  Paints-span begun = record {
     placed = refl;
     made = refl;
-    filled = record {
-      colours = FillsPlace-with_row_in t.place t.rows y filled.colours crossed cs wide;
-      depths =
-          FillsPlace-with_row_in t.place t.depths y filled.depths crossed ds deep;
-    };
+    filled = is.filled;
     below = older-push (older u.frames) (top u.frames ++ kept_row first y old);
     begun = begun;
     some = λ _. omega (arith, length_push (older u.frames) (top u.frames ++ kept_row first y old));
-    pixels = λ x z held. (each x z held (cases_eq z y)).0;
-    kept = λ x z held. kept' x z ∙ ap (λ ks. kept_at (top u.frames) x z ++ ks) (each x z held (cases_eq z y)).1;
+    pixels = λ x z held. either (in_row (columns_between first last) y x z) (pixel_of t x z);
+    kept = λ x z held. ap (λ ks. kept_at ks x z) (top-push (older u.frames) (top u.frames ++ kept_row first y old))
+        ∙ kept_at-append (top u.frames) (kept_row first y old) x z ∙ ap (λ ks. kept_at (top u.frames) x z ++ ks) (each x z (cases_eq z y));
     inside = λ before. subst (λ ks. Inside t.place ks) (sym (top-push (older u.frames) (top u.frames ++ kept_row first y old)))
         (All-append (λ (k : KeptPixel). Holds t.place k.x k.y) (top u.frames) (kept_row first y old) before
-        (kept_row-inside t.place first y old crossed span.bounds.0 (omega (arith, long, span.bounds.1, span.bounds.2))));
+        (kept_row-inside t.place first y old is.crossed is.from_left (omega (arith, long, is.some, is.to_right))));
   }
 
 -- ---- the same, as the code goes
@@ -334,8 +265,7 @@ span_written written covered p box y span inside is from to given = record {
         from_left = low;
         to_right = high;
         from_top = omega (arith, inside.from_top);
-        to_bottom =
-            omega (arith, inside.to_bottom);
+        to_bottom = omega (arith, inside.to_bottom);
       } in
       is x y held ∙ at x (cases_lt x box.left) (cases_lt x box.right);
 }
@@ -348,13 +278,8 @@ span_written written covered p box y span inside is from to given = record {
     at x (inr low) (inl high) = and_true (is_within box x y) (covered x y) (within_from box x y low high from to) ∙ given.same x low high
     at x (inr low) (inr high) = out x (inr high)
 
--- p is the place as it was read, and the rows are those as they were read and lent
-module _ (paint : ℕ → ℕ → Colour → Colour) (y first last : ℕ) (t : TileImage) (u : Undo) (p : Place) (read : p ≡ t.place) (filled : IsTileImage t)
-    (crossed : HasRow t.place y)
-    (from_left : t.place.left ≤ first) (some : first < last) (to_right : last ≤ t.place.left + t.place.width) where
-  span_at : IsRowSpan (λ x. columns_between first last x y) t.place.left (t.place.left + t.place.width) (Some (first, last))
-  span_at = record { bounds = (from_left, some, to_right); same = λ x low high. refl }
-
+-- p is the place as it was read, and the rows are those as they were read
+module _ (y first last : ℕ) (t : TileImage) (p : Place) (read : p ≡ t.place) (is : HasSpan first last y t) where
   read_left : p.left ≡ t.place.left
   read_left = ap (λ (q : Place). q.left) read
 
@@ -370,23 +295,23 @@ module _ (paint : ℕ → ℕ → Colour → Colour) (y first last : ℕ) (t : T
         length-drop (first - p.left) row,
         wide,
         read_left,
-        span_at.bounds.0,
-        span_at.bounds.1,
-        span_at.bounds.2,
+        is.from_left,
+        is.some,
+        is.to_right,
       )
 
   pub part_at : {X : Type 0} (row : List X) (d : X) (x : ℕ) → first ≤ x → x < last → get_or (part row) (x - first) d ≡ get_or row (x - t.place.left) d
   part_at row d x low high =
-      let short : x - first < last - p.left - (first - p.left) = omega (arith, read_left, span_at.bounds.0) in
-      let place : first - p.left + (x - first) ≡ x - t.place.left = omega (arith, read_left, span_at.bounds.0) in
+      let short : x - first < last - p.left - (first - p.left) = omega (arith, read_left, is.from_left) in
+      let place : first - p.left + (x - first) ≡ x - t.place.left = omega (arith, read_left, is.from_left) in
       get_or-take (last - p.left - (first - p.left)) (drop (first - p.left) row) (x - first) d short
       ∙ get_or-drop (first - p.left) row (x - first) d ∙ ap (λ k. get_or row k d) place
 
   pub wide_row : length (row_of t y) ≡ t.place.width
-  wide_row = length-row_in t.place t.rows y filled.colours crossed
+  wide_row = length-row_in t.place t.rows y is.filled.colours is.crossed
 
   pub wide_depths : length (depth_row_of t y) ≡ t.place.width
-  wide_depths = length-row_in t.place t.depths y filled.depths crossed
+  wide_depths = length-row_in t.place t.depths y is.filled.depths is.crossed
 
   abbrev pub old_pixels : List Pixel
   old_pixels = zip (part (row_of t y)) (part (depth_row_of t y))
@@ -404,72 +329,15 @@ module _ (paint : ℕ → ℕ → Colour → Colour) (y first last : ℕ) (t : T
       ∙ ap (λ c. (c, get_or (part (depth_row_of t y)) (x - first) 65535)) (part_at (row_of t y) fresh x low high)
       ∙ ap (λ d. (colour_in t x y, d)) (part_at (depth_row_of t y) 65535 x low high)
 
-  abbrev pub painted : List Colour
-  painted = changed_row (λ x c. paint x y c) first (part (row_of t y))
-
-  abbrev pub new_row : List Colour
-  new_row = put_mid (first - p.left) (last - p.left - (first - p.left)) (row_of t y) painted
-
-  fits : first - p.left + (last - p.left - (first - p.left)) ≤ length (row_of t y)
-  fits = omega (arith, wide_row, read_left, span_at.bounds.0, span_at.bounds.1, span_at.bounds.2)
-
-  painted_len : length painted ≡ last - p.left - (first - p.left)
-  painted_len = length-changed_row (λ x c. paint x y c) first (part (row_of t y))
-      ∙ omega (arith, part_len (row_of t y) wide_row, read_left, span_at.bounds.0, span_at.bounds.1)
-
-  new_wide : length new_row ≡ t.place.width
-  new_wide = length-put_mid (first - p.left) (last - p.left - (first - p.left)) (row_of t y) painted fits painted_len ∙ wide_row
-
-  new_beside : (x : ℕ) → Holds t.place x y → (x < first) ⊎ (last ≤ x) → pair_at t new_row (depth_row_of t y) x ≡ pixel_of t x y
-  new_beside x held (inl low) =
-      let column : x - t.place.left < first - p.left = omega (arith, held.from_left, read_left) in
-      ap (λ c. (c, depth_in t x y)) (before_part (first - p.left) (last - p.left - (first - p.left)) (row_of t y) painted fits painted_len
-      (x - t.place.left) fresh column)
-  new_beside x held (inr high) =
-      let column : first - p.left + (last - p.left - (first - p.left)) ≤ x - t.place.left =
-      omega (arith, held.from_left, read_left, span_at.bounds.0, span_at.bounds.1) in
-      ap (λ c. (c, depth_in t x y)) (past_part (first - p.left) (last - p.left - (first - p.left)) (row_of t y) painted fits painted_len
-      (x - t.place.left) fresh column)
-
-  new_within : (x : ℕ) → Holds t.place x y → first ≤ x → x < last → pair_at t new_row (depth_row_of t y) x ≡ (paint x y (colour_in t x y), depth_in t x y)
-  new_within x held low high =
-      let place : first - p.left + (x - first) ≡ x - t.place.left = omega (arith, read_left, span_at.bounds.0) in
-      let column : first + (x - first) ≡ x = omega arith in
-      let short : x - first < last - p.left - (first - p.left) = omega (arith, read_left, span_at.bounds.0) in
-      ap (λ c. (c, depth_in t x y))
-      (ap (λ k. get_or new_row k fresh) (sym place)
-      ∙ in_part (first - p.left) (last - p.left - (first - p.left)) (row_of t y) painted fits painted_len (x - first) fresh short
-      ∙ get_or-changed_row (λ x c. paint x y c) first (part (row_of t y)) (x - first) fresh (omega (arith, part_len (row_of t y) wide_row))
-      ∙ ap (λ k. paint k y (get_or (part (row_of t y)) (x - first) fresh)) column ∙ ap (λ c. paint x y c) (part_at (row_of t y) fresh x low high))
-
-  pub Paints-code : (row lent pixels : List Colour) (deep : List ℕ) (u'' : Undo) → u.frame_left ≡ false → row ≡ row_of t y → deep ≡ depth_row_of t y
-      → lent ≡ row_of t y
-      → pixels ≡ changed_row (λ x c. paint x y c) first (part lent)
+  pub Paints-kept : (u : Undo) (row : List Colour) (deep : List ℕ) (u'' : Undo) → u.frame_left ≡ false → row ≡ row_of t y → deep ≡ depth_row_of t y
       → u'' ≡ with_kept u (kept_row first y (zip (part row) (part deep)))
-      → Paints (after_where (in_row (columns_between first last) y) (λ x z before. (paint x z before.0, before.1)))
-      (kept_where (in_row (columns_between first last) y) keep_each) t u
-      (with_row_left t y (put_mid (first - p.left) (last - p.left - (first - p.left)) lent pixels)) u''
-  Paints-code row lent pixels deep u'' begun same same_deep same' is_painted is_kept =
-      let start : ℕ = first - p.left in
-      let len : ℕ = last - p.left - (first - p.left) in
-      let left : put_mid (first - p.left) (last - p.left - (first - p.left)) lent pixels ≡ new_row =
-      ap (λ r. put_mid start len r pixels) same'
-      ∙ ap (λ r. put_mid start len (row_of t y) r) (is_painted ∙ ap (λ r. changed_row (λ x c. paint x y c) first (part r)) same') in
-      let whole : with_row_left t y (put_mid (first - p.left) (last - p.left - (first - p.left)) lent pixels) ≡ with_rows t y new_row (depth_row_of t y) =
-      ap (λ w. with_row_left t y w) left
-      ∙ ap (λ rows. record t { rows = rows }) (left_row_is t.place t.rows y filled.colours crossed new_row new_wide)
-      ∙ ap (λ depths. record t { rows = with_row_in t.place t.rows y new_row; depths = depths })
-      (sym (with_row_in-as_it_is t.place t.depths y)) in
+      → Paints (after_where (in_row (columns_between first last) y) as_it_is) (kept_where (in_row (columns_between first last) y) keep_each) t u t u''
+  Paints-kept u row deep u'' begun same same_deep is_kept =
       let stack : u'' ≡ with_kept u (kept_row first y old_pixels) =
       is_kept ∙ ap (λ r. with_kept u (kept_row first y (zip (part r) (part deep)))) same
       ∙ ap (λ d. with_kept u (kept_row first y (zip (part (row_of t y)) (part d)))) same_deep in
-      let step : ℕ → ℕ → Pixel → Pixel = λ x z before. (paint x z before.0, before.1) in
-      subst (λ v. Paints (after_where (in_row (columns_between first last) y) step) (kept_where (in_row (columns_between first last) y) keep_each) t u v u'')
-      (sym whole)
-      (subst (λ v. Paints (after_where (in_row (columns_between first last) y) step) (kept_where (in_row (columns_between first last) y) keep_each) t u
-      (with_rows t y new_row (depth_row_of t y)) v) (sym stack)
-      (Paints-span (columns_between first last) step y first last t u filled crossed begun span_at new_row (depth_row_of t y) old_pixels new_wide wide_depths
-      old_long old_was new_beside new_within))
+      subst (λ v. Paints (after_where (in_row (columns_between first last) y) as_it_is) (kept_where (in_row (columns_between first last) y) keep_each) t u t v)
+      (sym stack) (Paints-span y first last t u is old_pixels old_long old_was begun)
 
 -- a row of the box in which nothing is covered
 module _ (written covered : ℕ → ℕ → Bool) (y : ℕ) (t : TileImage) (box : Bounds) (inside : LiesIn box t.place) (is : IsWrittenIn written covered t.place box)

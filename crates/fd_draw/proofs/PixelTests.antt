@@ -1,5 +1,5 @@
 -- A triangle with the depth test on: of each row the pixels that pass, in runs.
-use Rattle.std.proofs.Common.{◌≡◌, ℕ, ◌+◌, ◌-◌, ◌<◌, ◌≤◌, Bool, true, false, ◌||◌, cond, eqb, List, [], length, get_or, map, refl, sym, ap}
+use Rattle.std.proofs.Common.{◌≡◌, ℕ, ◌+◌, ◌-◌, ◌<◌, ◌≤◌, Bool, true, false, ◌||◌, cond, eqb, List, [], length, take, drop, get_or, map, refl, sym, ap}
 use Rattle.std.proofs.Common.{◌∙◌, subst, arith, inl, inr, ◌⊎◌, ◌/◌, ◌%◌, ◌^◌}
 use Rattle.std.specs.List.{zip, range_with_len}
 use Rattle.std.proofs.lemmas.List.FromFn.{get_or-map-range_with_len, length-map-range_with_len}
@@ -20,10 +20,11 @@ use Rattle.fd_events.specs.declared.pipeline.Pipeline.{Pipeline}
 use Rattle.fd_events.specs.Draw.{Triangle}
 use Rattle.fd_events.specs.Image.{is_drawn, depth_of as source_depth, pixel_after_triangle, source_of}
 use Rattle.fd_tile.specs.Place.{Holds, HasRow}
-use Rattle.fd_tile.specs.Tile.{Pixel, fresh_pixel, TileImage, IsTileImage, with_row_in, with_depth_row, with_depth_row_left, row_of}
+use Rattle.fd_tile.specs.Tile.{Pixel, fresh_pixel, TileImage, IsTileImage, FillsPlace, row_in}
+use Rattle.fd_tile.specs.Tile.{value_in, with_row, with_row_left, with_row_in, with_depth_row, with_depth_row_left, row_of}
 use Rattle.fd_tile.specs.Tile.{depth_row_of, colour_in, depth_in, pixel_of}
 use Rattle.fd_tile.proofs.Pixels.{length-row_in, row_in-same, row_in-other, with_row_in-as_it_is, with_depth_row_left_is}
-use Rattle.fd_tile.proofs.Pixels.{IsTileImage-with_depth_row}
+use Rattle.fd_tile.proofs.Pixels.{length-row_of, with_row_left_is, IsTileImage-with_row, IsTileImage-with_depth_row}
 use borrow.Rule.Slice.PartMut.{put_mid}
 use Rattle.fd_undo.specs.Frame.{kept_row}
 use Rattle.fd_undo.specs.Undo.{Undo, with_kept}
@@ -32,16 +33,19 @@ use Rattle.fd_draw.specs.Demand.{is_reached, pixels_in, spans_in}
 use Rattle.fd_draw.proofs.Counts.{pixels_in-row, spans_in-row, written_in_row-span, in_span-inside, in_span-after, and_false, and_true}
 use Rattle.fd_draw.specs.declared.clear.Clear.{Clear}
 use Rattle.fd_draw.specs.declared.clear.Clear.TheVariants.{Colours, Depths}
-use Rattle.fd_draw.specs.Written.{as_it_is, cleared, with_cleared, kept_by_triangle}
+use Rattle.fd_draw.specs.Written.{as_it_is, cleared, with_cleared, kept_by_triangle, pixel_blended}
 use Rattle.fd_tile.proofs.Cut.{FillsPlace-flat}
 use Rattle.fd_undo.proofs.Alike.{value_in-flat}
+use Rattle.fd_draw.specs.declared.primitive.Primitive.{Primitive}
+use Rattle.fd_draw.specs.Primitive.{kept_of, painted_by}
 use Rattle.fd_draw.specs.Mask.{has_bit}
 use Rattle.fd_draw.specs.Paints.{Paints}
+use Rattle.fd_draw.specs.Row.{changed_row}
 use Rattle.fd_draw.specs.Span.{IsRowSpan}
-use Rattle.fd_draw.specs.Writing.{StoresDepths, after_where, kept_where, keep_each, columns_between, in_row}
+use Rattle.fd_draw.specs.Writing.{ChangesSpan, HasSpan, depth_stored, after_where, kept_where, keep_each, columns_between, in_row}
 use Rattle.fd_draw.proofs.Areas.{drawn_reached}
-use Rattle.fd_draw.proofs.Rows.{length-put_mid, before_part, in_part, past_part}
-use Rattle.fd_draw.proofs.Painting.{with_rows, Paints-span, Paints-same-here, Paints-nothing, Paints-both, Paints-as}
+use Rattle.fd_draw.proofs.Rows.{length-changed_row, get_or-changed_row, length-put_mid, before_part, in_part, past_part}
+use Rattle.fd_draw.proofs.Painting.{part, part_len, part_at, Paints-same-here, Paints-nothing, Paints-both, Paints-as}
 
 cond_at : {X : Type 0} (b : Bool) (p q other : X) → (b ≡ true → p ≡ q) → cond b p other ≡ cond b q other
 cond_at true p q other same = same refl
@@ -73,75 +77,113 @@ module _ (tri : Triangle) (interp : Interp) (s : Pipeline) (first last y : ℕ) 
       (λ c r inside. cond_to (Run c r) _ _ (λ here. rw (undrawn c r here) refl))
       (Paints-nothing t u filled begun)
 
--- ---- depths that are stored in a row
+-- ---- values that are put in a row
 
-module _ (depths : List ℕ) (x y : ℕ) (t : TileImage) (filled : IsTileImage t) (crossed : HasRow t.place y) (from_left : t.place.left ≤ x)
-    (to_right : x + length depths ≤ t.place.left + t.place.width) where
-  deep : length (depth_row_of t y) ≡ t.place.width
-  deep = length-row_in t.place t.depths y filled.depths crossed
+pair_first : (b : Bool) (p : Pixel) (c e : Colour) → c ≡ cond b e p.0 → (c, p.1) ≡ cond b (e, p.1) p
+pair_first b p c e is = grind arith
 
-  abbrev stored_row : List ℕ
-  stored_row = put_mid (x - t.place.left) (length depths) (depth_row_of t y) depths
+pair_second : (b : Bool) (p : Pixel) (d e : ℕ) → d ≡ cond b e p.1 → (p.0, d) ≡ cond b (p.0, e) p
+pair_second b p d e is = grind arith
 
-  room : x - t.place.left + length depths ≤ length (depth_row_of t y)
-  room = omega (arith, deep, from_left, to_right)
+module _ {X : Type 0} (other : X) (p : Place) (rows : List (List X)) (y x : ℕ) (values : List X) (filled : FillsPlace p rows) (crossed : HasRow p y)
+    (from_left : p.left ≤ x) (to_right : x + length values ≤ p.left + p.width) where
+  wide : length (row_in p rows y) ≡ p.width
+  wide = length-row_in p rows y filled crossed
 
-  stored_size : length stored_row ≡ t.place.width
-  stored_size = length-put_mid (x - t.place.left) (length depths) (depth_row_of t y) depths room refl ∙ deep
+  abbrev pub put_row : List X
+  put_row = put_mid (x - p.left) (length values) (row_in p rows y) values
+
+  room : x - p.left + length values ≤ length (row_in p rows y)
+  room = omega (arith, wide, from_left, to_right)
+
+  pub put_size : length put_row ≡ p.width
+  put_size = length-put_mid (x - p.left) (length values) (row_in p rows y) values room refl ∙ wide
 
   -- what the row has for column c
-  stored_at : (c : ℕ) → Holds t.place c y → (c < x) ⊎ (x ≤ c) → (c < x + length depths) ⊎ (x + length depths ≤ c)
-      → get_or stored_row (c - t.place.left) 65535 ≡ cond (columns_between x (x + length depths) c y) (get_or depths (c - x) 65535) (depth_in t c y)
-  stored_at c held (inl low) high =
-      let out : columns_between x (x + length depths) c y ≡ false = grind (arith, nat_tests) in
-      rw out (before_part (x - t.place.left) (length depths) (depth_row_of t y) depths room refl (c - t.place.left) 65535 (omega (arith, held.from_left)))
-  stored_at c held (inr low) (inl high) =
-      let in_it : columns_between x (x + length depths) c y ≡ true = grind (arith, nat_tests) in
-      let place : x - t.place.left + (c - x) ≡ c - t.place.left = omega arith in
-      rw in_it (ap (λ k. get_or stored_row k 65535) (sym place)
-      ∙ in_part (x - t.place.left) (length depths) (depth_row_of t y) depths room refl (c - x) 65535 (omega arith))
-  stored_at c held (inr low) (inr high) =
-      let out : columns_between x (x + length depths) c y ≡ false = grind (arith, nat_tests) in
-      rw out (past_part (x - t.place.left) (length depths) (depth_row_of t y) depths room refl (c - t.place.left) 65535 (omega arith))
+  put_at : (c : ℕ) → p.left ≤ c → (c < x) ⊎ (x ≤ c) → (c < x + length values) ⊎ (x + length values ≤ c)
+      → get_or put_row (c - p.left) other ≡ cond (columns_between x (x + length values) c y) (get_or values (c - x) other) (value_in p rows c y other)
+  put_at c held (inl low) high =
+      let out : columns_between x (x + length values) c y ≡ false = grind (arith, nat_tests) in
+      rw out (before_part (x - p.left) (length values) (row_in p rows y) values room refl (c - p.left) other (omega arith))
+  put_at c held (inr low) (inl high) =
+      let in_it : columns_between x (x + length values) c y ≡ true = grind (arith, nat_tests) in
+      let place : x - p.left + (c - x) ≡ c - p.left = omega arith in
+      rw in_it (ap (λ k. get_or put_row k other) (sym place)
+      ∙ in_part (x - p.left) (length values) (row_in p rows y) values room refl (c - x) other (omega arith))
+  put_at c held (inr low) (inr high) =
+      let out : columns_between x (x + length values) c y ≡ false = grind (arith, nat_tests) in
+      rw out (past_part (x - p.left) (length values) (row_in p rows y) values room refl (c - p.left) other (omega arith))
 
-  pair_stored : (b : Bool) (p : Pixel) (d e : ℕ) → d ≡ cond b e p.1 → (p.0, d) ≡ cond b (p.0, e) p
-  pair_stored true p d e is = ap (λ n. (p.0, n)) is
-  pair_stored false p d e is = ap (λ n. (p.0, n)) is
+  pub value_put : (c r : ℕ) → Holds p c r → (r ≡ y) ⊎ (r ≡ y → ⊥) → value_in p (with_row_in p rows y put_row) c r other
+      ≡ cond (in_row (columns_between x (x + length values)) y c r) (get_or values (c - x) other) (value_in p rows c r other)
+  value_put c r held (inr apart) =
+      rw (and_false (eqb r y) (columns_between x (x + length values) c r) (ne_eqb r y apart))
+      (ap (λ l. get_or l (c - p.left) other) (row_in-other p rows y filled crossed put_row r held.from_top apart))
+  value_put c r held (inl same) =
+      subst (λ k. value_in p (with_row_in p rows y put_row) c k other
+      ≡ cond (in_row (columns_between x (x + length values)) y c k) (get_or values (c - x) other) (value_in p rows c k other)) (sym same)
+      (ap (λ l. get_or l (c - p.left) other) (row_in-same p rows y filled crossed put_row)
+      ∙ rw (and_true (eqb y y) (columns_between x (x + length values) c y) (eq-eqb y y refl))
+      (put_at c held.from_left (cases_lt c x) (cases_lt c (x + length values))))
 
-  pixel_stored : (c r : ℕ) → Holds t.place c r → (r ≡ y) ⊎ (r ≡ y → ⊥)
-      → pixel_of (with_depth_row t y stored_row) c r ≡ cond (in_row (columns_between x (x + length depths)) y c r)
-      ((pixel_of t c r).0, get_or depths (c - x) 65535) (pixel_of t c r)
-  pixel_stored c r held (inr other) =
-      let out : in_row (columns_between x (x + length depths)) y c r ≡ false = and_false (eqb r y) (columns_between x (x + length depths) c r)
-      (ne_eqb r y other) in
-      rw out (ap (λ l. (colour_in t c r, get_or l (c - t.place.left) 65535))
-      (row_in-other t.place t.depths y filled.depths crossed stored_row r held.from_top other))
-  pixel_stored c r held (inl same) =
-      let here : Holds t.place c y = subst (λ k. Holds t.place c k) same held in
-      subst (λ k. pixel_of (with_depth_row t y stored_row) c k ≡ cond (in_row (columns_between x (x + length depths)) y c k)
-      ((pixel_of t c k).0, get_or depths (c - x) 65535) (pixel_of t c k)) (sym same)
-      (ap (λ l. (colour_in t c y, get_or l (c - t.place.left) 65535)) (row_in-same t.place t.depths y filled.depths crossed stored_row)
-      ∙ rw (and_true (eqb y y) (columns_between x (x + length depths) c y) (eq-eqb y y refl))
-      (pair_stored (columns_between x (x + length depths) c y) (pixel_of t c y) (get_or stored_row (c - t.place.left) 65535) (get_or depths (c - x) 65535)
-      (stored_at c here (cases_lt c x) (cases_lt c (x + length depths)))))
-
-  stored_whole : StoresDepths depths x y t (with_depth_row t y stored_row)
-  stored_whole = record {
-    placed = refl;
-    made = refl;
-    filled = IsTileImage-with_depth_row t y filled crossed stored_row stored_size;
-    pixels = λ c r held. pixel_stored c r held (cases_eq r y);
-  }
-
-  -- as the code goes
-  pub Stores-code : (start len : ℕ) (lent new : List ℕ) → start ≡ x - t.place.left → len ≡ length depths → lent ≡ depth_row_of t y → new ≡ depths
-      → StoresDepths depths x y t (with_depth_row_left t y (put_mid start len lent new))
-  Stores-code start len lent new is_start is_len is_lent is_new =
-      let same : put_mid start len lent new ≡ stored_row =
+-- as the code goes
+module _ (t : TileImage) (y x : ℕ) (filled : IsTileImage t) (crossed : HasRow t.place y) (from_left : t.place.left ≤ x) where
+  pub Stores-code : (depths : List ℕ) (start len : ℕ) (lent new : List ℕ) → x + length depths ≤ t.place.left + t.place.width → start ≡ x - t.place.left
+      → len ≡ length depths → lent ≡ depth_row_of t y → new ≡ depths
+      → ChangesSpan (depth_stored depths x) x (x + length depths) y t (with_depth_row_left t y (put_mid start len lent new))
+  Stores-code depths start len lent new to_right is_start is_len is_lent is_new =
+      let row : List ℕ = put_row 65535 t.place t.depths y x depths filled.depths crossed from_left to_right in
+      let size = put_size 65535 t.place t.depths y x depths filled.depths crossed from_left to_right in
+      let whole : ChangesSpan (depth_stored depths x) x (x + length depths) y t (with_depth_row t y row) = record {
+        placed = refl;
+        made = refl;
+        filled = IsTileImage-with_depth_row t y filled crossed row size;
+        pixels = λ c r held. pair_second (in_row (columns_between x (x + length depths)) y c r) (pixel_of t c r) _ (get_or depths (c - x) 65535)
+            (value_put 65535 t.place t.depths y x depths filled.depths crossed from_left to_right c r held (cases_eq r y));
+      } in
+      let same : put_mid start len lent new ≡ row =
       ap (λ k. put_mid k len lent new) is_start ∙ ap (λ k. put_mid (x - t.place.left) k lent new) is_len
       ∙ ap (λ l. put_mid (x - t.place.left) (length depths) l new) is_lent ∙ ap (λ l. put_mid (x - t.place.left) (length depths) (depth_row_of t y) l) is_new in
-      subst (λ v. StoresDepths depths x y t v)
-      (sym (ap (λ l. with_depth_row_left t y l) same ∙ with_depth_row_left_is t y filled crossed stored_row stored_size)) stored_whole
+      subst (λ v. ChangesSpan (depth_stored depths x) x (x + length depths) y t v)
+      (sym (ap (λ l. with_depth_row_left t y l) same ∙ with_depth_row_left_is t y filled crossed row size)) whole
+
+pub Blends-code : (t : TileImage) (x last y : ℕ) (change : ℕ → ℕ → Colour → Colour) (p : Place) (lent new : List Colour) → HasSpan x last y t
+    → p ≡ t.place → lent ≡ row_of t y
+    → new ≡ changed_row (λ column before. change column y before) x (take (last - p.left - (x - p.left)) (drop (x - p.left) lent))
+    → ChangesSpan (λ c r before. (change c r before.0, before.1)) x last y t (with_row_left t y (put_mid (x - p.left) (last - p.left - (x - p.left)) lent new))
+Blends-code t x last y change p lent new is read is_lent is_new =
+    let old : List Colour = part y x last t p read is (row_of t y) in
+    let long : length old ≡ last - x = part_len y x last t p read is (row_of t y) (length-row_of t y is.filled is.crossed) in
+    let values : List Colour = changed_row (λ column before. change column y before) x old in
+    let size : length values ≡ last - x = length-changed_row (λ column before. change column y before) x old ∙ long in
+    let to : x + length values ≤ t.place.left + t.place.width = omega (arith, size, is.some, is.to_right) in
+    let end : x + length values ≡ last = omega (arith, size, is.some) in
+    let row : List Colour = put_row fresh t.place t.rows y x values is.filled.colours is.crossed is.from_left to in
+    let row_size = put_size fresh t.place t.rows y x values is.filled.colours is.crossed is.from_left to in
+    let given : (c : ℕ) → x ≤ c → c < last → get_or values (c - x) fresh ≡ change c y (colour_in t c y) =
+    λ c low high. let column : x + (c - x) ≡ c = omega arith in
+    get_or-changed_row (λ column before. change column y before) x old (c - x) fresh (omega (arith, long, low, high))
+    ∙ ap (λ k. change k y (get_or old (c - x) fresh)) column
+    ∙ ap (λ v. change c y v) (part_at y x last t p read is (row_of t y) fresh c low high) in
+    let whole : ChangesSpan (λ c r before. (change c r before.0, before.1)) x last y t (with_row t y row) = record {
+      placed = refl;
+      made = refl;
+      filled = IsTileImage-with_row t y is.filled is.crossed row row_size;
+      pixels = λ c r held. pair_first (in_row (columns_between x last) y c r) (pixel_of t c r) _ (change c r (colour_in t c r))
+          (subst (λ n. value_in t.place (with_row_in t.place t.rows y row) c r fresh
+          ≡ cond (in_row (columns_between x n) y c r) (get_or values (c - x) fresh) (colour_in t c r)) end
+          (value_put fresh t.place t.rows y x values is.filled.colours is.crossed is.from_left to c r held (cases_eq r y))
+          ∙ cond_at (in_row (columns_between x last) y c r) _ _ _ (λ here. let at = run_columns x last y c r here in rw at.2 (given c at.0 at.1)));
+    } in
+    let same : put_mid (x - p.left) (last - p.left - (x - p.left)) lent new ≡ row =
+    ap (λ (q : Place). put_mid (x - q.left) (last - p.left - (x - p.left)) lent new) read
+    ∙ ap (λ k. put_mid (x - t.place.left) k lent new) {x = last - p.left - (x - p.left)} {y = length values}
+    (omega (arith, size, ap (λ (q : Place). q.left) read, is.from_left, is.some))
+    ∙ ap (λ l. put_mid (x - t.place.left) (length values) l new) is_lent
+    ∙ ap (λ l. put_mid (x - t.place.left) (length values) (row_of t y) l)
+    (is_new ∙ ap (λ l. changed_row (λ column before. change column y before) x (take (last - p.left - (x - p.left)) (drop (x - p.left) l))) is_lent) in
+    subst (λ v. ChangesSpan (λ c r before. (change c r before.0, before.1)) x last y t v)
+    (sym (ap (λ l. with_row_left t y l) same ∙ with_row_left_is t y is.filled is.crossed row row_size)) whole
 
 -- ---- which pixels of a row pass
 
@@ -177,8 +219,7 @@ module _ (tri : Triangle) (interp : Interp) (s : Pipeline) (x y done count passe
         from_left = omega arith;
         to_right = omega arith;
         from_top = crossed.from_top;
-        to_bottom =
-            crossed.to_bottom;
+        to_bottom = crossed.to_bottom;
       } in
       let none : in_row (columns_between x (x + done)) y column y ≡ false = and_true (eqb y y) (columns_between x (x + done) column y) (eq-eqb y y refl)
       ∙ in_span-after x (x + done) column low in
@@ -198,13 +239,16 @@ module _ (tri : Triangle) (interp : Interp) (s : Pipeline) (x y done count passe
 
 -- ---- run after run of a row
 
+-- the columns from one up to another of row y are done
+abbrev pub IsRunDrawn : Primitive → ℕ → ℕ → ℕ → TileImage → Undo → TileImage → Undo → Type 0
+IsRunDrawn p first last y t u t' u' =
+    Paints (after_where (in_row (columns_between first last) y) (painted_by p)) (kept_where (in_row (columns_between first last) y) (kept_of p)) t u t' u'
+
 apart_columns : (e b d : Bool) → (b && d) ≡ false → ((e && b) && (e && d)) ≡ false
-apart_columns true b d h = h
-apart_columns false b d h = refl
+apart_columns e b d h = grind arith
 
 joined_columns : (e b d n : Bool) → n ≡ (b || d) → (e && n) ≡ ((e && b) || (e && d))
-joined_columns true b d n h = h
-joined_columns false b d n h = refl
+joined_columns e b d n h = grind arith
 
 module _ (paint : ℕ → ℕ → Pixel → Pixel) (keep : ℕ → ℕ → Pixel → List Pixel) (first middle last y : ℕ) (from : first ≤ middle) (to : middle ≤ last) where
   not_yet : (c : ℕ) → ((nat_le first c && nat_lt c middle) && (nat_le middle c && nat_lt c last)) ≡ false
@@ -253,64 +297,34 @@ drawn_off : (tri : Triangle) (s : Pipeline) (x y stored : ℕ) → s.depth.enabl
 drawn_off tri s x y stored off reached = drawn_reached tri s x y stored ∙ rw (reached, off) refl
 
 -- a triangle is drawn wherever it is reached, and leaves the depth
-pub Paints-untested : (tri : Triangle) (interp : Interp) (s : Pipeline) (t t' : TileImage) (u u' : Undo) → s.depth.enable ≡ false
-    → Paints (after_where (is_reached tri s) (λ x y before. (blend s.blend s.factor (source_of tri interp x y) before.0, before.1)))
-    (kept_where (is_reached tri s) keep_each) t u t' u'
-    → Paints (after_where (is_reached tri s) (pixel_after_triangle tri interp s)) (kept_where (is_reached tri s) (kept_by_triangle tri s)) t u t' u'
-Paints-untested tri interp s t t' u u' off painted =
-    Paints-same-here _ (after_where (is_reached tri s) (pixel_after_triangle tri interp s)) _ (kept_where (is_reached tri s) (kept_by_triangle tri s)) t t' u u'
-    (λ x y held. cond_at (is_reached tri s x y) _ _ _ (λ reached.
-    rw (drawn_off tri s x y (pixel_of t x y).1 off reached)
-    (ap (λ d. (blend s.blend s.factor (source_of tri interp x y) (pixel_of t x y).0, d)) (sym (stays s (source_depth tri x y) (pixel_of t x y).1 off)))))
-    (λ x y held. cond_at (is_reached tri s x y) _ _ _ (λ reached. rw (drawn_off tri s x y (pixel_of t x y).1 off reached) refl))
+pub Paints-untested : (tri : Triangle) (interp : Interp) (s : Pipeline) (first last y : ℕ) (t t' : TileImage) (u u' : Undo) → s.depth.enable ≡ false
+    → ((c : ℕ) → first ≤ c → c < last → is_reached tri s c y ≡ true)
+    → Paints (after_where (in_row (columns_between first last) y) (pixel_blended tri interp s)) (kept_where (in_row (columns_between first last) y) keep_each)
+    t u t' u'
+    → Paints (after_where (in_row (columns_between first last) y) (pixel_after_triangle tri interp s))
+    (kept_where (in_row (columns_between first last) y) (kept_by_triangle tri s)) t u t' u'
+Paints-untested tri interp s first last y t t' u u' off reached painted =
+    let drawn : (c r stored : ℕ) → in_row (columns_between first last) y c r ≡ true → is_drawn tri s c r stored ≡ true =
+    λ c r stored here. let at = run_columns first last y c r here in rw at.2 (drawn_off tri s c y stored off (reached c at.0 at.1)) in
+    Paints-same-here _ (after_where (in_row (columns_between first last) y) (pixel_after_triangle tri interp s)) _
+    (kept_where (in_row (columns_between first last) y) (kept_by_triangle tri s)) t t' u u'
+    (λ c r held. cond_at (in_row (columns_between first last) y c r) _ _ _ (λ here.
+    rw (drawn c r (pixel_of t c r).1 here)
+    (ap (λ d. (blend s.blend s.factor (source_of tri interp c r) (pixel_of t c r).0, d)) (sym (stays s (source_depth tri c r) (pixel_of t c r).1 off)))))
+    (λ c r held. cond_at (in_row (columns_between first last) y c r) _ _ _ (λ here. rw (drawn c r (pixel_of t c r).1 here) refl))
     painted
 
 -- ---- a row that is kept
 
-module _ (t : TileImage) (u : Undo) (y : ℕ) (filled : IsTileImage t) (crossed : HasRow t.place y) (begun : u.frame_left ≡ false) where
-  whole_row : IsRowSpan (λ _. true) t.place.left (t.place.left + t.place.width) (Some (t.place.left, t.place.left + t.place.width))
-  whole_row = record {
-    bounds = (omega arith, omega (arith, filled.colours.placed.wide), omega arith);
-    same = λ x low high. sym (in_span-inside t.place.left (t.place.left + t.place.width) x low high);
-  }
-
-  pub clear_pixels : pixels_in (in_row (λ _ _. true) y) t.place ≡ t.place.width
-  clear_pixels = row_count (λ _ _. true) t.place y t.place.left (t.place.left + t.place.width) crossed whole_row ∙ omega arith
-
-  pub clear_spans : spans_in (in_row (λ _ _. true) y) t.place ≡ 1
-  clear_spans =
-      spans_in-row (λ _ _. true) t.place y crossed
-      ∙ omega (arith, written_in_row-span (λ _ _. true) t.place y t.place.left (t.place.left + t.place.width) whole_row, filled.colours.placed.wide)
-
-  wide_row : length (row_of t y) ≡ t.place.width
-  wide_row = length-row_in t.place t.rows y filled.colours crossed
-
-  deep_row : length (depth_row_of t y) ≡ t.place.width
-  deep_row = length-row_in t.place t.depths y filled.depths crossed
-
-  -- as the code goes
-  module _ (row : List Colour) (deep : List ℕ) (column : ℕ) (u' : Undo) (same : row ≡ row_of t y) (same_deep : deep ≡ depth_row_of t y)
-      (at : column ≡ t.place.left)
-      (is_kept : u' ≡ with_kept u (kept_row column y (zip row deep))) where
-    pub Paints-kept_row : Paints (after_where (in_row (λ _ _. true) y) as_it_is) (kept_where (in_row (λ _ _. true) y) keep_each) t u t u'
-    Paints-kept_row =
-        let cs : List Colour = row_of t y in
-        let ds : List ℕ = depth_row_of t y in
-        let old : List Pixel = zip (row_of t y) (depth_row_of t y) in
-        let stack : u' ≡ with_kept u (kept_row t.place.left y (zip (row_of t y) (depth_row_of t y))) =
-        is_kept ∙ ap (λ r. with_kept u (kept_row column y (zip r deep))) same ∙ ap (λ d. with_kept u (kept_row column y (zip (row_of t y) d))) same_deep
-        ∙ ap (λ k. with_kept u (kept_row k y (zip (row_of t y) (depth_row_of t y)))) at in
-        let tile : with_rows t y (row_of t y) (depth_row_of t y) ≡ t =
-        ap (λ rows. record t { rows = rows; depths = with_row_in t.place t.depths y ds }) (with_row_in-as_it_is t.place t.rows y)
-        ∙ ap (λ depths. record t { depths = depths }) (with_row_in-as_it_is t.place t.depths y) in
-        subst (λ v. Paints (after_where (in_row (λ _ _. true) y) as_it_is) (kept_where (in_row (λ _ _. true) y) keep_each) t u t v) (sym stack)
-        (subst (λ v. Paints (after_where (in_row (λ _ _. true) y) as_it_is) (kept_where (in_row (λ _ _. true) y) keep_each) t u v
-        (with_kept u (kept_row t.place.left y old))) tile
-        (Paints-span (λ _ _. true) as_it_is y t.place.left (t.place.left + t.place.width) t u filled crossed begun whole_row cs ds old wide_row deep_row
-        (length-zip_equal (row_of t y) (depth_row_of t y) (deep_row ∙ sym wide_row) ∙ wide_row ∙ omega arith)
-        (λ x low high. get_or-zip (row_of t y) (depth_row_of t y) (x - t.place.left) fresh_pixel (omega (arith, wide_row)) (omega (arith, deep_row)))
-        (λ x held apart. refl)
-        (λ x held low high. refl)))
+pub whole_row : (t : TileImage) (p : Place) → IsTileImage t → p ≡ t.place
+    → IsRowSpan (λ _. true) t.place.left (t.place.left + t.place.width) (Some (p.left, p.left + p.width))
+whole_row t p filled read =
+    let left : p.left ≡ t.place.left = ap (λ (q : Place). q.left) read in
+    let width : p.width ≡ t.place.width = ap (λ (q : Place). q.width) read in
+    record {
+      bounds = (omega arith, omega (arith, filled.colours.placed.wide), omega arith);
+      same = λ x low high. sym (in_span-inside p.left (p.left + p.width) x (omega arith) (omega arith));
+    }
 
 -- all pixels were kept, and get a clear's colour or depth
 pub Paints-filled : (clear : Clear) (t : TileImage) (u u' : Undo)

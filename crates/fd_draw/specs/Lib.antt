@@ -8,6 +8,7 @@ pub mod Plan
 pub mod Primitive
 pub mod Row
 pub mod Span
+pub mod Tested
 pub mod Triangles
 pub mod Writing
 pub mod Written

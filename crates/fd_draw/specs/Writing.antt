@@ -1,6 +1,6 @@
 -- Working. Writing some pixels of a tile, which are kept first.
-use Rattle.std.specs.Prelude.{◌≡◌, ◌≤◌, ℕ, ◌+◌, ◌-◌, Bool, false, nat_le, nat_lt, List, [], ◌∷◌, ◌==◌, ◌&&◌, length, slice_index_or, if◌then◌else◌}
-use Rattle.fd_tile.specs.Place.{Holds}
+use Rattle.std.specs.Prelude.{◌≡◌, ◌≤◌, ◌<◌, ℕ, ◌+◌, ◌-◌, Bool, true, false, nat_le, nat_lt, List, [], ◌∷◌, ◌==◌, ◌&&◌, length, slice_index_or, if◌then◌else◌}
+use Rattle.fd_tile.specs.Place.{Holds, HasRow}
 use Rattle.fd_tile.specs.Tile.{Pixel, TileImage, IsTileImage, pixel_of}
 use Rattle.fd_undo.specs.Undo.{Undo}
 use Rattle.fd_draw.specs.Paints.{Paints}
@@ -24,6 +24,15 @@ in_row region y x z = (z == y) && region x z
 abbrev pub columns_between : ℕ → ℕ → ℕ → ℕ → Bool
 columns_between first last x y = nat_le first x && nat_lt x last
 
+-- a tile with its memory has the pixels of row y from one column up to another
+pub record HasSpan (left right y : ℕ) (t : TileImage) : Type 0 where
+  pub made : t.made ≡ true
+  pub filled : IsTileImage t
+  pub crossed : HasRow t.place y
+  pub from_left : t.place.left ≤ left
+  pub some : left < right
+  pub to_right : right ≤ t.place.left + t.place.width
+
 -- a frame was begun, and has room for so many spans and pixels
 pub record HasRoom (span_count pixel_count : ℕ) (u : Undo) : Type 0 where
   pub begun : u.frame_left ≡ false
@@ -37,12 +46,14 @@ pub record WritesRegion (span_count pixel_count : ℕ) (region : ℕ → ℕ →
   pub spans : u.spans_left ≤ u'.spans_left + span_count
   pub pixels : u.pixels_left ≤ u'.pixels_left + pixel_count
 
--- the pixels of row y from column x on get some depths, and no other pixel changes
-pub record StoresDepths (depths : List ℕ) (x y : ℕ) (t t' : TileImage) : Type 0 where
+-- the pixels of row y from one column up to another change, and no other
+pub record ChangesSpan (change : ℕ → ℕ → Pixel → Pixel) (left right y : ℕ) (t t' : TileImage) : Type 0 where
   pub placed : t'.place ≡ t.place
   pub made : t'.made ≡ t.made
   pub filled : IsTileImage t'
   pub pixels : (column row : ℕ) → Holds t.place column row
-      → pixel_of t' column row
-      ≡ (if in_row (columns_between x (x + length depths)) y column row then ((pixel_of t column row).0, slice_index_or depths (column - x) 65535)
-      else pixel_of t column row)
+      → pixel_of t' column row ≡ after_where (in_row (columns_between left right) y) change column row (pixel_of t column row)
+
+-- a pixel gets its depth of some that begin in a column
+abbrev pub depth_stored : List ℕ → ℕ → ℕ → ℕ → Pixel → Pixel
+depth_stored depths x column row before = (before.0, slice_index_or depths (column - x) 65535)

@@ -1,4 +1,4 @@
-ghost use Rattle.std.specs.Prelude.{◌≡◌, ℕ, ◌+◌, ◌<◌, ◌≤◌, ◌↔◌, pos, ◌≤ℤ◌, false, ◌&&◌, max, min, IfSome, IfNone};
+ghost use Rattle.std.specs.Prelude.{◌≡◌, ℕ, ◌+◌, ◌<◌, ◌≤◌, ◌↔◌, pos, ◌≤ℤ◌, false, ◌&&◌, IfSome, IfNone};
 ghost use Rattle.fd_cover.specs.Bounds.{is_within};
 ghost use Rattle.fd_cover.specs.Covers.{covers};
 ghost use Rattle.fd_tile.specs.Place.{IsTilePlace};
@@ -50,18 +50,6 @@ pub(crate) fn open_area(raster: &Raster, rect: &Rect, place: Place) -> Bounds
     }
 }
 
-/// The pixels that two boxes share.
-pub(crate) fn shared(a: Bounds, b: Bounds) -> Bounds
-    ensures { result ≡ record { left = max a.left b.left; top = max a.top b.top; right = min a.right b.right; bottom = min a.bottom b.bottom } }
-{
-    Bounds {
-        left: a.left.max(b.left),
-        top: a.top.max(b.top),
-        right: a.right.min(b.right),
-        bottom: a.bottom.min(b.bottom),
-    }
-}
-
 /// The box in which a triangle is drawn wherever it covers a pixel, where `window` has the pixels that the scissor leaves. None
 /// where it is culled, or its own box misses them.
 pub(crate) fn drawn_area(triangle: &Tri, raster: &Raster, window: Bounds) -> Option<Bounds>
@@ -69,7 +57,7 @@ pub(crate) fn drawn_area(triangle: &Tri, raster: &Raster, window: Bounds) -> Opt
     ensures drawn { IfSome result (λ area. (x y : ℕ) → is_drawn_in window raster.now triangle.now x y ≡ (is_within area x y && covers triangle.now x y)) }
     ensures none { IfNone result ((x y : ℕ) → is_drawn_in window raster.now triangle.now x y ≡ false) }
 {
-    let area = shared(window, Bounds::of(triangle));
+    let area = window.meet(Bounds::of(triangle));
     if area.is_empty() || raster.culls(triangle) {
         None
     } else {

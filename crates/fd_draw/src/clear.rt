@@ -11,6 +11,7 @@ ghost use Rattle.fd_draw.specs.Written.{as_it_is, cleared, with_cleared};
 ghost use Rattle.fd_draw.specs.Paints.{Paints};
 ghost use Rattle.fd_draw.specs.Writing.{HasRoom, WritesRegion, in_row, keep_each};
 
+use crate::write::keep_span;
 use fd_blend::Colour;
 use fd_cover::Bounds;
 use fd_events::{Event, Pipeline};
@@ -24,18 +25,6 @@ pub(crate) enum Clear {
     Depths(u16),
 }
 
-/// Keeps the pixels of row y.
-fn keep_row(y: u32, tile: &Tile, undo: &mut UndoStack)
-    requires made { tile.now.made ≡ true }
-    requires filled { IsTileImage tile.now }
-    requires crossed { HasRow tile.now.place y }
-    requires room { HasRoom (spans_in (in_row (λ _ _. true) y) tile.now.place) (pixels_in (in_row (λ _ _. true) y) tile.now.place) undo.old }
-    ensures { WritesRegion (spans_in (in_row (λ _ _. true) y) tile.now.place) (pixels_in (in_row (λ _ _. true) y) tile.now.place) (in_row (λ _ _. true) y) as_it_is keep_each tile.now undo.old tile.now undo.new }
-{
-    let left = tile.place().left;
-    undo.keep_known(left, y, tile.row(y), tile.depth_row(y), tile.flat_depth());
-}
-
 /// Keeps the pixels of a box, which has all of the tile.
 fn keep_rows(area: Bounds, tile: &Tile, undo: &mut UndoStack)
     requires made { tile.now.made ≡ true }
@@ -45,8 +34,9 @@ fn keep_rows(area: Bounds, tile: &Tile, undo: &mut UndoStack)
     requires room { HasRoom (spans_in (λ _ _. true) tile.now.place) (pixels_in (λ _ _. true) tile.now.place) undo.old }
     ensures { WritesRegion (spans_in (λ _ _. true) tile.now.place) (pixels_in (λ _ _. true) tile.now.place) (λ _ _. true) as_it_is keep_each tile.now undo.old tile.now undo.new }
 {
+    let place = tile.place();
     for y in area.top..area.bottom {
-        keep_row(y, tile, undo);
+        keep_span(place.left, place.left + place.width, y, tile, undo);
     }
 }
 

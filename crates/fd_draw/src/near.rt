@@ -6,7 +6,7 @@ ghost use Rattle.fd_draw.specs.Demand.{event_pixels, event_spans};
 ghost use Rattle.fd_draw.specs.Near.{MissesWindow, MissWindow};
 ghost use Rattle.fd_draw.specs.Plan.{MayBeginAt};
 
-use crate::area::{shared, whole};
+use crate::area::whole;
 use fd_cover::Bounds;
 use fd_events::{Draw, Event};
 use fd_tile::Place;
@@ -16,7 +16,7 @@ fn is_far(draw: &Draw, triangle: u32, window: Bounds) -> bool
     ensures { IsTrue result → MissWindow window (triangles_of draw.now) triangle (triangle + 1) }
 {
     match draw.kept_bounds(triangle) {
-        Some(bounds) => shared(window, bounds).is_empty(),
+        Some(bounds) => window.meet(bounds).is_empty(),
         None => false,
     }
 }

@@ -4,28 +4,27 @@ ghost use Rattle.fd_events.specs.Draw.{triangles_of};
 ghost use Rattle.fd_events.specs.Image.{pixel_after, pixel_after_triangle, pixel_after_triangles, kept_by, kept_by_triangles};
 ghost use Rattle.fd_tile.specs.Place.{HasRow};
 ghost use Rattle.fd_tile.specs.Tile.{IsTileImage};
-ghost use Rattle.fd_draw.specs.Area.{LiesIn, IsOpen};
-ghost use Rattle.fd_draw.specs.Demand.{is_reached, pixels_in, spans_in, triangle_pixels, triangle_spans, event_pixels, event_spans};
-ghost use Rattle.fd_draw.specs.Written.{colour_blended, pixel_blended, kept_by_triangle};
+ghost use Rattle.fd_draw.specs.Demand.{is_reached, pixels_in, region_spans, triangle_pixels, triangle_spans, event_pixels, event_spans};
+ghost use Rattle.fd_draw.specs.Written.{as_it_is, colour_blended, pixel_blended, kept_by_triangle};
 ghost use Rattle.fd_cover.specs.Covers.{covers};
 ghost use Rattle.fd_snap.specs.Limits.{most_pixels};
 ghost use Rattle.fd_tile.specs.declared.place.TheConstants.{TILE_SIDE};
 ghost use Rattle.fd_draw.specs.Row.{changed_row};
 ghost use Rattle.fd_draw.specs.Paints.{Paints};
-ghost use Rattle.fd_draw.specs.Primitive.{IsBrushed, triangle_of};
+ghost use Rattle.fd_draw.specs.Primitive.{IsReady, kept_of, painted_by, reached_by, triangle_of};
 ghost use Rattle.fd_draw.specs.Plan.{ArePlanned, IsFoundOn, IsPlan};
 ghost use Rattle.fd_draw.specs.Triangles.{triangle_at};
-ghost use Rattle.fd_draw.specs.Writing.{HasRoom, WritesRegion, columns_between, in_row, keep_each};
+ghost use Rattle.fd_draw.specs.Writing.{ChangesSpan, HasRoom, HasSpan, WritesRegion, columns_between, in_row, keep_each};
 
 use crate::area::{open_area, whole};
 use crate::clear::{Clear, clear_rows};
 use crate::found::{Found, find};
 use crate::near::next_near;
 use crate::plan::{Plan, Planned};
-use crate::primitive::{Primitive, brush_of};
-use crate::tested::draw_tested;
+use crate::primitive::{Primitive, brush_of, depth_rows_of};
+use crate::tested::draw_span;
 use fd_blend::{Colour, blend_row};
-use fd_cover::{Bounds, shade_row};
+use fd_cover::shade_row;
 use fd_events::{Draw, Event, Pipeline};
 use fd_tile::{TILE_SIDE, Tile};
 use fd_undo::UndoStack;
@@ -41,29 +40,29 @@ const NO_COLOUR: Colour = Colour {
 };
 
 /// Blends a triangle's sources with neighbouring pixels of row y from column x on, all of which it covers.
-fn blend_triangle(row: &mut [Colour], x: u32, y: u32, primitive: &Primitive, state: &Pipeline)
-    requires brushed { IsBrushed primitive.now state.now }
+fn blend_triangle(row: &mut [Colour], x: u32, y: u32, primitive: &Primitive)
+    requires ready { IsReady primitive.now }
     requires few { length row.old ≤ TILE_SIDE }
     requires row { y < most_pixels }
     requires columns { x + length row.old ≤ most_pixels }
     requires covered { (column : ℕ) → x ≤ column → column < x + length row.old → IsTrue (covers primitive.now.corners column y) }
-    ensures { row.new ≡ changed_row (λ column before. colour_blended (triangle_of primitive.now) primitive.now.interp state.now column y before) x row.old }
+    ensures { row.new ≡ changed_row (λ column before. colour_blended (triangle_of primitive.now) primitive.now.interp primitive.now.state column y before) x row.old }
 {
     match &primitive.brush {
         Some(brush) => brush.draw(row),
-        None => blend_shaded(row, x, y, primitive, state),
+        None => blend_shaded(row, x, y, primitive),
     }
 }
 
 /// The same by the source of each pixel.
-fn blend_shaded(row: &mut [Colour], x: u32, y: u32, primitive: &Primitive, state: &Pipeline)
+fn blend_shaded(row: &mut [Colour], x: u32, y: u32, primitive: &Primitive)
     requires few { length row.old ≤ TILE_SIDE }
     requires row { y < most_pixels }
     requires columns { x + length row.old ≤ most_pixels }
     requires covered { (column : ℕ) → x ≤ column → column < x + length row.old → IsTrue (covers primitive.now.corners column y) }
-    ensures { row.new ≡ changed_row (λ column before. colour_blended (triangle_of primitive.now) primitive.now.interp state.now column y before) x row.old }
+    ensures { row.new ≡ changed_row (λ column before. colour_blended (triangle_of primitive.now) primitive.now.interp primitive.now.state column y before) x row.old }
 {
-    let Pipeline { blend, factor, .. } = *state;
+    let Pipeline { blend, factor, .. } = primitive.state;
     let mut sources = [NO_COLOUR; WIDEST];
     let sources = &mut sources[..row.len()];
     shade_row(
@@ -77,26 +76,11 @@ fn blend_shaded(row: &mut [Colour], x: u32, y: u32, primitive: &Primitive, state
     blend_row(&blend, factor, sources, row);
 }
 
-/// Keeps and then blends the pixels of row y from column `left` up to `right`, all of which a triangle covers.
-pub(crate) fn write_span(
-    primitive: &Primitive,
-    state: &Pipeline,
-    left: u32,
-    right: u32,
-    y: u32,
-    tile: &mut Tile,
-    undo: &mut UndoStack,
-)
-    requires made { tile.old.made ≡ true }
-    requires brushed { IsBrushed primitive.now state.now }
-    requires filled { IsTileImage tile.old }
-    requires crossed { HasRow tile.old.place y }
-    requires from_left { tile.old.place.left ≤ left }
-    requires some { left < right }
-    requires to_right { right ≤ tile.old.place.left + tile.old.place.width }
-    requires covered { (column : ℕ) → left ≤ column → column < right → covers primitive.now.corners column y ≡ true }
+/// Keeps the pixels of row y from column `left` up to `right`.
+pub(crate) fn keep_span(left: u32, right: u32, y: u32, tile: &Tile, undo: &mut UndoStack)
+    requires span { HasSpan left right y tile.now }
     requires room { HasRoom 1 (right - left) undo.old }
-    ensures { WritesRegion 1 (right - left) (in_row (columns_between left right) y) (pixel_blended (triangle_of primitive.now) primitive.now.interp state.now) keep_each tile.old undo.old tile.new undo.new }
+    ensures { WritesRegion 1 (right - left) (in_row (columns_between left right) y) as_it_is keep_each tile.now undo.old tile.now undo.new }
 {
     let place = tile.place();
     let start = (left - place.left) as usize;
@@ -108,75 +92,70 @@ pub(crate) fn write_span(
         &tile.depth_row(y)[start..end],
         tile.flat_depth(),
     );
-    let row = tile.row_mut(y);
-    blend_triangle(&mut row[start..end], left, y, primitive, state);
 }
 
-/// Keeps and then blends the pixels of row y at which a triangle was found.
-fn write_row(
+/// Blends a triangle's sources with the pixels of row y from column `left` up to `right`, all of which it covers.
+fn blend_span(primitive: &Primitive, left: u32, right: u32, y: u32, tile: &mut Tile)
+    requires span { HasSpan left right y tile.old }
+    requires ready { IsReady primitive.now }
+    requires covered { (column : ℕ) → left ≤ column → column < right → covers primitive.now.corners column y ≡ true }
+    ensures { ChangesSpan (pixel_blended (triangle_of primitive.now) primitive.now.interp primitive.now.state) left right y tile.old tile.new }
+{
+    let place = tile.place();
+    let start = (left - place.left) as usize;
+    let end = (right - place.left) as usize;
+    let row = tile.row_mut(y);
+    blend_triangle(&mut row[start..end], left, y, primitive);
+}
+
+/// Keeps and then blends the pixels of row y from column `left` up to `right`, all of which a triangle covers.
+pub(crate) fn write_span(
     primitive: &Primitive,
-    state: &Pipeline,
-    found: &Found,
+    left: u32,
+    right: u32,
     y: u32,
     tile: &mut Tile,
     undo: &mut UndoStack,
 )
+    requires span { HasSpan left right y tile.old }
+    requires ready { IsReady primitive.now }
+    requires covered { (column : ℕ) → left ≤ column → column < right → covers primitive.now.corners column y ≡ true }
+    requires room { HasRoom 1 (right - left) undo.old }
+    ensures { WritesRegion 1 (right - left) (in_row (columns_between left right) y) (pixel_blended (triangle_of primitive.now) primitive.now.interp primitive.now.state) keep_each tile.old undo.old tile.new undo.new }
+{
+    keep_span(left, right, y, tile, undo);
+    blend_span(primitive, left, right, y, tile);
+}
+
+/// Keeps and then writes those of the pixels of row y at which a triangle was found at which it is drawn.
+fn draw_row(primitive: &Primitive, found: &Found, y: u32, tile: &mut Tile, undo: &mut UndoStack)
     requires made { tile.old.made ≡ true }
-    requires brushed { IsBrushed primitive.now state.now }
-    requires found { IsFoundOn (triangle_of primitive.now) state.now tile.old.place found.now }
+    requires ready { IsReady primitive.now }
+    requires filled { IsTileImage tile.old }
+    requires found { IsFoundOn (triangle_of primitive.now) primitive.now.state tile.old.place found.now }
     requires from_top { found.now.area.top ≤ y }
     requires to_bottom { y < found.now.area.bottom }
-    requires room { HasRoom (spans_in (in_row (is_reached (triangle_of primitive.now) state.now) y) tile.old.place) (pixels_in (in_row (is_reached (triangle_of primitive.now) state.now) y) tile.old.place) undo.old }
-    ensures { WritesRegion (spans_in (in_row (is_reached (triangle_of primitive.now) state.now) y) tile.old.place) (pixels_in (in_row (is_reached (triangle_of primitive.now) state.now) y) tile.old.place) (in_row (is_reached (triangle_of primitive.now) state.now) y)
-        (pixel_blended (triangle_of primitive.now) primitive.now.interp state.now) keep_each tile.old undo.old tile.new undo.new }
+    requires room { HasRoom (region_spans primitive.now.state.depth.enable (in_row (reached_by primitive.now) y) tile.old.place) (pixels_in (in_row (reached_by primitive.now) y) tile.old.place) undo.old }
+    ensures { WritesRegion (region_spans primitive.now.state.depth.enable (in_row (reached_by primitive.now) y) tile.old.place) (pixels_in (in_row (reached_by primitive.now) y) tile.old.place) (in_row (reached_by primitive.now) y)
+        (painted_by primitive.now) (kept_of primitive.now) tile.old undo.old tile.new undo.new }
 {
-    let _place = tile.place();
     if let Some((left, right)) = found.span(&primitive.corners, y) {
-        write_span(primitive, state, left, right, y, tile, undo);
+        draw_span(primitive, left, right, y, tile, undo);
     }
 }
 
-/// Keeps and then blends the pixels at which a triangle was found, row after row.
-fn write_rows(
-    primitive: &Primitive,
-    state: &Pipeline,
-    found: &Found,
-    tile: &mut Tile,
-    undo: &mut UndoStack,
-)
+/// The same for all pixels at which it was found, row after row.
+fn draw_primitive(primitive: &Primitive, found: &Found, tile: &mut Tile, undo: &mut UndoStack)
     requires made { tile.old.made ≡ true }
-    requires brushed { IsBrushed primitive.now state.now }
+    requires ready { IsReady primitive.now }
     requires filled { IsTileImage tile.old }
-    requires found { IsFoundOn (triangle_of primitive.now) state.now tile.old.place found.now }
-    requires room { HasRoom (spans_in (is_reached (triangle_of primitive.now) state.now) tile.old.place) (pixels_in (is_reached (triangle_of primitive.now) state.now) tile.old.place) undo.old }
-    ensures { WritesRegion (spans_in (is_reached (triangle_of primitive.now) state.now) tile.old.place) (pixels_in (is_reached (triangle_of primitive.now) state.now) tile.old.place) (is_reached (triangle_of primitive.now) state.now)
-        (pixel_blended (triangle_of primitive.now) primitive.now.interp state.now) keep_each tile.old undo.old tile.new undo.new }
+    requires found { IsFoundOn (triangle_of primitive.now) primitive.now.state tile.old.place found.now }
+    requires room { HasRoom (triangle_spans primitive.now.state tile.old.place (triangle_of primitive.now)) (triangle_pixels primitive.now.state tile.old.place (triangle_of primitive.now)) undo.old }
+    ensures { WritesRegion (triangle_spans primitive.now.state tile.old.place (triangle_of primitive.now)) (triangle_pixels primitive.now.state tile.old.place (triangle_of primitive.now)) (reached_by primitive.now)
+        (painted_by primitive.now) (kept_of primitive.now) tile.old undo.old tile.new undo.new }
 {
     for y in found.area.top..found.area.bottom {
-        write_row(primitive, state, found, y, tile, undo);
-    }
-}
-
-/// Keeps and then writes those at which it is drawn: by rows, or with the depth test on by runs.
-fn draw_primitive(
-    primitive: &Primitive,
-    state: &Pipeline,
-    found: &Found,
-    tile: &mut Tile,
-    undo: &mut UndoStack,
-)
-    requires made { tile.old.made ≡ true }
-    requires brushed { IsBrushed primitive.now state.now }
-    requires filled { IsTileImage tile.old }
-    requires found { IsFoundOn (triangle_of primitive.now) state.now tile.old.place found.now }
-    requires room { HasRoom (triangle_spans state.now tile.old.place (triangle_of primitive.now)) (triangle_pixels state.now tile.old.place (triangle_of primitive.now)) undo.old }
-    ensures { WritesRegion (triangle_spans state.now tile.old.place (triangle_of primitive.now)) (triangle_pixels state.now tile.old.place (triangle_of primitive.now)) (is_reached (triangle_of primitive.now) state.now)
-        (pixel_after_triangle (triangle_of primitive.now) primitive.now.interp state.now) (kept_by_triangle (triangle_of primitive.now) state.now) tile.old undo.old tile.new undo.new }
-{
-    if state.depth.enable {
-        draw_tested(primitive, state, found, tile, undo);
-    } else {
-        write_rows(primitive, state, found, tile, undo);
+        draw_row(primitive, found, y, tile, undo);
     }
 }
 
@@ -197,40 +176,20 @@ fn draw_found(
     ensures { WritesRegion (triangle_spans state.now tile.old.place (triangle_at draw.now triangle)) (triangle_pixels state.now tile.old.place (triangle_at draw.now triangle)) (is_reached (triangle_at draw.now triangle) state.now)
         (pixel_after_triangle (triangle_at draw.now triangle) draw.now.interp state.now) (kept_by_triangle (triangle_at draw.now triangle) state.now) tile.old undo.old tile.new undo.new }
 {
+    let corners = draw.tri(triangle);
     let colours = draw.colours(triangle);
+    let depths = draw.depths(triangle);
     let interp = draw.interp();
     let primitive = Primitive {
-        corners: draw.tri(triangle),
+        corners,
         colours,
-        depths: draw.depths(triangle),
+        depths,
         interp,
         brush: brush_of(interp, state, colours[0]),
+        depth_rows: depth_rows_of(&corners, &depths, state),
+        state: *state,
     };
-    draw_primitive(&primitive, state, found, tile, undo);
-}
-
-/// Finds a triangle of a draw, and then does the same; `window` has the pixels that the scissor leaves.
-fn draw_triangle(
-    draw: &Draw,
-    triangle: u32,
-    state: &Pipeline,
-    window: Bounds,
-    tile: &mut Tile,
-    undo: &mut UndoStack,
-)
-    requires made { tile.old.made ≡ true }
-    requires triangle { triangle < length (triangles_of draw.now) }
-    requires filled { IsTileImage tile.old }
-    requires inside { LiesIn window tile.old.place }
-    requires left_open { IsOpen window state.now.raster state.now.scissor tile.old.place }
-    requires room { HasRoom (triangle_spans state.now tile.old.place (triangle_at draw.now triangle)) (triangle_pixels state.now tile.old.place (triangle_at draw.now triangle)) undo.old }
-    ensures { WritesRegion (triangle_spans state.now tile.old.place (triangle_at draw.now triangle)) (triangle_pixels state.now tile.old.place (triangle_at draw.now triangle)) (is_reached (triangle_at draw.now triangle) state.now)
-        (pixel_after_triangle (triangle_at draw.now triangle) draw.now.interp state.now) (kept_by_triangle (triangle_at draw.now triangle) state.now) tile.old undo.old tile.new undo.new }
-{
-    let _place = tile.place();
-    if let Some(found) = find(&draw.tri(triangle), &state.raster, window) {
-        draw_found(draw, triangle, &found, state, tile, undo);
-    }
+    draw_primitive(&primitive, found, tile, undo);
 }
 
 /// Keeps and then writes the pixels at which the triangles of a draw are drawn, one triangle after the other: those that are planned, and
@@ -257,7 +216,9 @@ fn draw_triangles(draw: &Draw, state: &Pipeline, plan: &Plan, tile: &mut Tile, u
     let window = open_area(&state.raster, &state.scissor, place);
     let mut triangle = next_near(draw, plan.rest, window);
     while triangle < count {
-        draw_triangle(draw, triangle, state, window, tile, undo);
+        if let Some(found) = find(&draw.tri(triangle), &state.raster, window) {
+            draw_found(draw, triangle, &found, state, tile, undo);
+        }
         triangle = next_near(draw, triangle + 1, window);
     }
 }

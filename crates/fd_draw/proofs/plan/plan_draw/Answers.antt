@@ -29,11 +29,6 @@ pub returns-then-is_idle-clause-pixels : goal.returns-then-is_idle-clause-pixels
 returns-then-is_idle-clause-pixels c = ap (λ (d : Demand). d.pixels) c.without_triangles-plan.ensures.demand
     ∙ sym (no_pixels (triangles_of c.args.draw.now) c.args.state.now c.args.place (idle c))
 
-pub returns-then-is_idle-clause-planned : goal.returns-then-is_idle-clause-planned
-returns-then-is_idle-clause-planned c =
-    rw c.without_triangles-plan.ensures.planned
-    (omega arith, omega (arith, c.without_triangles-plan.ensures.rest, c.triangles-count.ensures.value), λ i t from to at. idle c i t at)
-
 pub loop-triangle-init : goal.loop-triangle-init
 loop-triangle-init c =
     let d = c.args.draw.now in

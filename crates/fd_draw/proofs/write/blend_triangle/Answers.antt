@@ -14,10 +14,10 @@ pub returns-in-Some : goal.returns-in-Some
 returns-in-Some c =
     let p = c.args.primitive.now in
     let t = triangle_of p in
-    let s = c.args.state.now in
+    let s = c.args.primitive.now.state in
     let row = c.args.row.now in
     let brushed = subst (λ (o : Option Stroke). IfSome o (λ b. (p.interp ≡ Flat) × (b ≡ stroke_of s (colour_of p.colours 0)))) c.in-Some.is
-    c.requires.brushed in
+    c.requires.ready.brush in
     c.draw.ensures
     ∙ ap (λ (b : Stroke). drawn_row b.state b.factor b.source row) brushed.1
     ∙ drawn_columns t s c.args.x c.args.y row
