@@ -9,7 +9,7 @@ ghost use Rattle.fd_capture.specs.Head.{HasHead, table_of_text};
 
 use crate::fault::CaptureFault;
 use crate::head::{Head, read_head};
-use crate::tabled::{table, version};
+use crate::table::{table, version};
 use fd_events::EventTable;
 use std::alloc::Global;
 

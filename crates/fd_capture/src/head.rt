@@ -5,9 +5,9 @@ ghost use Rattle.serde_json.specs.Read.{read};
 ghost use Rattle.fd_json.specs.Taken.{taken, members_taken};
 ghost use Rattle.fd_capture.specs.Head.{HasHead, IsHead};
 
-use crate::drafted::{is_small, put};
+use crate::events::events;
 use crate::fault::CaptureFault;
-use crate::listed::events;
+use crate::members::{is_small, put};
 use fd_events::Event;
 use fd_json::{Stop, open_object, pass};
 use json::{Reader, Scratch};

@@ -222,7 +222,7 @@ impl Draw {
 
     /// Computes the boxes of the groups and of the triangles, and lists these in cells over a target of this size. On want of memory
     /// nothing changes.
-    pub(crate) fn box_groups(
+    pub(crate) fn list_triangles(
         &mut self,
         width: u32,
         height: u32,

@@ -70,7 +70,7 @@ impl Event {
 
     /// Computes the boxes of a draw's triangles and of their groups, and lists these in cells over a target of this size. On want of memory
     /// nothing changes.
-    pub(crate) fn box_groups(
+    pub(crate) fn list_triangles(
         &mut self,
         width: u32,
         height: u32,
@@ -79,7 +79,7 @@ impl Event {
         ensures { self.new ≡ self.old }
     {
         match self {
-            Event::Draw(draw) => draw.box_groups(width, height, alloc),
+            Event::Draw(draw) => draw.list_triangles(width, height, alloc),
             _ => Ok(()),
         }
     }

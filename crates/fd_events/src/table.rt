@@ -51,7 +51,7 @@ fn is_side(side: u32) -> bool
 
 /// Computes the boxes of all draws' triangles and of their groups, and lists these in cells over a target of this size. On want of memory
 /// no event has changed.
-fn box_groups(
+fn list_triangles(
     events: &mut [Event],
     width: u32,
     height: u32,
@@ -60,7 +60,7 @@ fn box_groups(
     ensures { events.new ≡ events.old }
 {
     for event in events.iter_mut() {
-        event.box_groups(width, height, alloc)?;
+        event.list_triangles(width, height, alloc)?;
     }
     Ok(())
 }
@@ -160,7 +160,7 @@ impl EventTable {
         if events.len() > MAX_EVENTS as usize {
             return Err(TableFault::TooMany);
         }
-        box_groups(&mut events, width, height, alloc)?;
+        list_triangles(&mut events, width, height, alloc)?;
         Ok(EventTable::all_on(alloc, version, width, height, events)?)
     }
 

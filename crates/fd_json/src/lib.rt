@@ -9,7 +9,7 @@ mod passing;
 mod stop;
 #[cfg(test)]
 mod tests;
-mod wholes;
+mod whole_number;
 
 pub use clipping::clipped;
 pub use leaves::{leaf, leaf_rest};
@@ -17,4 +17,4 @@ pub use numeral::number;
 pub use opening::{open_array, open_object};
 pub use passing::{NotJson, pass, pass_rest};
 pub use stop::Stop;
-pub use wholes::integer;
+pub use whole_number::integer;

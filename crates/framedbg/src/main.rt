@@ -6,7 +6,7 @@ ghost use Rattle.fd_cli.specs.Program.{AsksWorkers};
 
 use clap::error::ErrorKind;
 use clap::{ArgMatches, Error};
-use fd_cli::{Devices, Ending, Request, perform};
+use fd_cli::{Devices, Ending, MAX_CAPTURE_LEN, Request, perform};
 use fd_device::{Device, send};
 use screen::Screen;
 use std::alloc::Global;
@@ -20,7 +20,7 @@ mod screen;
 mod words;
 
 /// The most bytes that are read of a capture: one more than a capture may have.
-const MAX_READ: u64 = 67_108_865;
+const MAX_READ: u64 = MAX_CAPTURE_LEN as u64 + 1;
 
 /// The number of workers where none is asked for.
 const WORKERS: u32 = 4;

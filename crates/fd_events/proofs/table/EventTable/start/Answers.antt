@@ -21,8 +21,8 @@ returns c =
     let few : length events ≤ most_events = omega (arith, c.if-len.false, c.len.ensures, c.args.events.ok.0) in
     let wide : is_side c.args.width ≡ true = sym c.if-not-is_side.ensures in
     let high : is_side c.args.height ≡ true = sym c.if-not-is_side-2.ensures in
-    let same : c.box_groups.new.events ≡ events = c.box_groups.ensures ∙ c.deref_mut.ensures.value in
-    let left : take len (c.box_groups.new.events ++ drop (length c.box_groups.new.events) events) ≡ events =
+    let same : c.list_triangles.new.events ≡ events = c.list_triangles.ensures ∙ c.deref_mut.ensures.value in
+    let left : take len (c.list_triangles.new.events ++ drop (length c.list_triangles.new.events) events) ≡ events =
     ap (λ (es : List Event). take len (es ++ drop (length es) events)) same
     ∙ ap (λ (es : List Event). take len (events ++ es)) (drop_all (length events) events (omega arith))
     ∙ ap (take len) (append-nil events)
