@@ -7,11 +7,14 @@ import sys
 import time
 from dataclasses import dataclass
 
-import turns
-from turns import Taken
-
 HERE = pathlib.Path(__file__).resolve().parent
-PROGRAM = pathlib.Path(os.environ.get("FRAMEDBG", HERE.parent / "crates/framedbg/out/framedbg"))
+sys.path.append(str(HERE.parent / "tools"))
+
+import turns   # noqa: E402
+from framedbg_client.program import tried_program   # noqa: E402
+from turns import Taken   # noqa: E402
+
+PROGRAM = pathlib.Path(tried_program())
 ROUNDS = int(os.environ.get("ROUNDS", "5"))
 SCALE = int(os.environ.get("SCALE", "1"))
 COMPILER = ["gcc", "-O3", "-march=x86-64-v2"]

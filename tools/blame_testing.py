@@ -13,12 +13,13 @@ import unittest
 
 import reference
 from blaming import command_line, report, running, telling_json
+from framedbg_client.program import tried_program
 
 TOOLS = pathlib.Path(__file__).resolve().parent
 ROOT = TOOLS.parent
 EXAMPLES = ROOT / "examples"
 HUNTS = EXAMPLES / "hunts"
-PROGRAM = os.path.abspath(os.environ.get("FRAMEDBG", ROOT / "crates/framedbg/out/framedbg"))
+PROGRAM = tried_program()
 SECONDS = float(os.environ.get("BLAME_SECONDS", "600"))      # for a search: a wrong version, which may go on to its end, is given fewer
 NAMES = ("lantern", "balloons", "island", "fish", "planet", "lighthouse", "vase", "doughnut", "chain")
 

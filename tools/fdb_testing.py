@@ -18,12 +18,13 @@ from unittest import mock
 
 import debugger.batch
 from debugger import command_line
+from framedbg_client.program import tried_program
 
 TOOLS = pathlib.Path(__file__).resolve().parent
 ROOT = TOOLS.parent
 EXAMPLES = ROOT / "examples"
 HUNTS = EXAMPLES / "hunts"
-PROGRAM = os.path.abspath(os.environ.get("FRAMEDBG", ROOT / "crates/framedbg/out/framedbg"))
+PROGRAM = tried_program()
 FDB = TOOLS / "fdb"
 PATIENCE = int(os.environ.get("FDB_PATIENCE", "60"))       # seconds for what must come
 ESCAPES = re.compile(r"\x1b\[[0-9;?]*[A-Za-z]|\x01|\x02")

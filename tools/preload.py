@@ -5,7 +5,6 @@ import shutil
 import subprocess
 
 TOP = pathlib.Path(__file__).resolve().parent.parent
-PROGRAM = TOP / "crates/framedbg/out/framedbg"
 EXAMPLES = TOP / "examples"
 KIT = pathlib.Path(os.path.realpath(shutil.which("rt"))).parent.parent
 

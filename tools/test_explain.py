@@ -19,10 +19,11 @@ import unittest
 import reference
 from explaining import json_text
 from explaining.verdict import explained
+from framedbg_client.program import tried_program
 
 TOOLS = pathlib.Path(__file__).resolve().parent
 EXAMPLES = TOOLS.parent / "examples"
-PROGRAM = os.path.abspath(os.environ.get("FRAMEDBG", TOOLS.parent / "crates/framedbg/out/framedbg"))
+PROGRAM = tried_program()
 
 SEED, CASES, RUN_CASES = 20, 3000, 150
 CORNER = {"x": 65536, "y": -65536, "z": 9, "color": [1, 2, 3, 4]}

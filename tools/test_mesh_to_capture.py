@@ -13,12 +13,13 @@ import unittest
 from unittest import mock
 
 from explaining.verdict import explained
+from framedbg_client.program import tried_program
 from meshes import gltf, model, obj, ply, text
 from meshes.frame import BUGS, Look, capture
 from meshes.model import Fault
 
 TOOLS = pathlib.Path(__file__).resolve().parent
-PROGRAM = os.path.abspath(os.environ.get("FRAMEDBG", TOOLS.parent / "crates/framedbg/out/framedbg"))
+PROGRAM = tried_program()
 
 # A cube, and a smaller one on top of it that is of glass
 CORNERS = [(x, y, z) for z in (-1.0, 1.0) for y in (-1.0, 1.0) for x in (-1.0, 1.0)]

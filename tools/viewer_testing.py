@@ -8,12 +8,13 @@ import subprocess
 import threading
 import zlib
 
+from framedbg_client.program import tried_program
 from viewer.capture import Capture
 from viewer.server import Server
 from viewer.session import Session
 
 TOOLS = pathlib.Path(__file__).resolve().parent
-PROGRAM = os.path.abspath(os.environ.get("FRAMEDBG", TOOLS.parent / "crates/framedbg/out/framedbg"))
+PROGRAM = tried_program()
 EXAMPLES = pathlib.Path(os.environ.get("EXAMPLES", TOOLS.parent / "examples")).resolve()
 HOUSE = EXAMPLES / "house.json"
 

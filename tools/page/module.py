@@ -4,17 +4,18 @@ The toolchain has no road from a program to WebAssembly. So each step leans on h
 kit is told by its name.
 """
 import hashlib
-import os
 import pathlib
 import re
 import sys
 import tempfile
 
+from framedbg_client.program import tried_program
+
 from . import kit
 from .kit import step
 
 HERE = pathlib.Path(__file__).resolve().parent
-PROGRAM = pathlib.Path(os.environ.get("FRAMEDBG", HERE.parent.parent / "crates/framedbg/out/framedbg")).resolve()
+PROGRAM = pathlib.Path(tried_program()).resolve()
 # Layout, flags and attributes as rattle itself has them for wasm64
 LAYOUT = "e-m:e-p:64:64-p10:8:8-p20:8:8-i64:64-i128:128-n32:64-S128-ni:1:10:20"
 TARGET = ["--target=wasm64-unknown-unknown", "-mcpu=lime1", "-msimd128", "--no-default-config", "-no-canonical-prefixes", "-ffunction-sections", "-fdata-sections", "-Werror"]
