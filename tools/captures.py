@@ -9,16 +9,27 @@
 
 Positions are pixels of the target with y down, the centre of the first at 0.5, 0.5; depths are 0 to 1; colours are bytes. `place` turns
 clip space into these. A Fault says what a capture can't hold.
+
+The limits and spellings of captures stand here, and nowhere else in Python but in reference.py, which has its own to be compared with.
 """
 import json
 
 PIXEL = 65536                   # captures give positions in 1/65536 pixel
-FARTHEST = 65535
+FARTHEST = 65535                # the largest depth
 MOST_SIDE, MOST_EVENTS, MOST_CORNERS, MOST_BYTES, MOST_NAME = 16384, 1_000_000, 196_608, 67_108_864, 64
-FACTORS = {"ZERO", "ONE", "SRC_COLOR", "INV_SRC_COLOR", "SRC_ALPHA", "INV_SRC_ALPHA", "DEST_ALPHA", "INV_DEST_ALPHA", "DEST_COLOR",
-           "INV_DEST_COLOR", "BLEND_FACTOR", "INV_BLEND_FACTOR"}
-OPERATIONS = {"ADD", "SUBTRACT", "REV_SUBTRACT", "MIN", "MAX"}
-FUNCTIONS = {"NEVER", "LESS", "EQUAL", "LESS_EQUAL", "GREATER", "NOT_EQUAL", "GREATER_EQUAL", "ALWAYS"}
+MOST_TRIANGLES = MOST_CORNERS // 3              # of one draw
+MOST_POSITION = MOST_SIDE * PIXEL               # to both sides
+LEAST_EDGE, MOST_EDGE = -(1 << 31), (1 << 31) - 1       # of a scissor's rectangle
+KINDS = ("clear", "raster", "scissor", "blend", "factor", "draw", "marker", "depth", "depth_clear")
+ONLY_IN_TWO = ("depth", "depth_clear")          # kinds that version 1 doesn't have
+STATES = ("raster", "scissor", "blend", "factor", "depth")      # kinds that set a part of the state
+INTERPOLATIONS = ("flat", "linear")
+CULLS = ("none", "front", "back")
+FACTORS = ("ZERO", "ONE", "SRC_COLOR", "INV_SRC_COLOR", "SRC_ALPHA", "INV_SRC_ALPHA", "DEST_ALPHA", "INV_DEST_ALPHA", "DEST_COLOR",
+           "INV_DEST_COLOR", "BLEND_FACTOR", "INV_BLEND_FACTOR")
+ALPHA_FACTORS = tuple(name for name in FACTORS if not name.endswith("_COLOR"))     # a colour is none in the alpha part
+OPERATIONS = ("ADD", "SUBTRACT", "REV_SUBTRACT", "MIN", "MAX")
+FUNCTIONS = ("NEVER", "LESS", "EQUAL", "LESS_EQUAL", "GREATER", "NOT_EQUAL", "GREATER_EQUAL", "ALWAYS")
 
 
 class Fault(Exception):
@@ -79,7 +90,7 @@ class Capture:
         self.add("depth_clear", source, depth=depth_word(depth))
 
     def raster(self, cull, front_ccw, scissor, source=None):
-        known(cull, {"none", "front", "back"}, "cull mode")
+        known(cull, CULLS, "cull mode")
         self.add("raster", source, cull=cull, front_ccw=bool(front_ccw), scissor=bool(scissor))
 
     def scissor(self, left, top, right, bottom, source=None):
@@ -141,6 +152,6 @@ def part(words, is_alpha):
     if len(three) != 3:
         raise Fault(f"blend part {words!r}: source factor, destination factor, operation")
     for factor in three[:2]:
-        known(factor, {name for name in FACTORS if not (is_alpha and name.endswith("_COLOR"))}, "factor of alpha" if is_alpha else "factor")
+        known(factor, ALPHA_FACTORS if is_alpha else FACTORS, "factor of alpha" if is_alpha else "factor")
     known(three[2], OPERATIONS, "operation")
     return three

@@ -10,11 +10,11 @@ import pathlib
 import subprocess
 import sys
 
+from captures import FUNCTIONS, PIXEL
+
 EXAMPLES = pathlib.Path("examples")
-PIXEL = 65536  # captures give positions in 1/65536 pixel
 TRIANGLE = [(0, 0), (2, 0), (0, 2)]
 REPLACE, SUM, KEEP = ["ONE", "ZERO", "ADD"], ["ONE", "ONE", "ADD"], ["ZERO", "ONE", "ADD"]
-FUNCTIONS = ["NEVER", "LESS", "EQUAL", "LESS_EQUAL", "GREATER", "NOT_EQUAL", "GREATER_EQUAL", "ALWAYS"]
 sessions = {}
 
 

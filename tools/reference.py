@@ -2,7 +2,8 @@
 """reference.py CAPTURE < SESSION: what framedbg answers, worked out a second time and independently.
 
 A slow and plain replay, pixel by pixel, straight from docs/DEFINITIONS.md and docs/FORMATS.md: it shares no code and no
-method with the program (no row is cut by division, no image is kept, every pixel is made anew from a fresh target).
+method with the program (no row is cut by division, no image is kept, every pixel is made anew from a fresh target),
+and none with the other tools: its limits and spellings are its own, so that those of captures.py are compared with them.
 Its outputs stand in examples/*.expected, and the gate compares what the program writes with them.
 
 Other tools import it: fault says why a capture is refused, Frame holds one, replay gives a pixel and its history, reply

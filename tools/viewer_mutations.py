@@ -242,7 +242,7 @@ MUTATIONS = [   # name, file, text, what stands there instead, test
     ("mesh: more bytes than are read", "meshes/text.py", "length > MOST_BYTES - MOST_HEAD or ", "", "Meshes.test_more_than_a_capture_holds"),
     ("mesh: more events than are read", "meshes/text.py", " or len(lines) > MOST_EVENTS", "", "Meshes.test_more_than_a_capture_holds"),
     ("mesh: a name of any kind", "meshes/gltf.py", "value if isinstance(value, str) else other", "other if value is None else value", "Meshes.test_names_that_are_none"),
-    ("mesh: half a surrogate pair", "meshes/frame.py", 'name.encode(errors="replace")', "name.encode()", "Meshes.test_names_that_are_none"),
+    ("mesh: half a surrogate pair", "captures.py", 'kept.encode(errors="replace")', "kept.encode()", "Meshes.test_names_that_are_none"),
     ("mesh: points at no place", "meshes/model.py", "        if not all(map(math.isfinite, point)):", "        if False:", "Meshes.test_numbers_that_are_none"),
     ("mesh: points too far apart", "meshes/camera.py", "if not math.isfinite(radius):", "if False:", "Meshes.test_numbers_that_are_none"),
     ("mesh: any number", "meshes/model.py", "    if not math.isfinite(value):", "    if False:", "Meshes.test_numbers_that_are_none"),

@@ -2,10 +2,12 @@
 import collections
 import itertools
 
+from captures import FARTHEST, PIXEL
+
 from .blending import Chain
 from .cells import Cell
 from .fragments import centre, cross, mean, snapped
-from .frame import PIXEL, order_of
+from .frame import order_of
 from .kinds import kind, replaced
 from .slips import vertices_near
 from .states import allowed
@@ -170,11 +172,11 @@ def depths(case, number):
 
 def depth_of(case, points, deep):
     """The best depth of a vertex for some points, by ever smaller steps."""
-    step, best, grid = 4096, None, [*range(0, 65536, 4096), 65535]
+    step, best, grid = 4096, None, [*range(0, FARTHEST, 4096), FARTHEST]
     while grid:
         case.trials.count += len(grid)
         best = min([*((points.worth(deep(z)), z) for z in grid), *([best] if best else [])])
         (_, left), z = best
         step //= 4
-        grid = [other for other in range(z - 4 * step, z + 4 * step + 1, step or 1) if 0 <= other <= 65535] if step and left else []
+        grid = [other for other in range(z - 4 * step, z + 4 * step + 1, step or 1) if 0 <= other <= FARTHEST] if step and left else []
     return best[1]

@@ -2,7 +2,8 @@
 import collections
 from dataclasses import dataclass, field
 
-from .frame import PIXEL, STATES
+from captures import PIXEL, STATES
+
 
 BY_VERDICT = {"scissored": ("raster", "scissor"), "culled": ("raster",), "depthfailed": ("depth", "depth_clear")}
 WEIGHTS = {"hidden": 3, "hider": 4, "over": 3, "last": 1, "blend": 3, "state": 0.9, "touched": 0.2, "reaches": 0.3}

@@ -8,12 +8,10 @@ import json
 import operator
 import pathlib
 
-from explaining.rules import MOST_BYTES, MOST_POSITION
+from captures import LEAST_EDGE, MOST_BYTES, MOST_EDGE, MOST_POSITION, PIXEL, STATES
 
 from .faults import READING, Fault
 
-PIXEL = 65536            # captures give positions in 1/65536 pixel
-STATES = ("raster", "scissor", "blend", "factor", "depth")
 AT_START = {
     "raster": {"kind": "raster", "cull": "back", "front_ccw": False, "scissor": False},
     "scissor": {"kind": "scissor", "rect": [0, 0, 0, 0]},
@@ -147,9 +145,8 @@ def moved(event, window):
     """An event as it is drawn on a window: what can't reach it is left out, and a draw that can't is None."""
     left, top, right, bottom = window
     if event["kind"] == "scissor":
-        low, high = -(1 << 31), (1 << 31) - 1
         by = (left, top, left, top)
-        return event | {"rect": [min(max(edge - offset, low), high) for edge, offset in zip(event["rect"], by)]}
+        return event | {"rect": [min(max(edge - offset, LEAST_EDGE), MOST_EDGE) for edge, offset in zip(event["rect"], by)]}
     if event["kind"] != "draw":
         return event
     box = [left * PIXEL, top * PIXEL, right * PIXEL, bottom * PIXEL]

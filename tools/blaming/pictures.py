@@ -4,11 +4,12 @@ import struct
 import zlib
 from dataclasses import dataclass
 
+from captures import MOST_SIDE
+
 from .faults import READING, Fault
 
 SIGNATURE = b"\x89PNG\r\n\x1a\n"
 CHANNELS = {0: 1, 2: 3, 3: 1, 4: 2, 6: 4}        # of a PNG, by its colour type
-MOST_SIDE = 16_384
 PPM = re.compile(rb"P6(?:\s+|\s*#[^\n]*\n)+?(\d+)(?:\s+|\s*#[^\n]*\n)+?(\d+)(?:\s+|\s*#[^\n]*\n)+?(\d+)\s")
 
 

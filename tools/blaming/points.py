@@ -3,13 +3,15 @@ nothing: what is told of a change in the end was drawn by framedbg."""
 import bisect
 import operator
 
+from captures import FARTHEST, PIXEL
+
 from .blending import blended
-from .frame import AT_START, PIXEL, order_of
+from .frame import AT_START, order_of
 from .fragments import Triangle, centre, snapped
 
 PASSES = {"NEVER": lambda source, stored: False, "LESS": operator.lt, "EQUAL": operator.eq, "LESS_EQUAL": operator.le, "GREATER": operator.gt,
           "NOT_EQUAL": operator.ne, "GREATER_EQUAL": operator.ge, "ALWAYS": lambda source, stored: True}
-FRESH = (0, 0, 0, 0), 65535      # a pixel's colour and depth before the first event
+FRESH = (0, 0, 0, 0), FARTHEST      # a pixel's colour and depth before the first event
 FEW = 16                 # points that are looked at first
 MOST_KEPT = 100_000      # triangles whose fragments are kept
 

@@ -4,13 +4,14 @@ import itertools
 import pathlib
 from dataclasses import dataclass, field
 
+from captures import STATES
 from framedbg_client import Client, Ended, History
 
 from . import states, orders, slips, corners     # noqa: F401  each puts kinds into the table, which are tried in this order
 from .clusters import clusters_of, outside, spread
 from .evidence import REACHES, Sample, suspects_of
 from .faults import MEMORY, Fault
-from .frame import STATES, differing_part
+from .frame import differing_part
 from .kinds import KINDS, Case, changes_of, searching, simple
 from .orders import WITHOUT
 from .points import Points

@@ -2,7 +2,9 @@
 import itertools
 import math
 
-from .frame import PIXEL, order_of
+from captures import PIXEL
+
+from .frame import order_of
 from .kinds import kind, replaced
 
 SLIPS = (1, 2, 3)

@@ -1,7 +1,7 @@
 """Kinds of change: parts of the state, clears, and how a draw is shaded. One thing of one event, by the values that it can have."""
 import collections
 
-from explaining.rules import ALPHA_FACTORS, FACTORS, FUNCTIONS, OPERATIONS
+from captures import ALPHA_FACTORS, CULLS, FACTORS, FARTHEST, FUNCTIONS, OPERATIONS
 
 from .blending import Chain
 from .frame import AT_START, key_of
@@ -51,7 +51,7 @@ def operations(case, number):
 @kind("cull", "raster")
 def culls(case, number):
     was = case.frame.events[number - 1]["cull"]
-    for cull in ("none", "front", "back"):
+    for cull in CULLS:
         yield from with_members(case, number, f"cull {cull} in place of {was}", cull=cull)
 
 
@@ -109,8 +109,8 @@ def depths(case, number):
     was = case.frame.events[number - 1]["depth"]
     met = sorted({entry.depths.source for sample in case.samples for entry in sample.entries if entry.event > number and entry.depths})
     between = [met[round(i * (len(met) - 1) / 15)] for i in range(16)] if met else []
-    for depth in dict.fromkeys([65535, 0, *(value for least in between for value in (least, least + 1)), 32768]):
-        if depth <= 65535:
+    for depth in dict.fromkeys([FARTHEST, 0, *(value for least in between for value in (least, least + 1)), 32768]):
+        if depth <= FARTHEST:
             yield from with_members(case, number, f"depth {depth} in place of {was}", depth=depth)
 
 
@@ -184,7 +184,7 @@ def blends(*parts):
 
 USUAL = {                # states that a program often sets, for where the one that is wanted is nowhere in the frame
     "blend": blends("SRC_ALPHA INV_SRC_ALPHA ADD", "ONE INV_SRC_ALPHA ADD", "SRC_ALPHA ONE ADD", "ONE ONE ADD", "DEST_COLOR ZERO ADD", "ZERO SRC_COLOR ADD"),
-    "raster": [AT_START["raster"] | {"cull": cull, "front_ccw": ccw} for ccw in (False, True) for cull in ("none", "front", "back")],
+    "raster": [AT_START["raster"] | {"cull": cull, "front_ccw": ccw} for ccw in (False, True) for cull in CULLS],
     "depth": [{"kind": "depth", "enable": True, "write": write, "func": func} for write in (True, False) for func in ("LESS", "LESS_EQUAL", "ALWAYS")],
 }
 

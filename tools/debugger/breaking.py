@@ -1,11 +1,10 @@
 """Words that set and take away breakpoints."""
+from captures import KINDS
 from framedbg_client import Pixel
 
 from .breakpoints import AtEvent, AtPixel, OfKind
 from .faults import Slip
 from .words import WORDS, number, place
-
-KINDS = ("clear", "raster", "scissor", "blend", "factor", "draw", "marker", "depth", "depth_clear")
 
 
 def at_pixel(session, arguments, usage):

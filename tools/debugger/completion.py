@@ -2,7 +2,8 @@
 import glob
 import os
 
-from .breaking import KINDS
+from captures import KINDS
+
 from .words import OWN, WORDS
 
 MOST = 200               # candidates: of more the list is no help

@@ -6,10 +6,10 @@ from itertools import groupby
 from operator import attrgetter
 from typing import NamedTuple
 
+from captures import STATES
 from framedbg_client import Colour, Garbled, History
 
 WRITERS = ("draw", "clear", "depth_clear")
-PARTS = ("raster", "scissor", "blend", "factor", "depth")       # of the state, each set by events of its kind
 KEPT = 64                # histories
 EVENT = re.compile(r"\d+ (?:on|off) ")
 
@@ -29,7 +29,7 @@ class Frame:
         if not reply.text.startswith("events "):
             raise Garbled(f"no reply of framedbg to events: {reply.text[:80]!r}")
         self.kinds = [sys.intern(event.split(" ", 1)[0]) for event in self.events]
-        self.setters = {part: [event for event, kind in enumerate(self.kinds, 1) if kind == part] for part in PARTS}
+        self.setters = {part: [event for event, kind in enumerate(self.kinds, 1) if kind == part] for part in STATES}
         self.histories, self.switches = {}, client.switches
 
     def __len__(self):

@@ -2,7 +2,7 @@
 
 Each call gives lines.
 """
-from .frame import PARTS
+from captures import STATES
 
 CHANNELS = "RGBA"
 
@@ -19,7 +19,7 @@ def state_parts(frame, state):
             "blend": f"{truth(state.blend)} {' '.join(state.rgb)} {' '.join(state.alpha)} {state.mask}", "factor": str(state.factor)}
     if state.depth:
         told["depth"] = f"{truth(state.depth.enable)} {truth(state.depth.write)} {state.depth.func}"
-    return [(part, told[part], frame.setter(part, frame.position)) for part in PARTS if part in told]
+    return [(part, told[part], frame.setter(part, frame.position)) for part in STATES if part in told]
 
 
 def set_by(event):

@@ -2,21 +2,13 @@
 import difflib
 import itertools
 
+from captures import (ALPHA_FACTORS, CULLS, FACTORS, FARTHEST, FUNCTIONS, INTERPOLATIONS, LEAST_EDGE, MOST_CORNERS, MOST_EDGE, MOST_EVENTS, MOST_NAME, MOST_POSITION,
+                      MOST_SIDE, ONLY_IN_TWO, OPERATIONS)
+
 from .json_text import Other
 
-MOST_BYTES = 67_108_864
-MOST_EVENTS = 1_000_000
-MOST_SIDE = 16_384
-MOST_CORNERS = 196_608        # vertices of a draw, and indices
-MOST_NAME = 64                # bytes of a marker's name
-MOST_POSITION = 1 << 30       # in 1/65536 pixel, to both sides
 MOST_COMPARED = 1000          # names that a misspelt one is compared with
 FAULTS = {1: "too long", 2: "not json", 3: "not a capture", 4: "version", 5: "size", 6: "too many events", 7: "unknown event", 8: "bad field"}
-FACTORS = ("ZERO", "ONE", "SRC_COLOR", "INV_SRC_COLOR", "SRC_ALPHA", "INV_SRC_ALPHA", "DEST_ALPHA", "INV_DEST_ALPHA", "DEST_COLOR",
-           "INV_DEST_COLOR", "BLEND_FACTOR", "INV_BLEND_FACTOR")
-ALPHA_FACTORS = tuple(name for name in FACTORS if not name.endswith("_COLOR"))
-OPERATIONS = ("ADD", "SUBTRACT", "REV_SUBTRACT", "MIN", "MAX")
-FUNCTIONS = ("NEVER", "LESS", "EQUAL", "LESS_EQUAL", "GREATER", "NOT_EQUAL", "GREATER_EQUAL", "ALWAYS")
 
 
 class Wrong(Exception):
@@ -72,13 +64,13 @@ def clear(event, _, path):
 
 
 def raster(event, _, path):
-    one_of(event, path, "cull", ("none", "front", "back"))
+    one_of(event, path, "cull", CULLS)
     flag(event, path, "front_ccw")
     flag(event, path, "scissor")
 
 
 def scissor(event, _, path):
-    whole_numbers(event, path, "rect", 4, -(1 << 31), (1 << 31) - 1)
+    whole_numbers(event, path, "rect", 4, LEAST_EDGE, MOST_EDGE)
 
 
 def blend(event, _, path):
@@ -98,7 +90,7 @@ def blend_part(part, path):
 
 
 def draw(event, version, path):
-    one_of(event, path, "interp", ("flat", "linear"))
+    one_of(event, path, "interp", INTERPOLATIONS)
     vertices = array(event, path, "vertices")
     for number, corner in enumerate(vertices):
         vertex(corner, version, (*path, "vertices", number))
@@ -120,7 +112,7 @@ def vertex(corner, version, path):
     for name in ("x", "y"):
         whole(corner, path, name, -MOST_POSITION, MOST_POSITION, " of 1/65536 pixel")
     if version == 2:
-        whole(corner, path, "z", 0, 65535)
+        whole(corner, path, "z", 0, FARTHEST)
     colour(corner, path)
 
 
@@ -141,10 +133,9 @@ def depth(event, _, path):
 
 
 def depth_clear(event, _, path):
-    whole(event, path, "depth", 0, 65535)
+    whole(event, path, "depth", 0, FARTHEST)
 
 
-ONLY_IN_TWO = ("depth", "depth_clear")
 KINDS = {"clear": clear, "raster": raster, "scissor": scissor, "blend": blend, "factor": clear, "draw": draw, "marker": marker,
          "depth": depth, "depth_clear": depth_clear}
 

@@ -1,4 +1,6 @@
 """Whether framedbg accepts a capture, and why not, in words."""
+from captures import MOST_BYTES
+
 from . import json_text, rules
 
 MOST_NUMBER, MOST_NAME = 1 << 64, 60        # of a call that is shown: its number is below, its name has so many characters
@@ -6,8 +8,8 @@ MOST_NUMBER, MOST_NAME = 1 << 64, 60        # of a call that is shown: its numbe
 
 def explained(data):
     """Whether a capture of these bytes is accepted, framedbg's own word for it, and the explanation."""
-    if len(data) > rules.MOST_BYTES:
-        return False, "1 too long", f"it has more than {rules.MOST_BYTES} bytes"
+    if len(data) > MOST_BYTES:
+        return False, "1 too long", f"it has more than {MOST_BYTES} bytes"
     text = data.decode("utf-8", "replace")
     try:
         text = json_text.decoded(data)

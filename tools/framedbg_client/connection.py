@@ -1,6 +1,7 @@
 """One process of `framedbg run` behind pipes: lines in, lines and bytes out."""
 import subprocess
 
+MOST_LINE, MOST_LINES, MOST_INPUT = 256, 1_000_000, 268_435_456      # bytes of a line, lines that a run answers, and bytes that it takes
 BUFFER = 1 << 20
 PATIENCE = 2             # seconds in which a run whose input has ended has to end
 

@@ -1,4 +1,6 @@
 """Captures at the limits that only long ones reach: how many bytes, events, vertices and indices there may be."""
+from captures import MOST_BYTES, MOST_CORNERS, MOST_EVENTS
+
 FRAME = '{"format":"framedbg","version":1,"width":1,"height":1,"events":[%s]}'
 DRAW = '{"kind":"draw","interp":"flat","vertices":[%s],"indices":[%s]}'
 VERTEX = '{"x":0,"y":0,"color":[0,0,0,0]}'
@@ -25,7 +27,7 @@ def of_indices(count):
     return FRAME % (DRAW % (VERTEX, listed("0", count)))
 
 
-MOST = [(of_bytes, 67108864), (of_events, 1000000), (of_vertices, 196608), (of_indices, 196608)]
+MOST = [(of_bytes, MOST_BYTES), (of_events, MOST_EVENTS), (of_vertices, MOST_CORNERS), (of_indices, MOST_CORNERS)]
 CASES = [(make, most + more) for make, most in MOST for more in (0, 1)]
 
 

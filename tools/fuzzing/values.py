@@ -1,18 +1,18 @@
 """Changes of a capture as a tree: members, types, numbers, texts, nesting, counts. Each takes a list with the tree in it, and dice."""
+from captures import (CULLS, FACTORS, FARTHEST, FUNCTIONS, INTERPOLATIONS, KINDS, LEAST_EDGE, MOST_CORNERS, MOST_EDGE, MOST_NAME, MOST_POSITION, MOST_SIDE,
+                      OPERATIONS)
+
 from .trees import Members, Written, arrays, copied, is_array, objects, places
 
 NAMES = ["format", "version", "width", "height", "events", "kind", "color", "cull", "front_ccw", "scissor", "rect", "enable", "rgb", "alpha", "mask", "interp",
          "vertices", "indices", "x", "y", "z", "name", "write", "func", "depth", "new"]
-SPELLED = [["clear", "raster", "scissor", "blend", "factor", "draw", "marker", "depth", "depth_clear"], ["flat", "linear"], ["none", "front", "back"],
-           ["ZERO", "ONE", "SRC_COLOR", "INV_SRC_COLOR", "SRC_ALPHA", "INV_SRC_ALPHA", "DEST_ALPHA", "INV_DEST_ALPHA", "DEST_COLOR", "INV_DEST_COLOR", "BLEND_FACTOR",
-            "INV_BLEND_FACTOR"], ["ADD", "SUBTRACT", "REV_SUBTRACT", "MIN", "MAX"],
-           ["NEVER", "LESS", "EQUAL", "LESS_EQUAL", "GREATER", "NOT_EQUAL", "GREATER_EQUAL", "ALWAYS"], ["framedbg"]]
+SPELLED = [*map(list, (KINDS, INTERPOLATIONS, CULLS, FACTORS, OPERATIONS, FUNCTIONS)), ["framedbg"]]
 WORDS = sum(SPELLED, [])
 CHARACTERS = ["\0", "\x01", "\x1f", " ", "\x7e", "\x7f", "\x80", "\u07ff", "\u0800", "\ud7ff", "\ue000", "\ufeff", "\uffff", "\U00010000", "\U0010ffff", "\ud800",
               "\udfff", "\u2028", "\n", '"', "\\", "/", "\b", "a", "\u00e9", "\u20ac"]
-LIMITS = [0, 1, 2, 3, 15, 255, 16384, 2048, 65535, 196608, 2**30, 2**29, 2**31 - 1, 2**31, 2**32 - 1, 2**53, 2**63 - 1, 2**63, 2**64 - 1]
-LEAST_AND_MOST = {"version": (1, 2), "width": (1, 16384), "height": (1, 16384), "x": (-2**30, 2**30), "y": (-2**30, 2**30), "z": (0, 65535), "mask": (0, 15),
-                  "depth": (0, 65535), "color": (0, 255), "rect": (-2**31, 2**31 - 1)}
+LIMITS = [0, 1, 2, 3, 15, 255, MOST_SIDE, 2048, FARTHEST, MOST_CORNERS, MOST_POSITION, 2**29, 2**31 - 1, 2**31, 2**32 - 1, 2**53, 2**63 - 1, 2**63, 2**64 - 1]
+LEAST_AND_MOST = {"version": (1, 2), "width": (1, MOST_SIDE), "height": (1, MOST_SIDE), "x": (-MOST_POSITION, MOST_POSITION), "y": (-MOST_POSITION, MOST_POSITION),
+                  "z": (0, FARTHEST), "mask": (0, 15), "depth": (0, FARTHEST), "color": (0, 255), "rect": (LEAST_EDGE, MOST_EDGE)}
 NUMERALS = ["-0", "-0", "-0.0", "0.0", "-0e0", "0e400", "0E-400", "-0e99999999999999999999", "1e-400", "1e308", "1.7976931348623157e308", "1.7976931348623158e308",
             "1.7976931348623159e308", "1e309", "-1e400", "1e99999999999999999999", "-1e-99999999999999999999", "1" * 309, "-" + "9" * 400, "0." + "0" * 400 + "1",
             "4.9e-324", "12345678901234567890123", "1.0", "255.0", "1e0", "1E+0", "10e-1"]
@@ -40,7 +40,7 @@ def a_number(dice):
 
 def a_name(dice):
     """As many bytes of UTF-8 as a marker's name may have, or one more or less; or a name with one special character."""
-    character, most = dice.choice(CHARACTERS), dice.choice([63, 64, 65])
+    character, most = dice.choice(CHARACTERS), dice.choice([MOST_NAME - 1, MOST_NAME, MOST_NAME + 1])
     if dice.random() < 0.5:
         return f"a{character}b"
     size = len(character.encode("utf-8", "surrogatepass"))

@@ -1,7 +1,8 @@
 """From meshes to events: one camera, one light, and the events of a capture."""
 import math
 
-PIXEL = 65536
+from captures import FARTHEST, PIXEL
+
 WIDTH, HEIGHT = 120, 90
 LIGHT = (-0.45, 0.75, 0.55)
 REPLACE, OVER, ADDED = ["ONE", "ZERO", "ADD"], ["SRC_ALPHA", "INV_SRC_ALPHA", "ADD"], ["SRC_ALPHA", "ONE", "ADD"]
@@ -66,7 +67,7 @@ def seen(point, eye=6.0, scale=150.0, middle=(WIDTH / 2, HEIGHT / 2)):
 def depth_of(point, eye=6.0):
     """As a projection has it: the nearer, the finer."""
     far = (1 / NEAR - 1 / max(NEAR, min(FAR, eye - point[2]))) / (1 / NEAR - 1 / FAR)
-    return round(65535 * far)
+    return round(FARTHEST * far)
 
 
 def normal(a, b, c):

@@ -1,6 +1,8 @@
 """The camera, in floats: where a model's points come to lie on the target, and how far away."""
 import math
 
+from captures import FARTHEST
+
 from .model import Fault
 
 EYE = 4.0                    # from the model's middle, in radii of the model
@@ -31,7 +33,7 @@ def looked_at(points, width, height, azimuth, elevation):
 def depth_of(distance):
     """A depth of 16 bits, as a projection from 2.9 to 5.1 radii away has it."""
     near, far = EYE - 1.1, EYE + 1.1
-    return round(65535 * (1 / near - 1 / max(near, min(far, distance))) / (1 / near - 1 / far))
+    return round(FARTHEST * (1 / near - 1 / max(near, min(far, distance))) / (1 / near - 1 / far))
 
 
 def normal(a, b, c):

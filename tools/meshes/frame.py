@@ -1,11 +1,11 @@
 """The events that draw a model: a backdrop, and each part with its state; and the bugs that may be planted in one of them."""
 from dataclasses import dataclass
 
+from captures import FARTHEST, MOST_TRIANGLES, PIXEL, label
+
 from .camera import depth_of, lit, looked_at, normal
 from .model import Fault
 
-PIXEL = 65536                # captures give positions in 1/65536 pixel
-MOST_TRIANGLES = 65536       # of one draw
 LAYERS = 24
 REPLACE, KEEP = ["ONE", "ZERO", "ADD"], ["ZERO", "ONE", "ADD"]
 OFF = {"kind": "blend", "enable": False, "rgb": REPLACE, "alpha": REPLACE, "mask": 15}
@@ -138,12 +138,11 @@ def vertex(x, y, distance, colour, deep):
 
 
 def marker(name):
-    name = "".join(c for c in name if ord(c) >= 32 and ord(c) != 127)
-    return {"kind": "marker", "name": name.encode(errors="replace")[:64].decode(errors="ignore")}
+    return {"kind": "marker", "name": label(name)}
 
 
 def backdrop(width, height, deep):
-    far = {"z": 65535} if deep else {}
+    far = {"z": FARTHEST} if deep else {}
     corner = lambda x, y, colour: {"x": x * PIXEL, "y": y * PIXEL, **far, "color": colour}
     up, down = [236, 239, 244, 255], [150, 160, 178, 255]
     a, b, c, d = corner(0, 0, up), corner(width, 0, up), corner(width, height, down), corner(0, height, down)

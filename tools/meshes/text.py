@@ -1,7 +1,7 @@
 """A capture's text, an event a line. What framedbg would refuse for its length isn't written."""
 import json
 
-from explaining.rules import MOST_BYTES, MOST_EVENTS
+from captures import MOST_BYTES, MOST_EVENTS
 
 from .model import Fault
 

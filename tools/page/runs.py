@@ -7,15 +7,14 @@ import pathlib
 import subprocess
 import tempfile
 
+from captures import ALPHA_FACTORS, FACTORS, FARTHEST, FUNCTIONS, INTERPOLATIONS, MOST_POSITION, OPERATIONS, PIXEL
+
 from .module import PROGRAM
 
 EXAMPLES = pathlib.Path(os.environ.get("EXAMPLES", pathlib.Path(__file__).resolve().parents[2] / "examples"))
-FACTORS = ["ZERO", "ONE", "SRC_ALPHA", "INV_SRC_ALPHA", "DEST_ALPHA", "INV_DEST_ALPHA", "BLEND_FACTOR", "INV_BLEND_FACTOR"]
-COLOURS = ["SRC_COLOR", "INV_SRC_COLOR", "DEST_COLOR", "INV_DEST_COLOR"]
-OPERATIONS = ["ADD", "SUBTRACT", "REV_SUBTRACT", "MIN", "MAX"]
-FUNCTIONS = ["NEVER", "LESS", "EQUAL", "LESS_EQUAL", "GREATER", "NOT_EQUAL", "GREATER_EQUAL", "ALWAYS"]
+COLOURS = tuple(name for name in FACTORS if name not in ALPHA_FACTORS)
 LINES = [b"", b" ", b"sing", b"goto", b"goto 4294967296", b"goto 0000000001", b"step 1", b"pixel 1", b"x" * 256, b"x" * 257, b"\xff\xfe", b"step\r", b"  back  ", b"goto -1"]
-PIXEL, BUNCH = 65536, 200       # 1/65536 pixel; runs that a page is given at once
+BUNCH = 200       # runs that a page is given at once
 # The runs in the page, two at a time: [output, errors, ending] of each
 IN_PAGE = """
 const [runs] = given, text = name => document.getElementById(name).textContent;
@@ -80,12 +79,12 @@ def colour(dice):
 
 
 def vertex(dice, width, height):
-    place = lambda size: dice.choice((dice.randrange(-8, size + 8) * PIXEL, dice.randrange(-9 * PIXEL, (size + 9) * PIXEL), dice.randrange(-1 << 30, (1 << 30) + 1)))
-    return {"x": place(width), "y": place(height), "z": dice.choice((0, 1000, 65535, dice.randrange(65536))), "color": colour(dice)}
+    place = lambda size: dice.choice((dice.randrange(-8, size + 8) * PIXEL, dice.randrange(-9 * PIXEL, (size + 9) * PIXEL), dice.randrange(-MOST_POSITION, MOST_POSITION + 1)))
+    return {"x": place(width), "y": place(height), "z": dice.choice((0, 1000, FARTHEST, dice.randrange(FARTHEST + 1))), "color": colour(dice)}
 
 
 def draw(dice, width, height):
-    event = {"kind": "draw", "interp": dice.choice(["flat", "linear"]), "vertices": [vertex(dice, width, height) for _ in range(dice.choice((0, 2, 3, 3, 6, 9, 30)))]}
+    event = {"kind": "draw", "interp": dice.choice(INTERPOLATIONS), "vertices": [vertex(dice, width, height) for _ in range(dice.choice((0, 2, 3, 3, 6, 9, 30)))]}
     if event["vertices"] and dice.random() < 0.3:
         event["indices"] = [dice.randrange(len(event["vertices"])) for _ in range(dice.randrange(12))]
     return event
@@ -96,15 +95,15 @@ def event(dice, width, height, version):
         "clear": lambda: {"color": colour(dice)},
         "raster": lambda: {"cull": dice.choice(["none", "none", "front", "back"]), "front_ccw": dice.random() < 0.5, "scissor": dice.random() < 0.3},
         "scissor": lambda: {"rect": [dice.randrange(-9, 60) for _ in range(4)]},
-        "blend": lambda: {"enable": dice.random() < 0.7, "rgb": [*dice.choices(FACTORS + COLOURS, k=2), dice.choice(OPERATIONS)],
-                          "alpha": [*dice.choices(FACTORS, k=2), dice.choice(OPERATIONS)], "mask": dice.choice((15, 15, dice.randrange(16)))},
+        "blend": lambda: {"enable": dice.random() < 0.7, "rgb": [*dice.choices(ALPHA_FACTORS + COLOURS, k=2), dice.choice(OPERATIONS)],
+                          "alpha": [*dice.choices(ALPHA_FACTORS, k=2), dice.choice(OPERATIONS)], "mask": dice.choice((15, 15, dice.randrange(16)))},
         "factor": lambda: {"color": colour(dice)},
         "marker": lambda: {"name": dice.choice(["", "a house", "\u00e9" * 32])},
         "draw": lambda: draw(dice, width, height),
     }
     if version == 2:
         kinds["depth"] = lambda: {"enable": dice.random() < 0.7, "write": dice.random() < 0.7, "func": dice.choice(FUNCTIONS)}
-        kinds["depth_clear"] = lambda: {"depth": dice.randrange(65536)}
+        kinds["depth_clear"] = lambda: {"depth": dice.randrange(FARTHEST + 1)}
     kind = dice.choice([*kinds, "draw", "draw", "draw"])
     return {"kind": kind, **kinds[kind]()}
 

@@ -1,8 +1,7 @@
 """One bug of each kind, planted by a seed: the events with it, and the events by whose number it may be named."""
-from explaining.rules import ALPHA_FACTORS, FACTORS, FUNCTIONS, OPERATIONS
-
 from blaming.frame import order_of
 from blaming.kinds import inserted, replaced
+from captures import ALPHA_FACTORS, FACTORS, FUNCTIONS, OPERATIONS
 
 PLANTS = {}              # by the name of the kind of change that mends it
 

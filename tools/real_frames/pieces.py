@@ -1,5 +1,6 @@
 """Triangles of a draw on the target, and how one is cut in two."""
-from .placing import PIXEL
+from captures import PIXEL
+
 from .raster import Triangle, snap
 
 WHITE = (255, 255, 255, 255)

@@ -2,10 +2,11 @@
 import math
 from dataclasses import dataclass
 
+from captures import PIXEL
+
 from .clipping import clip, clip_line, planes
 from .raster import CENTRE, snap
 
-PIXEL = 65536
 WHOLE = 256                     # a pixel after snapping
 STEP = PIXEL // WHOLE
 

@@ -1,7 +1,7 @@
 """The rules of framedbg for snapping, coverage and depth, in whole numbers; docs/DEFINITIONS.md has them."""
+from captures import FARTHEST
 
 CENTRE = 128                    # of a pixel, in 1/256 pixel
-FARTHEST = 65535
 COMPARES = {
     "NEVER": lambda s, d: False, "LESS": lambda s, d: s < d, "EQUAL": lambda s, d: s == d, "LESS_EQUAL": lambda s, d: s <= d,
     "GREATER": lambda s, d: s > d, "NOT_EQUAL": lambda s, d: s != d, "GREATER_EQUAL": lambda s, d: s >= d, "ALWAYS": lambda s, d: True,

@@ -2,17 +2,15 @@
 import zlib
 from collections import Counter
 
-from captures import MOST_CORNERS, label
+from captures import FARTHEST, MOST_CORNERS, MOST_TRIANGLES, PIXEL, label
 
 from . import grid, states
 from .painter import Detail, Painter, distinct
 from .pieces import Piece, place
-from .placing import PIXEL
-from .raster import FARTHEST, DepthTarget
+from .raster import DepthTarget
 from .records import ClearRecord, DrawRecord, MarkerRecord, PictureRecord
 from .viewport import meet
 
-MOST_TRIANGLES = MOST_CORNERS // 3
 NO_COLOUR = (0, 0, 0, 0)
 
 

@@ -1,8 +1,9 @@
 """What a request must be, to be answered: the page's own, of this run, and of a bounded length."""
 import hmac
 
+from framedbg_client.connection import MOST_LINE
+
 from .runs import BESIDE
-from .session import MAX_LINE
 
 MAX_BODY = 1 << 16       # bytes of a call
 MAX_PICTURE = 1 << 25    # bytes of a picture
@@ -57,8 +58,8 @@ def commands(body):
     if not 1 <= len(lines) <= MAX_COMMANDS:
         raise Refused(400, f"from 1 to {MAX_COMMANDS} lines are wanted")
     for line in lines:
-        if len(line) > MAX_LINE or not all(32 <= byte < 127 for byte in line):
-            raise Refused(400, f"a line has at most {MAX_LINE} printable characters")
+        if len(line) > MOST_LINE or not all(32 <= byte < 127 for byte in line):
+            raise Refused(400, f"a line has at most {MOST_LINE} printable characters")
         if line.split()[:1] == [b"quit"]:
             raise Refused(400, "the viewer ends the run itself")
     return lines

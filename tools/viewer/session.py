@@ -4,15 +4,13 @@ import threading
 
 from framedbg_client import Ended
 from framedbg_client.client import bundles
-from framedbg_client.connection import Connection
+from framedbg_client.connection import MOST_LINES, Connection
 from framedbg_client.replies import extent
 
 from .image import read_image, widen
 from .nearby import Nearby, colours_of
 
-MAX_LINE = 256           # bytes of a command, as framedbg has it
 MAX_LISTED = 100_000     # lines of a list that are kept; the rest is read and counted
-MOST_LINES = 1_000_000   # that framedbg answers in a run
 BEGUN_BEFORE = 300_000   # of these are left when the next run is begun beside it
 BEGUN_BYTES = 4096       # of lines that it is given at once: they fit any pipe
 
