@@ -11,8 +11,10 @@ import tempfile
 import types
 import unittest
 
+import captures
 import reference
 from blaming import command_line, report, running, telling_json
+from captures import PIXEL, clear, raster     # noqa: F401  the tests have the last two from here
 from framedbg_client.program import tried_program
 
 TOOLS = pathlib.Path(__file__).resolve().parent
@@ -24,14 +26,9 @@ SECONDS = float(os.environ.get("BLAME_SECONDS", "600"))      # for a search: a w
 NAMES = ("lantern", "balloons", "island", "fish", "planet", "lighthouse", "vase", "doughnut", "chain")
 
 
-def vertex(x, y, color, z=0):
-    return {"x": int(x * 65536), "y": int(y * 65536), "z": z, "color": list(color)}
-
-
 def draw(*corners, interp="flat", indices=None):
     """A draw of (x, y, colour) or (x, y, colour, z)."""
-    made = {"kind": "draw", "interp": interp, "vertices": [vertex(*corner) for corner in corners]}
-    return made if indices is None else made | {"indices": list(indices)}
+    return captures.draw([captures.vertex(int(x * PIXEL), int(y * PIXEL), color, *z or [0]) for x, y, color, *z in corners], interp, indices)
 
 
 def box(left, top, right, bottom, color, z=0, interp="flat"):
@@ -40,24 +37,16 @@ def box(left, top, right, bottom, color, z=0, interp="flat"):
     return draw(*corners, interp=interp, indices=[0, 1, 2, 0, 2, 3])
 
 
-def clear(*color):
-    return {"kind": "clear", "color": list(color)}
-
-
 def blend(enable=True, rgb="SRC_ALPHA INV_SRC_ALPHA ADD", alpha="ONE INV_SRC_ALPHA ADD", mask=15):
-    return {"kind": "blend", "enable": enable, "rgb": rgb.split(), "alpha": alpha.split(), "mask": mask}
-
-
-def raster(cull="back", front_ccw=False, scissor=False):
-    return {"kind": "raster", "cull": cull, "front_ccw": front_ccw, "scissor": scissor}
+    return captures.blend(enable, rgb.split(), alpha.split(), mask)
 
 
 def depth(func="LESS", enable=True, write=True):
-    return {"kind": "depth", "enable": enable, "write": write, "func": func}
+    return captures.depth(enable, write, func)
 
 
 def capture(events, width=24, height=18, version=2):
-    return {"format": "framedbg", "version": version, "width": width, "height": height, "events": events}
+    return captures.frame(width, height, events, version)
 
 
 @functools.lru_cache(maxsize=None)

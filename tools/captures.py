@@ -28,6 +28,7 @@ CULLS = ("none", "front", "back")
 FACTORS = ("ZERO", "ONE", "SRC_COLOR", "INV_SRC_COLOR", "SRC_ALPHA", "INV_SRC_ALPHA", "DEST_ALPHA", "INV_DEST_ALPHA", "DEST_COLOR",
            "INV_DEST_COLOR", "BLEND_FACTOR", "INV_BLEND_FACTOR")
 ALPHA_FACTORS = tuple(name for name in FACTORS if not name.endswith("_COLOR"))     # a colour is none in the alpha part
+REPLACE = ("ONE", "ZERO", "ADD")                # the source alone: a part of blending as it is at the start, and off
 OPERATIONS = ("ADD", "SUBTRACT", "REV_SUBTRACT", "MIN", "MAX")
 FUNCTIONS = ("NEVER", "LESS", "EQUAL", "LESS_EQUAL", "GREATER", "NOT_EQUAL", "GREATER_EQUAL", "ALWAYS")
 
@@ -42,11 +43,71 @@ def label(name):
     return kept.encode(errors="replace")[:MOST_NAME].decode(errors="ignore")
 
 
+def compact(value):
+    """JSON without spaces."""
+    return json.dumps(value, separators=(",", ":"), ensure_ascii=False)
+
+
 def text(capture):
     """A capture as JSON, an event a line."""
+    return joined(capture, map(compact, capture["events"]))
+
+
+def joined(capture, lines):
+    """The same where the events are texts already."""
     head = {name: value for name, value in capture.items() if name != "events"}
-    lines = ",\n".join(json.dumps(event, separators=(",", ":"), ensure_ascii=False) for event in capture["events"])
-    return json.dumps(head, separators=(",", ":"))[:-1] + ',"events":[\n' + lines + "\n]}\n"
+    return json.dumps(head, separators=(",", ":"))[:-1] + ',"events":[\n' + ",\n".join(lines) + "\n]}\n"
+
+
+# ---- A frame and its events, as they stand in a file. Nothing is checked here: class Capture does that.
+
+def head(width, height, version=2):
+    return {"format": "framedbg", "version": version, "width": width, "height": height}
+
+
+def frame(width, height, events, version=2):
+    return {**head(width, height, version), "events": events}
+
+
+def marker(name):
+    return {"kind": "marker", "name": name}
+
+
+def clear(*four):
+    return {"kind": "clear", "color": list(four)}
+
+
+def depth_clear(word):
+    return {"kind": "depth_clear", "depth": word}
+
+
+def raster(cull="back", front_ccw=False, scissor=False):
+    return {"kind": "raster", "cull": cull, "front_ccw": bool(front_ccw), "scissor": bool(scissor)}
+
+
+def scissor(left, top, right, bottom):
+    return {"kind": "scissor", "rect": [left, top, right, bottom]}
+
+
+def blend(enable=True, rgb=REPLACE, alpha=REPLACE, mask=15):
+    return {"kind": "blend", "enable": bool(enable), "rgb": list(rgb), "alpha": list(alpha), "mask": mask}
+
+
+def factor(*four):
+    return {"kind": "factor", "color": list(four)}
+
+
+def depth(enable=True, write=True, func="LESS"):
+    return {"kind": "depth", "enable": bool(enable), "write": bool(write), "func": func}
+
+
+def vertex(x, y, four, z=None):
+    """A corner at a place in 1/65536 pixel, of version 2 where it has a depth."""
+    return {"x": x, "y": y, **({} if z is None else {"z": z}), "color": list(four)}
+
+
+def draw(vertices, interp="flat", indices=None):
+    return {"kind": "draw", "interp": interp, "vertices": vertices, **({} if indices is None else {"indices": list(indices)})}
 
 
 def place(clip, viewport, half_depth=False, y_up=True):
@@ -76,38 +137,41 @@ class Capture:
         self.width, self.height, self.events = width, height, []
 
     def add(self, kind, source=None, **members):
+        self.put({"kind": kind, **members}, source)
+
+    def put(self, event, source=None):
         if len(self.events) == MOST_EVENTS:
             raise Fault(f"more than {MOST_EVENTS} events")
-        self.events.append({"kind": kind, **members, **({"source": source} if source is not None else {})})
+        self.events.append({**event, **({"source": source} if source is not None else {})})
 
     def marker(self, name, source=None):
-        self.add("marker", source, name=label(name))
+        self.put(marker(label(name)), source)
 
     def clear(self, red, green, blue, alpha, source=None):
-        self.add("clear", source, color=colour((red, green, blue, alpha)))
+        self.put(clear(*colour((red, green, blue, alpha))), source)
 
     def depth_clear(self, depth, source=None):
-        self.add("depth_clear", source, depth=depth_word(depth))
+        self.put(depth_clear(depth_word(depth)), source)
 
     def raster(self, cull, front_ccw, scissor, source=None):
         known(cull, CULLS, "cull mode")
-        self.add("raster", source, cull=cull, front_ccw=bool(front_ccw), scissor=bool(scissor))
+        self.put(raster(cull, front_ccw, scissor), source)
 
     def scissor(self, left, top, right, bottom, source=None):
-        self.add("scissor", source, rect=[int(side) for side in (left, top, right, bottom)])
+        self.put(scissor(*map(int, (left, top, right, bottom))), source)
 
     def blend(self, enable, rgb="ONE ZERO ADD", alpha="ONE ZERO ADD", mask=15, source=None):
         """Parts are texts as "SRC_ALPHA INV_SRC_ALPHA ADD"; mask has red 1, green 2, blue 4, alpha 8."""
         if not 0 <= mask <= 15:
             raise Fault(f"mask {mask}: it is 0 to 15")
-        self.add("blend", source, enable=bool(enable), rgb=part(rgb, False), alpha=part(alpha, True), mask=mask)
+        self.put(blend(enable, part(rgb, False), part(alpha, True), mask), source)
 
     def factor(self, red, green, blue, alpha, source=None):
-        self.add("factor", source, color=colour((red, green, blue, alpha)))
+        self.put(factor(*colour((red, green, blue, alpha))), source)
 
     def depth(self, enable, write, function, source=None):
         known(function, FUNCTIONS, "comparison")
-        self.add("depth", source, enable=bool(enable), write=bool(write), func=function)
+        self.put(depth(enable, write, function), source)
 
     def draw(self, corners, linear=True, indices=None, source=None):
         """Triangles from corners (x, y, depth, colour), or from corners and indices."""
@@ -116,11 +180,11 @@ class Capture:
         bad = [index for index in indices or () if not 0 <= index < len(corners)]
         if bad:
             raise Fault(f"index {bad[0]} of {len(corners)} corners")
-        vertices = [{"x": position(x), "y": position(y), "z": depth_word(depth), "color": colour(four)} for x, y, depth, four in corners]
-        self.add("draw", source, interp="linear" if linear else "flat", vertices=vertices, **({"indices": list(indices)} if indices is not None else {}))
+        vertices = [vertex(position(x), position(y), colour(four), depth_word(depth)) for x, y, depth, four in corners]
+        self.put(draw(vertices, "linear" if linear else "flat", indices), source)
 
     def text(self):
-        made = text({"format": "framedbg", "version": 2, "width": self.width, "height": self.height, "events": self.events})
+        made = text(frame(self.width, self.height, self.events))
         if len(made.encode()) > MOST_BYTES:
             raise Fault(f"a capture of more than {MOST_BYTES} bytes")
         return made

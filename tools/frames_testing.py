@@ -3,7 +3,9 @@ import pathlib
 from dataclasses import dataclass, field
 from types import SimpleNamespace
 
+import captures
 import reference
+from captures import FARTHEST, PIXEL
 from real_frames import sources, states
 from real_frames.gather import Gatherer, Wanted
 from real_frames.losses import Losses
@@ -20,7 +22,7 @@ ADDED = ("One", "One", "Add"), ("One", "One", "Add")
 
 def image(events, width=WIDTH, height=HEIGHT):
     """The bytes of an image, by the reference."""
-    frame = reference.Frame({"format": "framedbg", "version": 2, "width": width, "height": height, "events": events})
+    frame = reference.Frame(captures.frame(width, height, events))
     frame.position = len(events)
     return frame.pam().partition(b"ENDHDR\n")[2]
 
@@ -34,7 +36,7 @@ def state(raster=("none", False), blend=None, mask=15, depth=(False, True, "LESS
     losses = SimpleNamespace(add=lambda *_, **__: None)
     box = scissor or [0, 0, WIDTH, HEIGHT]
     return states.State(Viewport(0, 0, WIDTH, HEIGHT), box, states.raster(*raster, scissor is not None),
-                        states.blend(*blend, mask, losses) if blend else states.plain(mask), {"kind": "factor", "color": [255] * 4}, states.depth(*depth), **more)
+                        states.blend(*blend, mask, losses) if blend else states.plain(mask), captures.factor(255, 255, 255, 255), states.depth(*depth), **more)
 
 
 @dataclass
@@ -60,8 +62,8 @@ def clip_space(x, y, z, w=1.0):
 def draw(event, triangles, own=None, name="draw()", **more):
     """Triangles of corners (x, y, depth 0 to 1, colour)."""
     own = own or state()
-    vertices = [{"x": round(x * 65536), "y": round(y * 65536), "z": round(z * 65535), "color": list(colour)} for corners in triangles for x, y, z, colour in corners]
-    truth = [own.raster, own.blend, own.depth, {"kind": "scissor", "rect": own.scissor}, {"kind": "draw", "interp": "linear", "vertices": vertices}]
+    vertices = [captures.vertex(round(x * PIXEL), round(y * PIXEL), colour, round(z * FARTHEST)) for corners in triangles for x, y, z, colour in corners]
+    truth = [own.raster, own.blend, own.depth, captures.scissor(*own.scissor), captures.draw(vertices, "linear")]
     placed = [((0, number), tuple(clip_space(x, y, z, 1 + number % 3) for x, y, z, _ in corners)) for number, corners in enumerate(triangles)]
     return Action(event, "draw", name, truth, state=own, triangles=placed, **more)
 
@@ -76,8 +78,8 @@ def clear(event, colour=None, depth=None, box=None, mask=15, more=()):
     own = state(depth=(depth is not None, True, "ALWAYS"), mask=mask if colour else 0)
     corners = [corner for left, top, right, bottom in (box or (0, 0, WIDTH, HEIGHT), *more)
                for corner in ((left, top), (right, top), (left, bottom), (right, top), (right, bottom), (left, bottom))]
-    vertices = [{"x": x << 16, "y": y << 16, "z": round((depth or 0) * 65535), "color": list(colour or (0, 0, 0, 0))} for x, y in corners]
-    return Action(event, "clear", "clear()", [own.raster, own.blend, own.depth, {"kind": "draw", "interp": "flat", "vertices": vertices}], clear=(colour, depth, [box, *more], mask))
+    vertices = [captures.vertex(x * PIXEL, y * PIXEL, colour or (0, 0, 0, 0), round((depth or 0) * FARTHEST)) for x, y in corners]
+    return Action(event, "clear", "clear()", [own.raster, own.blend, own.depth, captures.draw(vertices)], clear=(colour, depth, [box, *more], mask))
 
 
 class StandIn:

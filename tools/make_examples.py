@@ -4,29 +4,29 @@
 Run it at the repository's root after an edit here. Nothing of the program's own output goes into these files.
 """
 import argparse
-import json
 import math
 import pathlib
 import subprocess
 import sys
 
-from captures import FUNCTIONS, PIXEL
+import captures
+from captures import FUNCTIONS, PIXEL, REPLACE, blend, clear, compact, depth, depth_clear, marker, raster, scissor
 
 EXAMPLES = pathlib.Path("examples")
 TRIANGLE = [(0, 0), (2, 0), (0, 2)]
-REPLACE, SUM, KEEP = ["ONE", "ZERO", "ADD"], ["ONE", "ONE", "ADD"], ["ZERO", "ONE", "ADD"]
+SUM, KEEP = ["ONE", "ONE", "ADD"], ["ZERO", "ONE", "ADD"]
 sessions = {}
 
 
 def vertex(x, y, colour, z=None):
     """A corner, of version 2 where it has a depth."""
-    return {"x": int(x * PIXEL), "y": int(y * PIXEL)} | ({} if z is None else {"z": z}) | {"color": list(colour)}
+    return captures.vertex(int(x * PIXEL), int(y * PIXEL), colour, z)
 
 
 def draw(triangles, colour=None, interp="flat", z=None):
     """Triangles in pixels, in one colour and at one depth, or with a colour as the third part of each corner and a depth as the fourth."""
     corners = [(p[0], p[1], colour or p[2], p[3] if len(p) > 3 else z) for t in triangles for p in t]
-    return {"kind": "draw", "interp": interp, "vertices": [vertex(*corner) for corner in corners]}
+    return captures.draw([vertex(*corner) for corner in corners], interp)
 
 
 def quad(left, top, right, bottom, upper, lower=None, interp="flat", z=None):
@@ -39,42 +39,12 @@ def fan(x, y, radius, corners, centre, rim, z=None, z_rim=None):
     """A disc as triangles round its centre, by indices; rim is a colour for each corner in turn. With z_rim it is a cone in depth."""
     around = [(x + radius * math.cos(2 * math.pi * i / corners), y + radius * math.sin(2 * math.pi * i / corners)) for i in range(corners)]
     vertices = [vertex(x, y, centre, z)] + [vertex(px, py, rim[i % len(rim)], z if z_rim is None else z_rim) for i, (px, py) in enumerate(around)]
-    return {"kind": "draw", "interp": "linear", "vertices": vertices,
-            "indices": [k for i in range(corners) for k in (0, 1 + i, 1 + (i + 1) % corners)]}
-
-
-def raster(cull, front_ccw, scissor):
-    return {"kind": "raster", "cull": cull, "front_ccw": bool(front_ccw), "scissor": bool(scissor)}
-
-
-def scissor(*rect):
-    return {"kind": "scissor", "rect": list(rect)}
-
-
-def blend(enable, rgb, alpha, mask):
-    return {"kind": "blend", "enable": bool(enable), "rgb": rgb, "alpha": alpha, "mask": mask}
-
-
-def clear(*colour):
-    return {"kind": "clear", "color": list(colour)}
-
-
-def depth(enable, write, func):
-    return {"kind": "depth", "enable": bool(enable), "write": bool(write), "func": func}
-
-
-def depth_clear(value):
-    return {"kind": "depth_clear", "depth": value}
-
-
-def marker(name):
-    return {"kind": "marker", "name": name}
+    return captures.draw(vertices, "linear", [k for i in range(corners) for k in (0, 1 + i, 1 + (i + 1) % corners)])
 
 
 def capture(name, width, height, events, version=1):
-    head = '{"format":"framedbg","version":%d,"width":%d,"height":%d,"events":[' % (version, width, height)
-    body = ",\n".join(json.dumps(e, separators=(",", ":")) for e in events)
-    (EXAMPLES / f"{name}.json").write_text(head + ("\n" + body + "\n" if len(events) > 1 else body) + "]}\n")
+    made = captures.frame(width, height, events, version)
+    (EXAMPLES / f"{name}.json").write_text(captures.text(made) if len(events) > 1 else compact(made) + "\n")
 
 
 def session(name, of, *lines):

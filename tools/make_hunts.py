@@ -12,7 +12,7 @@ import subprocess
 import sys
 
 sys.path.insert(0, str(pathlib.Path(__file__).resolve().parent))
-from captures import FARTHEST, text   # noqa: E402
+from captures import FARTHEST, head, text   # noqa: E402
 from hunts.frames import FRAMES   # noqa: E402
 from hunts.stage import HEIGHT, WIDTH   # noqa: E402
 
@@ -22,11 +22,10 @@ PROCESSES = 2
 
 
 def write_capture(name, frame):
-    head = {"format": "framedbg", "version": frame.version, "width": WIDTH, "height": HEIGHT}
     for event in frame.events:
         for corner in event.get("vertices", []) if frame.version == 2 else []:
             corner.setdefault("z", FARTHEST)
-    (HUNTS / f"{name}.json").write_text(text({**head, "events": frame.events}))
+    (HUNTS / f"{name}.json").write_text(text({**head(WIDTH, HEIGHT, frame.version), "events": frame.events}))
 
 
 def write_session(name, lines, frame):

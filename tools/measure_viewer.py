@@ -18,6 +18,7 @@ import tempfile
 import time
 
 import browser
+from captures import clear, draw, factor, marker
 from viewer_testing import PROGRAM, Viewer, asked, capture_of, vertices
 
 TURNS = {"ArrowLeft": 12, "ArrowRight": 12, "ArrowUp": 12, "Home": 3, "End": 3}      # of each key
@@ -60,13 +61,12 @@ FILMED = 3      # seconds
 
 def large(events, side):
     """Markers, states and small triangles, as a frame of a game has them."""
-    made = [{"kind": "clear", "color": [40, 44, 52, 255]}]
+    made = [clear(40, 44, 52, 255)]
     while len(made) < events:
         i = len(made)
         x, y = i * 7919 % side, i * 104729 % side
         colour = [i % 256, i // 256 % 256, 128, 255]
-        made.append({"kind": "draw", "interp": "flat", "vertices": vertices((x, y, colour), (x + 12, y, colour), (x, y + 12, colour))} if i % 4
-                    else {"kind": "marker", "name": f"part {i}"} if i % 8 else {"kind": "factor", "color": colour})
+        made.append(draw(vertices((x, y, colour), (x + 12, y, colour), (x, y + 12, colour))) if i % 4 else marker(f"part {i}") if i % 8 else factor(*colour))
     return capture_of(side, side, made[:events])
 
 

@@ -10,13 +10,14 @@ import termios
 import time
 
 import passed_over
+from captures import compact, frame, marker
 
 HEAD = b"P7\nWIDTH 1\nHEIGHT 1\nDEPTH 4\nMAXVAL 255\nTUPLTYPE RGB_ALPHA\nENDHDR\n"
-PIXEL = b"\x0a\x14\x1e\x28"
+SHOWN = b"\x0a\x14\x1e\x28"
 WAITS, SPILLS = rb"framedbg: waiting for commands[^\n]+\n", rb"framedbg: the bytes of an image go to this terminal[^\n]+\n"
 ERASED = b"\r\x1b[K"
 EVENTS = 150_000        # markers: a move over them takes several parts
-LONG = b'{"format":"framedbg","version":1,"width":2048,"height":2048,"events":[' + b",".join([b'{"kind":"marker","name":"m"}'] * EVENTS) + b"]}"
+LONG = compact(frame(2048, 2048, [marker("m")] * EVENTS, version=1)).encode()
 SECONDS = 60
 
 
@@ -77,7 +78,7 @@ def check_typing(check):
     shown(ours)
     ran = subprocess.run(words, input=b"show\nstep\nshow\nquit\n", stdout=theirs, stderr=theirs, **how)
     seen = re.sub(SPILLS, b"spills\n", shown(ours))
-    wanted = b"spills\npam 69\n" + HEAD + bytes(4) + b"at 1\nspills\npam 69\n" + HEAD + PIXEL + b"bye\n"
+    wanted = b"spills\npam 69\n" + HEAD + bytes(4) + b"at 1\nspills\npam 69\n" + HEAD + SHOWN + b"bye\n"
     check.expect((ran.returncode, seen) == (0, wanted), f"images at a terminal: {ran}, {seen}")
     ran = subprocess.run([check.program, "image", "a.json"], stdout=theirs, stderr=subprocess.PIPE, **how)
     check.expect(ran.returncode == 0 and re.fullmatch(SPILLS, ran.stderr), f"an image alone at a terminal: {ran}")
@@ -87,7 +88,7 @@ def check_typing(check):
 
 def check_files(check):
     """An image that goes to a file or a pipe is not told of at a terminal on standard error."""
-    for words, given, out in (["image", "a.json"], b"", HEAD + PIXEL), (["run", "a.json"], b"step\nshow\nquit\n", b"at 1\npam 69\n" + HEAD + PIXEL + b"bye\n"):
+    for words, given, out in (["image", "a.json"], b"", HEAD + SHOWN), (["run", "a.json"], b"step\nshow\nquit\n", b"at 1\npam 69\n" + HEAD + SHOWN + b"bye\n"):
         found = told(check, words, given)
         check.expect(found == (0, out, b""), f"{words} into a pipe, with a terminal for errors: {found}")
 

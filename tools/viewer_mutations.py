@@ -251,7 +251,7 @@ MUTATIONS = [   # name, file, text, what stands there instead, test
     ("mesh: what is wrong as it stands there", "mesh_to_capture", "{printable(str(fault) or 'it takes more memory than there is')}", "{fault}", "Meshes.test_numbers_that_are_none"),
     ("blame: the mended picture is the one that isn't", "blame.py", 'return told, self.drawn(mended) if', 'return told, self.drawn(capture) if', "BlameCalled.test_what_is_found"),
     ("blame: events that are off are there", "blame.py", "        if off:", "        if False:", "BlameCalled.test_events_that_are_off"),
-    ("blame: the others' numbers slip", "blame.py", '{"kind": "marker", "name": "off"} if number in off else event for number, event in enumerate(capture["events"], 1)]',
+    ("blame: the others' numbers slip", "blame.py", 'marker("off") if number in off else event for number, event in enumerate(capture["events"], 1)]',
      'event for number, event in enumerate(capture["events"], 1) if number not in off]', "BlameCalled.test_events_that_are_off"),
     ("blame: a stop is none", "blame.py", "            run.terminate()", "            pass", "BlameCalled.test_a_stop"),
     ("blame: a second one is let in", "blame.py", "if not self.lock.acquire(blocking=False):", "if False:", "BlameCalled.test_a_stop"),

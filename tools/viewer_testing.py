@@ -8,6 +8,8 @@ import subprocess
 import threading
 import zlib
 
+import captures
+from captures import PIXEL, clear, depth, depth_clear, draw, raster, scissor
 from framedbg_client.program import tried_program
 from viewer.capture import Capture
 from viewer.server import Server
@@ -21,23 +23,20 @@ HOUSE = EXAMPLES / "house.json"
 
 def vertices(*corners):
     """Corners as (x, y, colour) in pixels, or (x, y, z, colour)."""
-    return [{"x": x << 16, "y": y << 16, **({"z": z[0]} if z else {}), "color": colour} for x, y, *z, colour in corners]
+    return [captures.vertex(x * PIXEL, y * PIXEL, colour, *z) for x, y, *z, colour in corners]
 
 
 def capture_of(width, height, events, version=1):
-    return json.dumps({"format": "framedbg", "version": version, "width": width, "height": height, "events": events})
+    return json.dumps(captures.frame(width, height, events, version))
 
 
 RED, GREEN, BLUE = [255, 0, 0, 255], [0, 255, 0, 0], [0, 0, 255, 128]
 WINDOW = capture_of(64, 48, [
-    {"kind": "clear", "color": [30, 60, 90, 255]}, {"kind": "raster", "cull": "none", "front_ccw": False, "scissor": True},
-    {"kind": "scissor", "rect": [8, 4, 40, 30]}, {"kind": "draw", "interp": "linear", "vertices": vertices((0, 0, RED), (64, 0, GREEN), (0, 48, BLUE))}])
+    clear(30, 60, 90, 255), raster("none", scissor=True), scissor(8, 4, 40, 30), draw(vertices((0, 0, RED), (64, 0, GREEN), (0, 48, BLUE)), "linear")])
 # A near triangle, then a farther one that fails the test where the near one is, on 8 by 8 pixels
 DEPTH = capture_of(8, 8, [
-    {"kind": "clear", "color": [40, 40, 40, 255]}, {"kind": "depth", "enable": True, "write": True, "func": "LESS"},
-    {"kind": "draw", "interp": "flat", "vertices": vertices((0, 0, 1000, RED), (8, 0, 1000, RED), (0, 8, 1000, RED))},
-    {"kind": "draw", "interp": "flat", "vertices": vertices((0, 0, 2000, BLUE), (16, 0, 2000, BLUE), (0, 16, 2000, BLUE))},
-    {"kind": "depth", "enable": True, "write": False, "func": "GREATER_EQUAL"}, {"kind": "depth_clear", "depth": 3000}], 2)
+    clear(40, 40, 40, 255), depth(), draw(vertices((0, 0, 1000, RED), (8, 0, 1000, RED), (0, 8, 1000, RED))),
+    draw(vertices((0, 0, 2000, BLUE), (16, 0, 2000, BLUE), (0, 16, 2000, BLUE))), depth(write=False, func="GREATER_EQUAL"), depth_clear(3000)], 2)
 # Answers as framedbg does where memory is wanted on the way forward: it never comes past position 2
 STOPPING = """#!/usr/bin/env python3
 import sys

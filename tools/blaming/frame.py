@@ -8,16 +8,14 @@ import json
 import operator
 import pathlib
 
-from captures import LEAST_EDGE, MOST_BYTES, MOST_EDGE, MOST_POSITION, PIXEL, STATES
+import captures
+from captures import LEAST_EDGE, MOST_BYTES, MOST_EDGE, MOST_POSITION, PIXEL, STATES, compact
 
 from .faults import READING, Fault
 
 AT_START = {
-    "raster": {"kind": "raster", "cull": "back", "front_ccw": False, "scissor": False},
-    "scissor": {"kind": "scissor", "rect": [0, 0, 0, 0]},
-    "blend": {"kind": "blend", "enable": False, "rgb": ["ONE", "ZERO", "ADD"], "alpha": ["ONE", "ZERO", "ADD"], "mask": 15},
-    "factor": {"kind": "factor", "color": [255, 255, 255, 255]},
-    "depth": {"kind": "depth", "enable": False, "write": True, "func": "LESS"},
+    "raster": captures.raster(), "scissor": captures.scissor(0, 0, 0, 0), "blend": captures.blend(False), "factor": captures.factor(255, 255, 255, 255),
+    "depth": captures.depth(False),
 }
 
 
@@ -33,10 +31,6 @@ def read_capture(path):
         return json.loads(data)
     except (ValueError, RecursionError):
         raise Fault(f"{path}: no JSON") from None
-
-
-def text_of(event):
-    return json.dumps(event, separators=(",", ":"), ensure_ascii=False)
 
 
 def key_of(event):
@@ -121,7 +115,7 @@ class Frame:
 
     def text(self, events, window=None):
         """A capture with these events; of a window alone where one is given, as a target of its own."""
-        head = {"format": "framedbg", "version": self.version, "width": self.width, "height": self.height}
+        head = captures.head(self.width, self.height, self.version)
         if window:
             head |= {"width": window[2] - window[0], "height": window[3] - window[1]}
         texts = (self._text(event, window) for event in events)
@@ -132,7 +126,7 @@ class Frame:
         if key not in self._texts:
             shown = {name: what for name, what in event.items() if name != "source"} if "source" in event else event
             shown = moved(shown, window) if window else shown
-            self._texts[key] = event, text_of(shown) if shown else ""
+            self._texts[key] = event, compact(shown) if shown else ""
         return self._texts[key][1]
 
     def forget(self, events):
@@ -156,7 +150,7 @@ def moved(event, window):
         return None
     numbers = {number: at for at, number in enumerate(dict.fromkeys(i for triangle in named for i in triangle))}
     shifted = [vertices[i] | {"x": vertices[i]["x"] - box[0], "y": vertices[i]["y"] - box[1]} for i in numbers]
-    return {"kind": "draw", "interp": event["interp"], "vertices": shifted, "indices": [numbers[i] for triangle in named for i in triangle]}
+    return captures.draw(shifted, event["interp"], [numbers[i] for triangle in named for i in triangle])
 
 
 def meets(corners, box):

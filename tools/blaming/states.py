@@ -1,7 +1,7 @@
 """Kinds of change: parts of the state, clears, and how a draw is shaded. One thing of one event, by the values that it can have."""
 import collections
 
-from captures import ALPHA_FACTORS, CULLS, FACTORS, FARTHEST, FUNCTIONS, OPERATIONS
+from captures import ALPHA_FACTORS, CULLS, FACTORS, FARTHEST, FUNCTIONS, OPERATIONS, depth, scissor
 
 from .blending import Chain
 from .frame import AT_START, key_of
@@ -185,7 +185,7 @@ def blends(*parts):
 USUAL = {                # states that a program often sets, for where the one that is wanted is nowhere in the frame
     "blend": blends("SRC_ALPHA INV_SRC_ALPHA ADD", "ONE INV_SRC_ALPHA ADD", "SRC_ALPHA ONE ADD", "ONE ONE ADD", "DEST_COLOR ZERO ADD", "ZERO SRC_COLOR ADD"),
     "raster": [AT_START["raster"] | {"cull": cull, "front_ccw": ccw} for ccw in (False, True) for cull in CULLS],
-    "depth": [{"kind": "depth", "enable": True, "write": write, "func": func} for write in (True, False) for func in ("LESS", "LESS_EQUAL", "ALWAYS")],
+    "depth": [depth(write=write, func=func) for write in (True, False) for func in ("LESS", "LESS_EQUAL", "ALWAYS")],
 }
 
 
@@ -210,7 +210,7 @@ def round_clusters(case):
     """Scissors round what differs: round all of it, and round each of the largest clusters."""
     boxes = [cluster.box for cluster in case.clusters]
     all_ = [end(box[at] for box in boxes) for at, end in enumerate((min, min, max, max))] if boxes else []
-    return [{"kind": "scissor", "rect": list(rect)} for rect in ([all_, *boxes[:MOST_VALUES]] if boxes else [])]
+    return [scissor(*rect) for rect in ([all_, *boxes[:MOST_VALUES]] if boxes else [])]
 
 
 def told(event):

@@ -3,18 +3,19 @@ import json
 import pathlib
 import random
 
+import captures
+from captures import FARTHEST, MOST_EDGE, PIXEL
+
 from . import limits, texts, trees, values
 from .trees import Members, Written
 
 EXAMPLES = pathlib.Path(__file__).resolve().parent.parent.parent / "examples"
 LONG = 4000  # one case of so many is a long one
-CORNER = {"x": 65536, "y": -65536, "z": 9, "color": [1, 2, 3, 4]}
-EVERY_KIND = {"format": "framedbg", "version": 2, "width": 4, "height": 4, "events": [
-    {"kind": "clear", "color": [1, 2, 3, 4]}, {"kind": "raster", "cull": "none", "front_ccw": False, "scissor": True},
-    {"kind": "scissor", "rect": [0, -1, 2, 2147483647]},
-    {"kind": "blend", "enable": True, "rgb": ["ONE", "SRC_COLOR", "ADD"], "alpha": ["ONE", "ZERO", "MIN"], "mask": 15}, {"kind": "factor", "color": [0, 255, 0, 0]},
-    {"kind": "draw", "interp": "flat", "vertices": [CORNER] * 3, "indices": [0, 1, 2]}, {"kind": "draw", "interp": "linear", "vertices": []},
-    {"kind": "marker", "name": "a name"}, {"kind": "depth", "enable": True, "write": True, "func": "LESS"}, {"kind": "depth_clear", "depth": 65535}]}
+CORNER = captures.vertex(PIXEL, -PIXEL, (1, 2, 3, 4), 9)
+EVERY_KIND = captures.frame(4, 4, [
+    captures.clear(1, 2, 3, 4), captures.raster("none", scissor=True), captures.scissor(0, -1, 2, MOST_EDGE),
+    captures.blend(True, ("ONE", "SRC_COLOR", "ADD"), ("ONE", "ZERO", "MIN")), captures.factor(0, 255, 0, 0),
+    captures.draw([CORNER] * 3, "flat", [0, 1, 2]), captures.draw([], "linear"), captures.marker("a name"), captures.depth(), captures.depth_clear(FARTHEST)])
 OF_VERSION_1 = EVERY_KIND | {"version": 1, "events": EVERY_KIND["events"][:8]}
 MOST_EVENTS, MOST_CORNERS = 10, 4
 

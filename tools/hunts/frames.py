@@ -6,7 +6,9 @@ import math
 from dataclasses import dataclass, field
 
 from . import shapes
-from .stage import (ADDED, HEIGHT, OVER, WIDTH, band, blend, clear, depth, disc, flat_body, marker, raster, scissor, shape, smooth_body)
+from captures import draw, marker, scissor
+
+from .stage import ADDED, HEIGHT, OVER, WIDTH, band, blend, clear, depth, disc, flat_body, raster, shape, smooth_body
 
 SEA, SAND = (38, 92, 128), (206, 178, 122)
 
@@ -119,8 +121,8 @@ def planet(planted):
     frame = Frame("planet", "a wrong order of draws")
     frame.add(marker("space"), clear(8, 8, 18))
     stars = [((37 * i) % WIDTH, (53 * i + 11 * (i % 7)) % HEIGHT) for i in range(24)]
-    frame.add({"kind": "draw", "interp": "flat", "vertices": [v for i, (x, y) in enumerate(stars) for v in
-           shape([(x, y), (x + 1 + i % 2, y), (x, y + 1 + i % 2)], (200 + i, 200 + i, 220, 255))["vertices"]]})
+    frame.add(draw([v for i, (x, y) in enumerate(stars) for v in
+           shape([(x, y), (x + 1 + i % 2, y), (x, y + 1 + i % 2)], (200 + i, 200 + i, 220, 255))["vertices"]]))
     far, near = (disc_ring(half) for half in (1, -1))
     frame.add(marker("ring, far half"), raster("none"), flat_body(far))
     halves = [(marker("ring, near half"), flat_body(near), "near half"), (marker("planet"), planet_body(), "planet")]

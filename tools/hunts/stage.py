@@ -1,48 +1,41 @@
 """From meshes to events: one camera, one light, and the events of a capture."""
 import math
 
-from captures import FARTHEST, PIXEL
+import captures
+from captures import FARTHEST, PIXEL, REPLACE, draw
 
 WIDTH, HEIGHT = 120, 90
 LIGHT = (-0.45, 0.75, 0.55)
-REPLACE, OVER, ADDED = ["ONE", "ZERO", "ADD"], ["SRC_ALPHA", "INV_SRC_ALPHA", "ADD"], ["SRC_ALPHA", "ONE", "ADD"]
+OVER, ADDED = ["SRC_ALPHA", "INV_SRC_ALPHA", "ADD"], ["SRC_ALPHA", "ONE", "ADD"]
 KEEP = ["ZERO", "ONE", "ADD"]
 NEAR, FAR = 3.0, 9.0           # of the depth, in the meshes' units from the eye
 
 
-def marker(name):
-    return {"kind": "marker", "name": name}
-
-
 def clear(*colour):
-    return {"kind": "clear", "color": [*colour, 255]}
+    return captures.clear(*colour, 255)
 
 
 def blend(enable, rgb=REPLACE, alpha=KEEP, mask=15):
-    return {"kind": "blend", "enable": enable, "rgb": rgb, "alpha": alpha if enable else REPLACE, "mask": mask}
+    return captures.blend(enable, rgb, alpha if enable else REPLACE, mask)
 
 
 def raster(cull="back", scissor=False):
-    return {"kind": "raster", "cull": cull, "front_ccw": False, "scissor": scissor}
-
-
-def scissor(*rect):
-    return {"kind": "scissor", "rect": list(rect)}
+    return captures.raster(cull, scissor=scissor)
 
 
 def depth(enable, func, write=True):
-    return {"kind": "depth", "enable": enable, "write": write, "func": func}
+    return captures.depth(enable, write, func)
 
 
 def vertex(x, y, colour, z=None):
-    return {"x": round(x * PIXEL), "y": round(y * PIXEL), **({} if z is None else {"z": z}), "color": list(colour) + [255] * (4 - len(colour))}
+    return captures.vertex(round(x * PIXEL), round(y * PIXEL), list(colour) + [255] * (4 - len(colour)), z)
 
 
 def shape(corners, colour, interp="flat"):
     """A flat figure as a fan round its first corner; colour is one, or one for each corner."""
     colours = colour if isinstance(colour, list) else [colour] * len(corners)
     vertices = [vertex(*corner, c) for corner, c in zip(corners, colours)]
-    return {"kind": "draw", "interp": interp, "vertices": vertices, "indices": [k for i in range(1, len(corners) - 1) for k in (0, i, i + 1)]}
+    return draw(vertices, interp, [k for i in range(1, len(corners) - 1) for k in (0, i, i + 1)])
 
 
 def band(top, bottom, upper, lower, left=0, right=WIDTH):
@@ -96,7 +89,7 @@ def flat_body(mesh, alpha=255, deep=False):
     for corners, colour in facing(mesh):
         shade = lit(colour, normal(*(points[c] for c in corners)), alpha)
         vertices += [vertex(*seen(points[c]), shade, depth_of(points[c]) if deep else None) for c in corners]
-    return {"kind": "draw", "interp": "flat", "vertices": vertices}
+    return draw(vertices)
 
 
 def smooth_body(mesh, interp="linear", alpha=255, deep=False):
@@ -112,4 +105,4 @@ def smooth_body(mesh, interp="linear", alpha=255, deep=False):
     named = sorted({c for corners, _ in kept for c in corners})
     place = {c: i for i, c in enumerate(named)}
     vertices = [vertex(*seen(points[c]), lit(colours[c], normals[c], alpha), depth_of(points[c]) if deep else None) for c in named]
-    return {"kind": "draw", "interp": interp, "vertices": vertices, "indices": [place[c] for corners, _ in kept for c in corners]}
+    return draw(vertices, interp, [place[c] for corners, _ in kept for c in corners])

@@ -1,16 +1,16 @@
 """The events that draw a model: a backdrop, and each part with its state; and the bugs that may be planted in one of them."""
 from dataclasses import dataclass
 
-from captures import FARTHEST, MOST_TRIANGLES, PIXEL, label
+import captures
+from captures import FARTHEST, MOST_TRIANGLES, PIXEL, blend, clear, draw, raster, scissor
 
 from .camera import depth_of, lit, looked_at, normal
 from .model import Fault
 
 LAYERS = 24
-REPLACE, KEEP = ["ONE", "ZERO", "ADD"], ["ZERO", "ONE", "ADD"]
-OFF = {"kind": "blend", "enable": False, "rgb": REPLACE, "alpha": REPLACE, "mask": 15}
-OVER = {**OFF, "enable": True, "rgb": ["SRC_ALPHA", "INV_SRC_ALPHA", "ADD"], "alpha": ["ONE", "INV_SRC_ALPHA", "ADD"]}
-ADDED = {**OFF, "enable": True, "rgb": ["ONE", "ONE", "ADD"], "alpha": KEEP}
+OFF = blend(False)
+OVER = blend(True, ["SRC_ALPHA", "INV_SRC_ALPHA", "ADD"], ["ONE", "INV_SRC_ALPHA", "ADD"])
+ADDED = blend(True, ["ONE", "ONE", "ADD"], ["ZERO", "ONE", "ADD"])
 # What may be planted: in a part and those after it, or in the part alone
 BUGS = {
     "blend": "the part is added to what is behind it, and that is never taken back",
@@ -38,22 +38,22 @@ class Look:
 def capture(model, look):
     width, height = look.size
     seen, placed = looked_at(model.points, width, height, *look.view)
-    events = [marker("backdrop"), {"kind": "clear", "color": [0, 0, 0, 255]}, backdrop(width, height, look.depth)]
-    events.append({"kind": "raster", "cull": "back" if look.bug == "winding" else "none", "front_ccw": False, "scissor": False})
+    events = [marker("backdrop"), clear(0, 0, 0, 255), backdrop(width, height, look.depth)]
+    events.append(raster("back" if look.bug == "winding" else "none"))
     if look.depth:
         events.append(depth("LESS"))
-    blend, parts = OFF, parts_of(model.faces, placed, look.by)
+    state, parts = OFF, parts_of(model.faces, placed, look.by)
     if look.bug and not 1 <= look.part <= len(parts):
         raise Fault(f"it has {len(parts)} parts, so a bug can't be planted in part {look.part}")
     for number, (name, opaque, faces) in enumerate(parts, 1):
         wrong = look.bug if number == look.part else ""
         events.append(marker(name))
         wanted = state_of(look, number, opaque)
-        if wanted != blend:
+        if wanted != state:
             events.append(wanted)
-            blend = wanted
+            state = wanted
         events += before(wrong, look) + list(draws(faces, seen, placed, look, wrong)) + after(wrong)
-    return {"format": "framedbg", "version": 2 if look.depth else 1, "width": width, "height": height, "events": events}
+    return captures.frame(width, height, events, 2 if look.depth else 1)
 
 
 def state_of(look, number, opaque):
@@ -68,7 +68,7 @@ def state_of(look, number, opaque):
 def before(wrong, look):
     if wrong == "scissor":
         width, height = look.size
-        return [{"kind": "scissor", "rect": [0, 0, width // 2, height]}, {"kind": "raster", "cull": "none", "front_ccw": False, "scissor": True}]
+        return [scissor(0, 0, width // 2, height), raster("none", scissor=True)]
     return [depth("GREATER")] if wrong == "depth" else []
 
 
@@ -77,7 +77,7 @@ def after(wrong):
 
 
 def depth(function):
-    return {"kind": "depth", "enable": True, "write": True, "func": function}
+    return captures.depth(func=function)
 
 
 def parts_of(faces, placed, by):
@@ -117,7 +117,7 @@ def in_turn(corners, placed, look, wrong):
 
 
 def slipped(vertices, wrong):
-    made = {"kind": "draw", "interp": "flat", "vertices": vertices}
+    made = draw(vertices)
     if wrong == "index":
         count = len(vertices)
         made["indices"] = [i if i < count // 2 or i % 3 else (i + 4) % count for i in range(count)]
@@ -134,16 +134,15 @@ def corner_normals(faces, seen):
 
 
 def vertex(x, y, distance, colour, deep):
-    return {"x": round(x * PIXEL), "y": round(y * PIXEL), **({"z": depth_of(distance)} if deep else {}), "color": colour}
+    return captures.vertex(round(x * PIXEL), round(y * PIXEL), colour, depth_of(distance) if deep else None)
 
 
 def marker(name):
-    return {"kind": "marker", "name": label(name)}
+    return captures.marker(captures.label(name))
 
 
 def backdrop(width, height, deep):
-    far = {"z": FARTHEST} if deep else {}
-    corner = lambda x, y, colour: {"x": x * PIXEL, "y": y * PIXEL, **far, "color": colour}
+    corner = lambda x, y, colour: captures.vertex(x * PIXEL, y * PIXEL, colour, FARTHEST if deep else None)
     up, down = [236, 239, 244, 255], [150, 160, 178, 255]
     a, b, c, d = corner(0, 0, up), corner(width, 0, up), corner(width, height, down), corner(0, height, down)
-    return {"kind": "draw", "interp": "linear", "vertices": [a, b, c, d], "indices": [0, 1, 3, 1, 2, 3]}
+    return draw([a, b, c, d], "linear", [0, 1, 3, 1, 2, 3])

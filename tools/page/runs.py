@@ -7,6 +7,7 @@ import pathlib
 import subprocess
 import tempfile
 
+import captures
 from captures import ALPHA_FACTORS, FACTORS, FARTHEST, FUNCTIONS, INTERPOLATIONS, MOST_POSITION, OPERATIONS, PIXEL
 
 from .module import PROGRAM
@@ -80,38 +81,37 @@ def colour(dice):
 
 def vertex(dice, width, height):
     place = lambda size: dice.choice((dice.randrange(-8, size + 8) * PIXEL, dice.randrange(-9 * PIXEL, (size + 9) * PIXEL), dice.randrange(-MOST_POSITION, MOST_POSITION + 1)))
-    return {"x": place(width), "y": place(height), "z": dice.choice((0, 1000, FARTHEST, dice.randrange(FARTHEST + 1))), "color": colour(dice)}
+    x, y, z = place(width), place(height), dice.choice((0, 1000, FARTHEST, dice.randrange(FARTHEST + 1)))
+    return captures.vertex(x, y, colour(dice), z)
 
 
 def draw(dice, width, height):
-    event = {"kind": "draw", "interp": dice.choice(INTERPOLATIONS), "vertices": [vertex(dice, width, height) for _ in range(dice.choice((0, 2, 3, 3, 6, 9, 30)))]}
-    if event["vertices"] and dice.random() < 0.3:
-        event["indices"] = [dice.randrange(len(event["vertices"])) for _ in range(dice.randrange(12))]
-    return event
+    interp, vertices = dice.choice(INTERPOLATIONS), [vertex(dice, width, height) for _ in range(dice.choice((0, 2, 3, 3, 6, 9, 30)))]
+    indices = [dice.randrange(len(vertices)) for _ in range(dice.randrange(12))] if vertices and dice.random() < 0.3 else None
+    return captures.draw(vertices, interp, indices)
 
 
 def event(dice, width, height, version):
     kinds = {
-        "clear": lambda: {"color": colour(dice)},
-        "raster": lambda: {"cull": dice.choice(["none", "none", "front", "back"]), "front_ccw": dice.random() < 0.5, "scissor": dice.random() < 0.3},
-        "scissor": lambda: {"rect": [dice.randrange(-9, 60) for _ in range(4)]},
-        "blend": lambda: {"enable": dice.random() < 0.7, "rgb": [*dice.choices(ALPHA_FACTORS + COLOURS, k=2), dice.choice(OPERATIONS)],
-                          "alpha": [*dice.choices(ALPHA_FACTORS, k=2), dice.choice(OPERATIONS)], "mask": dice.choice((15, 15, dice.randrange(16)))},
-        "factor": lambda: {"color": colour(dice)},
-        "marker": lambda: {"name": dice.choice(["", "a house", "\u00e9" * 32])},
+        "clear": lambda: captures.clear(*colour(dice)),
+        "raster": lambda: captures.raster(dice.choice(["none", "none", "front", "back"]), dice.random() < 0.5, dice.random() < 0.3),
+        "scissor": lambda: captures.scissor(*(dice.randrange(-9, 60) for _ in range(4))),
+        "blend": lambda: captures.blend(dice.random() < 0.7, [*dice.choices(ALPHA_FACTORS + COLOURS, k=2), dice.choice(OPERATIONS)],
+                                        [*dice.choices(ALPHA_FACTORS, k=2), dice.choice(OPERATIONS)], dice.choice((15, 15, dice.randrange(16)))),
+        "factor": lambda: captures.factor(*colour(dice)),
+        "marker": lambda: captures.marker(dice.choice(["", "a house", "\u00e9" * 32])),
         "draw": lambda: draw(dice, width, height),
     }
     if version == 2:
-        kinds["depth"] = lambda: {"enable": dice.random() < 0.7, "write": dice.random() < 0.7, "func": dice.choice(FUNCTIONS)}
-        kinds["depth_clear"] = lambda: {"depth": dice.randrange(FARTHEST + 1)}
-    kind = dice.choice([*kinds, "draw", "draw", "draw"])
-    return {"kind": kind, **kinds[kind]()}
+        kinds["depth"] = lambda: captures.depth(dice.random() < 0.7, dice.random() < 0.7, dice.choice(FUNCTIONS))
+        kinds["depth_clear"] = lambda: captures.depth_clear(dice.randrange(FARTHEST + 1))
+    return kinds[dice.choice([*kinds, "draw", "draw", "draw"])]()
 
 
 def capture(dice):
     version, width, height = dice.choice((1, 2)), dice.choice((1, 7, 64, 65, 200)), dice.choice((1, 9, 64, 130))
     events = [event(dice, width, height, version) for _ in range(dice.randrange(14))]
-    return json.dumps({"format": "framedbg", "version": version, "width": width, "height": height, "events": events}).encode()
+    return json.dumps(captures.frame(width, height, events, version)).encode()
 
 
 def disturbed(dice, data):

@@ -1,4 +1,6 @@
 """The pixels that each draw of a converted frame covers, and those at which it passes, as framedbg has them; and how two such sets agree."""
+from captures import scissor
+
 from . import program, states
 
 WHITE = [255, 255, 255, 255]
@@ -26,7 +28,7 @@ def covered(framedbg, capture, places):
     """Without any test: each triangle, culled or not, as far as the viewport goes."""
     events, view = [states.raster("none", False, False)], capture["events"][places[0]]["source"].get("viewport")
     if view:
-        events = [states.raster("none", False, True), {"kind": "scissor", "rect": view}]
+        events = [states.raster("none", False, True), scissor(*view)]
     return program.marked(framedbg, dict(capture, events=events + [white(capture["events"][at]) for at in places]))
 
 

@@ -1,6 +1,8 @@
 """RenderDoc's pipeline state in framedbg's words. Names of RenderDoc's enumerations come as text, so that nothing here needs its module."""
 from dataclasses import dataclass
 
+import captures
+
 from .placing import Bias
 from .viewport import Viewport
 
@@ -16,7 +18,7 @@ COMPARES = {
     "GreaterEqual": "GREATER_EQUAL", "AlwaysTrue": "ALWAYS",
 }
 CULLS = {"NoCull": "none", "Front": "front", "Back": "back"}
-REPLACE = ["ONE", "ZERO", "ADD"]
+raster, depth = captures.raster, captures.depth
 
 
 @dataclass
@@ -52,22 +54,14 @@ def part(source, destination, operation, for_alpha, losses):
     return words + [OPERATIONS[operation]]
 
 
-def raster(cull, front_ccw, scissor):
-    return {"kind": "raster", "cull": cull, "front_ccw": bool(front_ccw), "scissor": bool(scissor)}
-
-
-def depth(enable, write, function):
-    return {"kind": "depth", "enable": bool(enable), "write": bool(write), "func": function}
-
-
 def plain(mask=15):
     """No blending."""
-    return {"kind": "blend", "enable": False, "rgb": REPLACE, "alpha": REPLACE, "mask": mask & 15}
+    return captures.blend(False, mask=mask & 15)
 
 
 def blend(colour, alpha, mask, losses):
     """Each of colour and alpha is (source, destination, operation)."""
-    return {"kind": "blend", "enable": True, "rgb": part(*colour, False, losses), "alpha": part(*alpha, True, losses), "mask": mask & 15}
+    return captures.blend(True, part(*colour, False, losses), part(*alpha, True, losses), mask & 15)
 
 
 def factor(constant, colour, losses):
@@ -77,7 +71,7 @@ def factor(constant, colour, losses):
         if any(name.endswith("FactorRGB") for name in colour[:2]):
             losses.add("blend constant's colour beside its alpha", "the alpha is taken for both")
         r = g = b = a
-    return {"kind": "factor", "color": [r, g, b, a]}
+    return captures.factor(r, g, b, a)
 
 
 class StateLog:

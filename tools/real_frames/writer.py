@@ -2,6 +2,7 @@
 import zlib
 from collections import Counter
 
+import captures
 from captures import FARTHEST, MOST_CORNERS, MOST_TRIANGLES, PIXEL, label
 
 from . import grid, states
@@ -48,15 +49,14 @@ class Writer:
         writers = {MarkerRecord: self.mark, ClearRecord: self.clear, PictureRecord: self.lay, DrawRecord: self.draw}
         for record in self.records:
             writers[type(record)](record)
-        return {"format": "framedbg", "version": 2, "width": self.width, "height": self.height,
-                "depth_scale": {"low": self.scale.low, "high": self.scale.high}, "losses": self.losses.entries(), "events": self.events}
+        return {**captures.head(self.width, self.height), "depth_scale": {"low": self.scale.low, "high": self.scale.high}, "losses": self.losses.entries(), "events": self.events}
 
     def mark(self, record):
         until = {} if record.until is None else {"until": record.until}
-        self.add("marker", {"event": record.event, "name": record.name, **until}, name=label(record.name))
+        self.add(captures.marker(label(record.name)), {"event": record.event, "name": record.name, **until})
 
-    def add(self, kind, source, **members):
-        self.events.append({"kind": kind, **members, "source": source})
+    def add(self, event, source):
+        self.events.append({**event, "source": source})
 
     # Clears, and what was there before.
 
@@ -66,11 +66,11 @@ class Writer:
             self.clear_part(record, source)
             return
         if record.colour is not None:
-            self.add("clear", source, color=list(record.colour))
+            self.add(captures.clear(*record.colour), source)
             self.picture = bytes(record.colour) * (self.width * self.height)
         if record.depth is not None:
             depth = self.scale(record.depth)
-            self.add("depth_clear", source, depth=depth)
+            self.add(captures.depth_clear(depth), source)
             self.depth.fill(depth)
 
     def clear_part(self, record, source):
@@ -89,7 +89,7 @@ class Writer:
     def lay(self, record):
         """The picture that was there, in rectangles."""
         source = {"event": record.event, "name": "before"}
-        self.add("marker", source, name=f"the picture before {record.event}")
+        self.add(captures.marker(f"the picture before {record.event}"), source)
         for event in (states.raster("none", False, False), states.plain(), states.depth(False, True, "LESS")):
             self.log.set(event, source)
         self.picture = zlib.decompress(record.picture)
@@ -100,10 +100,10 @@ class Writer:
         most = MOST_CORNERS // 6
         for start in range(0, len(boxes), most):
             part = boxes[start:start + most]
-            vertices = [vertex(x * PIXEL, y * PIXEL, depth, colour) for (left, top, right, bottom), colours in part
+            vertices = [captures.vertex(x * PIXEL, y * PIXEL, colour, depth) for (left, top, right, bottom), colours in part
                         for (x, y), colour in zip(((left, top), (right, top), (right, bottom), (left, bottom)), colours)]
             indices = [4 * i + k for i in range(len(part)) for k in (0, 1, 3, 1, 2, 3)]
-            self.add("draw", source, interp="linear", vertices=vertices, indices=indices)
+            self.add(captures.draw(vertices, "linear", indices), source)
 
     # Draws.
 
@@ -117,12 +117,12 @@ class Writer:
             self.log.set(states.plain(0), source)
         else:
             self.draws += 1
-            self.add("marker", source, name=label(f"{record.event} {record.name}"))
+            self.add(captures.marker(label(f"{record.event} {record.name}")), source)
             self.log.set(state.blend, source)
         for event in (state.raster, state.depth):
             self.log.set(event, source)
         if state.rectangle():
-            self.log.set({"kind": "scissor", "rect": state.scissor}, source)
+            self.log.set(captures.scissor(*state.scissor), source)
         if any("BLEND_FACTOR" in word for word in state.blend["rgb"] + state.blend["alpha"]):
             self.log.set(state.factor, source)
         pieces = self.drawn(record)
@@ -152,8 +152,9 @@ class Writer:
             part = pieces[start:start + MOST_TRIANGLES]
             corners = [(*corner, tuple(colour)) for piece in part for corner, colour in zip(piece.corners, piece.colours)]
             numbers = {corner: number for number, corner in enumerate(dict.fromkeys(corners))}      # neighbours share corners
-            self.add("draw", {**source, "primitives": [list(piece.number) for piece in part]}, interp="linear",
-                     vertices=[vertex(*corner) for corner in numbers], indices=[numbers[corner] for corner in corners])
+            vertices = [captures.vertex(x, y, colour, depth) for x, y, depth, colour in numbers]
+            made = captures.draw(vertices, "linear", [numbers[corner] for corner in corners])
+            self.add(made, {**source, "primitives": [list(piece.number) for piece in part]})
 
     def passing(self, record):
         """The triangles that cover a pixel, each with the spans at which it passes."""
@@ -176,10 +177,6 @@ class Writer:
                 piece.colours = [colour] * 3
             return pieces
         return self.painter.paint(record, pieces, self.picture)
-
-
-def vertex(x, y, depth, colour):
-    return {"x": x, "y": y, "z": depth, "color": list(colour)}
 
 
 def painted(picture, width, box, record):

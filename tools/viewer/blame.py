@@ -9,6 +9,7 @@ import threading
 
 from blaming.faults import Fault
 from blaming.frame import Frame, read_capture
+from captures import marker
 from framedbg_client import read_pam
 
 from .doors import Refused
@@ -70,5 +71,5 @@ class Blame:
 
 def without(capture, off):
     """A capture whose events of some numbers do nothing."""
-    events = [{"kind": "marker", "name": "off"} if number in off else event for number, event in enumerate(capture["events"], 1)]
+    events = [marker("off") if number in off else event for number, event in enumerate(capture["events"], 1)]
     return Frame(capture).text(events)
