@@ -1,5 +1,5 @@
 """Parts that draw, side by side with plain C: large triangles, the depth test, small triangles, workers."""
-import captures
+import scenes
 from bench import ROUNDS, Session
 
 
@@ -7,8 +7,8 @@ def large_triangles(bench):
     """whole-target blended triangles"""
     side, count = bench.scaled(1024, 32), 20
     for interp, forward_asked in [("flat", 1.5), ("linear", 2)]:
-        bench.same_image(interp, captures.large(64, 96, 5, interp))
-        scene = captures.large(side, side, count, interp)
+        bench.same_image(interp, scenes.large(64, 96, 5, interp))
+        scene = scenes.large(side, side, count, interp)
         compare(bench, f"whole target, {interp}", scene, 1, side * side * count / 1e9, "ns a pixel", forward_asked, 1.5)
 
 
@@ -17,8 +17,8 @@ def depth_test(bench):
     side, count = bench.scaled(1024, 32), 20
     for interp, slope in [("flat", "level"), ("linear", "sloped")]:
         for passing in ["all", "alternate", "none"]:
-            bench.same_image(passing, captures.tested(64, 96, 5, passing, interp))
-            scene = captures.tested(side, side, count, passing, interp)
+            bench.same_image(passing, scenes.tested(64, 96, 5, passing, interp))
+            scene = scenes.tested(side, side, count, passing, interp)
             name = f"depth test, {interp}, {slope}, {passing} pass"
             compare(bench, name, scene, 1, side * side * count / 1e9, "ns a pixel", 2, None if passing == "none" else 2)
 
@@ -27,8 +27,8 @@ def small_triangles(bench):
     """blended triangles with legs of 8 pixels"""
     side, count = bench.scaled(1024, 32), bench.scaled(16_000, 16)
     for per_draw, scattered in [(count, False), (count // 160 or 1, False), (count, True), (count // 160 or 1, True)]:
-        scene = captures.small(side, side, count, scattered)
-        bench.same_image("small", captures.small(128, 64, 100, scattered), per_draw=7)
+        scene = scenes.small(side, side, count, scattered)
+        bench.same_image("small", scenes.small(128, 64, 100, scattered), per_draw=7)
         draws = -(-count // per_draw)
         order = "in random order" if scattered else "side by side"
         name = f"{count:,} of 8 pixels, {order}, {draws} {'draw' if draws == 1 else 'draws'}"
@@ -50,12 +50,12 @@ def workers(bench):
     side = bench.scaled(2048, 32)
     count = bench.scaled(65_536)
     # what the machine gives: each process draws its share of the rows, and has nothing in common with the others
-    plain = {number: bench.plain_side_by_side(captures.large(side, side // number, 20), number) for number in [1, 2, 4]}
+    plain = {number: bench.plain_side_by_side(scenes.large(side, side // number, 20), number) for number in [1, 2, 4]}
     makers = [
-        ("20 large triangles", captures.large(side, side, 20).capture(), 21, plain, 3),
-        ("16,000 small triangles in 160 draws", captures.small(side, side, 16_000, False).capture(100), 161, None, None),
-        ("3,000 triangles in the middle", captures.in_the_middle(side, 3_000).capture(), 3_001, None, None),
-        (f"{count:,} markers", captures.markers(side, side, count), count, None, None),
+        ("20 large triangles", scenes.large(side, side, 20).capture(), 21, plain, 3),
+        ("16,000 small triangles in 160 draws", scenes.small(side, side, 16_000, False).capture(100), 161, None, None),
+        ("3,000 triangles in the middle", scenes.in_the_middle(side, 3_000).capture(), 3_001, None, None),
+        (f"{count:,} markers", scenes.markers(side, side, count), count, None, None),
     ]
     for name, data, end, beside, asked in makers:
         path = bench.capture(data)
@@ -73,9 +73,9 @@ def single_steps(bench):
     """a step and the way back, by the clock"""
     side = bench.scaled(2048, 32)
     for name, data, number in [
-        ("a marker, 64 tiles", captures.markers(256, 256, 1), 5_000),
-        ("a clear, 4 tiles", captures.clears(64, 64, 1), 5_000),
-        (f"a clear, {(side // 32) ** 2:,} tiles", captures.clears(side, side, 1), 10),
+        ("a marker, 64 tiles", scenes.markers(256, 256, 1), 5_000),
+        ("a clear, 4 tiles", scenes.clears(64, 64, 1), 5_000),
+        (f"a clear, {(side // 32) ** 2:,} tiles", scenes.clears(side, side, 1), 10),
     ]:
         path = bench.capture(data)
         for count in [1, 4]:

@@ -1,10 +1,8 @@
 """The part on reading: long captures beside a plain scanner, and captures made to cost as much as can be."""
-import captures
 from bench import MIB, PROGRAM, ROUNDS
+from scenes import captures, compact
 
-MOST_BYTES = 67_108_864
-MOST_VERTICES = 196_608
-MOST_EVENTS = 1_000_000
+MOST_BYTES, MOST_EVENTS = captures.MOST_BYTES, captures.MOST_EVENTS
 
 
 def filled(before, item, after, size, most=MOST_BYTES):
@@ -13,10 +11,10 @@ def filled(before, item, after, size, most=MOST_BYTES):
     return (before + ",".join([item] * count) + after).encode()
 
 
-HEAD = '{"format":"framedbg","version":1,"width":1,"height":1,'
-VERTEX = '{"x":12345678,"y":87654321,"color":[200,100,50,255]}'
+HEAD = compact(captures.head(1, 1, 1))[:-1] + ","
+VERTEX = compact(captures.vertex(12345678, 87654321, (200, 100, 50, 255)))
 DEEP = "[" * 120 + "]" * 120
-DRAW = '{"kind":"draw","interp":"flat","vertices":['
+DRAW = compact(captures.draw([])).removesuffix("]}")
 
 
 def vertices(size):
@@ -27,7 +25,7 @@ def vertices(size):
 
 def most_vertices(size):
     """One draw with the most vertices and as many indices as fit."""
-    count = min(MOST_VERTICES, size // 80)
+    count = min(captures.MOST_CORNERS, size // 80)
     indices = ",".join([str(count - 1)] * count)
     event = DRAW + ",".join([VERTEX] * count) + f'],"indices":[{indices}]}}'
     return filled(HEAD + '"events":[', event, "]}", max(size, len(event) + 100))
@@ -35,7 +33,7 @@ def most_vertices(size):
 
 def hostile(size):
     """What each is made of, and its text, one after another."""
-    events, marker, clear = '"events":[', '{"kind":"marker","name":"%s"}', '{"kind":"clear","color":[0,0,0,0]}'
+    events, marker, clear = '"events":[', compact(captures.marker("%s")), compact(captures.clear(0, 0, 0, 0))
     for name, item in [
         ("members", '{"a":0}'),
         ("members with escaped names", '{"\\u0061\\u0061":0}'),

@@ -2,7 +2,7 @@
 import pathlib
 from unittest import mock
 
-import captures
+import scenes
 import drawing
 import frames
 import reading
@@ -108,8 +108,8 @@ def no_text(*_, **__):
 
 
 STAND_INS = [(drawing, "Session", Session), (frames, "Session", Session), (undrawn, "Session", Session), (towns, "Town", Town), (short_memory, "Limited", Limited),
-             (reading, "vertices", no_text), (reading, "hostile", lambda size: []), (captures.Scene, "capture", no_text), (captures.Scene, "numbers", no_text),
-             (captures, "markers", no_text), (captures, "states", no_text), (captures, "frame", no_text)]
+             (reading, "vertices", no_text), (reading, "hostile", lambda size: []), (scenes.Scene, "capture", no_text), (scenes.Scene, "numbers", no_text),
+             (scenes, "markers", no_text), (scenes, "states", no_text), (scenes, "frame", no_text)]
 
 
 def names(parts):

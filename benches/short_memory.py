@@ -5,7 +5,7 @@ import resource
 import subprocess
 import sys
 
-import captures
+import scenes
 from bench import MIB, PROGRAM, ROUNDS
 
 WORKERS = [1, 4, 64]
@@ -66,7 +66,7 @@ class Limited:
 def going_on(bench):
     """clears under a limit on address space that is too small for them: reached by a jump and after it, beside reached by steps; least limits of one jump"""
     side, count = bench.scaled(640, 32), 60
-    path = bench.capture(captures.clears(side, side, count))
+    path = bench.capture(scenes.clears(side, side, count))
     steps, jump = ["step"] * count, [f"goto {count}"]
     for workers in WORKERS:
         for frugally, (environment, stack) in FRUGAL.items():

@@ -13,17 +13,19 @@ import argparse
 import random
 import sys
 
-import captures
+import scenes
+from scenes import FARTHEST, PIXEL, captures, compact
 
 FULL_SIDE = 2048
 EYE, NEAR, FAR = 30.0, 10.0, 1000.0         # the camera's height, and the depths that it sees
-OPAQUE = '{"kind":"blend","enable":false,"rgb":["ONE","ZERO","ADD"],"alpha":["ONE","ZERO","ADD"],"mask":15}'
-ADDED = '{"kind":"blend","enable":true,"rgb":["SRC_ALPHA","ONE","ADD"],"alpha":["ZERO","ONE","ADD"],"mask":7}'
-UNTESTED = '{"kind":"depth","enable":false,"write":false,"func":"ALWAYS"}'
-UNWRITTEN = '{"kind":"depth","enable":true,"write":false,"func":"LESS_EQUAL"}'
-CLOCKWISE = '{"kind":"raster","cull":"back","front_ccw":false,"scissor":false}'
-BOTH_SIDES = '{"kind":"raster","cull":"none","front_ccw":false,"scissor":false}'
-CUT_OUT = '{"kind":"raster","cull":"none","front_ccw":false,"scissor":true}'
+KEEP = ("ZERO", "ONE", "ADD")
+OPAQUE = captures.blend(False)
+ADDED = captures.blend(True, ("SRC_ALPHA", "ONE", "ADD"), KEEP, 7)
+BLENDED = captures.blend(True, ("SRC_ALPHA", "INV_SRC_ALPHA", "ADD"), ("ONE", "INV_SRC_ALPHA", "ADD"))
+DARKENED = captures.blend(True, ("DEST_COLOR", "BLEND_FACTOR", "ADD"), KEEP)
+TESTED, STRICT = captures.depth(func="LESS_EQUAL"), captures.depth(func="LESS")
+UNTESTED, UNWRITTEN = captures.depth(False, False, "ALWAYS"), captures.depth(write=False, func="LESS_EQUAL")
+CLOCKWISE, BOTH_SIDES, CUT_OUT = captures.raster("back"), captures.raster("none"), captures.raster("none", scissor=True)
 # round the circle by quotients alone
 ARC = [((1 - t * t) / (1 + t * t), 2 * t / (1 + t * t)) for t in [step / 16 for step in range(16)]]
 CIRCLE = [(turn[0] * x + turn[1] * y, turn[2] * x + turn[3] * y) for turn in [(1, 0, 0, 1), (0, -1, 1, 0), (-1, 0, 0, -1), (0, 1, -1, 0)] for x, y in ARC]
@@ -59,18 +61,17 @@ class Mesh:
             yield piece
 
     def event(self, interp):
-        corners = ",".join([f'{{"x":{fixed(x)},"y":{fixed(y)},"z":{depth},"color":[{r},{g},{b},{a}]}}' for x, y, depth, (r, g, b, a) in self.corners])
-        indices = ",".join([str(number) for triangle in self.triangles for number in triangle])
-        return f'{{"kind":"draw","interp":"{interp}","vertices":[{corners}],"indices":[{indices}]}}'
+        corners = [captures.vertex(fixed(x), fixed(y), colour, depth) for x, y, depth, colour in self.corners]
+        return captures.draw(corners, interp, [number for triangle in self.triangles for number in triangle])
 
 
 def fixed(pixels):
     """In 1/65536 pixel, no farther from the target than a capture can say."""
-    return max(-captures.FARTHEST, min(captures.FARTHEST, int(pixels * captures.UNIT)))
+    return max(-captures.MOST_POSITION, min(captures.MOST_POSITION, int(pixels * PIXEL)))
 
 
 class Town:
-    """The events of one town, as texts, and how many draws and triangles there are."""
+    """The events of one town, and how many draws and triangles there are."""
 
     def __init__(self, seed=1, pieces=None, scale=1):
         self.side, self.scale, self.size = max(FULL_SIDE // scale // 32, 1) * 32, scale, pieces
@@ -86,7 +87,7 @@ class Town:
         self.interface()
 
     def capture(self):
-        return captures.frame(self.side, self.side, self.events, 2)
+        return scenes.frame(self.side, self.side, map(compact, self.events), 2)
 
     def middle_change(self):
         """The number of a state event: of those that set something else than what was set, the nearest to the frame's middle."""
@@ -107,10 +108,10 @@ class Town:
     # ---- events
 
     def marker(self, name):
-        self.events.append(f'{{"kind":"marker","name":"{name}"}}')
+        self.events.append(captures.marker(name))
 
     def state(self, event):
-        kind = event.split('"')[3]
+        kind = event["kind"]
         self.events.append(event)
         if self.current.get(kind) != event:
             self.changes.append(len(self.events))
@@ -140,17 +141,17 @@ class Town:
     # ---- what stands in it
 
     def begin(self):
-        self.events += ['{"kind":"clear","color":[20,30,60,255]}', captures.depth_clear(65535)]
-        for event in (BOTH_SIDES, OPAQUE, UNTESTED, '{"kind":"factor","color":[128,128,128,255]}'):
+        self.events += [captures.clear(20, 30, 60, 255), captures.depth_clear(FARTHEST)]
+        for event in (BOTH_SIDES, OPAQUE, UNTESTED, captures.factor(128, 128, 128, 255)):
             self.state(event)
         sky = Mesh()
-        sky.polygon([(0, 0, 65535, (90, 140, 220, 255)), (self.side, 0, 65535, (90, 140, 220, 255)),
-                     (self.side, self.side, 65535, (200, 220, 240, 255)), (0, self.side, 65535, (200, 220, 240, 255))])
+        sky.polygon([(0, 0, FARTHEST, (90, 140, 220, 255)), (self.side, 0, FARTHEST, (90, 140, 220, 255)),
+                     (self.side, self.side, FARTHEST, (200, 220, 240, 255)), (0, self.side, FARTHEST, (200, 220, 240, 255))])
         self.draw("sky", sky, "linear")
 
     def ground(self):
         """64 pieces of land, each a grid of 8 by 8."""
-        self.state(captures.TESTED)
+        self.state(TESTED)
         side = self.many(8)
         for row in range(side):
             for column in range(side):
@@ -174,7 +175,7 @@ class Town:
             if number % 10 == 0:
                 self.state(BOTH_SIDES if self.below(3) == 0 else CLOCKWISE)
                 self.state(OPAQUE)
-                self.state(captures.TESTED if self.below(4) else captures.TESTED.replace("LESS_EQUAL", "LESS"))
+                self.state(TESTED if self.below(4) else STRICT)
             row, column = divmod(number * self.scale, 30)
             z = 60 + 24 * row + self.between(-4, 4)
             house = House(self, ((2 * column + 1) / 30 - 1) * 0.7 * z, z)
@@ -207,7 +208,7 @@ class Town:
         self.state(BOTH_SIDES)
         for number in range(self.many(700)):
             if number % 2 == 0:
-                self.state(ADDED if self.below(2) else captures.BLENDED)
+                self.state(ADDED if self.below(2) else BLENDED)
             x, y, z = self.between(-60, 60), self.between(0, 25), self.between(60, 200)
             mesh, colour = Mesh(), self.colour(90)
             for _ in range(10):
@@ -219,13 +220,13 @@ class Town:
     def passes(self, count):
         """Pairs of draws over the whole target: fog, and a factor that darkens it."""
         for number in range(count):
-            for event in (UNTESTED, captures.BLENDED):
+            for event in (UNTESTED, BLENDED):
                 self.state(event)
             mesh = Mesh()
             mesh.rectangle(0, 0, self.side, self.side, 0, (180, 190, 200, 8))
             self.draw(f"fog {number}", mesh)
-            self.state('{"kind":"blend","enable":true,"rgb":["DEST_COLOR","BLEND_FACTOR","ADD"],"alpha":["ZERO","ONE","ADD"],"mask":15}')
-            self.state(f'{{"kind":"factor","color":[{120 + number},120,120,255]}}')
+            self.state(DARKENED)
+            self.state(captures.factor(120 + number, 120, 120, 255))
             mesh = Mesh()
             mesh.rectangle(0, 0, self.side, self.side, 0, (127, 127, 127, 255))
             self.draw(f"tone {number}", mesh)
@@ -240,9 +241,9 @@ class Town:
             left, top = column * self.side / columns, row * self.side / rows
             width, height = self.side / columns, self.side / rows
             box = [int(left), int(top), int(left + width), int(top + height * 0.6)]
-            self.state(f'{{"kind":"scissor","rect":[{box[0]},{box[1]},{box[2]},{box[3]}]}}')
+            self.state(captures.scissor(*box))
             if number % 20 == 0:
-                self.state(captures.BLENDED)
+                self.state(BLENDED)
             mesh, colour = Mesh(), self.colour(200)
             for letter in range(10):
                 begin, deep = left + width * (letter + 0.2) / 10, top + height * self.between(0.3, 0.7)

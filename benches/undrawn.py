@@ -1,7 +1,8 @@
 """The part on what was never drawn: fresh sessions, a first clear, the list of a million markers."""
-import captures
+import scenes
 from bench import MIB, Session
 from frames import whole_run
+from scenes import captures, compact
 from turns import Work
 
 
@@ -10,23 +11,23 @@ def never_drawn(bench):
     for side, fresh_most, cleared_most in [(2048, 4, 8), (16_384, 100, 150)]:
         side = bench.scaled(side, 32)
         size = f"{side:,} by {side:,}"
-        path = bench.capture(captures.frame(side, side, [captures.MARKER, *cleared(2)], 2))
+        path = bench.capture(scenes.frame(side, side, [scenes.MARKER, *cleared(2)], 2))
         # asked are megabytes of a million bytes
         whole_run(bench, f"a fresh session, {size}", ["run", "--workers", "1", path], "ms", memory={"most": round(fresh_most * 1e6 / MIB, 1)})
         after_a_clear(bench, f"a fresh session and one clear, {size}", path, round(cleared_most * 1e6 / MIB, 1))
     side, count = bench.scaled(2048, 32), 10
-    path = bench.capture(captures.frame(side, side, cleared(count + 1), 2))
+    path = bench.capture(scenes.frame(side, side, cleared(count + 1), 2))
     per_pixel = side * side * count
     taken = bench.timed(f"{count} clears after another one, {side} by {side}, forward", Work(path, ("goto 1",), (f"goto {count + 1}",), f"at {count + 1}"))
     if bench.counter:
         bench.figure("a clear forward", taken / per_pixel, "instructions a pixel", most=2)
     count = bench.scaled(1_000_000)
-    path = bench.capture(captures.markers(32, 32, count))
+    path = bench.capture(scenes.markers(32, 32, count))
     whole_run(bench, f"events of {count:,} markers", ["events", path], "ms", times=2.7, memory={"most": round(110e6 / MIB, 1)})
 
 
 def cleared(count):
-    return [f'{{"kind":"clear","color":[{number},1,2,3]}}' for number in range(count)]
+    return [compact(captures.clear(number, 1, 2, 3)) for number in range(count)]
 
 
 def after_a_clear(bench, name, path, most):

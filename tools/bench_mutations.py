@@ -5,7 +5,7 @@ Each is a copy of a file of benches/ with one text exchanged, and the test that 
 """
 from wrong_versions import Version, try_all
 
-TOWN, TURNS, BENCH, FEW, CAPTURES, MEASURE, TABLE = "town.py", "turns.py", "bench.py", "few_tiles.py", "captures.py", "measure.py", "table.py"
+TOWN, TURNS, BENCH, FEW, SCENES, MEASURE, TABLE = "town.py", "turns.py", "bench.py", "few_tiles.py", "scenes.py", "measure.py", "table.py"
 MUTATIONS = [   # name, file, text, what stands there instead, test
     ("town: by a chance of its own", TOWN, "random.Random(seed)", "random.Random()", "Towns.test_the_same_words_write_the_same_bytes"),
     ("town: one seed for all", TOWN, "random.Random(seed)", "random.Random(1)", "Towns.test_the_same_words_write_the_same_bytes"),
@@ -23,8 +23,8 @@ MUTATIONS = [   # name, file, text, what stands there instead, test
     ("town: depths that no capture has", TOWN, "min(int(depth * 65534), 65534)", "int(depth * 99999)", "Towns.test_it_is_a_capture"),
     ("town: a file that can't be written ends it badly", TOWN, "except OSError as fault", "except KeyError as fault", "Towns.test_faults_are_a_line"),
     ("captures: culled triangles that are drawn", FEW, "[(0, 0), (0, side), (side, 0)]", "[(0, 0), (side, 0), (0, side)]", "Captures"),
-    ("captures: triangles without an area that are culled", FEW, "BOTH_SIDES if flat else", "captures.MARKER if flat else", "Captures"),
-    ("captures: a mesh in order", CAPTURES, "    random.Random(1).shuffle(places)\n", "", "Captures.test_triangles_in_random_order_lie_apart"),
+    ("captures: triangles without an area that are culled", FEW, "scenes.BOTH_SIDES if flat else", "scenes.MARKER if flat else", "Captures"),
+    ("captures: a mesh in order", SCENES, "    random.Random(1).shuffle(places)\n", "", "Captures.test_triangles_in_random_order_lie_apart"),
     ("turns: one after the other", TURNS, "    for _ in range(rounds):\n        for program, column in zip(programs, values):\n",
      "    for program, column in zip(programs, values):\n        for _ in range(rounds):\n", "Turns.test_programs_take_turns"),
     ("turns: the worst", TURNS, "[min(each) for each", "[max(each) for each", "Turns.test_programs_take_turns"),

@@ -20,8 +20,8 @@ TOP = pathlib.Path(__file__).resolve().parent.parent
 BENCHES = TOP / "benches"
 sys.path.insert(0, str(BENCHES))
 
-import captures   # noqa: E402
 import few_tiles   # noqa: E402
+import scenes   # noqa: E402
 import table   # noqa: E402
 import town   # noqa: E402
 import turns   # noqa: E402
@@ -119,7 +119,7 @@ class Towns(InAFolder):
         self.assertLessEqual(max(sizes), 3)
 
     def test_what_stands_in_it(self):
-        events = [json.loads(event) for event in made(scale=SMALL).events]
+        events = made(scale=SMALL).events
         self.assertEqual({event["kind"] for event in events}, STATES | {"clear", "depth_clear", "draw", "marker"})
         names = collections.Counter(event["name"].split()[0] for event in events if event["kind"] == "marker")
         # a sixteenth of 900 houses, 700 clouds and 660 panels
@@ -142,7 +142,7 @@ class Towns(InAFolder):
             self.assertLess(sum(front) / len(front), sum(back) / len(back))
 
     def test_the_camera_sees_the_land_from_above(self):
-        ground = next(json.loads(event) for event in made(scale=SMALL).events if '"draw"' in event and '"linear"' in event and event.count("x") > 20)
+        ground = next(event for event in made(scale=SMALL).events if event["kind"] == "draw" and event["interp"] == "linear" and len(event["vertices"]) > 20)
         corners = [(vertex["x"], vertex["y"]) for vertex in ground["vertices"]]
         for at in range(0, len(ground["indices"]), 3):
             self.assertGreater(doubled([corners[number] for number in ground["indices"][at : at + 3]]), 0)
@@ -151,7 +151,7 @@ class Towns(InAFolder):
         for there in (made(scale=SMALL), made(pieces=3, scale=SMALL)):
             state, distances = {}, {}
             for number, event in enumerate(there.events, 1):
-                kind = event.split('"')[3]
+                kind = event["kind"]
                 if kind in STATES and state.get(kind) != event:
                     distances[number] = abs(2 * number - len(there.events))
                     state[kind] = event
@@ -182,7 +182,7 @@ class Captures(unittest.TestCase):
             self.assertTrue(doubled(corners) == 0 and raster["cull"] == "none" if flat else doubled(corners) < 0 and raster["kind"] == "marker")
 
     def test_triangles_in_random_order_lie_apart(self):
-        scene = captures.shuffled_mesh(256, 1_000)
+        scene = scenes.shuffled_mesh(256, 1_000)
         places = [triangle[0][:2] for triangle in scene.triangles]
         leg = scene.triangles[0][1][0] - places[0][0]
         self.assertEqual((len(set(places)), leg), (1_000, 8))

@@ -1,22 +1,25 @@
-"""Captures for the measurements: scenes of triangles, as JSON for the debugger and as numbers for plain.c, and frames without triangles."""
+"""Captures for the measurements: scenes of triangles, as JSON for the debugger and as numbers for plain.c, and frames without triangles.
+
+Their events are texts: one of them may stand in a capture a million times.
+"""
+import pathlib
 import random
 import struct
+import sys
 
-UNIT = 65536
-FARTHEST = 16_384 * UNIT      # a position's greatest distance from the corner
-BLENDED = '{"kind":"blend","enable":true,"rgb":["SRC_ALPHA","INV_SRC_ALPHA","ADD"],"alpha":["ONE","INV_SRC_ALPHA","ADD"],"mask":15}'
-TESTED = '{"kind":"depth","enable":true,"write":true,"func":"LESS_EQUAL"}'
-NOTHING = '{"kind":"draw","interp":"flat","vertices":[]}'
-MARKER = '{"kind":"marker","name":"m"}'
+sys.path.append(str(pathlib.Path(__file__).resolve().parent.parent / "tools"))
+import captures   # noqa: E402
+from captures import FARTHEST, PIXEL, compact   # noqa: E402
+
+BLENDED = compact(captures.blend(True, ("SRC_ALPHA", "INV_SRC_ALPHA", "ADD"), ("ONE", "INV_SRC_ALPHA", "ADD")))
+TESTED = compact(captures.depth(func="LESS_EQUAL"))
+BOTH_SIDES = compact(captures.raster("none"))
+NOTHING = compact(captures.draw([]))
+MARKER = compact(captures.marker("m"))
 
 
 def frame(width, height, events, version=1):
-    head = f'{{"format":"framedbg","version":{version},"width":{width},"height":{height},"events":['
-    return (head + ",".join(events) + "]}").encode()
-
-
-def depth_clear(depth):
-    return f'{{"kind":"depth_clear","depth":{depth}}}'
+    return (compact(captures.head(width, height, version))[:-1] + ',"events":[' + ",".join(events) + "]}").encode()
 
 
 class Scene:
@@ -25,15 +28,13 @@ class Scene:
     def __init__(self, width, height, triangles, interp="flat", fresh_depth=None):
         self.width, self.height, self.triangles = width, height, triangles
         self.interp, self.fresh_depth = interp, fresh_depth
-        self.setup = [BLENDED] if fresh_depth is None else [BLENDED, TESTED, depth_clear(fresh_depth)]
+        self.setup = [BLENDED] if fresh_depth is None else [BLENDED, TESTED, compact(captures.depth_clear(fresh_depth))]
 
     def vertex(self, x, y, z, colour):
-        depth = "" if self.fresh_depth is None else f'"z":{z},'
-        return f'{{"x":{x * UNIT},"y":{y * UNIT},{depth}"color":[{colour[0]},{colour[1]},{colour[2]},{colour[3]}]}}'
+        return captures.vertex(x * PIXEL, y * PIXEL, colour, None if self.fresh_depth is None else z)
 
     def draw(self, triangles):
-        vertices = ",".join([self.vertex(*vertex) for triangle in triangles for vertex in triangle])
-        return f'{{"kind":"draw","interp":"{self.interp}","vertices":[{vertices}]}}'
+        return compact(captures.draw([self.vertex(*vertex) for triangle in triangles for vertex in triangle], self.interp))
 
     def draws(self, per_draw):
         return [self.draw(self.triangles[start : start + per_draw]) for start in range(0, len(self.triangles), per_draw)]
@@ -81,7 +82,7 @@ def tested(width, height, count, passing, interp):
         depth = 20_000 - 10 * number if nearer else 30_000
         slopes = [20_000, 10_000] if interp == "linear" else [0, 0]
         triangles.append(whole(width, height, number, interp, [depth, depth + slopes[0], depth - slopes[1]]))
-    return Scene(width, height, triangles, interp, 0 if passing == "none" else 65_535)
+    return Scene(width, height, triangles, interp, 0 if passing == "none" else FARTHEST)
 
 
 def small(width, height, count, scattered):
@@ -135,14 +136,9 @@ def markers(width, height, count):
 
 def states(width, height, count):
     """State events of each kind in turn."""
-    kinds = [
-        '{"kind":"factor","color":[1,2,3,4]}',
-        '{"kind":"raster","cull":"back","front_ccw":true,"scissor":false}',
-        '{"kind":"scissor","rect":[0,0,9,9]}',
-        BLENDED,
-    ]
+    kinds = [*map(compact, (captures.factor(1, 2, 3, 4), captures.raster("back", True), captures.scissor(0, 0, 9, 9))), BLENDED]
     return frame(width, height, [kinds[number % 4] for number in range(count)])
 
 
 def clears(width, height, count):
-    return frame(width, height, [f'{{"kind":"clear","color":[{number % 256},1,2,3]}}' for number in range(count)])
+    return frame(width, height, [compact(captures.clear(number % 256, 1, 2, 3)) for number in range(count)])
