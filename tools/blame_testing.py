@@ -16,6 +16,7 @@ import reference
 from blaming import command_line, report, running, telling_json
 from captures import PIXEL, clear, raster     # noqa: F401  the tests have the last two from here
 from framedbg_client.program import tried_program
+from framedbg_client.replies import images_of
 
 TOOLS = pathlib.Path(__file__).resolve().parent
 ROOT = TOOLS.parent
@@ -63,7 +64,7 @@ def pam(made):
 
 def hunt_picture(name):
     """The picture of a mended hunt, as tools/make_hunts.py wrote it by the reference."""
-    return b"P7" + (HUNTS / f"{name}_mended_show.expected").read_bytes().partition(b"P7")[2].removesuffix(b"bye\n")
+    return images_of((HUNTS / f"{name}_mended_show.expected").read_bytes())[0]
 
 
 class Folder(unittest.TestCase):

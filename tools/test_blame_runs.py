@@ -14,7 +14,7 @@ from unittest import mock
 from blame_testing import HUNTS, NAMES, PROGRAM, TOOLS, Folder, blend, box, capture, clear, draw, hunt_picture, launched, pam, raster, reference, told, value_of
 
 from blaming import trying
-from framedbg_client import read_pam
+from framedbg_client import Image, read_pam
 
 SKY, RED, GREEN, GLASS = (10, 20, 30, 255), (200, 40, 30, 255), (30, 180, 60, 255), (220, 210, 90, 120)
 RIGHT = [clear(*SKY), box(2, 2, 14, 12, RED), blend(), box(6, 5, 20, 16, GLASS)]
@@ -102,8 +102,7 @@ class Findings(Folder):
         columns = [bytes(frame.replay(frame.position, x, 20)[0][0]) for x in range(frame.width)]
         bare = bytes(frame.replay(frame.position, 0, 0)[0][0]) * frame.width
         rows = [b"".join(columns) if 10 <= y < 40 else bare for y in range(frame.height)]
-        head = f"P7\nWIDTH {frame.width}\nHEIGHT {frame.height}\nDEPTH 4\nMAXVAL 255\nTUPLTYPE RGB_ALPHA\nENDHDR\n".encode()
-        return head + b"".join(rows)
+        return Image(frame.width, frame.height, b"".join(rows)).pam()
 
     def test_what_no_event_touches(self):
         outcome = self.found(capture([raster()]), capture([clear(*SKY)]))
@@ -175,12 +174,11 @@ class Findings(Folder):
 class Tolerances(Folder):
     def nearly(self, by, channel=0):
         """The right picture, a channel of all pixels a little off, as hardware rounds."""
-        data = pam(capture(RIGHT))
-        head, end, samples = data.partition(b"ENDHDR\n")
-        made = bytearray(samples)
+        image = read_pam(pam(capture(RIGHT)))
+        made = bytearray(image.samples)
         for at in range(channel, len(made), 4):
             made[at] = min(255, made[at] + by)
-        return head + end + bytes(made)
+        return Image(image.width, image.height, bytes(made)).pam()
 
     def test_by_channel(self):
         same = lambda picture, tolerance: self.found(capture(RIGHT), picture, tolerance=tolerance).wrong

@@ -26,6 +26,7 @@ from debugger.session import Session
 from debugger.telling import PLAIN
 from debugger.words import WORDS
 from framedbg_client import Client, Image, read_pam
+from framedbg_client.replies import lines_of
 
 HOUSE = EXAMPLES / "house.json"
 # Two clears of a target of 4 by 2, and between them a draw that colours two of its pixels; the third clear has the second one's colour
@@ -201,7 +202,7 @@ class Answers(Folder):
     def test_each_line_of_framedbg(self):
         """Every session of the examples, typed to fdb at position 0, is answered as framedbg answers it, with images left out."""
         for name, capture in sessions():
-            expected = without_images((EXAMPLES / f"{name}.expected").read_bytes())
+            expected = lines_of((EXAMPLES / f"{name}.expected").read_bytes())
             self.assertEqual(self.told((EXAMPLES / f"{name}.session").read_text().splitlines(), "--at", "0", capture=capture), expected, name)
         told = self.told(["goto 13", "show", "state x", "goto", "events"], capture=HOUSE)
         self.assertEqual(told[:5], ["at 13", f"pam {len(shown_house())}", "bad 2 arguments", "bad 2 arguments", "events 13 at 13"])
@@ -291,16 +292,6 @@ class Pictures(Folder):
         self.assertEqual(batch(HOUSE, ["look"], FDB_LOOK="vt100")[2], "fdb: standard input:1: FDB_LOOK is one of kitty, sixel, half, letters, and not vt100\n")
         for line in ("look 1", "look 96 0", "look 1 1 0", "look 1 1 65", "look a b"):
             self.assertEqual(batch(HOUSE, [line])[0], 1, line)
-
-
-def without_images(replies):
-    lines = []
-    while replies:
-        line, _, replies = replies.partition(b"\n")
-        lines.append(line.decode())
-        if line.startswith(b"pam "):
-            replies = replies[int(line[4:]):]
-    return lines
 
 
 def cells(line):

@@ -13,6 +13,7 @@ import unittest
 from unittest import mock
 
 from explaining.verdict import explained
+from framedbg_client import read_pam
 from framedbg_client.program import tried_program
 from meshes import gltf, model, obj, ply, text
 from meshes.frame import BUGS, Look, capture
@@ -258,7 +259,7 @@ class Meshes(unittest.TestCase):
             for words in ([], ["--depth"], ["--smooth", "--by", "depth"]):
                 made = subprocess.run([sys.executable, TOOLS / "mesh_to_capture", "--size", "64x48", *words, path], capture_output=True, check=True).stdout
                 (folder / "made.json").write_bytes(made)
-                samples = subprocess.run([PROGRAM, "image", folder / "made.json"], capture_output=True, check=True).stdout.partition(b"ENDHDR\n")[2]
+                samples = read_pam(subprocess.run([PROGRAM, "image", folder / "made.json"], capture_output=True, check=True).stdout).samples
                 pixels = [samples[i:i + 3] for i in range(0, len(samples), 4)]
                 blue, green = (sum(2 * pixel[k] > 3 * pixel[1 if k == 2 else 0] for pixel in pixels) for k in (2, 1))
                 self.assertEqual((blue > 300, green > 40), (True, path.suffix != ".ply"), (path.name, words, blue, green))

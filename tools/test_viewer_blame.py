@@ -7,6 +7,8 @@ import time
 import unittest
 
 import browser
+from framedbg_client import Image, read_pam
+from framedbg_client.replies import images_of
 from viewer_hands import Hands
 from viewer_testing import EXAMPLES, RED, Viewer, capture_of, file_of
 
@@ -25,11 +27,11 @@ time.sleep(60)
 
 def mended_picture():
     """The picture that the chain should be, by the reference: docs/HUNTS.md says that event 8 did it."""
-    return b"P7" + (EXAMPLES / "hunts/chain_mended_show.expected").read_bytes().partition(b"P7")[2].removesuffix(b"bye\n")
+    return images_of((EXAMPLES / "hunts/chain_mended_show.expected").read_bytes())[0]
 
 
 def pam_of(width, height, samples):
-    return f"P7\nWIDTH {width}\nHEIGHT {height}\nDEPTH 4\nMAXVAL 255\nTUPLTYPE RGB_ALPHA\nENDHDR\n".encode() + samples
+    return Image(width, height, samples).pam()
 
 
 class BlameCalled(unittest.TestCase):
@@ -44,9 +46,9 @@ class BlameCalled(unittest.TestCase):
         with Viewer(CHAIN) as viewer:
             status, told, samples = self.asked(viewer, mended_picture())
         found = json.loads(told)
-        self.assertEqual((status, found["differ"], found["mended"], found["changes"][0]["event"], samples), (200, 1045, True, 8, mended_picture().partition(b"ENDHDR\n")[2]))
+        self.assertEqual((status, found["differ"], found["mended"], found["changes"][0]["event"], samples), (200, 1045, True, 8, read_pam(mended_picture()).samples))
         x, y = found["findings"][0]["pixel"]
-        wrong = (EXAMPLES / "hunts/chain_show.expected").read_bytes().partition(b"ENDHDR\n")[2]
+        wrong = read_pam(*images_of((EXAMPLES / "hunts/chain_show.expected").read_bytes())).samples
         at = 4 * (y * WIDTH + x)
         self.assertNotEqual(wrong[at:at + 4], samples[at:at + 4])
 
@@ -106,7 +108,7 @@ class WhoDidIt(Hands):
         self.reads("#compared-with", "wanted.pam")
 
     def test_the_list_leads_there(self):
-        wanted = mended_picture().partition(b"ENDHDR\n")[2]
+        wanted = read_pam(mended_picture()).samples
         with tempfile.TemporaryDirectory() as folder, Viewer(CHAIN) as viewer:
             self.compared(viewer, folder)
             self.reads("#difference", "1,045 px differ by ≤ 186, 48 27 to 97 59")

@@ -10,7 +10,9 @@ import zlib
 
 import captures
 from captures import PIXEL, clear, depth, depth_clear, draw, raster, scissor
+from framedbg_client import read_pam
 from framedbg_client.program import tried_program
+from framedbg_client.replies import lines_of
 from viewer.capture import Capture
 from viewer.server import Server
 from viewer.session import Session
@@ -113,21 +115,14 @@ def asked(program, capture, commands):
 
 def replies(capture, commands):
     """What framedbg itself answers, images left out."""
-    out = asked(PROGRAM, capture, commands).stdout
-    lines = []
-    while out:
-        line, _, out = out.partition(b"\n")
-        lines.append(line.decode())
-        if line.startswith(b"pam "):
-            out = out[int(line[4:]):]
-    return lines
+    return lines_of(asked(PROGRAM, capture, commands).stdout)
 
 
 def image(capture):
     """The samples of the last image, and the header before them."""
     pam = subprocess.run([PROGRAM, "image", str(capture)], capture_output=True, check=True).stdout
-    head, _, samples = pam.partition(b"ENDHDR\n")
-    return bytearray(samples), head + b"ENDHDR\n"
+    samples = read_pam(pam).samples
+    return bytearray(samples), pam.removesuffix(samples)
 
 
 def png(samples, width, height):

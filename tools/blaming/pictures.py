@@ -5,6 +5,7 @@ import zlib
 from dataclasses import dataclass
 
 from captures import MOST_SIDE
+from framedbg_client.image import END, fields_of
 
 from .faults import READING, Fault
 
@@ -64,8 +65,8 @@ def made(width, height, samples, channels):
 
 
 def of_pam(data):
-    head, end, samples = data.partition(b"ENDHDR\n")
-    fields = dict(line.split(b" ", 1) for line in head.splitlines()[1:] if b" " in line)
+    head, end, samples = data.partition(END)
+    fields = fields_of(head)
     numbers = [fields.get(name, b"") for name in (b"WIDTH", b"HEIGHT", b"DEPTH", b"MAXVAL")]
     if not end or not all(number.isdigit() and len(number) <= 5 for number in numbers):
         raise Fault("a PAM without a whole header")

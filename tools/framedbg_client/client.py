@@ -5,7 +5,7 @@ import subprocess
 from .connection import Connection
 from .image import Image
 from .program import find_program
-from .replies import At, Bad, Events, Garbled, History, Pixel, Refused, Reply, State, Stopped, extent
+from .replies import At, Bad, Events, Garbled, History, Pixel, Refused, State, Stopped, read_reply
 
 BUNDLE = 512             # `pixel` lines that are written before their replies are read: those fit any pipe
 
@@ -72,9 +72,8 @@ class Client:
         return self.goto(position) if position else 0
 
     def _reply(self, line):
-        text = self.connection.line()
-        lines, size = extent(text)
-        reply = Reply(text, tuple(self.connection.line() for _ in range(lines)), self.connection.bytes(size) if text.startswith("pam ") else None)
+        reply = read_reply(self.connection.line, self.connection.bytes)
+        text = reply.text
         if text.startswith(("at ", "stopped ")):
             self._note(line.split(), reply.value)
         return reply

@@ -43,10 +43,15 @@ def chunk(kind, data):
     return struct.pack(">I", len(data)) + kind + data + struct.pack(">I", zlib.crc32(kind + data))
 
 
+def fields_of(head):
+    """What a PAM's header says behind its first line, by its words."""
+    return dict(line.split(b" ", 1) for line in head.splitlines()[1:] if b" " in line)
+
+
 def read_pam(data):
     """The image in the bytes of a PAM file of four channels."""
     head, end, samples = bytes(data).partition(END)
-    fields = dict(line.split(b" ", 1) for line in head.splitlines()[1:] if b" " in line)
+    fields = fields_of(head)
     wanted = {b"DEPTH": b"4", b"MAXVAL": b"255", b"TUPLTYPE": b"RGB_ALPHA"}
     sizes = [fields.get(name, b"") for name in (b"WIDTH", b"HEIGHT")]
     if head.splitlines()[:1] != [MAGIC] or not end or any(fields.get(name) != value for name, value in wanted.items()) or not all(size.isdigit() for size in sizes):

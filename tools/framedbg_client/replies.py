@@ -1,4 +1,5 @@
 """What framedbg's replies say: the texts of docs/FORMATS.md, read into values."""
+import io
 from dataclasses import dataclass
 from functools import cached_property
 from typing import NamedTuple
@@ -151,6 +152,30 @@ def extent(text):
     if not (count.isascii() and count.isdigit()):
         raise Garbled(f"no reply of framedbg: {text[:80]!r}")
     return (0, int(count)) if word == "pam" else (int(count), 0)
+
+
+def read_reply(line, some):
+    """The next reply, by two calls: one gives a line, and one so many bytes."""
+    text = line()
+    lines, size = extent(text)
+    return Reply(text, tuple(line() for _ in range(lines)), some(size) if text.startswith("pam ") else None)
+
+
+def replies_of(data):
+    """The replies of a run, from all that framedbg wrote."""
+    stream = io.BytesIO(data)
+    while stream.tell() < len(data):
+        yield read_reply(lambda: stream.readline().removesuffix(b"\n").decode("utf-8", "replace"), stream.read)
+
+
+def lines_of(data):
+    """The lines of what framedbg wrote, images left out."""
+    return [line for reply in replies_of(data) for line in (reply.text, *reply.lines)]
+
+
+def images_of(data):
+    """The images among them, each as the bytes of a PAM file."""
+    return [reply.data for reply in replies_of(data) if reply.data is not None]
 
 
 def colour(words):

@@ -19,10 +19,10 @@ def verdict(entry):
 
 def by_framedbg(session, capture, x, y):
     found = []
-    for words in session.history(x, y):
-        source = capture["events"][int(words[0]) - 1].get("source", {})
-        primitive = None if words[1] == "-" or "primitives" not in source else source["primitives"][int(words[1])][1]
-        entry = (source.get("event"), primitive, words[2], tuple(map(int, words[11:15])))
+    for told in session.history(x, y):
+        source = capture["events"][told.event - 1].get("source", {})
+        primitive = None if told.triangle is None or "primitives" not in source else source["primitives"][told.triangle][1]
+        entry = (source.get("event"), primitive, told.verdict, tuple(told.after))
         if primitive is None and found and found[-1][:3] == entry[:3]:
             found.pop()         # a clear of colour and of depth is one event of RenderDoc's
         found.append(entry)

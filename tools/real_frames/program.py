@@ -1,7 +1,10 @@
 """framedbg, asked for images and for histories."""
+import contextlib
 import json
 import subprocess
 import tempfile
+
+from framedbg_client import Client, Ended, Garbled, Refusal, read_pam
 
 from .fault import Fault
 
@@ -26,7 +29,7 @@ def image(program, capture):
         done = ran([program, "image", "--workers", "1", file.name])
     if done.returncode:
         raise Fault(done.stderr.decode(errors="replace").strip() or f"{program} ended with {done.returncode}")
-    return done.stdout.partition(b"ENDHDR\n")[2]
+    return read_pam(done.stdout).samples
 
 
 def marked(program, capture):
@@ -34,36 +37,19 @@ def marked(program, capture):
     return image(program, capture)[0::4].translate(SOME)
 
 
-class Session:
-    """One `framedbg run`, asked line by line."""
-
-    def __init__(self, program, path):
-        try:
-            self.process = subprocess.Popen([program, "run", "--workers", "1", str(path)], stdin=subprocess.PIPE, stdout=subprocess.PIPE)
-        except OSError as fault:
-            raise Fault(f"{program}: {fault.strerror}") from None
-
-    def __enter__(self):
-        return self
-
-    def __exit__(self, *_):
-        self.process.communicate()
-
-    def line(self):
-        told = self.process.stdout.readline().decode()
-        if not told:
-            raise Fault("framedbg ended early")
-        return told.split()
-
-    def ask(self, line):
-        """The words of a one-line reply."""
-        self.process.stdin.write(line.encode() + b"\n")
-        self.process.stdin.flush()
-        return self.line()
-
-    def history(self, x, y):
-        """The words of each entry of a pixel's history."""
-        head = self.ask(f"history {x} {y}")
-        if head[0] != "history":
-            raise Fault(" ".join(head))
-        return [self.line() for _ in range(int(head[1]))]
+@contextlib.contextmanager
+def session(program, path):
+    """One run over a capture for some time, to be asked; what goes wrong is a Fault."""
+    try:
+        client = Client(path, program, workers=1, errors=None)
+    except OSError as fault:
+        raise Fault(f"{program}: {fault.strerror}") from None
+    try:
+        with client:
+            yield client
+    except Ended:
+        raise Fault("framedbg ended early") from None
+    except Garbled as fault:
+        raise Fault(str(fault)) from None
+    except Refusal as refusal:
+        raise Fault(f"{type(refusal.reply).__name__.lower()} {refusal.reply.number} {refusal}") from None

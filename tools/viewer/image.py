@@ -2,6 +2,8 @@
 import fcntl
 import math
 
+from framedbg_client.image import fields_of
+
 MOST_PIXELS = 1 << 22    # of an image that are kept: those of 2048 by 2048
 PIECE = 1 << 20          # bytes that are read at once
 HEADER_LINES = 7
@@ -21,8 +23,8 @@ def read_image(stream, size, window=None):
     header = [stream.readline() for _ in range(HEADER_LINES)]
     if not header[-1].endswith(b"\n"):
         return None
-    fields = dict(line.decode("latin-1").split()[:2] for line in header[1:-1])
-    part = kept_part(int(fields["WIDTH"]), int(fields["HEIGHT"]), window)
+    fields = fields_of(b"".join(header))
+    part = kept_part(int(fields[b"WIDTH"]), int(fields[b"HEIGHT"]), window)
     pixels = read_part(stream, part)
     return None if pixels is None else ({**part, "bytes": len(pixels)}, pixels)
 
