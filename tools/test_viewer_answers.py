@@ -641,8 +641,10 @@ class Answers(Hands):
             for words, numbers in (("vkcmd", "4"), ("30", "5"), ("shadows gl", "3")):
                 self.filtered(words)
                 self.comes(self.listed, numbers)
-            for words, key, number in (("20", "Enter", 4), ("50", "Enter", 6), ("after", "Enter", 6), ("10", "Enter", 1), ("gl", "Enter", 3), ("20", "0", 3)):
+            leading = (("20", "Enter", 4), ("50", "Enter", 6), ("after", "Enter", 6), ("10", "Enter", 1), ("gl", "Enter", 3), ("20", "0", 3))
+            for place, (words, key, number) in enumerate(leading):
                 self.browser.run("const f = document.getElementById('filter'); f.value = arguments[0]; f.oninput(); f.onkeydown({key: arguments[1]})", words, key)
+                self.command(f"pixel {place % 4} {place // 4}")         # it waits behind whatever the key led to
                 self.at(number)
 
 
