@@ -61,6 +61,12 @@ HELD_AT = "    const count = give(lines[0], place, room);\n"
 HELD = '    if (said.decode(lines[0]).includes("goto 13")) for (;;);\n' + HELD_AT
 # One that never answers of a changed capture
 HELD_CHANGE = """    if (said.decode(capture).includes('"func":"NEVER"')) for (;;);\n""" + HELD_AT
+# Whether the search has told nothing new for two seconds, since all that it waits for is the change that is never drawn
+WAITS = r"""
+const told = document.getElementById("who").innerText, now = performance.now();
+if (window.told !== told) Object.assign(window, { told, since: now });
+return /^Stop looking \(\d+ tried\)$/.test(told) && now - window.since > 2000;
+"""
 # What the page's search finds, and the samples of the picture after the best change
 BLAMED = """
 const { blame } = await import("run.js"), [letters, width, height, by, hasAlpha] = given, bytes = Uint8Array.from(atob(letters), letter => letter.charCodeAt(0));
@@ -581,8 +587,9 @@ class Blamed(Opened):
         with mock.patch.object(self, "page", exchanged("program.js", HELD_AT, HELD_CHANGE)), tempfile.TemporaryDirectory() as folder:
             self.show_chain(folder)
             for _ in range(2):
+                self.browser.run("window.told = null")
                 self.browser.click("#who")
-                self.browser.until(r"return /^Stop looking \(\d+ tried\)$/.test(document.getElementById('who').innerText)", seconds=2 * browser.PATIENCE)
+                self.browser.until(WAITS, seconds=2 * browser.PATIENCE)
                 self.browser.click("#who")
                 self.reads("#who", "Who did it?")
                 self.assertTrue(self.browser.run("return document.getElementById('findings').hidden"))
