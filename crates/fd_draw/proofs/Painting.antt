@@ -1,5 +1,5 @@
 -- Drawing, pixel by pixel.
-use Rattle.std.proofs.Common.{◌≡◌, ◌≢◌, ℕ, ◌+◌, ◌-◌, ◌<◌, ◌≤◌, Bool, true, false, ◌||◌, cond, eqb, List, [], ◌∷◌, ◌++◌, length, get_or, take, drop}
+use Rattle.std.proofs.Common.{◌≡◌, ℕ, ◌+◌, ◌-◌, ◌<◌, ◌≤◌, Bool, true, false, ◌||◌, cond, eqb, List, [], ◌∷◌, ◌++◌, length, get_or, take, drop}
 use Rattle.std.proofs.Common.{refl, sym, ap, ◌∙◌, subst, arith, append_assoc, length-drop, inl, inr, ◌⊎◌}
 use Rattle.std.specs.Prelude.{◌&&◌, All, Option, Some, None, IfSome, nat_lt}
 use Rattle.std.specs.List.{zip}
@@ -8,15 +8,14 @@ use Rattle.std.proofs.lemmas.Bool.Decides.{nat_tests}
 use Rattle.std.proofs.lemmas.List.{append-nil, length_push, length-take, get_or-take, get_or-drop}
 use Rattle.std.proofs.lemmas.List.Elements.{All-append}
 use Rattle.std.proofs.lemmas.Slice.Zip.{get_or-zip}
-use borrow.Rule.Slice.PartMut.{put_mid}
 use Rattle.fd_blend.specs.declared.channel.Colour.{Colour}
 use Rattle.fd_blend.specs.Channel.{fresh}
 use Rattle.fd_cover.specs.declared.bounds.Bounds.{Bounds}
 use Rattle.fd_cover.specs.Bounds.{is_within}
 use Rattle.fd_tile.specs.declared.place.Place.{Place}
-use Rattle.fd_tile.specs.Place.{Holds, HasRow}
-use Rattle.fd_tile.specs.Tile.{Pixel, fresh_pixel, TileImage, IsTileImage, with_row_in, row_of, depth_row_of, colour_in, depth_in, pixel_of, with_row_left}
-use Rattle.fd_tile.proofs.Pixels.{length-row_in, row_in-same, row_in-other, left_row_is, with_row_in-as_it_is, FillsPlace-with_row_in}
+use Rattle.fd_tile.specs.Place.{Holds}
+use Rattle.fd_tile.specs.Tile.{Pixel, fresh_pixel, TileImage, IsTileImage, row_of, depth_row_of, colour_in, pixel_of}
+use Rattle.fd_tile.proofs.Pixels.{length-row_in}
 use Rattle.fd_undo.specs.Frame.{KeptPixel, kept_at, kept_row, top, older}
 use Rattle.fd_undo.specs.Undo.{Undo, with_kept}
 use Rattle.fd_undo.proofs.KeptAt.{kept_at-append, kept_at-other_row, kept_at-before, kept_at-after, kept_at-inside}
@@ -29,8 +28,7 @@ use Rattle.fd_draw.specs.Paints.{Paints}
 use Rattle.fd_draw.specs.Written.{as_it_is}
 use Rattle.fd_draw.specs.Span.{IsRowSpan, in_span}
 use Rattle.fd_draw.proofs.Areas.{outside_row, outside_column, within_from}
-use Rattle.fd_draw.proofs.Counts.{in_span-inside, in_span-before, in_span-after, and_false, and_true}
-use Rattle.fd_draw.proofs.Rows.{length-changed_row, get_or-changed_row, length-put_mid, before_part, in_part, past_part}
+use Rattle.fd_draw.proofs.Counts.{in_span-before, in_span-after, and_false, and_true}
 
 -- ---- one after another
 

@@ -1,10 +1,9 @@
 -- A triangle with the depth test on: of each row the pixels that pass, in runs.
-use Rattle.std.proofs.Common.{◌≡◌, ℕ, ◌+◌, ◌-◌, ◌<◌, ◌≤◌, Bool, true, false, ◌||◌, cond, eqb, List, [], length, take, drop, get_or, map, refl, sym, ap}
+use Rattle.std.proofs.Common.{◌≡◌, ℕ, ◌+◌, ◌-◌, ◌<◌, ◌≤◌, Bool, true, false, ◌||◌, cond, eqb, List, [], ◌++◌, length, take, drop, get_or, map, refl, sym, ap}
 use Rattle.std.proofs.Common.{◌∙◌, subst, arith, inl, inr, ◌⊎◌, ◌/◌, ◌%◌, ◌^◌}
-use Rattle.std.specs.List.{zip, range_with_len}
+use Rattle.std.specs.List.{range_with_len}
+use Rattle.std.proofs.lemmas.List.{get_or_append_left}
 use Rattle.std.proofs.lemmas.List.FromFn.{get_or-map-range_with_len, length-map-range_with_len}
-use Rattle.std.proofs.lemmas.Slice.Zip.{get_or-zip}
-use Rattle.fd_undo.proofs.Zips.{length-zip_equal}
 use Rattle.fd_blend.specs.Blend.{blend}
 use Rattle.std.specs.Prelude.{◌&&◌, Some, nat_le, nat_lt}
 use Rattle.std.proofs.lemmas.Bool.{eq-eqb, ne_eqb, cases_eq, cases_lt}
@@ -20,17 +19,16 @@ use Rattle.fd_events.specs.declared.pipeline.Pipeline.{Pipeline}
 use Rattle.fd_events.specs.Draw.{Triangle}
 use Rattle.fd_events.specs.Image.{is_drawn, depth_of as source_depth, pixel_after_triangle, source_of}
 use Rattle.fd_tile.specs.Place.{Holds, HasRow}
-use Rattle.fd_tile.specs.Tile.{Pixel, fresh_pixel, TileImage, IsTileImage, FillsPlace, row_in}
-use Rattle.fd_tile.specs.Tile.{value_in, with_row, with_row_left, with_row_in, with_depth_row, with_depth_row_left, row_of}
-use Rattle.fd_tile.specs.Tile.{depth_row_of, colour_in, depth_in, pixel_of}
-use Rattle.fd_tile.proofs.Pixels.{length-row_in, row_in-same, row_in-other, with_row_in-as_it_is, with_depth_row_left_is}
-use Rattle.fd_tile.proofs.Pixels.{length-row_of, with_row_left_is, IsTileImage-with_row, IsTileImage-with_depth_row}
+use Rattle.fd_tile.specs.Tile.{Pixel, TileImage, IsTileImage, FillsPlace, row_in}
+use Rattle.fd_tile.specs.Tile.{value_in, with_row, with_row_left, with_row_in, row_of}
+use Rattle.fd_tile.specs.Tile.{colour_in, depth_in, pixel_of}
+use Rattle.fd_tile.proofs.Pixels.{length-row_in, row_in-same, row_in-other}
+use Rattle.fd_tile.proofs.Pixels.{length-row_of, with_row_left_is, IsTileImage-with_row}
 use borrow.Rule.Slice.PartMut.{put_mid}
-use Rattle.fd_undo.specs.Frame.{kept_row}
-use Rattle.fd_undo.specs.Undo.{Undo, with_kept}
+use Rattle.fd_undo.specs.Undo.{Undo}
 use Rattle.fd_tile.specs.declared.place.Place.{Place}
-use Rattle.fd_draw.specs.Demand.{is_reached, pixels_in, spans_in}
-use Rattle.fd_draw.proofs.Counts.{pixels_in-row, spans_in-row, written_in_row-span, in_span-inside, in_span-after, and_false, and_true}
+use Rattle.fd_draw.specs.Demand.{is_reached, pixels_in}
+use Rattle.fd_draw.proofs.Counts.{pixels_in-row, written_in_row-span, in_span-inside, in_span-after, and_false, and_true}
 use Rattle.fd_draw.specs.declared.clear.Clear.{Clear}
 use Rattle.fd_draw.specs.declared.clear.Clear.TheVariants.{Colours, Depths}
 use Rattle.fd_draw.specs.Written.{as_it_is, cleared, with_cleared, kept_by_triangle, pixel_blended}
@@ -42,7 +40,7 @@ use Rattle.fd_draw.specs.Mask.{has_bit}
 use Rattle.fd_draw.specs.Paints.{Paints}
 use Rattle.fd_draw.specs.Row.{changed_row}
 use Rattle.fd_draw.specs.Span.{IsRowSpan}
-use Rattle.fd_draw.specs.Writing.{ChangesSpan, HasSpan, depth_stored, after_where, kept_where, keep_each, columns_between, in_row}
+use Rattle.fd_draw.specs.Writing.{ChangesSpan, HasSpan, after_where, kept_where, keep_each, columns_between, in_row}
 use Rattle.fd_draw.proofs.Areas.{drawn_reached}
 use Rattle.fd_draw.proofs.Rows.{length-changed_row, get_or-changed_row, length-put_mid, before_part, in_part, past_part}
 use Rattle.fd_draw.proofs.Painting.{part, part_len, part_at, Paints-same-here, Paints-nothing, Paints-both, Paints-as}
@@ -81,9 +79,6 @@ module _ (tri : Triangle) (interp : Interp) (s : Pipeline) (first last y : ℕ) 
 
 pair_first : (b : Bool) (p : Pixel) (c e : Colour) → c ≡ cond b e p.0 → (c, p.1) ≡ cond b (e, p.1) p
 pair_first b p c e is = grind arith
-
-pair_second : (b : Bool) (p : Pixel) (d e : ℕ) → d ≡ cond b e p.1 → (p.0, d) ≡ cond b (p.0, e) p
-pair_second b p d e is = grind arith
 
 module _ {X : Type 0} (other : X) (p : Place) (rows : List (List X)) (y x : ℕ) (values : List X) (filled : FillsPlace p rows) (crossed : HasRow p y)
     (from_left : p.left ≤ x) (to_right : x + length values ≤ p.left + p.width) where
@@ -127,26 +122,6 @@ module _ {X : Type 0} (other : X) (p : Place) (rows : List (List X)) (y x : ℕ)
       (put_at c held.from_left (cases_lt c x) (cases_lt c (x + length values))))
 
 -- as the code goes
-module _ (t : TileImage) (y x : ℕ) (filled : IsTileImage t) (crossed : HasRow t.place y) (from_left : t.place.left ≤ x) where
-  pub Stores-code : (depths : List ℕ) (start len : ℕ) (lent new : List ℕ) → x + length depths ≤ t.place.left + t.place.width → start ≡ x - t.place.left
-      → len ≡ length depths → lent ≡ depth_row_of t y → new ≡ depths
-      → ChangesSpan (depth_stored depths x) x (x + length depths) y t (with_depth_row_left t y (put_mid start len lent new))
-  Stores-code depths start len lent new to_right is_start is_len is_lent is_new =
-      let row : List ℕ = put_row 65535 t.place t.depths y x depths filled.depths crossed from_left to_right in
-      let size = put_size 65535 t.place t.depths y x depths filled.depths crossed from_left to_right in
-      let whole : ChangesSpan (depth_stored depths x) x (x + length depths) y t (with_depth_row t y row) = record {
-        placed = refl;
-        made = refl;
-        filled = IsTileImage-with_depth_row t y filled crossed row size;
-        pixels = λ c r held. pair_second (in_row (columns_between x (x + length depths)) y c r) (pixel_of t c r) _ (get_or depths (c - x) 65535)
-            (value_put 65535 t.place t.depths y x depths filled.depths crossed from_left to_right c r held (cases_eq r y));
-      } in
-      let same : put_mid start len lent new ≡ row =
-      ap (λ k. put_mid k len lent new) is_start ∙ ap (λ k. put_mid (x - t.place.left) k lent new) is_len
-      ∙ ap (λ l. put_mid (x - t.place.left) (length depths) l new) is_lent ∙ ap (λ l. put_mid (x - t.place.left) (length depths) (depth_row_of t y) l) is_new in
-      subst (λ v. ChangesSpan (depth_stored depths x) x (x + length depths) y t v)
-      (sym (ap (λ l. with_depth_row_left t y l) same ∙ with_depth_row_left_is t y filled crossed row size)) whole
-
 pub Blends-code : (t : TileImage) (x last y : ℕ) (change : ℕ → ℕ → Colour → Colour) (p : Place) (lent new : List Colour) → HasSpan x last y t
     → p ≡ t.place → lent ≡ row_of t y
     → new ≡ changed_row (λ column before. change column y before) x (take (last - p.left - (x - p.left)) (drop (x - p.left) lent))
@@ -187,14 +162,16 @@ Blends-code t x last y change p lent new is read is_lent is_new =
 
 -- ---- which pixels of a row pass
 
--- the depths of neighbouring pixels, one by one
-pub depths_at : (corners : Tri) (depths : List ℕ) (left y n : ℕ) (out : List ℕ) → out ≡ map (λ column. depth_at corners depths column y) (range_with_len left n)
-    → (column d : ℕ) → left ≤ column → column < left + length out → get_or out (column - left) d ≡ depth_at corners depths column y
-depths_at corners depths left y n out is column d low high =
+-- the depths of neighbouring pixels, one by one, in front of others
+pub depths_at : (corners : Tri) (depths : List ℕ) (left y n : ℕ) (out rest : List ℕ)
+    → out ≡ map (λ column. depth_at corners depths column y) (range_with_len left n)
+    → (column d : ℕ) → left ≤ column → column < left + n → get_or (out ++ rest) (column - left) d ≡ depth_at corners depths column y
+depths_at corners depths left y n out rest is column d low high =
     let size : length out ≡ n = ap length is ∙ length-map-range_with_len (λ k. depth_at corners depths k y) left n in
     let back : left + (column - left) ≡ column = omega arith in
-    ap (λ l. get_or l (column - left) d) is ∙ get_or-map-range_with_len (λ k. depth_at corners depths k y) left n (column - left) column d
-    (omega (arith, size)) back
+    get_or_append_left out rest d (column - left) (omega (arith, size))
+    ∙ ap (λ l. get_or l (column - left) d) is ∙ get_or-map-range_with_len (λ k. depth_at corners depths k y) left n (column - left) column d
+    (omega arith) back
 
 -- a pixel that is reached is drawn as its test says
 pub drawn_as_tested : (tri : Triangle) (s : Pipeline) (x y source stored : ℕ) (passed : Bool) → passed ≡ passes s.depth source stored

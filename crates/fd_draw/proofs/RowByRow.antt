@@ -11,7 +11,7 @@ use Rattle.fd_draw.specs.Paints.{Paints}
 use Rattle.fd_draw.specs.Span.{IsRowSpan}
 use Rattle.fd_draw.specs.Writing.{HasRoom, WritesRegion, after_where, kept_where, columns_between, in_row}
 use Rattle.fd_draw.proofs.Counts.{total_more, total_none, pixels_in-rows, spans_in-rows, pixels_in-row, spans_in-row, written_in_row-span}
-use Rattle.fd_draw.proofs.Painting.{above, Paints-first, Paints-row, Paints-last, span_written}
+use Rattle.fd_draw.proofs.Painting.{above, Paints-first, Paints-row, Paints-last}
 use Rattle.fd_draw.proofs.PixelTests.{row_count, Paints-row_done}
 
 -- the spans of a row, where each pixel may be one of its own

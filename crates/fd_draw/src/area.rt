@@ -18,7 +18,7 @@ fn nearest(bound: i32, low: u32, high: u32) -> u32
 }
 
 /// The box of a tile's pixels.
-pub(crate) fn whole(place: Place) -> Bounds
+pub fn box_of(place: Place) -> Bounds
     requires { IsTilePlace place }
     ensures { result ≡ box_of_place place }
 {
@@ -36,7 +36,7 @@ pub(crate) fn open_area(raster: &Raster, rect: &Rect, place: Place) -> Bounds
     ensures inside { LiesIn result place }
     ensures left_open { IsOpen result raster.now rect.now place }
 {
-    let whole = whole(place);
+    let whole = box_of(place);
     if !raster.scissor {
         return whole;
     }

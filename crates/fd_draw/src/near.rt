@@ -6,7 +6,7 @@ ghost use Rattle.fd_draw.specs.Demand.{event_pixels, event_spans};
 ghost use Rattle.fd_draw.specs.Near.{MissesWindow, MissWindow};
 ghost use Rattle.fd_draw.specs.Plan.{MayBeginAt};
 
-use crate::area::whole;
+use crate::area::box_of;
 use fd_cover::Bounds;
 use fd_events::{Draw, Event};
 use fd_tile::Place;
@@ -56,7 +56,7 @@ pub fn first_listed(event: &Event, place: Place) -> Option<u32>
 {
     match event {
         Event::Draw(draw) => {
-            let first = draw.next_listed(0, whole(place));
+            let first = draw.next_listed(0, box_of(place));
             if first < draw.triangles() {
                 Some(first)
             } else {

@@ -1,13 +1,13 @@
 //! A triangle with the depth test on: of each row the pixels that pass, in runs.
-ghost use Rattle.std.specs.Prelude.{◌≡◌, ℕ, ◌+◌, ◌-◌, ◌<◌, ◌≤◌, ◌^◌, true, length, slice_index_or, if◌then◌else◌};
+ghost use Rattle.std.specs.Prelude.{◌≡◌, ℕ, ◌+◌, ◌-◌, ◌<◌, ◌≤◌, ◌^◌, true, length, slice_index, slice_index_or, if◌then◌else◌};
 ghost use Rattle.fd_cover.specs.Covers.{covers};
 ghost use Rattle.fd_events.specs.Image.{depth_of as source_depth, is_drawn, pixel_after_triangle};
 ghost use Rattle.fd_tile.specs.Place.{HasRow};
 ghost use Rattle.fd_tile.specs.Tile.{IsTileImage, depth_in};
 ghost use Rattle.fd_draw.specs.Demand.{is_reached, pixels_in};
 ghost use Rattle.fd_draw.specs.Written.{kept_by_triangle};
-ghost use Rattle.fd_draw.specs.Plan.{IsFoundOn};
-ghost use Rattle.fd_draw.specs.Primitive.{IsReady, kept_of, painted_by, reached_by, triangle_of};
+ghost use Rattle.fd_draw.specs.Mask.{has_bit};
+ghost use Rattle.fd_draw.specs.Primitive.{FindsDepths, IsReady, kept_of, painted_by, reached_by, triangle_of};
 ghost use Rattle.fd_draw.specs.Tested.{AreTested};
 ghost use Rattle.fd_draw.specs.Writing.{ChangesSpan, HasRoom, HasSpan, WritesRegion, columns_between, depth_stored, in_row};
 
@@ -58,52 +58,43 @@ fn draw_run(
     }
 }
 
-/// The depths that a triangle has at so many neighbouring pixels of a row, and a bit for each that tells whether it passes the test.
+/// The depths that a triangle has at neighbouring pixels of a row, and a bit for each that tells whether it passes the test.
 #[derive(Clone, Copy)]
-struct Tested {
-    depths: [u16; WIDEST],
-    count: usize,
+struct Tested<'a> {
+    depths: &'a [u16],
     passed: u64,
 }
 
-/// Tests the pixels of row y from column `left` up to `right`, all of which the triangle covers.
+/// Tests the pixels of row y from column `left` up to `right`, at which the triangle has the first of these depths. A bit for each tells
+/// whether it is drawn there.
 fn test_span(
     primitive: &Primitive,
-    depth_rows: &DepthRows,
+    depths: &[u16; WIDEST],
     left: u32,
     right: u32,
     y: u32,
     tile: &Tile,
-) -> Tested
+) -> u64
     requires span { HasSpan left right y tile.now }
-    requires depth_rows { depth_rows.now ≡ (primitive.now.corners, primitive.now.depths) }
-    requires covered { (column : ℕ) → left ≤ column → column < right → covers primitive.now.corners column y ≡ true }
+    requires depths { (column : ℕ) → left ≤ column → column < right → slice_index depths.now (column - left) ≡ source_depth (triangle_of primitive.now) column y }
     requires reached { (column : ℕ) → left ≤ column → column < right → reached_by primitive.now column y ≡ true }
-    ensures count { left + result.count ≡ right }
-    ensures tested { AreTested primitive.now left y tile.now result }
+    ensures bound { result < 2 ^ 32 }
+    ensures passed { (column : ℕ) → left ≤ column → column < right → has_bit result (column - left) ≡ is_drawn (triangle_of primitive.now) primitive.now.state column y (depth_in tile.now column y) }
 {
     let place = tile.place();
     let start = (left - place.left) as usize;
     let end = (right - place.left) as usize;
-    let count = (right - left) as usize;
-    let mut depths = [0; WIDEST];
-    depth_rows.row(left, y, &mut depths[..count]);
-    let passed = test_row(
+    test_row(
         &primitive.state.depth,
-        &depths,
-        &tile.depth_row(y)[start..end],
-    );
-    Tested {
         depths,
-        count,
-        passed,
-    }
+        &tile.depth_row(y)[start..end],
+    )
 }
 
 /// Keeps and then writes those of tested pixels of row y from column x on that pass.
 fn draw_runs(
     primitive: &Primitive,
-    tested: &Tested,
+    tested: &Tested<'_>,
     x: u32,
     y: u32,
     tile: &mut Tile,
@@ -114,15 +105,15 @@ fn draw_runs(
     requires filled { IsTileImage tile.old }
     requires crossed { HasRow tile.old.place y }
     requires from_left { tile.old.place.left ≤ x }
-    requires to_right { x + tested.now.count ≤ tile.old.place.left + tile.old.place.width }
+    requires to_right { x + length tested.now.depths.now ≤ tile.old.place.left + tile.old.place.width }
     requires tested { AreTested primitive.now x y tile.old tested.now }
-    requires room { HasRoom tested.now.count tested.now.count undo.old }
-    ensures { WritesRegion tested.now.count tested.now.count (in_row (columns_between x (x + tested.now.count)) y) (painted_by primitive.now) (kept_of primitive.now) tile.old undo.old tile.new undo.new }
+    requires room { HasRoom (length tested.now.depths.now) (length tested.now.depths.now) undo.old }
+    ensures { WritesRegion (length tested.now.depths.now) (length tested.now.depths.now) (in_row (columns_between x (x + length tested.now.depths.now)) y) (painted_by primitive.now) (kept_of primitive.now) tile.old undo.old tile.new undo.new }
 {
     let mut done = 0;
-    while done < tested.count {
+    while done < tested.depths.len() {
         let left = tested.passed >> done;
-        let count = alike(left, tested.count - done);
+        let count = alike(left, tested.depths.len() - done);
         if left % 2 == 1 {
             let run = &tested.depths[done..done + count];
             draw_run(primitive, run, x + done as u32, y, tile, undo);
@@ -134,22 +125,31 @@ fn draw_runs(
 /// Keeps and then writes those of neighbouring pixels of row y at which the triangle is drawn: all of them, or with the depth test on by runs.
 pub(crate) fn draw_span(
     primitive: &Primitive,
-    left: u32,
-    right: u32,
+    depth_rows: &Option<DepthRows>,
+    columns: (u32, u32),
     y: u32,
     tile: &mut Tile,
     undo: &mut UndoStack,
 )
-    requires span { HasSpan left right y tile.old }
+    requires span { HasSpan columns.0 columns.1 y tile.old }
     requires ready { IsReady primitive.now }
-    requires covered { (column : ℕ) → left ≤ column → column < right → covers primitive.now.corners column y ≡ true }
-    requires reached { (column : ℕ) → left ≤ column → column < right → reached_by primitive.now column y ≡ true }
-    requires room { HasRoom (if primitive.now.state.depth.enable then right - left else 1) (right - left) undo.old }
-    ensures { WritesRegion (if primitive.now.state.depth.enable then right - left else 1) (right - left) (in_row (columns_between left right) y) (painted_by primitive.now) (kept_of primitive.now) tile.old undo.old tile.new undo.new }
+    requires depths { FindsDepths primitive.now depth_rows.now }
+    requires covered { (column : ℕ) → columns.0 ≤ column → column < columns.1 → covers primitive.now.corners column y ≡ true }
+    requires reached { (column : ℕ) → columns.0 ≤ column → column < columns.1 → reached_by primitive.now column y ≡ true }
+    requires room { HasRoom (if primitive.now.state.depth.enable then columns.1 - columns.0 else 1) (columns.1 - columns.0) undo.old }
+    ensures { WritesRegion (if primitive.now.state.depth.enable then columns.1 - columns.0 else 1) (columns.1 - columns.0) (in_row (columns_between columns.0 columns.1) y) (painted_by primitive.now) (kept_of primitive.now) tile.old undo.old tile.new undo.new }
 {
-    match &primitive.depth_rows {
+    let (left, right) = columns;
+    match depth_rows {
         Some(depth_rows) => {
-            let tested = test_span(primitive, depth_rows, left, right, y, tile);
+            let count = (right - left) as usize;
+            let mut depths = [0; WIDEST];
+            depth_rows.row(left, y, &mut depths[..count]);
+            let passed = test_span(primitive, &depths, left, right, y, tile);
+            let tested = Tested {
+                depths: &depths[..count],
+                passed,
+            };
             draw_runs(primitive, &tested, left, y, tile, undo);
         }
         None => write_span(primitive, left, right, y, tile, undo),

@@ -1,8 +1,8 @@
 ghost use Rattle.std.specs.Prelude.{◌≤◌};
 
-use crate::{Demand, Plan, clear_alike, draw, first_listed};
+use crate::{Demand, Plan, box_of, clear_alike, draw, first_listed};
 use fd_blend::Colour;
-use fd_cover::{Cull, Depth, Func, Interp, Raster, Rect};
+use fd_cover::{Bounds, Cull, Depth, Func, Interp, Raster, Rect};
 use fd_events::{Draw, Event, Pipeline, Vertex};
 use fd_snap::Pos;
 use fd_tile::{Place, Tile};
@@ -413,6 +413,23 @@ fn each_comparison_draws_what_passes(rt: HostRuntime) -> Result<(), Fail> {
         }
     }
     Ok(())
+}
+
+#[test]
+fn the_box_of_a_place_ends_past_its_pixels(rt: HostRuntime) {
+    let place = Place {
+        left: 32,
+        top: 64,
+        width: 7,
+        height: 5,
+    };
+    let sides = Bounds {
+        left: 32,
+        top: 64,
+        right: 39,
+        bottom: 69,
+    };
+    assert_eq!(rt; box_of(place), sides);
 }
 
 #[test]

@@ -11,20 +11,20 @@ ghost use Rattle.fd_snap.specs.Limits.{most_pixels};
 ghost use Rattle.fd_tile.specs.declared.place.TheConstants.{TILE_SIDE};
 ghost use Rattle.fd_draw.specs.Row.{changed_row};
 ghost use Rattle.fd_draw.specs.Paints.{Paints};
-ghost use Rattle.fd_draw.specs.Primitive.{IsReady, kept_of, painted_by, reached_by, triangle_of};
+ghost use Rattle.fd_draw.specs.Primitive.{FindsDepths, IsReady, kept_of, painted_by, reached_by, triangle_of};
 ghost use Rattle.fd_draw.specs.Plan.{ArePlanned, IsFoundOn, IsPlan};
 ghost use Rattle.fd_draw.specs.Triangles.{triangle_at};
 ghost use Rattle.fd_draw.specs.Writing.{ChangesSpan, HasRoom, HasSpan, WritesRegion, columns_between, in_row, keep_each};
 
-use crate::area::{open_area, whole};
+use crate::area::{box_of, open_area};
 use crate::clear::{Clear, clear_rows};
 use crate::found::{Found, find};
 use crate::near::next_near;
 use crate::plan::{Plan, Planned};
-use crate::primitive::{Primitive, brush_of, depth_rows_of};
+use crate::primitive::{Primitive, brush_of};
 use crate::tested::draw_span;
 use fd_blend::{Colour, blend_row};
-use fd_cover::shade_row;
+use fd_cover::{DepthRows, shade_row};
 use fd_events::{Draw, Event, Pipeline};
 use fd_tile::{TILE_SIDE, Tile};
 use fd_undo::UndoStack;
@@ -128,9 +128,17 @@ pub(crate) fn write_span(
 }
 
 /// Keeps and then writes those of the pixels of row y at which a triangle was found at which it is drawn.
-fn draw_row(primitive: &Primitive, found: &Found, y: u32, tile: &mut Tile, undo: &mut UndoStack)
+fn draw_row(
+    primitive: &Primitive,
+    depth_rows: &Option<DepthRows>,
+    found: &Found,
+    y: u32,
+    tile: &mut Tile,
+    undo: &mut UndoStack,
+)
     requires made { tile.old.made ≡ true }
     requires ready { IsReady primitive.now }
+    requires depths { FindsDepths primitive.now depth_rows.now }
     requires filled { IsTileImage tile.old }
     requires found { IsFoundOn (triangle_of primitive.now) primitive.now.state tile.old.place found.now }
     requires from_top { found.now.area.top ≤ y }
@@ -139,8 +147,8 @@ fn draw_row(primitive: &Primitive, found: &Found, y: u32, tile: &mut Tile, undo:
     ensures { WritesRegion (region_spans primitive.now.state.depth.enable (in_row (reached_by primitive.now) y) tile.old.place) (pixels_in (in_row (reached_by primitive.now) y) tile.old.place) (in_row (reached_by primitive.now) y)
         (painted_by primitive.now) (kept_of primitive.now) tile.old undo.old tile.new undo.new }
 {
-    if let Some((left, right)) = found.span(&primitive.corners, y) {
-        draw_span(primitive, left, right, y, tile, undo);
+    if let Some(columns) = found.span(&primitive.corners, y) {
+        draw_span(primitive, depth_rows, columns, y, tile, undo);
     }
 }
 
@@ -154,8 +162,9 @@ fn draw_primitive(primitive: &Primitive, found: &Found, tile: &mut Tile, undo: &
     ensures { WritesRegion (triangle_spans primitive.now.state tile.old.place (triangle_of primitive.now)) (triangle_pixels primitive.now.state tile.old.place (triangle_of primitive.now)) (reached_by primitive.now)
         (painted_by primitive.now) (kept_of primitive.now) tile.old undo.old tile.new undo.new }
 {
+    let depth_rows = primitive.depth_rows();
     for y in found.area.top..found.area.bottom {
-        draw_row(primitive, found, y, tile, undo);
+        draw_row(primitive, &depth_rows, found, y, tile, undo);
     }
 }
 
@@ -186,7 +195,6 @@ fn draw_found(
         depths,
         interp,
         brush: brush_of(interp, state, colours[0]),
-        depth_rows: depth_rows_of(&corners, &depths, state),
         state: *state,
     };
     draw_primitive(&primitive, found, tile, undo);
@@ -235,8 +243,8 @@ pub fn draw(event: &Event, state: &Pipeline, plan: &Plan, tile: &mut Tile, undo:
 {
     let place = tile.place();
     match event {
-        Event::Clear(colour) => clear_rows(Clear::Colours(*colour), whole(place), tile, undo),
-        Event::DepthClear(depth) => clear_rows(Clear::Depths(*depth), whole(place), tile, undo),
+        Event::Clear(colour) => clear_rows(Clear::Colours(*colour), box_of(place), tile, undo),
+        Event::DepthClear(depth) => clear_rows(Clear::Depths(*depth), box_of(place), tile, undo),
         Event::Draw(draw) => draw_triangles(draw, state, plan, tile, undo),
         // State events and markers draw nothing.
         _ => {}

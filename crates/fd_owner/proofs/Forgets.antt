@@ -1,7 +1,6 @@
 -- An owner that forgets what its events overwrote, and how its history goes on.
-use Rattle.std.proofs.Common.{◌≡◌, ℕ, zero, suc, ◌+◌, List, [], ◌∷◌, length, refl, sym, ap, ◌∙◌, subst, arith, inl}
+use Rattle.std.proofs.Common.{◌≡◌, ℕ, zero, suc, List, [], ◌∷◌, length, refl, sym, ap, ◌∙◌, subst, arith, inl}
 use Rattle.std.specs.Prelude.{map, All}
-use Rattle.std.specs.List.{fold, sum_by, range_with_len}
 use Rattle.std.proofs.lemmas.List.{length-map}
 use Rattle.std.proofs.lemmas.List.Elements.{All-nil, All-cons}
 use Rattle.fd_tile.specs.declared.place.Place.{Place}
@@ -11,10 +10,10 @@ use Rattle.fd_undo.specs.Frame.{all_restored, KeptPixel, IsAlike}
 use Rattle.fd_undo.specs.Undo.{Undo}
 use Rattle.fd_undo.proofs.Restored.{Inside}
 use Rattle.fd_events.specs.Table.{Table}
-use Rattle.fd_owner.specs.History.{Frame, History, position, last_or, last_image, pixel_past, extend_by, pixels_recorded, frame_without_kept, without_past}
+use Rattle.fd_owner.specs.History.{Frame, History, position, last_or, last_image, pixel_past, extend_by, frame_without_kept, without_past}
 use Rattle.fd_owner.specs.Owner.{frames_seen, history_of, IsOwner}
 use Rattle.fd_owner.proofs.Histories.{position_extend_by, last_extend}
-use Rattle.fd_owner.proofs.Pictures.{opened, last-frames_seen, map_mapped}
+use Rattle.fd_owner.proofs.Pictures.{opened, last-frames_seen}
 
 -- ---- empty frames
 
@@ -65,22 +64,6 @@ last_or-same place image (f ∷ fs) = last_or-same place image fs
 
 pub last-without_past : (place : Place) (h : History) → last_image (without_past place h) ≡ last_image h
 last-without_past place h = last_or-same place (last_image h) h.frames
-
-none_in : {X Y : Type 0} (f : Y → ℕ) (g : X → Y) (xs : List X) → ((x : X) → f (g x) ≡ 0) → sum_by f (map g xs) ≡ 0
-none_in f g [] none = refl
-none_in f g (x ∷ xs) none = ap (λ (n : ℕ). fold (λ a y. a + f y) n (map g xs)) {x = 0 + f (g x)} {y = 0} (omega (arith, none x)) ∙ none_in f g xs none
-
--- none of its events kept anything
-pub recorded-without_past : (place : Place) (h : History) → pixels_recorded (without_past place h) ≡ 0
-recorded-without_past place h =
-    let pixels : List (List (List Pixel)) → ℕ = λ rows. sum_by (λ (row : List (List Pixel)). sum_by length row) rows in
-    let columns : List ℕ = range_with_len place.left place.width in
-    let row : ℕ → List (List Pixel) = λ _. map (λ (x : ℕ). let none : List Pixel = [] in none) columns in
-    let blank : Frame → Frame = λ _. frame_without_kept place (last_image h) in
-    ap (sum_by pixels) (map_mapped blank (λ (f : Frame). f.kept) h.frames)
-    ∙ none_in pixels (λ (f : Frame). (blank f).kept) h.frames
-    (λ f. none_in (λ (row : List (List Pixel)). sum_by length row) row (range_with_len place.top place.height)
-    (λ y. none_in length (λ (x : ℕ). let none : List Pixel = [] in none) columns (λ x. refl)))
 
 -- what a history shows further on rests on its position and on what it shows alone
 pub last_extend_by : (table : Table) (place : Place) (count : ℕ) (h g : History) → position h ≡ position g → last_image h ≡ last_image g

@@ -17,15 +17,19 @@ use Rattle.fd_events.specs.Reach.{clipped_box, reach_of}
 use Rattle.fd_events.specs.Table.{Table, active_event, state_at}
 use Rattle.fd_events.proofs.BoundsLemmas.{bounds_of_triangles-holds}
 use Rattle.fd_events.proofs.ReachLemmas.{outside_clipped, in_whole}
+use Rattle.fd_draw.specs.Area.{box_of_place}
 use Rattle.fd_draw.specs.Demand.{event_spans, event_pixels}
+use Rattle.fd_draw.proofs.Areas.{within_from}
 use Rattle.fd_draw.proofs.Triangles.{IsUndrawn, no_pixels, no_spans}
-use Rattle.fd_owner.specs.Untouched.{AreUntouched}
+use Rattle.fd_owner.specs.Untouched.{AreUntouched, Misses}
 use Rattle.fd_owner.specs.Shown.{IsInside}
 use Rattle.fd_owner.specs.Step.{spans_of, pixels_written}
 
--- the box holds no pixel of the place
-abbrev Misses : Bounds → Place → Type 0
-Misses box place = (x y : ℕ) → Holds place x y → is_within box x y ≡ false
+-- a box holds no pixel of a place if it holds none of the place's box
+pub misses_from : (box window : Bounds) (place : Place) → window ≡ box_of_place place
+    → ((x y : ℕ) → IsTrue (is_within window x y) → is_within box x y ≡ false) → Misses box place
+misses_from box window place is apart x y held =
+    apart x y (rw is (within_from (box_of_place place) x y held.from_left held.to_right held.from_top held.to_bottom))
 
 -- on a target that a place lies in, in the place
 module _ (place : Place) (width height : ℕ) (placed : IsTilePlace place) (right : place.left + place.width ≤ width)
@@ -69,17 +73,16 @@ module _ (place : Place) (width height : ℕ) (placed : IsTilePlace place) (righ
   event_demands-none (SetDepth depth) s misses = (refl, refl)
   event_demands-none (Marker label) s misses = (refl, refl)
 
-  -- the event may be missing, and is far from a window in which the place lies
-  demands-none : (window : Bounds) → ((x y : ℕ) → Holds place x y → IsTrue (is_within window x y)) → (event : Option Event) (s : Pipeline)
+  -- the event may be missing, and is far from the place's box
+  demands-none : (window : Bounds) → window ≡ box_of_place place → (event : Option Event) (s : Pipeline)
       → IfSome event (λ event. (x y : ℕ) → IsTrue (is_within window x y) → is_within (reach_of width height event) x y ≡ false)
       → (spans_of event s place ≡ 0) × (pixels_written event s place ≡ 0)
-  demands-none window whole None s far = (refl, refl)
-  demands-none window whole (Some event) s far = event_demands-none event s (λ x y held. far x y (whole x y held))
+  demands-none window is None s far = (refl, refl)
+  demands-none window is (Some event) s far = event_demands-none event s (misses_from (reach_of width height event) window place is far)
 
 pub untouched_from : (table : Table) (from to : ℕ) (window : Bounds) (place : Place) → IsTilePlace place → IsInside place table
-    → ((x y : ℕ) → Holds place x y → IsTrue (is_within window x y))
-    → AreFar table from to window → AreUntouched table from to place
-untouched_from table from to window place placed inside whole far k above below =
-    let none = demands-none place table.width table.height placed inside.right inside.bottom window whole (active_event table (suc k)) (state_at table k)
+    → window ≡ box_of_place place → AreFar table from to window → AreUntouched table from to place
+untouched_from table from to window place placed inside is far k above below =
+    let none = demands-none place table.width table.height placed inside.right inside.bottom window is (active_event table (suc k)) (state_at table k)
     (far k above below) in
     record { spans = none.0; pixels = none.1 }

@@ -1,6 +1,6 @@
 -- An event that demands no pixel of a place draws nothing there.
-use Rattle.std.proofs.Common.{◌≡◌, ℕ, zero, suc, ◌+◌, ◌<◌, ◌≤◌, ◌⊎◌, inl, inr, Bool, true, false, cond, List, [], ◌∷◌, Option, Some, None, slice_get}
-use Rattle.std.proofs.Common.{refl, sym, ap, ◌∙◌, arith}
+use Rattle.std.proofs.Common.{◌≡◌, ℕ, zero, suc, ◌+◌, ◌<◌, ◌≤◌, ◌⊎◌, inl, inr, Bool, true, false, cond, List, [], ◌∷◌, Option, Some, None}
+use Rattle.std.proofs.Common.{refl, sym, ap, arith}
 use Rattle.std.specs.List.{sum_by}
 use Rattle.std.proofs.lemmas.Bool.{cases_lt}
 use Rattle.std.proofs.lemmas.List.Sums.{sum_by-cons}
@@ -13,15 +13,13 @@ use Rattle.fd_events.specs.declared.event.Event.TheVariants.{Clear, DepthClear, 
 use Rattle.fd_events.specs.declared.pipeline.Pipeline.{Pipeline}
 use Rattle.fd_events.specs.Draw.{Triangle, triangles_of}
 use Rattle.fd_events.specs.Image.{pixel_after, kept_by, pixel_after_event, kept_by_event}
-use Rattle.fd_events.specs.Table.{Table, is_set, event_at, active_event, state_at}
-use Rattle.fd_events.proofs.Images.{at_number-next}
-use Rattle.fd_draw.specs.Demand.{is_reached, total, written_in_row, pixels_in, triangle_pixels, event_pixels, event_spans}
+use Rattle.fd_events.specs.Table.{Table, active_event, state_at}
+use Rattle.fd_draw.specs.Demand.{is_reached, total, written_in_row, pixels_in, triangle_pixels, event_pixels}
 use Rattle.fd_draw.specs.Paints.{Paints}
 use Rattle.fd_draw.proofs.Painting.{Paints-same, Paints-nothing}
 use Rattle.fd_draw.proofs.Triangles.{IsUndrawn, pixel_after_triangles-undrawn, kept_by_triangles-undrawn}
 use Rattle.fd_owner.specs.History.{pixel_past, kept_past}
-use Rattle.fd_owner.specs.Step.{spans_of, pixels_written, pixels_past}
-use Rattle.fd_owner.specs.Untouched.{IsUntouched}
+use Rattle.fd_owner.specs.Step.{pixels_written, pixels_past}
 
 -- numbers that add up to nothing are each nothing
 each_nothing : (f : ℕ → ℕ) (a n k : ℕ) → total f a n ≡ 0 → a ≤ k → k < a + n → f k ≡ 0
@@ -92,19 +90,3 @@ Paints-undemanded table k t u filled begun none =
     (λ x y c held. sym (by_any (state_at table k) t.place x y c held (active_event table (suc k)) none).0)
     (λ x y c held. sym (by_any (state_at table k) t.place x y c held (active_event table (suc k)) none).1)
     (Paints-nothing t u filled begun)
-
--- the event is there, switched on or not
-demands_nothing : (on : Bool) (found : Option Event) (event : Event) (s : Pipeline) (p : Place) → found ≡ Some event → (event_spans event s p ≡ 0)
-    × (event_pixels event s p ≡ 0)
-    → (spans_of (cond on found None) s p ≡ 0) × (pixels_written (cond on found None) s p ≡ 0)
-demands_nothing false found event s p is none = (refl, refl)
-demands_nothing true found event s p is none =
-    (ap (λ (e : Option Event). spans_of e s p) is ∙ none.0, ap (λ (e : Option Event). pixels_written e s p) is ∙ none.1)
-
--- an event that demands nothing in any state writes nothing
-pub untouched_undemanded : (table : Table) (k : ℕ) (p : Place) (event : Event) → event_at table (k + 1) ≡ Some event
-    → ((s : Pipeline) → (event_spans event s p ≡ 0) × (event_pixels event s p ≡ 0)) → IsUntouched table k p
-untouched_undemanded table k p event is none =
-    let there : slice_get table.events k ≡ Some event = sym (at_number-next table.events k) ∙ is in
-    let parts = demands_nothing (is_set table.flags (suc k)) (slice_get table.events k) event (state_at table k) p there (none (state_at table k)) in
-    record { spans = parts.0; pixels = parts.1 }

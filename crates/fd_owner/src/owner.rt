@@ -2,13 +2,13 @@ ghost use Rattle.std.specs.Prelude.{◌≡◌, ℕ, ◌+◌, ◌-◌, ◌^◌, �
 ghost use Rattle.std.specs.Prelude.{IfNone, IfSome, IsOk, OnOk, OnErr};
 ghost use Rattle.fd_tile.specs.Place.{Holds, HasRow, IsTilePlace};
 ghost use Rattle.fd_tile.specs.Tile.{FillsPlace, pixels_of, row_in, pixel_in};
+ghost use Rattle.fd_draw.specs.Area.{box_of_place};
 ghost use Rattle.fd_draw.specs.Paints.{Paints};
 ghost use Rattle.fd_owner.specs.History.{position, last_image, pixels_kept, pixels_recorded, pixel_past, kept_past};
 ghost use Rattle.fd_owner.specs.Shown.{gone_forward, gone_on_to, gone_back, gone_back_to, refused, forgotten, IsInside};
 ghost use Rattle.fd_owner.specs.Step.{IsPlanPast, MayBeginPast, spans_past, pixels_past};
 ghost use Rattle.fd_owner.specs.Untouched.{IsUntouched, AreUntouched};
 ghost use Rattle.fd_events.specs.Table.{flag_at};
-ghost use Rattle.fd_cover.specs.Bounds.{is_within};
 
 use fd_blend::Colour;
 use fd_cover::Bounds;
@@ -89,6 +89,14 @@ impl Owner {
         ensures filled { FillsPlace self.now.place (last_image self.now.history) }
     {
         self.tile.place()
+    }
+
+    /// The box of its tile.
+    pub fn bounds(&self) -> Bounds
+        ensures value { result ≡ box_of_place self.now.place }
+        ensures placed { IsTilePlace self.now.place }
+    {
+        fd_draw::box_of(self.tile.place())
     }
 
     /// The colour of pixel (x, y) of the image that is shown.
@@ -178,10 +186,8 @@ impl Owner {
         ensures free { spans_past table.now (position self.old.history) self.old.place ≡ 0
             → pixels_past table.now (position self.old.history) self.old.place ≡ 0 → IsOk result }
     {
-        let position = self.undo.frames() as u32;
-        let len = table.len();
-        prove!(position < len);
-        let plan = plan_past(table, position, self.tile.place(), first);
+        let (position, place, _len) = (self.position(), self.place(), table.len());
+        let plan = plan_past(table, position, place, first);
         if plan.demand.pixels > 0 && self.clear_next(table, position + 1)? {
             return Ok(());
         }
@@ -199,8 +205,7 @@ impl Owner {
         ensures refused { OnErr result (self.new ≡ refused self.old) }
         ensures free { plan.now.demand.spans ≡ 0 → plan.now.demand.pixels ≡ 0 → IsOk result }
     {
-        let position = self.undo.frames() as u32;
-        let (_len, _place) = (table.len(), self.tile.place());
+        let (position, _len, _place) = (self.position(), table.len(), self.tile.place());
         if make_room(plan.demand, &mut self.tile, &mut self.undo).is_err() {
             return Err(self.refuse());
         }
@@ -267,7 +272,7 @@ impl Owner {
         ensures most { result ≤ to }
         ensures far { AreUntouched table.now (position self.now.history) result self.now.place }
     {
-        table.next_near(self.position(), to, window_of(self.place()))
+        table.next_near(self.position(), to, self.bounds())
     }
 
     /// Goes at once through next events that write nothing on the tile, to this position. It takes no memory, and can't be refused.
@@ -291,19 +296,6 @@ impl Owner {
     }
 }
 
-/// The box of a place.
-fn window_of(place: Place) -> Bounds
-    requires { IsTilePlace place }
-    ensures { (x y : ℕ) → Holds place x y → IsTrue (is_within result x y) }
-{
-    Bounds {
-        left: place.left,
-        top: place.top,
-        right: place.left + place.width,
-        bottom: place.top + place.height,
-    }
-}
-
 /// The first triangle that the event after a position may draw on a place, as far as its box tells and what a draw lists there. None where it writes
 /// nothing there.
 fn first_near(table: &EventTable, position: u32, place: Place) -> Option<u32>
@@ -316,7 +308,7 @@ fn first_near(table: &EventTable, position: u32, place: Place) -> Option<u32>
 {
     let _len = table.len();
     let number = position + 1;
-    if table.next_near(position, number, window_of(place)) < number {
+    if table.next_near(position, number, fd_draw::box_of(place)) < number {
         fd_draw::first_listed(table.event(number), place)
     } else {
         None

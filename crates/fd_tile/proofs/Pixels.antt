@@ -10,7 +10,7 @@ use Rattle.fd_blend.specs.Channel.{fresh}
 use Rattle.fd_tile.specs.declared.place.Place.{Place}
 use Rattle.fd_tile.specs.Place.{Holds, HasRow, IsTilePlace, over_place}
 use Rattle.fd_tile.specs.Tile.{TileImage, FillsPlace, IsFlat, IsTileImage, row_in, with_row_in, value_in, row_of, with_row, with_row_left}
-use Rattle.fd_tile.specs.Tile.{depth_row_of, with_depth_row, with_depth_row_left, pixels_of, pixel_of, pixel_in}
+use Rattle.fd_tile.specs.Tile.{depth_row_of, pixels_of, pixel_of, pixel_in}
 
 -- a list of the right length is left as it is
 pub refill_same : {X : Type 0} (row w : List X) → length w ≡ length row → refill (length row) row w ≡ w
@@ -70,14 +70,8 @@ module _ (t : TileImage) (y : ℕ) (filled : IsTileImage t) (crossed : HasRow t.
   pub length-depth_row_of : length (depth_row_of t y) ≡ t.place.width
   length-depth_row_of = length-row_in t.place t.depths y filled.depths crossed
 
-  pub with_depth_row_left_is : (w : List ℕ) → length w ≡ t.place.width → with_depth_row_left t y w ≡ with_depth_row t y w
-  with_depth_row_left_is w e = ap (λ depths. record t { depths = depths }) (left_row_is t.place t.depths y filled.depths crossed w e)
-
   pub IsTileImage-with_row : (w : List Colour) → length w ≡ t.place.width → IsTileImage (with_row t y w)
   IsTileImage-with_row w e = record { colours = FillsPlace-with_row_in t.place t.rows y filled.colours crossed w e; depths = filled.depths }
-
-  pub IsTileImage-with_depth_row : (w : List ℕ) → length w ≡ t.place.width → IsTileImage (with_depth_row t y w)
-  IsTileImage-with_depth_row w e = record { colours = filled.colours; depths = FillsPlace-with_row_in t.place t.depths y filled.depths crossed w e }
 
 -- ---- all pixels
 

@@ -37,12 +37,12 @@ value_in-flat p v other x y placed held =
 -- ---- the pixels of such a frame
 module _ (p : Place) (q : Pixel) where
   pub length-alike : length (alike p q) ≡ p.height * p.width
-  length-alike = length-kept_rows p.left p.top p.height (replicate p.width q) ∙ ap (λ n. p.height * n) (length-replicate p.width q)
+  length-alike = length-kept_rows p.left p.top p.height p.width (λ _. replicate p.width q) (λ _ _. length-replicate p.width q)
 
-  Inside-rows : (n : ℕ) → n ≤ p.height → Inside p (kept_rows p.left p.top n (replicate p.width q))
+  Inside-rows : (n : ℕ) → n ≤ p.height → Inside p (kept_rows p.left p.top n (λ _. replicate p.width q))
   Inside-rows zero fits = All-nil (λ (k : KeptPixel). Holds p k.x k.y)
   Inside-rows (suc n) fits =
-      All-append (λ (k : KeptPixel). Holds p k.x k.y) (kept_rows p.left p.top n (replicate p.width q)) (kept_row p.left (p.top + n) (replicate p.width q))
+      All-append (λ (k : KeptPixel). Holds p k.x k.y) (kept_rows p.left p.top n (λ _. replicate p.width q)) (kept_row p.left (p.top + n) (replicate p.width q))
       (Inside-rows n (omega arith))
       (kept_row-inside p p.left (p.top + n) (replicate p.width q) (record { from_top = omega arith; to_bottom = omega arith }) (omega arith)
       (omega (arith, length-replicate p.width q)))
@@ -53,7 +53,7 @@ module _ (p : Place) (q : Pixel) where
   pub kept_at-alike : (x y : ℕ) → Holds p x y → kept_at (alike p q) x y ≡ q ∷ []
   kept_at-alike x y held =
       let wide : length (replicate p.width q) ≡ p.width = length-replicate p.width q in
-      kept_at-rows_inside p.left p.top p.height x y (replicate p.width q) held.from_top held.to_bottom
+      kept_at-rows_inside p.left p.top p.height x y (λ _. replicate p.width q) held.from_top held.to_bottom
       ∙ kept_at-inside p.left y x (replicate p.width q) held.from_left (omega (arith, held.to_right, wide))
       ∙ ap (λ c. c ∷ []) (get_or-replicate p.width (x - p.left) q fresh_pixel (omega (arith, held.from_left, held.to_right)))
 

@@ -45,8 +45,7 @@ marked-push : (marks : List Mark) (m : Mark) (rows : List (List KeptPixel)) (end
     → marked (marks ++ m ∷ []) rows end ≡ marked marks rows m.span ++ frame m end rows ∷ []
 marked-push [] m rows end = refl
 marked-push (t ∷ marks) m rows end =
-    ap (λ n. frame t n rows ∷ marked (marks ++ m ∷ []) rows end) (next-push marks m end)
-    ∙ ap (λ l. frame t (next marks m.span) rows ∷ l) (marked-push marks m rows end)
+    cc (next-push marks m end, marked-push marks m rows end)
 
 pub marks-push : (marks : List Mark) (m : Mark) (spans : List Span) (end : ℕ) → AreInOrder marks spans m.span → IsMark m spans → m.span ≤ end
     → AreInOrder (marks ++ m ∷ []) spans end
@@ -71,12 +70,7 @@ marked-same : (marks : List Mark) (spans : List Span) (rows rows' : List (List K
 marked-same [] spans rows rows' end most is within same = refl
 marked-same (t ∷ marks) spans rows rows' end most is within same =
     let low : next marks end ≤ end = next-within marks spans end is.4 in
-    ap (λ k. record {
-      number =
-          t.number;
-      kept = k;
-    } ∷ marked marks rows end) (part-same t.span (next marks end) most rows rows' is.1 (omega (arith, low, within)) same)
-    ∙ ap (λ l. frame t (next marks end) rows' ∷ l) (marked-same marks spans rows rows' end most is.4 within same)
+    cc (part-same t.span (next marks end) most rows rows' is.1 (omega (arith, low, within)) same, marked-same marks spans rows rows' end most is.4 within same)
 
 marks-same : (marks : List Mark) (spans spans' : List Span) (end most : ℕ) → AreInOrder marks spans end → end ≤ most → take most spans ≡ take most spans'
     → AreInOrder marks spans' end
@@ -108,12 +102,7 @@ top_frame marks low m spans rows frames split size is shown =
     let popped : AreInOrder low spans m.span × IsMark m spans × (m.span ≤ length spans) =
     marks-pop low m spans (length spans) (subst (λ l. AreInOrder l spans (length spans)) split is) in
     let all : frames ≡ marked low rows m.span ++ f ∷ [] =
-    sym shown ∙ ap (λ l. marked l rows (length spans)) split ∙ marked-push low m rows (length spans)
-    ∙ ap (λ l. marked low rows m.span ++ record {
-      number =
-          m.number;
-      kept = joined l;
-    } ∷ []) (take_all (length spans - m.span) (drop m.span rows) (omega (arith, length-drop m.span rows, size))) in
+    cc (marked-push low m rows (length spans), take_all (length spans - m.span) (drop m.span rows) (omega (arith, length-drop m.span rows, size))) in
     record {
       newest_is = ap newest all ∙ newest-push (marked low rows m.span) f no_frame;
       others_are = ap (λ l. others l) all ∙ others-push (marked low rows m.span) f;
@@ -128,10 +117,7 @@ pub one_more : (marks : List Mark) (m : Mark) (spans : List Span) (rows : List (
     → marked (marks ++ m ∷ []) rows (length spans) ≡ frames ++ record { number = m.number; kept = [] } ∷ []
 one_more marks m spans rows frames at shown =
     let none : length spans - m.span ≡ 0 = omega (arith, at) in
-    marked-push marks m rows (length spans)
-    ∙ ap (λ k. marked marks rows m.span ++ record { number = m.number; kept = joined (take k (drop m.span rows)) } ∷ []) none
-    ∙ ap (λ k. marked marks rows k ++ record { number = m.number; kept = [] } ∷ []) at
-    ∙ ap (λ l. l ++ record { number = m.number; kept = [] } ∷ []) shown
+    cc (marked-push marks m rows (length spans))
 
 -- ---- more is kept in the newest frame, behind its mark
 module _ (low : List Mark) (m : Mark) (spans spans' : List Span) (rows rows' : List (List KeptPixel)) (frames : List KeptFrame) (row : List KeptPixel)
@@ -172,7 +158,7 @@ fewer low m spans left rows rows_left frames t is rows_are =
     let same : take n spans ≡ take n left = sym (take-take n n spans (omega arith)) ∙ ap (λ l. take n l) (sym is) in
     let rows_same : take n rows ≡ take n rows_left = sym (take-take n n rows (omega arith)) ∙ ap (λ l. take n l) (sym rows_are) in (
       size,
-      ap (λ k. marked low rows_left k) size ∙ sym (marked-same low spans rows rows_left n n t.marks (omega arith) rows_same) ∙ sym t.others_are,
+      cc (marked-same low spans rows rows_left n n t.marks (omega arith) rows_same),
       subst (λ k. AreInOrder low left k) (sym size) (marks-same low spans left n n t.marks (omega arith) same),
     )
 
@@ -264,6 +250,4 @@ next-at (m ∷ marks) (suc a) end within = next-at marks a end (omega arith)
 
 pub cut-at : (marks : List Mark) (spans : List Span) (a : ℕ) → AreInOrder marks spans (length spans) → a < length marks
     → IsCut (cut_of (get_or marks a no_mark)) spans
-cut-at marks spans a is within =
-    let at = mark-at marks spans (length spans) a is within in
-    record { within = omega (arith, at.1, at.2); colour = at.0.colour; depth = at.0.depth }
+cut-at marks spans a is within = omega (arith, mark-at marks spans (length spans) a is within)

@@ -83,10 +83,14 @@ module _ (full : List Filled) (last : List KeptFrame) (count : ℕ) (have : Have
 
   three : stored_in full ++ last ≡ stored_in (take p full) ++ ((get_or full p d).frames ++ (stored_in (drop (p + 1) full) ++ last))
   three =
-      ap (λ l. stored_in l ++ last) (sym (take-append-drop p full) ∙ ap (λ l. take p full ++ l) (drop_more full p d within))
-      ∙ ap (λ l. l ++ last) (flat_map-append (λ (b : Filled). b.frames) (take p full) (get_or full p d ∷ drop (p + 1) full))
-      ∙ append_assoc (stored_in (take p full)) ((get_or full p d).frames ++ stored_in (drop (p + 1) full)) last
-      ∙ ap (λ l. stored_in (take p full) ++ l) (append_assoc (get_or full p d).frames (stored_in (drop (p + 1) full)) last)
+      cc (
+        take-append-drop p full,
+        drop_more full p d within,
+        flat_map-append (λ (b : Filled). b.frames) (take p full) (get_or full p d ∷ drop (p + 1) full),
+        append_assoc (stored_in (take p full)) ((get_or full p d).frames ++ stored_in (drop (p + 1) full)) last,
+        append_assoc (get_or full p d).frames
+            (stored_in (drop (p + 1) full)) last,
+      )
 
   parted : Rise 0 (stored_in (take p full) ++ ((get_or full p d).frames ++ (stored_in (drop (p + 1) full) ++ last))) count
   parted = subst (λ l. Rise 0 l count) three is

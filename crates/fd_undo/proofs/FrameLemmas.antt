@@ -1,7 +1,8 @@
 -- The newest of a list, and the pixels of frames.
 use Rattle.std.proofs.Common.{◌≡◌, ℕ, zero, suc, ◌+◌, ◌-◌, ◌*◌, ◌<◌, ◌≤◌, List, [], ◌∷◌, ◌++◌, length, get_or, take, refl, sym, ap, ◌∙◌, arith, length-append}
+use Rattle.std.proofs.Common.{append_assoc}
 use Rattle.std.proofs.Math.Nat.{zero-mul, suc-mul}
-use Rattle.std.proofs.lemmas.List.{take_at, get_or_push, take_all, length_push, take_more, take-take, length-take}
+use Rattle.std.proofs.lemmas.List.{take_at, get_or_push, take_all, length_push, take_more, take-take, length-take, append-nil}
 use Rattle.std.proofs.lemmas.List.Sums.{sum_by-cons, sum_by_push}
 use Rattle.fd_tile.specs.Tile.{Pixel}
 use Rattle.fd_undo.specs.Frame.{KeptPixel, kept_row, kept_rows, top, older}
@@ -55,17 +56,33 @@ pub length-kept_row : (x y : ℕ) (cs : List Pixel) → length (kept_row x y cs)
 length-kept_row x y [] = refl
 length-kept_row x y (c ∷ cs) = ap (λ n. suc n) (length-kept_row (x + 1) y cs)
 
--- ---- rows that are alike
-pub length-kept_rows : (x y n : ℕ) (cs : List Pixel) → length (kept_rows x y n cs) ≡ n * length cs
-length-kept_rows x y zero cs = sym (zero-mul (length cs))
-length-kept_rows x y (suc n) cs =
+-- ---- rows one below the other
+pub length-kept_rows : (x y n m : ℕ) (pixels : ℕ → List Pixel) → ((row : ℕ) → row < n → length (pixels row) ≡ m) → length (kept_rows x y n pixels) ≡ n * m
+length-kept_rows x y zero m pixels long = sym (zero-mul m)
+length-kept_rows x y (suc n) m pixels long =
     omega (
       arith,
-      length-append (kept_rows x y n cs) (kept_row x (y + n) cs),
-      length-kept_rows x y n cs,
-      length-kept_row x (y + n) cs,
-      suc-mul n (length cs),
+      length-append (kept_rows x y n pixels) (kept_row x (y + n) (pixels n)),
+      length-kept_rows x y n m pixels (λ row above. long row (omega (arith, above))),
+      length-kept_row x (y + n) (pixels n),
+      long n (omega arith),
+      suc-mul n m,
     )
 
-pub kept_rows-one : (x y n : ℕ) (cs : List Pixel) → n ≡ 1 → kept_rows x y n cs ≡ kept_row x y cs
-kept_rows-one x y n cs one = ap (λ k. kept_rows x y k cs) one ∙ ap (λ z. kept_row x z cs) {x = y + 0} {y = y} (omega arith)
+pub kept_rows-same : (x y n : ℕ) (pixels others : ℕ → List Pixel) → ((row : ℕ) → row < n → pixels row ≡ others row)
+    → kept_rows x y n pixels ≡ kept_rows x y n others
+kept_rows-same x y zero pixels others same = refl
+kept_rows-same x y (suc n) pixels others same =
+    cc (kept_rows-same x y n pixels others (λ row above. same row (omega (arith, above))), same n (omega arith))
+
+pub kept_rows-one : (x y n : ℕ) (pixels : ℕ → List Pixel) → n ≡ 1 → kept_rows x y n pixels ≡ kept_row x y (pixels 0)
+kept_rows-one x y n pixels one = ap (λ k. kept_rows x y k pixels) one ∙ ap (λ z. kept_row x z (pixels 0)) {x = y + 0} {y = y} (omega arith)
+
+pub kept_rows-top : (x y n : ℕ) (pixels : ℕ → List Pixel)
+    → kept_rows x y (suc n) pixels ≡ kept_row x y (pixels 0) ++ kept_rows x (y + 1) n (λ row. pixels (suc row))
+kept_rows-top x y zero pixels = kept_rows-one x y 1 pixels refl ∙ sym (append-nil (kept_row x y (pixels 0)))
+kept_rows-top x y (suc n) pixels =
+    ap (λ l. l ++ kept_row x (y + suc n) (pixels (suc n))) (kept_rows-top x y n pixels)
+    ∙ append_assoc (kept_row x y (pixels 0)) (kept_rows x (y + 1) n (λ row. pixels (suc row))) (kept_row x (y + suc n) (pixels (suc n)))
+    ∙ ap (λ z. kept_row x y (pixels 0) ++ (kept_rows x (y + 1) n (λ row. pixels (suc row)) ++ kept_row x z (pixels (suc n)))) {x = y + suc n} {y = y + 1 + n}
+    (omega arith)

@@ -1,20 +1,23 @@
 -- Spans that keep more: one more, or one row more.
-use Rattle.std.proofs.Common.{◌≡◌, ℕ, suc, ◌+◌, ◌-◌, ◌≤◌, ◌∙◌, Option, IfSome, List, [], ◌∷◌, ◌++◌, length, get_or, take, drop, refl}
-use Rattle.std.proofs.Common.{sym, subst, ap, arith, length-append, append_assoc}
+use Rattle.std.proofs.Common.{◌≡◌, ℕ, suc, ◌+◌, ◌-◌, ◌*◌, ◌≤◌, ◌∙◌, Bool, true, false, Option, Some, None, IfSome, List, [], ◌∷◌, ◌++◌, length, get_or}
+use Rattle.std.proofs.Common.{take, drop, refl}
+use Rattle.std.proofs.Common.{sym, ap, arith, length-append, length-drop, append_assoc}
 use Rattle.std.specs.Prelude.{replicate, if◌then◌else◌}
 use Rattle.std.specs.List.{zip}
-use Rattle.std.proofs.lemmas.List.{take-append-le, drop-append-le, take-take, take-append-drop, length-take, get_or-drop}
+use Rattle.std.proofs.Math.Nat.{one-mul}
+use Rattle.std.proofs.lemmas.List.{take-append-le, drop-append-le, drop_at, take-take, take_all, take-append-drop, length-take, get_or-drop, get_or_append_left}
 use Rattle.fd_blend.specs.declared.channel.Colour.{Colour}
 use Rattle.fd_blend.specs.Channel.{fresh}
 use Rattle.fd_tile.specs.Tile.{Pixel}
 use Rattle.fd_undo.specs.Span.{Span, IsRowOf}
 use Rattle.fd_undo.specs.Frame.{KeptPixel, kept_row, kept_rows}
 use Rattle.fd_undo.specs.Block.{others}
-use Rattle.fd_undo.specs.Rows.{Held, IsHeld, KeepsMore, GrowsBy, listed_colours, colours_in, listed_depths, values_in, depths_in, span_pixels}
-use Rattle.fd_undo.specs.Rows.{rows_in, rows_of, joined}
-use Rattle.fd_undo.specs.Rows.{no_span}
+use Rattle.fd_undo.specs.Rows.{Held, IsHeld, KeepsMore, GrowsBy, colour_count, depth_count, listed_colours, colours_in, colours_from, depths_listed}
+use Rattle.fd_undo.specs.Rows.{listed_depths, values_in}
+use Rattle.fd_undo.specs.Rows.{depths_in, depths_from, pixels_of_row, span_pixels, rows_in, rows_of, joined, no_span}
 use Rattle.fd_undo.proofs.FrameLemmas.{others-newest}
-use Rattle.fd_undo.proofs.RowLemmas.{Taken, taken, rows_in-push, length-rows_in, joined-push}
+use Rattle.fd_undo.proofs.SpanLemmas.{span_pixels-more}
+use Rattle.fd_undo.proofs.RowLemmas.{Taken, taken, rows_in-push, length-rows_in, joined-push, colours-push, depths-push}
 
 -- one span more
 pub keeps-pushed : (h n : Held) (first : ℕ) (row : List KeptPixel) → rows_of n ≡ rows_of h ++ row ∷ [] → take (length h.spans) n.spans ≡ h.spans
@@ -28,10 +31,45 @@ keeps-pushed h n first row grown kept one low =
       long = omega (arith, low, one);
     }
 
--- ---- one row more
+-- ---- one row more: what stands in a list behind the values of a span
+next_listed : {V : Type 0} (n k : ℕ) (values row new : List V) → length values ≡ k → n ≡ length row → new ≡ take n row → take n (drop k (values ++ new)) ≡ row
+next_listed n k values row new before size is =
+    ap (take n) (drop_at values new k before ∙ is) ∙ take-take n n row (omega arith) ∙ take_all n row (omega (arith, size))
+
+colours_next : (one : Bool) (n rows : ℕ) (cs old new : List Colour) → length cs ≡ (if one then 1 else rows * n) → n ≡ length old
+    → new ≡ take (if one then 0 else n) old → (one ≡ true → replicate n (get_or cs 0 fresh) ≡ old)
+    → (if one then replicate n (get_or (drop (if one then 0 else rows * n) (cs ++ new)) 0 fresh) else take n (drop (if one then 0 else rows * n) (cs ++ new)))
+    ≡ old
+colours_next true n rows cs old new before size is same = ap (replicate n) (get_or_append_left cs new fresh 0 (omega (arith, before))) ∙ same refl
+colours_next false n rows cs old new before size is same = next_listed n (rows * n) cs old new before size is
+
+depths_next : (o : Option ℕ) (n rows : ℕ) (ds deep new : List ℕ) → length ds ≡ depths_listed o (rows * n) → n ≡ length deep
+    → new ≡ take (depths_listed o n) deep
+    → IfSome o (λ d. deep ≡ replicate (length deep) d) → values_in o n (drop (depths_listed o (rows * n)) (ds ++ new)) ≡ deep
+depths_next (Some d) n rows ds deep new before size is alike = ap (λ k. replicate k d) size ∙ sym alike
+depths_next None n rows ds deep new before size is alike = next_listed n (rows * n) ds deep new before size is
+
+-- a row more is listed
+row_more : (rows n : ℕ) → (rows + 1) * n ≡ rows * n + n
+row_more rows n = omega arith
+
+colours_more : (one : Bool) (rows n : ℕ) (old : List Colour) → n ≡ length old
+    → (if one then 1 else (rows + 1) * n) ≡ (if one then 1 else rows * n) + length (take (if one then 0 else n) old)
+colours_more true rows n old size = refl
+colours_more false rows n old size = omega (arith, row_more rows n, length-take n old, size)
+
+depths_more : (o : Option ℕ) (rows n : ℕ) (deep : List ℕ) → n ≡ length deep
+    → depths_listed o ((rows + 1) * n) ≡ depths_listed o (rows * n) + length (take (depths_listed o n) deep)
+depths_more (Some d) rows n deep size = refl
+depths_more None rows n deep size = omega (arith, row_more rows n, length-take n deep, size)
+
+parted : {V : Type 0} (start : ℕ) (values new : List V) → values ++ new ≡ take start values ++ (drop start values ++ new)
+parted start values new = ap (λ l. l ++ new) (sym (take-append-drop start values)) ∙ append_assoc (take start values) (drop start values) new
+
 module _ (h n : Held) (first : ℕ) (row grown : Span) (old : List Colour) (deep : List ℕ) (held : IsHeld h.spans h.colours h.depths)
     (is : GrowsBy first h row (get_or old 0 fresh) grown) (values : IsRowOf old deep row)
-    (spans_are : n.spans ≡ others h.spans ++ grown ∷ []) (colours_are : n.colours ≡ h.colours) (depths_are : n.depths ≡ h.depths) where
+    (spans_are : n.spans ≡ others h.spans ++ grown ∷ []) (colours_are : n.colours ≡ h.colours ++ take (if row.one_colour then 0 else row.len) old)
+    (depths_are : n.depths ≡ h.depths ++ take (listed_depths row) deep) where
   abbrev last : Span
   last = get_or h.spans (length h.spans - 1) no_span
 
@@ -57,60 +95,92 @@ module _ (h n : Held) (first : ℕ) (row grown : Span) (old : List Colour) (deep
   depths = drop deep_start h.depths
 
   abbrev before : List (List KeptPixel)
-  before = take (length h.spans - 1) (rows_of h)
+  before = rows_in low (take start h.colours) (take deep_start h.depths)
 
-  -- the values of the last span are those of the row
-  one_listed : listed_colours last ≡ 1
-  one_listed = ap (λ b. if b then 1 else last.len) is.grows.coloured
+  abbrev new : List Colour
+  new = take (if row.one_colour then 0 else row.len) old
 
-  long : last.len ≡ length old
-  long = sym is.grows.len ∙ values.len
+  abbrev deeper : List ℕ
+  deeper = take (listed_depths row) deep
 
-  coloured : colours_in last colours ≡ old
+  -- the values behind those of the last span are those of the row
+  size : last.len ≡ length old
+  size = sym is.grows.len ∙ values.len
+
+  new_is : new ≡ take (if last.one_colour then 0 else last.len) old
+  new_is = cc
+
+  deeper_is : deeper ≡ take (depths_listed last.same_depth last.len) deep
+  deeper_is =
+      cc (one-mul row.len)
+
+  coloured : colours_in last (colours_from last last.rows (colours ++ new)) ≡ old
   coloured =
-      ap (λ b. if b then replicate last.len (get_or colours 0 fresh) else take last.len colours) is.grows.coloured
-      ∙ ap (λ k. replicate k (get_or colours 0 fresh)) long
-      ∙ ap (replicate (length old)) (get_or-drop start h.colours 0 fresh
-      ∙ ap (λ k. get_or h.colours k fresh) {x = start + 0} {y = length h.colours - 1} (omega (arith, one_listed)) ∙ is.same)
-      ∙ sym (values.coloured is.grows.row_coloured).1
+      colours_next last.one_colour last.len last.rows colours old new t.long size new_is (λ one.
+      let one_row : row.one_colour ≡ true = is.grows.coloured ∙ one in
+      let listed : listed_colours last ≡ 1 = ap (λ b. if b then 1 else last.rows * last.len) one in
+      ap (λ k. replicate k (get_or colours 0 fresh)) size ∙ ap (replicate (length old)) (get_or-drop start h.colours 0 fresh
+      ∙ ap (λ k. get_or h.colours k fresh) {x = start + 0} {y = length h.colours - 1} (omega (arith, listed)) ∙ is.same one_row)
+      ∙ sym (values.coloured one_row).1)
 
-  deepened : depths_in last depths ≡ deep
+  deepened : depths_in last (depths_from last last.rows (depths ++ deeper)) ≡ deep
   deepened =
-      let d : ℕ = is.grows.deep.0 in
-      ap (λ (o : Option ℕ). values_in o last.len depths) is.grows.deep.1
-      ∙ ap (λ k. replicate k d) (long ∙ sym values.equal)
-      ∙ sym (subst (λ (o : Option ℕ). IfSome o (λ depth. deep ≡ replicate (length deep) depth)) is.grows.deep.2 values.deep)
+      depths_next last.same_depth last.len last.rows depths deep deeper t.deep_long (size ∙ sym values.equal) deeper_is
+      (rw is.grows.deep at values.deep)
 
-  more : span_pixels grown colours depths ≡ span_pixels last colours depths ++ kept_row row.x row.y (zip old deep)
+  more : span_pixels grown (colours ++ new) (depths ++ deeper) ≡ span_pixels last colours depths ++ kept_row row.x row.y (zip old deep)
   more =
-      let pixels : List Pixel = zip (colours_in last colours) (depths_in last depths) in
-      ap (λ s. span_pixels s colours depths) is.grows.is
+      let pixels : ℕ → List Pixel = pixels_of_row last (colours ++ new) (depths ++ deeper) in
+      ap (λ s. span_pixels s (colours ++ new) (depths ++ deeper)) is.grows.is
       ∙ ap (λ k. kept_rows last.x last.y k pixels) {x = last.rows + 1} {y = suc last.rows} (omega arith)
-      ∙ ap (λ k. span_pixels last colours depths ++ kept_row last.x k pixels) (sym is.grows.y)
-      ∙ ap (λ k. span_pixels last colours depths ++ kept_row k row.y pixels) (sym is.grows.x)
-      ∙ ap (λ l. span_pixels last colours depths ++ kept_row row.x row.y (zip l (depths_in last depths))) coloured
+      ∙ ap (λ l. l ++ kept_row last.x (last.y + last.rows) (pixels last.rows))
+      (span_pixels-more last colours depths (omega (arith, t.long)) (omega (arith, t.deep_long)) new deeper)
+      ∙ ap (λ k. span_pixels last colours depths ++ kept_row last.x k (pixels last.rows)) (sym is.grows.y)
+      ∙ ap (λ k. span_pixels last colours depths ++ kept_row k row.y (pixels last.rows)) (sym is.grows.x)
+      ∙ ap (λ l. span_pixels last colours depths ++ kept_row row.x row.y (zip l (depths_in last (depths_from last last.rows (depths ++ deeper))))) coloured
       ∙ ap (λ l. span_pixels last colours depths ++ kept_row row.x row.y (zip old l)) deepened
 
   rows_now : rows_of n ≡ before ++ (span_pixels last colours depths ++ kept_row row.x row.y (zip old deep)) ∷ []
   rows_now =
-      ap (λ l. rows_in l n.colours n.depths) spans_are
-      ∙ ap (λ l. rows_in (low ++ grown ∷ []) l n.depths) (colours_are ∙ sym (take-append-drop start h.colours))
-      ∙ ap (λ l. rows_in (low ++ grown ∷ []) (take start h.colours ++ colours) l) (depths_are ∙ sym (take-append-drop deep_start h.depths))
-      ∙ rows_in-push low (take start h.colours) colours (take deep_start h.depths) depths grown t.held.colours_counted t.held.depths_counted
-      ∙ ap (λ l. l ++ span_pixels grown colours depths ∷ []) t.rest
-      ∙ ap (λ ks. before ++ ks ∷ []) more
-
-  count : length (rows_of h) ≡ length h.spans
-  count = length-rows_in h.spans h.colours h.depths
-
-  rows_were : rows_of h ≡ before ++ span_pixels last colours depths ∷ []
-  rows_were =
-      others-newest (rows_of h) [] (omega (arith, count, is.some))
-      ∙ ap (λ k. take (k - 1) (rows_of h) ++ get_or (rows_of h) (k - 1) [] ∷ []) count
-      ∙ ap (λ ks. before ++ ks ∷ []) t.newest
+      ap (λ l. rows_in l n.colours n.depths) spans_are ∙ ap (λ l. rows_in (low ++ grown ∷ []) l n.depths) (colours_are ∙ parted start h.colours new)
+      ∙ ap (λ l. rows_in (low ++ grown ∷ []) (take start h.colours ++ (colours ++ new)) l) (depths_are ∙ parted deep_start h.depths deeper)
+      ∙ rows_in-push low (take start h.colours) (colours ++ new) (take deep_start h.depths) (depths ++ deeper) grown t.held.colours_counted
+      t.held.depths_counted ∙ ap (λ ks. before ++ ks ∷ []) more
 
   fits : first ≤ length before
-  fits = omega (arith, length-take (length h.spans - 1) (rows_of h), count, is.some)
+  fits = omega (arith, length-rows_in low (take start h.colours) (take deep_start h.depths), length-take (length h.spans - 1) h.spans, is.some)
+
+  pub held-grown : IsHeld n.spans n.colours n.depths
+  held-grown = record {
+    colours_counted = omega (
+      arith,
+      ap colour_count spans_are,
+      colours-push low grown,
+      ap listed_colours is.grows.is,
+      colours_more last.one_colour last.rows last.len old size,
+      ap length new_is,
+      ap length colours_are,
+      length-append h.colours new,
+      t.held.colours_counted,
+      length-take start h.colours,
+      length-drop start h.colours,
+      t.long,
+    );
+    depths_counted = omega (
+      arith,
+      ap depth_count spans_are,
+      depths-push low grown,
+      ap listed_depths is.grows.is,
+      depths_more last.same_depth last.rows last.len deep (size ∙ sym values.equal),
+      ap length deeper_is,
+      ap length depths_are,
+      length-append h.depths deeper,
+      t.held.depths_counted,
+      length-take deep_start h.depths,
+      length-drop deep_start h.depths,
+      t.deep_long,
+    );
+  }
 
   pub keeps-grown : KeepsMore first h n (kept_row row.x row.y (zip old deep))
   keeps-grown =
@@ -118,11 +188,10 @@ module _ (h n : Held) (first : ℕ) (row grown : Span) (old : List Colour) (deep
       let own : List KeptPixel = kept_row row.x row.y (zip old deep) in
       record {
         low = ap (take first) rows_now ∙ take-append-le first before ((f ++ own) ∷ []) fits
-            ∙ sym (ap (take first) rows_were ∙ take-append-le first before (f ∷ []) fits);
+            ∙ sym (ap (take first) t.rows ∙ take-append-le first before (f ∷ []) fits);
         high = ap (λ l. joined (drop first l)) rows_now ∙ ap joined (drop-append-le first before ((f ++ own) ∷ []) fits) ∙ joined-push (drop first before)
-            (f ++ own)
-            ∙ sym (append_assoc (joined (drop first before)) f own)
-            ∙ ap (λ l. l ++ own) (sym (ap (λ l. joined (drop first l)) rows_were ∙ ap joined (drop-append-le first before (f ∷ []) fits)
+            (f ++ own) ∙ sym (append_assoc (joined (drop first before)) f own)
+            ∙ ap (λ l. l ++ own) (sym (ap (λ l. joined (drop first l)) t.rows ∙ ap joined (drop-append-le first before (f ∷ []) fits)
             ∙ joined-push (drop first before) f));
         spans = ap (take first) spans_are ∙ take-append-le first low (grown ∷ []) (omega (arith, length-take (length h.spans - 1) h.spans, is.some))
             ∙ take-take first (length h.spans - 1) h.spans (omega (arith, is.some));

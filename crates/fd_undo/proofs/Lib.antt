@@ -4,12 +4,11 @@ pub mod KeptAt
 pub mod Restored
 pub mod Pixelwise
 pub mod Alike
-pub mod Packing
 pub mod SpanLemmas
 pub mod RowLemmas
 pub mod Wholes
 pub mod Growing
-pub mod Runs
+pub mod RowsAtOnce
 pub mod BlockLemmas
 pub mod StackLemmas
 pub mod Backs

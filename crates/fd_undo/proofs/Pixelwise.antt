@@ -39,7 +39,7 @@ value_in-with_value p rows a b v other x y true true ex ey filled at held =
     let column : a ≡ x = eqb-true a x ex in
     let row : b ≡ y = eqb-true b y ey in
     let crossed : HasRow p b = HasRow-from_Holds p a b at in
-    let within : a - p.left < length (row_in p rows b) = omega (arith, length-row_in p rows b filled crossed, at.from_left, at.to_right) in
+    let within : a - p.left < length (row_in p rows b) = omega arith in
     ap (λ z. get_or (row_in p (with_value p rows a b v) z) (x - p.left) other) (sym row)
     ∙ ap (λ z. get_or (row_in p (with_value p rows a b v) b) (z - p.left) other) (sym column)
     ∙ ap (λ r. get_or r (a - p.left) other) (row_in-same p rows b filled crossed _)
@@ -66,19 +66,19 @@ pair_cond false p q = refl
 pixel_of-with_pixel : (t : TileImage) (k : KeptPixel) (x y : ℕ) → IsTileImage t → Holds t.place k.x k.y → Holds t.place x y
     → pixel_of (with_pixel t k.x k.y k.pixel) x y ≡ cond (eqb k.x x && eqb k.y y) k.pixel (pixel_of t x y)
 pixel_of-with_pixel t k x y filled at held =
-    ap (λ c. (c, value_in t.place (with_value t.place t.depths k.x k.y k.pixel.1) x y 65535))
-    (value_in-with_value t.place t.rows k.x k.y k.pixel.0 fresh x y (eqb k.x x) (eqb k.y y) refl refl filled.colours at held)
-    ∙ ap (λ d. (cond (eqb k.x x && eqb k.y y) k.pixel.0 (pixel_of t x y).0, d))
-    (value_in-with_value t.place t.depths k.x k.y k.pixel.1 65535 x y (eqb k.x x) (eqb k.y y) refl refl filled.depths at held)
-    ∙ pair_cond (eqb k.x x && eqb k.y y) k.pixel (pixel_of t x y)
+    cc (
+      value_in-with_value t.place t.rows k.x k.y k.pixel.0 fresh x y (eqb k.x x) (eqb k.y y) refl refl filled.colours at held,
+      value_in-with_value t.place t.depths k.x k.y k.pixel.1 65535 x y (eqb k.x x) (eqb k.y y) refl refl filled.depths at held,
+      pair_cond
+          (eqb k.x x && eqb k.y y) k.pixel (pixel_of t x y),
+    )
 
 -- ---- a frame put back
 pub IsTileImage-restored : (ks : List KeptPixel) (t : TileImage) → IsTileImage t → Inside t.place ks → IsTileImage (restored ks t)
 IsTileImage-restored [] t filled inside = filled
 IsTileImage-restored (k ∷ ks) t filled inside =
     let held : Holds t.place k.x k.y = All-head (λ (q : KeptPixel). Holds t.place q.x q.y) k ks inside in
-    IsTileImage-with_pixel (restored ks t) k.x k.y k.pixel
-    (IsTileImage-restored ks t filled (All-tail (λ (q : KeptPixel). Holds t.place q.x q.y) k ks inside))
+    IsTileImage-with_pixel (restored ks t) k.x k.y k.pixel (IsTileImage-restored ks t filled (All-tail (λ (q : KeptPixel). Holds t.place q.x q.y) k ks inside))
     (subst (λ p. Holds p k.x k.y) (sym (restored-place ks t)) held)
 
 first_or-cond : (b : Bool) (c d : Pixel) (cs : List Pixel) → first_or (cond b (c ∷ cs) cs) d ≡ cond b c (first_or cs d)

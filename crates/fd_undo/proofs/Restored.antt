@@ -23,12 +23,10 @@ Inside p ks = All (λ k. Holds p k.x k.y) ks
 
 -- ---- a frame in two parts
 pub Inside-front : (p : Place) (ks ls : List KeptPixel) → Inside p (ks ++ ls) → Inside p ks
-Inside-front p ks ls h =
-    subst (λ l. Inside p l) (take_at ks ls (length ks) refl) (All-take (λ k. Holds p k.x k.y) (length ks) (ks ++ ls) h)
+Inside-front p ks ls h = subst (λ l. Inside p l) (take_at ks ls (length ks) refl) (All-take (λ k. Holds p k.x k.y) (length ks) (ks ++ ls) h)
 
 pub Inside-back : (p : Place) (ks ls : List KeptPixel) → Inside p (ks ++ ls) → Inside p ls
-Inside-back p ks ls h =
-    subst (λ l. Inside p l) (drop_at ks ls (length ks) refl) (All-drop (λ k. Holds p k.x k.y) (length ks) (ks ++ ls) h)
+Inside-back p ks ls h = subst (λ l. Inside p l) (drop_at ks ls (length ks) refl) (All-drop (λ k. Holds p k.x k.y) (length ks) (ks ++ ls) h)
 
 pub restored-append : (ks ls : List KeptPixel) (t : TileImage) → restored (ks ++ ls) t ≡ restored ks (restored ls t)
 restored-append [] ls t = refl
@@ -61,8 +59,7 @@ kept_row-within p x y (c ∷ d ∷ cs) h some =
 pub kept_row-inside : (p : Place) (x y : ℕ) (old : List Pixel) → HasRow p y → p.left ≤ x → x + length old ≤ p.left + p.width → Inside p (kept_row x y old)
 kept_row-inside p x y [] crossed low high = All-nil (λ (k : KeptPixel). Holds p k.x k.y)
 kept_row-inside p x y (c ∷ cs) crossed low high =
-    All-cons (λ (k : KeptPixel). Holds p k.x k.y) (record { x = x; y = y; pixel = c }) (kept_row (x + 1) y cs)
-    (record { from_left = low; to_right = omega arith; from_top = crossed.from_top; to_bottom = crossed.to_bottom })
+    All-cons (λ (k : KeptPixel). Holds p k.x k.y) (record { x = x; y = y; pixel = c }) (kept_row (x + 1) y cs) (omega arith)
     (kept_row-inside p (x + 1) y cs crossed (omega arith) (omega arith))
 
 pub kept_row-first : (p : Place) (x y : ℕ) (old : List Pixel) → Inside p (kept_row x y old) → 0 < length old → Holds p x y
@@ -95,8 +92,7 @@ pasted_is d j (c ∷ cs) row fits =
 row_step : {X : Type 0} (p : Place) (rows : List (List X)) (y : ℕ) → FillsPlace p rows → HasRow p y → (rest : List X) (j : ℕ) (x : X)
     → with_row_in p (with_row_in p rows y rest) y (slice_set (row_in p (with_row_in p rows y rest) y) j x) ≡ with_row_in p rows y (slice_set rest j x)
 row_step p rows y filled crossed rest j x =
-    ap (λ r. with_row_in p (with_row_in p rows y rest) y (slice_set r j x)) (row_in-same p rows y filled crossed rest)
-    ∙ with_row_in-twice p rows y filled crossed rest (slice_set rest j x)
+    cc (row_in-same p rows y filled crossed rest, with_row_in-twice p rows y filled crossed rest (slice_set rest j x))
 
 abbrev of_rows : TileImage → List (List Colour) → List (List ℕ) → TileImage
 of_rows t rows depths = record t { rows = rows; depths = depths }
@@ -120,12 +116,8 @@ restored-kept_row t x y (c ∷ cs) (d ∷ ds) equal filled crossed low =
     let colours : List Colour = pasted (x - t.place.left + 1) cs (row_of t y) in
     let depths : List ℕ = pasted (x - t.place.left + 1) ds (depth_row_of t y) in
     let rest : restored (kept_row (x + 1) y (zip cs ds)) t ≡ of_rows t (with_row_in t.place t.rows y colours) (with_row_in t.place t.depths y depths) =
-    restored-kept_row t (x + 1) y cs ds (omega arith) filled crossed (omega arith)
-    ∙ ap (λ k. of_rows t (with_row_in p t.rows y (pasted k cs (row_of t y))) (with_row_in p t.depths y (pasted k ds (depth_row_of t y)))) next in
-    ap (λ u. with_pixel u x y (c, d)) rest
-    ∙ ap (λ rows. of_rows t rows (with_row_in p (with_row_in p t.depths y depths) y (slice_set (row_in p (with_row_in p t.depths y depths) y) j d)))
-    (row_step p t.rows y filled.colours crossed colours j c)
-    ∙ ap (λ ds. of_rows t (with_row_in p t.rows y (slice_set colours j c)) ds) (row_step p t.depths y filled.depths crossed depths j d)
+    cc (restored-kept_row t (x + 1) y cs ds (omega arith) filled crossed (omega arith)) in
+    cc (row_step p t.rows y filled.colours crossed colours j c, row_step p t.depths y filled.depths crossed depths j d)
 
 -- a part of a row that is written over the row as it was read
 part_left : {X : Type 0} (p : Place) (rows : List (List X)) (y x j n : ℕ) (old row now : List X) (other : X) → FillsPlace p rows → HasRow p y
@@ -137,12 +129,8 @@ part_left p rows y x j n old row now other filled crossed low within at count re
     let wide : length (row_in p rows y) ≡ p.width = length-row_in p rows y filled crossed in
     let fits : x - p.left + length old ≤ length (row_in p rows y) = omega arith in
     let is : put_mid j n row now ≡ pasted (x - p.left) old (row_in p rows y) =
-    ap (λ k. put_mid k n row now) at ∙ ap (λ k. put_mid (x - p.left) k row now) count
-    ∙ ap (λ r. put_mid (x - p.left) (length old) r now) read ∙ ap (λ l. put_mid (x - p.left) (length old) (row_in p rows y) l) after
-    ∙ ap (λ l. take (x - p.left) (row_in p rows y) ++ (old ++ l)) (drop-drop (length old) (x - p.left) (row_in p rows y))
-    ∙ sym (pasted_is other (x - p.left) old (row_in p rows y) fits) in
-    ap (λ w. with_row_in p rows y (refill (length (row_in p rows y)) (row_in p rows y) w)) is
-    ∙ left_row_is p rows y filled crossed (pasted (x - p.left) old (row_in p rows y)) (length-pasted (x - p.left) old (row_in p rows y) ∙ wide)
+    cc (drop-drop (length old) (x - p.left) (row_in p rows y), pasted_is other (x - p.left) old (row_in p rows y) fits) in
+    cc (left_row_is p rows y filled crossed (pasted (x - p.left) old (row_in p rows y)) (length-pasted (x - p.left) old (row_in p rows y) ∙ wide))
 
 -- what the code writes: the parts of the two rows from column x on, over the lent rows
 pub put_back_row_is : (t : TileImage) (x y j n : ℕ) (old row now : List Colour) (deep deep_row deep_now : List ℕ) → length deep ≡ length old → IsTileImage t
@@ -155,14 +143,12 @@ put_back_row_is t x y j n old row now deep deep_row deep_now equal filled inside
     let first : Holds t.place x y = kept_row-first t.place x y (zip old deep) inside (omega arith) in
     let crossed : HasRow t.place y = record { from_top = first.from_top; to_bottom = first.to_bottom } in
     let within : x + length old ≤ t.place.left + t.place.width = omega (arith, kept_row-within t.place x y (zip old deep) inside (omega arith), long) in
-    ap (λ rows. of_rows t rows (with_row_in p t.depths y (refill (length (row_in p t.depths y)) (row_in p t.depths y) (put_mid j n deep_row deep_now))))
-    (part_left p t.rows y x j n old row now fresh filled.colours crossed first.from_left within at count read after)
-    ∙ ap (λ depths. of_rows t (with_row_in p t.rows y (pasted (x - p.left) old (row_of t y))) depths)
-    (part_left p t.depths y x j n deep deep_row deep_now 0 filled.depths crossed first.from_left (omega (
-      arith,
-      within,
-    )) at (count ∙ sym equal) deep_read deep_after)
-    ∙ sym (restored-kept_row t x y old deep equal filled crossed first.from_left)
+    cc (
+      part_left p t.rows y x j n old row now fresh filled.colours crossed first.from_left within at count read after,
+      part_left p t.depths y x j n deep deep_row deep_now 0 filled.depths crossed first.from_left (omega (arith, within)) at (count ∙ sym equal)
+          deep_read deep_after,
+      restored-kept_row t x y old deep equal filled crossed first.from_left,
+    )
 
 -- where one value stands everywhere, writing it again changes nothing
 pasted-alike : {X : Type 0} (d : X) (j n w : ℕ) → j + n ≤ w → pasted j (replicate n d) (replicate w d) ≡ replicate w d
@@ -171,10 +157,8 @@ pasted-alike d j n w fits =
     pasted_is d j (replicate n d) (replicate w d) (omega (arith, fits, long, length-replicate w d))
     ∙ ap (λ l. l ++ (replicate n d ++ drop (j + length (replicate n d)) (replicate w d))) (take-replicate j w d (omega (arith, fits)))
     ∙ ap (λ k. replicate j d ++ (replicate n d ++ drop k (replicate w d))) {x = j + length (replicate n d)} {y = j + n} (omega (arith, long))
-    ∙ ap (λ l. replicate j d ++ (replicate n d ++ l)) (drop-replicate (j + n) w d)
-    ∙ ap (λ l. replicate j d ++ l) (replicate-append-replicate n (w - (j + n)) d)
-    ∙ replicate-append-replicate j (n + (w - (j + n))) d
-    ∙ ap (λ k. replicate k d) {x = j + (n + (w - (j + n)))} {y = w} (omega (arith, fits))
+    ∙ ap (λ l. replicate j d ++ (replicate n d ++ l)) (drop-replicate (j + n) w d) ∙ ap (λ l. replicate j d ++ l) (replicate-append-replicate n (w - (j + n)) d)
+    ∙ replicate-append-replicate j (n + (w - (j + n))) d ∙ ap (λ k. replicate k d) {x = j + (n + (w - (j + n)))} {y = w} (omega (arith, fits))
 
 -- the same where all pixels of the tile have the one depth of the row's part: the colours alone are written
 pub put_back_row_alike : (t : TileImage) (x y j n depth : ℕ) (old row now : List Colour) (deep : List ℕ) → deep ≡ replicate (length old) depth
@@ -191,9 +175,9 @@ put_back_row_alike t x y j n depth old row now deep alike filled flat inside som
     let within : x + length old ≤ t.place.left + t.place.width = omega (arith, kept_row-within t.place x y (zip old deep) inside (omega arith), long) in
     let deep_row : row_in p t.depths y ≡ replicate p.width depth = row_in-flat p t.depths y filled.depths crossed depth flat in
     let again : pasted (x - p.left) deep (row_in p t.depths y) ≡ row_in p t.depths y =
-    ap (λ l. pasted (x - p.left) l (row_in p t.depths y)) alike ∙ ap (λ l. pasted (x - p.left) (replicate (length old) depth) l) deep_row
-    ∙ pasted-alike depth (x - p.left) (length old) p.width (omega (arith, within, first.from_left)) ∙ sym deep_row in
-    ap (λ rows. of_rows t rows t.depths) (part_left p t.rows y x j n old row now fresh filled.colours crossed first.from_left within at count read after)
-    ∙ ap (λ depths. of_rows t (with_row_in p t.rows y (pasted (x - p.left) old (row_of t y))) depths)
-    (sym (ap (λ r. with_row_in p t.depths y r) again ∙ with_row_in-as_it_is p t.depths y))
-    ∙ sym (restored-kept_row t x y old deep equal filled crossed first.from_left)
+    cc (pasted-alike depth (x - p.left) (length old) p.width (omega (arith, within, first.from_left))) in
+    cc (
+      part_left p t.rows y x j n old row now fresh filled.colours crossed first.from_left within at count read after,
+      with_row_in-as_it_is p t.depths y,
+      restored-kept_row t x y old deep equal filled crossed first.from_left,
+    )

@@ -1,17 +1,15 @@
 -- Rows of spans.
-use Rattle.std.proofs.Common.{◌≡◌, ℕ, zero, suc, ◌+◌, ◌-◌, ◌*◌, ◌≤◌, ◌∙◌, List, [], ◌∷◌, ◌++◌, length, get_or, take, drop, refl, sym, ap, arith}
+use Rattle.std.proofs.Common.{◌≡◌, ℕ, zero, suc, ◌+◌, ◌-◌, ◌*◌, ◌≤◌, ◌∙◌, List, [], ◌∷◌, ◌++◌, length, take, drop, refl, sym, ap, arith}
 use Rattle.std.proofs.Common.{length-drop, length-append, append_assoc}
 use Rattle.std.proofs.lemmas.List.{drop-append-le, take-append-drop, length-take, take-take, drop-take, drop-drop, append-nil, take_all}
 use Rattle.std.proofs.lemmas.List.Sums.{sum_by_push, sum_by-cons}
 use Rattle.fd_blend.specs.declared.channel.Colour.{Colour}
 use Rattle.fd_undo.specs.Span.{Span}
 use Rattle.fd_undo.specs.Frame.{KeptPixel}
-use Rattle.fd_undo.specs.Block.{others}
 use Rattle.fd_undo.specs.Rows.{listed_colours, listed_depths, colour_count, depth_count, pixel_count, span_pixels, rows_in, rows_of, joined}
 use Rattle.fd_undo.specs.Rows.{Held, IsHeld}
 use Rattle.fd_undo.specs.declared.parts.Cut.{Cut}
 use Rattle.fd_undo.specs.Parts.{IsCut}
-use Rattle.fd_undo.proofs.FrameLemmas.{others-push, newest-push}
 use Rattle.fd_undo.proofs.SpanLemmas.{span_pixels-more, length-span_pixels}
 
 -- ---- rows one after the other
@@ -52,15 +50,14 @@ rows_in-push (t ∷ spans) cs more ds deep s counted deep_counted =
     let deep_all : listed_depths t + depth_count spans ≡ length ds = sym (depths-cons t spans) ∙ deep_counted in
     let short : listed_colours t ≤ length cs = omega (arith, all) in
     let deep_short : listed_depths t ≤ length ds = omega (arith, deep_all) in
-    ap (λ l. l ∷ rows_in (spans ++ s ∷ []) (drop n (cs ++ more)) (drop m (ds ++ deep))) (span_pixels-more t cs more ds deep short deep_short)
-    ∙ ap (λ l. span_pixels t cs ds ∷ rows_in (spans ++ s ∷ []) l (drop m (ds ++ deep))) (drop-append-le n cs more short)
-    ∙ ap (λ l. span_pixels t cs ds ∷ rows_in (spans ++ s ∷ []) (drop n cs ++ more) l) (drop-append-le m ds deep deep_short)
-    ∙ ap (λ l. span_pixels t cs ds ∷ l)
-    (rows_in-push spans (drop n cs) more (drop m ds) deep s (omega (arith, all, length-drop (listed_colours t) cs)) (omega (
-      arith,
-      deep_all,
-      length-drop (listed_depths t) ds,
-    )))
+    let rest : colour_count spans ≡ length (drop (listed_colours t) cs) = omega (arith, length-drop (listed_colours t) cs) in
+    let deep_rest : depth_count spans ≡ length (drop (listed_depths t) ds) = omega (arith, length-drop (listed_depths t) ds) in
+    cc (
+      span_pixels-more t cs ds short deep_short more deep,
+      drop-append-le n cs more short,
+      drop-append-le m ds deep deep_short,
+      rows_in-push spans (drop n cs) more (drop m ds) deep s rest deep_rest,
+    )
 
 -- the rows from span k on, and those before it
 pub rows_in-drop : (spans : List Span) (cs : List Colour) (ds : List ℕ) (k : ℕ)
@@ -70,11 +67,14 @@ rows_in-drop [] cs ds (suc k) = refl
 rows_in-drop (s ∷ spans) cs ds (suc k) =
     let n : ℕ = colour_count (take k spans) in
     let m : ℕ = depth_count (take k spans) in
-    ap (λ l. rows_in (drop k spans) l (drop (depth_count (s ∷ take k spans)) ds))
-    (ap (λ i. drop i cs) (colours-cons s (take k spans)) ∙ sym (drop-drop n (listed_colours s) cs))
-    ∙ ap (λ l. rows_in (drop k spans) (drop n (drop (listed_colours s) cs)) l)
-    (ap (λ i. drop i ds) (depths-cons s (take k spans)) ∙ sym (drop-drop m (listed_depths s) ds))
-    ∙ rows_in-drop spans (drop (listed_colours s) cs) (drop (listed_depths s) ds) k
+    cc (
+      colours-cons s (take k spans),
+      drop-drop n (listed_colours s) cs,
+      depths-cons s (take k spans),
+      drop-drop m (listed_depths s) ds,
+      rows_in-drop spans
+          (drop (listed_colours s) cs) (drop (listed_depths s) ds) k,
+    )
 
 pub rows_in-take : (spans : List Span) (cs : List Colour) (ds : List ℕ) (k : ℕ) → rows_in (take k spans) cs ds ≡ take k (rows_in spans cs ds)
 rows_in-take spans cs ds zero = refl
@@ -92,10 +92,9 @@ depths-take spans zero = omega arith
 depths-take [] (suc k) = refl
 depths-take (s ∷ spans) (suc k) = omega (arith, depths-cons s (take k spans), depths-cons s spans, depths-take spans k)
 
--- ---- what is known where the last span was taken off, whose values stand from `start` and `deep_start` on
+-- ---- the last span apart, whose values stand from `start` and `deep_start` on
 pub record Taken (spans low : List Span) (s : Span) (cs : List Colour) (ds : List ℕ) (start deep_start : ℕ) : Type 0 where
-  pub newest : get_or (rows_in spans cs ds) (length spans - 1) [] ≡ span_pixels s (drop start cs) (drop deep_start ds)
-  pub rest : rows_in low (take start cs) (take deep_start ds) ≡ take (length spans - 1) (rows_in spans cs ds)
+  pub rows : rows_in spans cs ds ≡ rows_in low (take start cs) (take deep_start ds) ++ span_pixels s (drop start cs) (drop deep_start ds) ∷ []
   pub held : IsHeld low (take start cs) (take deep_start ds)
   pub long : length (drop start cs) ≡ listed_colours s
   pub deep_long : length (drop deep_start ds) ≡ listed_depths s
@@ -107,17 +106,13 @@ taken spans low s cs ds start deep_start split is at deep_at =
     let deep_sizes : depth_count low + listed_depths s ≡ length ds = sym (depths-push low s) ∙ ap depth_count (sym split) ∙ is.depths_counted in
     let lower : colour_count low ≡ length (take start cs) = omega (arith, sizes, at, length-take start cs) in
     let deep_lower : depth_count low ≡ length (take deep_start ds) = omega (arith, deep_sizes, deep_at, length-take deep_start ds) in
-    let front : List (List KeptPixel) = rows_in low (take start cs) (take deep_start ds) in
-    let last : List KeptPixel = span_pixels s (drop start cs) (drop deep_start ds) in
-    let all : rows_in spans cs ds ≡ rows_in low (take start cs) (take deep_start ds) ++ span_pixels s (drop start cs) (drop deep_start ds) ∷ [] =
-    ap (λ l. rows_in l cs ds) split
-    ∙ ap (λ l. rows_in (low ++ s ∷ []) l ds) (sym (take-append-drop start cs))
-    ∙ ap (λ l. rows_in (low ++ s ∷ []) (take start cs ++ drop start cs) l) (sym (take-append-drop deep_start ds))
-    ∙ rows_in-push low (take start cs) (drop start cs) (take deep_start ds) (drop deep_start ds) s lower deep_lower in
-    let count : length spans ≡ length (rows_in spans cs ds) = sym (length-rows_in spans cs ds) in
     record {
-      newest = ap (λ n. get_or (rows_in spans cs ds) (n - 1) []) count ∙ ap (λ l. get_or l (length l - 1) []) all ∙ newest-push front last [];
-      rest = sym (ap (λ n. take (n - 1) (rows_in spans cs ds)) count ∙ ap (λ l. others l) all ∙ others-push front last);
+      rows = cc (
+        take-append-drop start cs,
+        take-append-drop deep_start ds,
+        rows_in-push low (take start cs) (drop start cs) (take deep_start ds)
+            (drop deep_start ds) s lower deep_lower,
+      );
       held = record { colours_counted = lower; depths_counted = deep_lower };
       long = omega (arith, sizes, at, length-drop start cs);
       deep_long = omega (arith, deep_sizes, deep_at, length-drop deep_start ds);
@@ -135,27 +130,29 @@ rows_in-more (s ∷ spans) cs more ds deep fits deep_fits =
     let m : ℕ = listed_depths s in
     let short : listed_colours s ≤ length cs = omega (arith, fits, colours-cons s spans) in
     let deep_short : listed_depths s ≤ length ds = omega (arith, deep_fits, depths-cons s spans) in
-    ap (λ l. l ∷ rows_in spans (drop n (cs ++ more)) (drop m (ds ++ deep))) (span_pixels-more s cs more ds deep short deep_short)
-    ∙ ap (λ l. span_pixels s cs ds ∷ rows_in spans l (drop m (ds ++ deep))) (drop-append-le n cs more short)
-    ∙ ap (λ l. span_pixels s cs ds ∷ rows_in spans (drop n cs ++ more) l) (drop-append-le m ds deep deep_short)
-    ∙ ap (λ l. span_pixels s cs ds ∷ l)
-    (rows_in-more spans (drop n cs) more (drop m ds) deep (omega (arith, fits, colours-cons s spans, length-drop (listed_colours s) cs))
-    (omega (arith, deep_fits, depths-cons s spans, length-drop (listed_depths s) ds)))
+    cc (
+      span_pixels-more s cs ds short deep_short more deep,
+      drop-append-le n cs more short,
+      drop-append-le m ds deep deep_short,
+      rows_in-more spans
+          (drop n cs) more (drop m ds) deep (omega (arith, fits, colours-cons s spans, length-drop (listed_colours s) cs)) (omega
+          (arith, deep_fits, depths-cons s spans, length-drop (listed_depths s) ds)),
+    )
 
 -- how many pixels some spans keep
 length-joined : (spans : List Span) (cs : List Colour) (ds : List ℕ) → colour_count spans ≤ length cs → depth_count spans ≤ length ds
     → length (joined (rows_in spans cs ds)) ≡ pixel_count spans
 length-joined [] cs ds fits deep_fits = refl
 length-joined (s ∷ spans) cs ds fits deep_fits =
-    let later : length (joined (rows_in spans (drop (listed_colours s) cs) (drop (listed_depths s) ds))) ≡ pixel_count spans =
-    length-joined spans (drop (listed_colours s) cs) (drop (listed_depths s) ds)
-    (omega (arith, fits, colours-cons s spans, length-drop (listed_colours s) cs))
-    (omega (arith, deep_fits, depths-cons s spans, length-drop (listed_depths s) ds)) in
     omega (
       arith,
-      length-append (span_pixels s cs ds) (joined (rows_in spans (drop (listed_colours s) cs) (drop (listed_depths s) ds))),
-      length-span_pixels s cs ds (omega (arith, fits, colours-cons s spans)) (omega (arith, deep_fits, depths-cons s spans)),
-      later,
+      length-joined spans (drop (listed_colours s) cs) (drop (listed_depths s) ds) (omega
+          (arith, fits, colours-cons s spans, length-drop (listed_colours s) cs)) (omega
+          (arith, deep_fits, depths-cons s spans, length-drop (listed_depths s) ds)),
+      length-append (span_pixels s cs ds)
+          (joined (rows_in spans (drop (listed_colours s) cs) (drop (listed_depths s) ds))),
+      length-span_pixels s cs ds (omega (arith, fits, colours-cons s spans))
+          (omega (arith, deep_fits, depths-cons s spans)),
       sum_by-cons (λ (r : Span). r.rows * r.len) s spans,
     )
 
@@ -183,11 +180,13 @@ module _ (spans : List Span) (cs : List Colour) (ds : List ℕ) (k : ℕ) (held 
 
   pub rows_in-cut : rows_in (take k spans) own_colours own_depths ≡ take k (rows_in spans cs ds)
   rows_in-cut =
-      sym (rows_in-more (take k spans) own_colours (drop (colour_count (take k spans)) cs) own_depths (drop (depth_count (take k spans)) ds)
-      (omega (arith, colours_own)) (omega (arith, depths_own)))
-      ∙ ap (λ l. rows_in (take k spans) l (own_depths ++ drop (depth_count (take k spans)) ds)) (take-append-drop (colour_count (take k spans)) cs)
-      ∙ ap (λ l. rows_in (take k spans) cs l) (take-append-drop (depth_count (take k spans)) ds)
-      ∙ rows_in-take spans cs ds k
+      cc (
+        rows_in-more (take k spans) own_colours (drop (colour_count (take k spans)) cs) own_depths (drop (depth_count (take k spans)) ds) (omega
+            (arith, colours_own)) (omega (arith, depths_own)),
+        take-append-drop (colour_count (take k spans)) cs,
+        take-append-drop (depth_count (take k spans)) ds,
+        rows_in-take spans cs ds k,
+      )
 
 -- ---- the spans from one place up to another, with their own values
 module _ (spans : List Span) (cs : List Colour) (ds : List ℕ) (first end : Cut) (held : IsHeld spans cs ds) (ordered : first.span ≤ end.span)
@@ -227,10 +226,7 @@ module _ (spans : List Span) (cs : List Colour) (ds : List ℕ) (first end : Cut
   )
 
   tails_held : IsHeld (drop first.span spans) (drop first.colour cs) (drop first.depth ds)
-  tails_held = record {
-    colours_counted = omega (arith, colours-take spans first.span, low.colour, held.colours_counted, length-drop first.colour cs);
-    depths_counted = omega (arith, depths-take spans first.span, low.depth, held.depths_counted, length-drop first.depth ds);
-  }
+  tails_held = omega (arith, colours-take spans first.span, length-drop first.colour cs, depths-take spans first.span, length-drop first.depth ds)
 
   pub held_between : IsHeld between (take (end.colour - first.colour) (drop first.colour cs)) (take (end.depth - first.depth) (drop first.depth ds))
   held_between = record {
@@ -241,13 +237,7 @@ module _ (spans : List Span) (cs : List Colour) (ds : List ℕ) (first end : Cut
       length-drop first.colour cs,
       length-take (end.colour - first.colour) (drop first.colour cs),
     );
-    depths_counted = omega (
-      arith,
-      depths_between.0,
-      depths_between.1,
-      length-drop first.depth ds,
-      length-take (end.depth - first.depth) (drop first.depth ds),
-    );
+    depths_counted = omega (arith, depths_between.0, depths_between.1, length-drop first.depth ds, length-take (end.depth - first.depth) (drop first.depth ds));
   }
 
   pub rows_between : rows_in between (take (end.colour - first.colour) (drop first.colour cs)) (take (end.depth - first.depth) (drop first.depth ds))

@@ -37,8 +37,7 @@ rise-lower i k (t ∷ stored) count is low = (omega (arith, is.0), is.1)
 -- the numbers of a part rise
 pub rise-back : (i : ℕ) (low stored : List KeptFrame) (count : ℕ) → Rise i (low ++ stored) count → Rise i stored count
 rise-back i [] stored count is = is
-rise-back i (t ∷ low) stored count is =
-    rise-lower i (t.number + 1) stored count (rise-back (t.number + 1) low stored count is.1) (omega (arith, is.0))
+rise-back i (t ∷ low) stored count is = rise-lower i (t.number + 1) stored count (rise-back (t.number + 1) low stored count is.1) (omega (arith, is.0))
 
 pub rise-front : (i : ℕ) (low stored : List KeptFrame) (count : ℕ) → Rise i (low ++ stored) count → Rise i low count
 rise-front i [] stored count is = rise-within i stored count is
@@ -88,23 +87,15 @@ exact stored f count at =
 
 -- frames that are all empty
 pub frames-emptied : (frames : List (List KeptPixel)) (count : ℕ) → length frames ≡ count → frames_from 0 [] count ≡ map (λ _. []) frames
-frames-emptied [] count size = ap (λ n. replicate n []) {x = count - 0} {y = 0} (omega (arith, size))
+frames-emptied [] count size = cc
 frames-emptied (f ∷ frames) count size =
     ap (λ n. replicate n []) {x = count - 0} {y = suc (count - 1 - 0)} (omega (arith, size))
     ∙ ap (λ l. [] ∷ l) (frames-emptied frames (count - 1) (omega (arith, size)))
 
-pub recorded-emptied : (count : ℕ) → recorded_in (frames_from 0 [] count) ≡ 0
-recorded-emptied count = emptied (count - 0)
-  where
-    emptied : (n : ℕ) → recorded_in (replicate n []) ≡ 0
-    emptied zero = refl
-    emptied (suc n) = omega (arith, recorded_in-cons [] (replicate n []), emptied n)
-
 -- ---- one more frame that is stored
 pub frame_stored : (low frames : List KeptFrame) (f : KeptFrame) → frames_from 0 (low ++ (frames ++ f ∷ [])) (f.number + 1)
     ≡ frames_from 0 (low ++ frames) f.number ++ f.kept ∷ []
-frame_stored low frames f =
-    ap (λ l. frames_from 0 l (f.number + 1)) (sym (append_assoc low frames (f ∷ []))) ∙ exact (low ++ frames) f (f.number + 1) refl
+frame_stored low frames f = ap (λ l. frames_from 0 l (f.number + 1)) (sym (append_assoc low frames (f ∷ []))) ∙ exact (low ++ frames) f (f.number + 1) refl
 
 pub frame_rises : (low frames : List KeptFrame) (f : KeptFrame) → Rise 0 (low ++ frames) f.number → Rise 0 (low ++ (frames ++ f ∷ [])) (f.number + 1)
 frame_rises low frames f is =
@@ -112,8 +103,7 @@ frame_rises low frames f is =
 
 -- ---- the youngest frame is stored
 split_all : (low frames : List KeptFrame) → 0 < length frames → low ++ frames ≡ (low ++ others frames) ++ newest frames ∷ []
-split_all low frames some =
-    ap (λ l. low ++ l) (others-newest frames no_frame some) ∙ sym (append_assoc low (others frames) (newest frames ∷ []))
+split_all low frames some = ap (λ l. low ++ l) (others-newest frames no_frame some) ∙ sym (append_assoc low (others frames) (newest frames ∷ []))
 
 pub record TopStored (low frames : List KeptFrame) (count : ℕ) : Type 0 where
   pub rise_low : Rise 0 (low ++ others frames) (newest frames).number
@@ -142,10 +132,7 @@ module _ (low frames : List KeptFrame) (count : ℕ) (row : List KeptPixel) (at 
   pub more_stored : frames_from 0 (low ++ (others frames ++ more ∷ [])) count
       ≡ older (frames_from 0 (low ++ frames) count) ++ (top (frames_from 0 (low ++ frames) count) ++ row) ∷ []
   more_stored =
-      ap (λ l. frames_from 0 l count) (sym (append_assoc low (others frames) (more ∷ [])))
-      ∙ exact (low ++ others frames) more count at
-      ∙ ap (λ l. l ++ more.kept ∷ []) (sym t.older_are)
-      ∙ ap (λ l. older (frames_from 0 (low ++ frames) count) ++ (l ++ row) ∷ []) (sym t.top_is)
+      cc (append_assoc low (others frames) (more ∷ []), exact (low ++ others frames) more count at)
 
   pub more_rises : Rise 0 (low ++ (others frames ++ more ∷ [])) count
   more_rises =
@@ -244,12 +231,10 @@ found-behind i (t ∷ low) high count n is some from =
 
 -- the block in the middle has it
 pub found-middle : (a b c : List KeptFrame) (count n : ℕ) → Rise 0 (a ++ (b ++ c)) count → 0 < length b → first_number b ≤ n
-    → (0 < length c → n < first_number c)
-    → found n (a ++ (b ++ c)) ≡ found n b
+    → (0 < length c → n < first_number c) → found n (a ++ (b ++ c)) ≡ found n b
 found-middle a [] c count n is some from before = absurd (omega arith)
 found-middle a (f ∷ b) c count n is some from before =
-    found-behind 0 a ((f ∷ b) ++ c) count n is (omega arith) from
-    ∙ found-front 0 (f ∷ b) c count n (rise-back 0 a ((f ∷ b) ++ c) count is) before
+    found-behind 0 a ((f ∷ b) ++ c) count n is (omega arith) from ∙ found-front 0 (f ∷ b) c count n (rise-back 0 a ((f ∷ b) ++ c) count is) before
 
 pub found-before : (frames : List KeptFrame) (count n : ℕ) → Rise 0 frames count → (0 < length frames → n < first_number frames) → found n frames ≡ []
 found-before frames count n is before = found-front 0 [] frames count n is before
@@ -266,8 +251,7 @@ recorded-top frames some = ap recorded_in (older-top frames some) ∙ recorded_i
 
 -- ---- the stack without room
 pub closed : (full : List Filled) (last : Filled) (count recorded : ℕ) → HaveFrames full → Rise 0 (all_stored full last) count
-    → recorded ≡ recorded_in (frames_from 0 (all_stored full last) count)
-    → recorded < 2 ^ 64 → IsUndoStack full last count recorded false 0 0
+    → recorded ≡ recorded_in (frames_from 0 (all_stored full last) count) → recorded < 2 ^ 64 → IsUndoStack full last count recorded false 0 0
 closed full last count recorded have rise counted countable = record {
   have = have;
   rise = rise;
@@ -289,8 +273,7 @@ pub record IsTop (stored : List KeptFrame) (count recorded : ℕ) (frames : List
   pub recorded_is : recorded ≡ recorded_in (older frames) + length (top frames)
 
 pub is_top : (stored : List KeptFrame) (count recorded : ℕ) (frames : List (List KeptPixel)) → Rise 0 stored count
-    → recorded ≡ recorded_in (frames_from 0 stored count)
-    → frames_from 0 stored count ≡ frames → 0 < length frames → IsTop stored count recorded frames
+    → recorded ≡ recorded_in (frames_from 0 stored count) → frames_from 0 stored count ≡ frames → 0 < length frames → IsTop stored count recorded frames
 is_top stored count recorded frames is counted shown some =
     let counts : 0 < count = omega (arith, length-frames 0 stored count is, ap length shown, some) in
     let again : count - 1 + 1 ≡ count = omega (arith, counts) in

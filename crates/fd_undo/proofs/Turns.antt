@@ -1,17 +1,13 @@
 -- One turn of a walk over spans that looks for a pixel.
-use Rattle.std.proofs.Common.{◌≡◌, ℕ, ◌+◌, ◌-◌, ◌<◌, ◌≤◌, ◌∙◌, true, false, List, [], ◌∷◌, ◌++◌, length, get_or, drop, sym, ap, arith, length-drop}
+use Rattle.std.proofs.Common.{◌≡◌, ℕ, ◌+◌, ◌-◌, ◌<◌, ◌≤◌, ◌∙◌, true, false, List, ◌∷◌, ◌++◌, length, get_or, drop, sym, ap, arith, length-drop}
 use Rattle.std.proofs.lemmas.List.{drop_more, drop-drop}
-use Rattle.std.proofs.lemmas.Slice.Zip.{get_or-zip}
-use Rattle.std.proofs.lemmas.Bool.Decides.{nat_tests}
-use Rattle.std.specs.List.{zip}
 use Rattle.fd_blend.specs.declared.channel.Colour.{Colour}
-use Rattle.fd_blend.specs.Channel.{fresh}
 use Rattle.fd_tile.specs.Tile.{Pixel, fresh_pixel}
 use Rattle.fd_undo.specs.Span.{Span}
 use Rattle.fd_undo.specs.Frame.{kept_at}
-use Rattle.fd_undo.specs.Rows.{span_holds, listed_colours, colours_in, listed_depths, depths_in, colour_count, depth_count, span_pixels, rows_in, joined}
+use Rattle.fd_undo.specs.Rows.{span_holds, listed_colours, listed_depths, colour_count, depth_count, pixels_of_row, span_pixels, rows_in, joined}
 use Rattle.fd_undo.proofs.KeptAt.{kept_at-append, kept_at-held, kept_at-not_held}
-use Rattle.fd_undo.proofs.SpanLemmas.{length-colours_in, length-depths_in, zipped}
+use Rattle.fd_undo.proofs.SpanLemmas.{length-pixels_of_row}
 use Rattle.fd_undo.proofs.RowLemmas.{colours-cons, depths-cons}
 use Rattle.fd_undo.specs.declared.parts.Parts.{Parts}
 
@@ -53,19 +49,16 @@ module _ (p : Parts) (i first deep x y : ℕ) (s : Span) (within : i < length p.
       ∙ ap (λ l. own ++ kept_at (joined (rows_in rest l (drop (listed_depths s) ds))) x y) (drop-drop (listed_colours s) first p.colours.now)
       ∙ ap (λ l. own ++ kept_at (joined (rows_in rest (drop (first + listed_colours s) p.colours.now) l)) x y) (drop-drop (listed_depths s) deep p.depths.now)
 
+  abbrev later : List Pixel
+  later = kept_from p (i + 1) (first + listed_colours s) (deep + listed_depths s) x y
+
   pub turn-held : span_holds s x y ≡ true → kept_from p i first deep x y
-      ≡ (get_or (colours_in s cs) (x - s.x) fresh, get_or (depths_in s ds) (x - s.x) 65535)
+      ≡ get_or (pixels_of_row s (drop first p.colours.now) (drop deep p.depths.now) (y - s.y)) (x - s.x) fresh_pixel
       ∷ kept_from p (i + 1) (first + listed_colours s) (deep + listed_depths s) x y
   turn-held held =
-      let column : x - s.x < s.len = grind (arith, nat_tests) in
-      both
-      ∙ ap (λ l. l ++ kept_from p (i + 1) (first + listed_colours s) (deep + listed_depths s) x y)
-      (kept_at-held s (zip (colours_in s cs) (depths_in s ds)) x y (zipped s cs ds coloured deepened) held
-      ∙ ap (λ q. q ∷ []) (get_or-zip (colours_in s cs) (depths_in s ds) (x - s.x) fresh_pixel (omega (arith, column, length-colours_in s cs coloured))
-      (omega (arith, column, length-depths_in s ds deepened))))
+      both ∙ ap (λ l. l ++ later) (kept_at-held s (pixels_of_row s cs ds) x y (length-pixels_of_row s cs ds coloured deepened) held)
 
   pub turn-not_held : span_holds s x y ≡ false → kept_from p i first deep x y
       ≡ kept_from p (i + 1) (first + listed_colours s) (deep + listed_depths s) x y
   turn-not_held not =
-      both ∙ ap (λ l. l ++ kept_from p (i + 1) (first + listed_colours s) (deep + listed_depths s) x y)
-      (kept_at-not_held s (zip (colours_in s cs) (depths_in s ds)) x y (zipped s cs ds coloured deepened) not)
+      both ∙ ap (λ l. l ++ later) (kept_at-not_held s (pixels_of_row s cs ds) x y (length-pixels_of_row s cs ds coloured deepened) not)

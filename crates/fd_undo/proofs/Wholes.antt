@@ -2,18 +2,17 @@
 use Rattle.std.proofs.Common.{◌≡◌, ℕ, zero, suc, ◌<◌, ◌≤◌, true, List, [], ◌∷◌, length, get_or, drop, refl, subst, ap, Option, Some, None, arith}
 use Rattle.std.proofs.Common.{length-append, length-drop}
 use Rattle.std.proofs.lemmas.Bool.Decides.{nat_tests}
-use Rattle.std.specs.List.{zip}
 use Rattle.std.specs.Prelude.{IfSome}
 use Rattle.fd_blend.specs.declared.channel.Colour.{Colour}
 use Rattle.fd_tile.specs.declared.place.Place.{Place}
 use Rattle.fd_undo.specs.Span.{Span}
 use Rattle.fd_undo.specs.Frame.{KeptPixel, kept_at, KeepsAll}
-use Rattle.fd_undo.specs.Rows.{no_span, span_holds, listed_colours, colours_in, listed_depths, depths_in, colour_count, depth_count, span_pixels}
+use Rattle.fd_undo.specs.Rows.{no_span, span_holds, listed_colours, listed_depths, colour_count, depth_count, pixels_of_row, span_pixels}
 use Rattle.fd_undo.specs.Rows.{rows_in, joined}
 use Rattle.fd_undo.specs.Block.{KeptFrame, found}
 use Rattle.fd_undo.specs.Whole.{HasWholeRow, AnyHasRow, HaveAllRows}
 use Rattle.fd_undo.proofs.KeptAt.{kept_at-append, kept_at-held}
-use Rattle.fd_undo.proofs.SpanLemmas.{zipped}
+use Rattle.fd_undo.proofs.SpanLemmas.{length-pixels_of_row}
 use Rattle.fd_undo.proofs.RowLemmas.{colours-cons, depths-cons}
 
 -- a pixel that one of the spans has is kept
@@ -27,8 +26,8 @@ kept-by_span (s ∷ spans) cs ds zero x y fits deep within held =
       arith,
       ap length (kept_at-append own later x y),
       length-append (kept_at own x y) (kept_at later x y),
-      ap length (kept_at-held s (zip (colours_in s cs) (depths_in s ds)) x y
-          (zipped s cs ds (omega (arith, fits, colours-cons s spans)) (omega (arith, deep, depths-cons s spans))) held),
+      ap length (kept_at-held s (pixels_of_row s cs ds) x y
+          (length-pixels_of_row s cs ds (omega (arith, fits, colours-cons s spans)) (omega (arith, deep, depths-cons s spans))) held),
     )
 kept-by_span (s ∷ spans) cs ds (suc i) x y fits deep within held =
     let own : List KeptPixel = span_pixels s cs ds in

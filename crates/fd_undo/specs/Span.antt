@@ -1,11 +1,11 @@
 -- Working. What a contract sees of a span.
-use Rattle.std.specs.Prelude.{◌≡◌, ℕ, ◌+◌, ◌<◌, Bool, true, List, length, replicate, slice_index_or, IfSome, Option, Some, refl}
+use Rattle.std.specs.Prelude.{◌≡◌, ℕ, ◌+◌, ◌<◌, Bool, true, List, length, replicate, slice_index_or, IfSome, Option, refl}
 use Rattle.fd_blend.specs.declared.channel.Colour.{Colour}
 use Rattle.fd_blend.specs.Channel.{fresh}
 use Rattle.std.specs.Coded.{Coded, code_by, coded×, coded_ℕ, coded_bool, coded_option}
 
--- so many rows from row y on, each with the same pixels from column x on; whether one colour in the stack's list is that of all of them, or there is one
--- for each pixel of a row; and the depth of all of them, unless the depths of a row stand in the stack's list
+-- so many rows from row y on, each with so many pixels from column x on; whether one colour in the stack's list is that of all of them, or there is one
+-- for each of them, row after row; and the depth of all of them, unless their depths stand in the stack's list
 pub record Span : Type 0 where
   pub x : ℕ
   pub y : ℕ
@@ -22,11 +22,10 @@ span_code =
     (λ s. (s.x, (s.y, (s.len, (s.rows, (s.one_colour, s.same_depth))))))
     (λ q. record { x = q.0; y = q.1.0; len = q.1.1.0; rows = q.1.1.1.0; one_colour = q.1.1.1.1.0; same_depth = q.1.1.1.1.1 }) (λ _. refl)
 
--- a span with one row more, which is as its own ones and lies right below them: all are of one colour and one depth
+-- a span with one row more, whose values are listed as its own ones are, and which lies right below them
 pub record IsGrown (s row grown : Span) : Type 0 where
-  pub coloured : s.one_colour ≡ true
-  pub row_coloured : row.one_colour ≡ true
-  pub deep : (depth : ℕ) × (s.same_depth ≡ Some depth) × (row.same_depth ≡ Some depth)
+  pub coloured : row.one_colour ≡ s.one_colour
+  pub deep : row.same_depth ≡ s.same_depth
   pub x : row.x ≡ s.x
   pub y : row.y ≡ s.y + s.rows
   pub len : row.len ≡ s.len

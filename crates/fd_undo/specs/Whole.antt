@@ -1,6 +1,7 @@
 -- Working. Spans that have all rows of a place.
-use Rattle.std.specs.Prelude.{◌≡◌, ℕ, ◌+◌, ◌<◌, ◌≤◌, List, length, slice_index_or}
+use Rattle.std.specs.Prelude.{◌≡◌, ℕ, ◌+◌, ◌<◌, ◌≤◌, List, length, slice_index_or, IsSomeAnd, false}
 use Rattle.fd_tile.specs.declared.place.Place.{Place}
+use Rattle.fd_tile.specs.Tile.{TileImage, IsFlat}
 use Rattle.fd_undo.specs.Span.{Span}
 use Rattle.fd_undo.specs.Rows.{no_span}
 
@@ -18,3 +19,9 @@ AnyHasRow p y spans = (i : ℕ) × (i < length spans) × HasWholeRow p y (slice_
 -- each row of the place is one of the spans'
 abbrev pub HaveAllRows : Place → List Span → Type 0
 HaveAllRows p spans = (y : ℕ) → p.top ≤ y → y < p.top + p.height → AnyHasRow p y spans
+
+-- a span has whole rows of a tile, each pixel with its colour in the list, and they are as deep as all its pixels
+pub record AreWholeRows (t : TileImage) (s : Span) : Type 0 where
+  pub wide : s.len ≡ t.place.width
+  pub coloured : s.one_colour ≡ false
+  pub flat : IsSomeAnd s.same_depth (λ depth. IsFlat t.place t.depths depth)

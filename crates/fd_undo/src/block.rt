@@ -113,11 +113,12 @@ impl Block {
 
     /// How many frames, spans, colours and depths it holds.
     pub(crate) fn held(&self) -> Room {
+        let end = self.rows.end();
         Room {
             frames: self.marks.len(),
-            spans: self.rows.len(),
-            colours: self.rows.colours(),
-            depths: self.rows.depths(),
+            spans: end.span,
+            colours: end.colour,
+            depths: end.depth,
         }
     }
 
@@ -157,11 +158,12 @@ impl Block {
         ensures colours_left { self.new.colours_left ≡ self.old.colours_left }
         ensures depths_left { self.new.depths_left ≡ self.old.depths_left }
     {
+        let end = self.rows.end();
         let mark = Mark {
             number: number as u32,
-            span: self.rows.len() as u32,
-            colour: self.rows.colours() as u32,
-            depth: self.rows.depths() as u32,
+            span: end.span as u32,
+            colour: end.colour as u32,
+            depth: end.depth as u32,
         };
         self.marks.push_reserved(mark);
     }
@@ -261,8 +263,8 @@ impl Block {
 fn is_countable(rows: &Rows) -> bool
     ensures { result ≡ true → (length rows.now.spans < 2 ^ 32) × (length rows.now.colours < 2 ^ 32) × (length rows.now.depths < 2 ^ 32) }
 {
-    let most = u32::MAX as usize;
-    rows.len() <= most && rows.colours() <= most && rows.depths() <= most
+    let (end, most) = (rows.end(), u32::MAX as usize);
+    end.span <= most && end.colour <= most && end.depth <= most
 }
 
 /// Takes the last mark off.

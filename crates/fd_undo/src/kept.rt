@@ -1,8 +1,11 @@
-ghost use Rattle.std.specs.Prelude.{◌≡◌, ◌++◌, length, take, slice_get, OnOk};
+ghost use Rattle.std.specs.Prelude.{◌≡◌, ◌+◌, ◌-◌, ◌≤◌, ◌++◌, length, take, drop, slice_get, slice_index_or, OnOk, true};
+ghost use Rattle.fd_tile.specs.Tile.{fresh_pixel};
 ghost use Rattle.fd_undo.specs.Frame.{kept_at};
+ghost use Rattle.fd_undo.specs.Rows.{span_holds, listed_colours, listed_depths, pixels_of_row};
 ghost use Rattle.fd_undo.specs.Parts.{AreParts, kept_in_parts};
 
 use crate::parts::Parts;
+use crate::span::Span;
 use fd_blend::Colour;
 use std::alloc::AllocError;
 
@@ -16,10 +19,7 @@ pub(crate) fn kept_in(parts: Parts<'_>, x: u32, y: u32, n: usize) -> Option<(Col
     for span in parts.spans {
         if span.holds(x, y) {
             if left == 0 {
-                let column = (x - span.x()) as usize;
-                let colour = span.colour(parts.colours, first_colour, column);
-                let depth = span.depth(parts.depths, first_depth, column);
-                return Some((colour, depth));
+                return Some(pixel_of(span, parts, first_colour, first_depth, x, y));
             }
             left -= 1;
         }
@@ -47,14 +47,36 @@ pub(crate) fn add_kept_in(
             return Ok(());
         }
         if span.holds(x, y) {
-            let column = (x - span.x()) as usize;
-            let colour = span.colour(parts.colours, first_colour, column);
-            let depth = span.depth(parts.depths, first_depth, column);
-            kept.push((colour, depth))?;
+            kept.push(pixel_of(span, parts, first_colour, first_depth, x, y))?;
             left -= 1;
         }
         first_colour += span.listed_colours();
         first_depth += span.listed_depths();
     }
     Ok(())
+}
+
+/// The colour and the depth that one of some spans keeps of one of its pixels. Its own colours in the list stand from `colour` on, and its depths from `depth`
+/// on.
+fn pixel_of(
+    span: &Span,
+    parts: Parts<'_>,
+    colour: usize,
+    depth: usize,
+    x: u32,
+    y: u32,
+) -> (Colour, u16)
+    requires held { span_holds span.now x y ≡ true }
+    requires colours { colour + listed_colours span.now ≤ length parts.colours.now }
+    requires depths { depth + listed_depths span.now ≤ length parts.depths.now }
+    ensures { result ≡ slice_index_or
+        (pixels_of_row span.now (drop colour parts.entry.colours.now) (drop depth parts.entry.depths.now) (y - span.now.y)) (x - span.now.x) fresh_pixel }
+{
+    let (row, column) = (y - span.y(), (x - span.x()) as usize);
+    let first_colour = colour + span.colours_above(row);
+    let first_depth = depth + span.depths_above(row);
+    (
+        span.colour(parts.colours, first_colour, column),
+        span.depth(parts.depths, first_depth, column),
+    )
 }

@@ -9,7 +9,6 @@ mod parts;
 mod restore;
 mod room;
 mod rows;
-mod run;
 mod span;
 mod stack;
 mod whole;

@@ -1,8 +1,8 @@
-ghost use Rattle.std.specs.Prelude.{◌≡◌, ◌-◌, ◌≤◌, length, take, drop};
-ghost use Rattle.fd_undo.specs.Rows.{colour_count, depth_count};
-ghost use Rattle.fd_undo.specs.Parts.{AreParts, rows_in_parts};
+ghost use Rattle.std.specs.Prelude.{◌≡◌, ◌-◌, ◌<◌, ◌≤◌, ◌++◌, length, take, drop};
+ghost use Rattle.fd_undo.specs.Rows.{listed_colours, listed_depths, span_pixels};
+ghost use Rattle.fd_undo.specs.Parts.{AreParts, kept_in_parts};
 
-use crate::span::Span;
+use crate::span::{Span, last_of};
 use fd_blend::Colour;
 
 /// Spans that follow one another, and the lists with their values.
@@ -22,37 +22,35 @@ pub(crate) struct Cut {
 }
 
 impl<'a> Parts<'a> {
-    /// All but the last so many spans, and those, which have so many colours and depths.
-    pub(crate) fn split_last(
-        self,
-        count: usize,
-        colours: usize,
-        depths: usize,
-    ) -> (Parts<'a>, Parts<'a>)
+    /// All but the last span, and that with its own values.
+    pub(crate) fn split_last(self) -> (Parts<'a>, Span, Parts<'a>)
         requires whole { AreParts self }
-        requires few { count ≤ length self.spans.now }
-        requires coloured { colours ≡ colour_count (drop (length self.spans.now - count) self.spans.now) }
-        requires deep { depths ≡ depth_count (drop (length self.spans.now - count) self.spans.now) }
-        ensures whole { AreParts result.0 × AreParts result.1 }
-        ensures low { result.0.spans.now ≡ take (length self.entry.spans.now - count) self.entry.spans.now }
-        ensures high { result.1.spans.now ≡ drop (length self.entry.spans.now - count) self.entry.spans.now }
-        ensures low_rows { rows_in_parts result.0 ≡ take (length self.entry.spans.now - count) (rows_in_parts self.entry) }
-        ensures high_rows { rows_in_parts result.1 ≡ drop (length self.entry.spans.now - count) (rows_in_parts self.entry) }
+        requires some { 0 < length self.spans.now }
+        ensures whole { AreParts result.0 }
+        ensures fewer { length result.0.spans.now < length self.entry.spans.now }
+        ensures coloured { length result.2.colours.now ≡ listed_colours result.1 }
+        ensures deep { length result.2.depths.now ≡ listed_depths result.1 }
+        ensures kept { kept_in_parts self.entry ≡ kept_in_parts result.0 ++ span_pixels result.1 result.2.colours.now result.2.depths.now }
     {
-        let spans = self.spans.split_at(self.spans.len() - count);
-        let colours = self.colours.split_at(self.colours.len() - colours);
-        let depths = self.depths.split_at(self.depths.len() - depths);
-        let low = Parts {
+        let span = last_of(self.spans);
+        let spans = self.spans.split_at(self.spans.len() - 1);
+        let colours = self
+            .colours
+            .split_at(self.colours.len() - span.listed_colours());
+        let depths = self
+            .depths
+            .split_at(self.depths.len() - span.listed_depths());
+        let rest = Parts {
             spans: spans.0,
             colours: colours.0,
             depths: depths.0,
         };
-        let high = Parts {
+        let last = Parts {
             spans: spans.1,
             colours: colours.1,
             depths: depths.1,
         };
-        (low, high)
+        (rest, span, last)
     }
 }
 

@@ -1,17 +1,15 @@
-ghost use Rattle.std.specs.Prelude.{◌≡◌, ℕ, ◌+◌, ◌-◌, ◌<◌, ◌≤◌, ◌⊎◌, length, take, drop, All, IsSomeAnd, replicate, true, false};
+ghost use Rattle.std.specs.Prelude.{◌≡◌, ℕ, ◌+◌, ◌-◌, ◌<◌, ◌≤◌, ◌⊎◌, length, All, IsSomeAnd, true, false};
 ghost use borrow.Rule.Slice.PartMut.{put_mid};
 ghost use Rattle.fd_tile.specs.Place.{Holds};
 ghost use Rattle.fd_tile.specs.Tile.{row_of, with_row_left, with_depths, IsFlat, IsTileImage};
 ghost use Rattle.fd_undo.specs.Frame.{restored, IsAlike};
-ghost use Rattle.fd_undo.specs.Rows.{listed_colours, colours_in, listed_depths, depths_in, row_of_span, span_pixels, joined};
-ghost use Rattle.fd_undo.specs.Parts.{AreParts, rows_in_parts, kept_in_parts};
-ghost use Rattle.fd_undo.specs.Run.{IsRun};
-ghost use Rattle.fd_undo.specs.Whole.{HaveAllRows};
+ghost use Rattle.fd_undo.specs.Rows.{row_colours, listed_colours, colours_in, row_depths, listed_depths, depths_in, row_of_span, span_pixels};
+ghost use Rattle.fd_undo.specs.Parts.{AreParts, kept_in_parts};
+ghost use Rattle.fd_undo.specs.Whole.{HaveAllRows, AreWholeRows};
 
 use crate::kept::kept_in;
 use crate::parts::Parts;
-use crate::run::last_run;
-use crate::span::{Span, last_of};
+use crate::span::Span;
 use crate::whole::have_all_rows;
 use fd_blend::Colour;
 use fd_tile::{Tile, fill};
@@ -69,46 +67,10 @@ fn put_spans(parts: Parts<'_>, tile: &mut Tile)
 {
     let mut left = parts;
     while !left.spans.is_empty() {
-        left = put_last(left, tile);
+        let (rest, span, last) = left.split_last();
+        put_back(tile, &span, last.colours, last.depths);
+        left = rest;
     }
-}
-
-/// Writes the last span back, with those before it that go back at once, and gives those that are left.
-fn put_last<'a>(parts: Parts<'a>, tile: &mut Tile) -> Parts<'a>
-    requires made { tile.old.made ≡ true }
-    requires whole { AreParts parts }
-    requires some { 0 < length parts.spans.now }
-    requires inside { All (λ k. Holds tile.old.place k.x k.y) (kept_in_parts parts) }
-    ensures whole { AreParts result }
-    ensures fewer { length result.spans.now < length parts.entry.spans.now }
-    ensures rows { rows_in_parts result ≡ take (length result.spans.now) (rows_in_parts parts.entry) }
-    ensures tile { tile.new ≡ restored (joined (drop (length result.spans.now) (rows_in_parts parts.entry))) tile.old }
-{
-    let width = tile.place().width as usize;
-    let run = last_run(parts.spans, tile);
-    if run > 0 {
-        let (rest, rows) = parts.split_last(run, run * width, 0);
-        put_rows(rows, tile);
-        return rest;
-    }
-    let span = last_of(parts.spans);
-    let (rest, last) = parts.split_last(1, span.listed_colours(), span.listed_depths());
-    put_back(tile, &span, last.colours, last.depths);
-    rest
-}
-
-/// Writes whole rows of the tile back, all at once.
-fn put_rows(rows: Parts<'_>, tile: &mut Tile)
-    requires made { tile.old.made ≡ true }
-    requires filled { IsTileImage tile.old }
-    requires whole { AreParts rows }
-    requires some { 0 < length rows.spans.now }
-    requires run { IsRun tile.old rows.spans.now }
-    requires inside { All (λ k. Holds tile.old.place k.x k.y) (kept_in_parts rows) }
-    ensures { tile.new ≡ restored (kept_in_parts rows.entry) tile.old }
-{
-    let y = rows.spans[0].y();
-    tile.put_rows(y, rows.spans.len() as u32, rows.colours);
 }
 
 /// Writes the colours and depths of a span back.
@@ -122,19 +84,34 @@ fn put_back(tile: &mut Tile, span: &Span, colours: &[Colour], depths: &[u16])
     if span.len() == 0 {
         return;
     }
-    let top = span.y();
-    let mut y = span.bottom();
-    while y > top {
-        y -= 1;
-        put_row(tile, span, y, colours, depths);
+    if are_whole_rows(tile, span) {
+        tile.put_rows(span.y(), span.rows(), colours);
+        return;
+    }
+    let mut row = span.rows();
+    while row > 0 {
+        row -= 1;
+        let listed = &colours[span.colours_above(row)..];
+        let deep = &depths[span.depths_above(row)..];
+        put_row(tile, span, span.y() + row, listed, deep);
     }
 }
 
-/// Writes row y of a span back, where it has pixels. Where all pixels of the tile are as deep as its own, no depth is looked at.
+/// Whether a span has whole rows of the tile, each pixel with a colour in the list, which are as deep as all pixels of the tile.
+fn are_whole_rows(tile: &Tile, span: &Span) -> bool
+    ensures whole { result ≡ true → AreWholeRows tile.now span.now }
+    ensures filled { IsTileImage tile.now }
+{
+    let width = tile.place().width as usize;
+    !span.one_colour() && span.len() == width && is_flat(tile, span)
+}
+
+/// Writes row y of a span back, where it has pixels and its own values stand first in the lists. Where all pixels of the tile are as deep as its own, no depth
+/// is looked at.
 fn put_row(tile: &mut Tile, span: &Span, y: u32, colours: &[Colour], depths: &[u16])
     requires made { tile.old.made ≡ true }
-    requires counted { length colours.now ≡ listed_colours span.now }
-    requires depths_counted { length depths.now ≡ listed_depths span.now }
+    requires counted { row_colours span.now ≤ length colours.now }
+    requires depths_counted { row_depths span.now ≤ length depths.now }
     requires some { 0 < span.now.len }
     requires inside { All (λ k. Holds tile.old.place k.x k.y) (row_of_span span.now y colours.now depths.now) }
     ensures { tile.new ≡ restored (row_of_span span.now y colours.now depths.now) tile.old }
@@ -159,7 +136,7 @@ fn is_flat(tile: &Tile, span: &Span) -> bool
 /// Writes the colours of row y of a span back.
 fn put_colours(tile: &mut Tile, span: &Span, y: u32, listed: &[Colour])
     requires made { tile.old.made ≡ true }
-    requires counted { length listed.now ≡ listed_colours span.now }
+    requires counted { row_colours span.now ≤ length listed.now }
     requires first { Holds tile.old.place span.now.x y }
     requires within { span.now.x + span.now.len ≤ tile.old.place.left + tile.old.place.width }
     ensures written { tile.new ≡ with_row_left tile.old y
@@ -174,8 +151,8 @@ fn put_colours(tile: &mut Tile, span: &Span, y: u32, listed: &[Colour])
 /// Writes the colours and depths of row y of a span back, where it has pixels.
 fn put_both(tile: &mut Tile, span: &Span, y: u32, colours: &[Colour], depths: &[u16])
     requires made { tile.old.made ≡ true }
-    requires counted { length colours.now ≡ listed_colours span.now }
-    requires depths_counted { length depths.now ≡ listed_depths span.now }
+    requires counted { row_colours span.now ≤ length colours.now }
+    requires depths_counted { row_depths span.now ≤ length depths.now }
     requires some { 0 < span.now.len }
     requires inside { All (λ k. Holds tile.old.place k.x k.y) (row_of_span span.now y colours.now depths.now) }
     ensures { tile.new ≡ restored (row_of_span span.now y colours.now depths.now) tile.old }
@@ -190,24 +167,24 @@ fn put_both(tile: &mut Tile, span: &Span, y: u32, colours: &[Colour], depths: &[
 /// Writes the colours of a span over others: one for all, or those listed.
 fn write_colours(row: &mut [Colour], span: &Span, listed: &[Colour])
     requires counted { length row.old ≡ span.now.len }
-    requires listed_counted { length listed.now ≡ listed_colours span.now }
+    requires listed_counted { row_colours span.now ≤ length listed.now }
     ensures { row.new ≡ colours_in span.now listed.now }
 {
     if span.one_colour() {
         fill(row, listed[0]);
     } else {
-        row.copy_from_slice(listed);
+        row.copy_from_slice(&listed[..span.len()]);
     }
 }
 
 /// Writes the depths of a span over others: all the same, or those listed.
 fn write_depths(row: &mut [u16], span: &Span, depths: &[u16])
     requires counted { length row.old ≡ span.now.len }
-    requires depths_counted { length depths.now ≡ listed_depths span.now }
+    requires depths_counted { row_depths span.now ≤ length depths.now }
     ensures { row.new ≡ depths_in span.now depths.now }
 {
     match span.same_depth() {
         Some(depth) => fill(row, depth),
-        None => row.copy_from_slice(depths),
+        None => row.copy_from_slice(&depths[..span.len()]),
     }
 }

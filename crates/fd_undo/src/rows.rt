@@ -1,4 +1,4 @@
-ghost use Rattle.std.specs.Prelude.{◌≡◌, ℕ, ◌+◌, ◌-◌, ◌^◌, ◌<◌, ◌≤◌, [], ◌∷◌, ◌++◌, length, take, drop, IfOk, IfSome, slice_index_or, true};
+ghost use Rattle.std.specs.Prelude.{◌≡◌, ℕ, ◌+◌, ◌-◌, ◌^◌, ◌<◌, ◌≤◌, [], ◌∷◌, ◌++◌, length, take, drop, IfOk, IfSome, slice_index_or, true, vec_capacity};
 ghost use Rattle.std.specs.List.{zip};
 ghost use Rattle.fd_undo.specs.Span.{IsRowOf};
 ghost use Rattle.fd_blend.specs.Channel.{fresh};
@@ -70,29 +70,6 @@ impl Rows {
         }
     }
 
-    /// How many spans there are.
-    pub(crate) fn len(&self) -> usize
-        ensures { result ≡ length self.now.spans }
-    {
-        self.spans.len()
-    }
-
-    /// How many colours are listed.
-    pub(crate) fn colours(&self) -> usize
-        ensures value { result ≡ length self.now.colours }
-        ensures counted { result ≡ colour_count self.now.spans }
-    {
-        self.colours.len()
-    }
-
-    /// How many depths are listed.
-    pub(crate) fn depths(&self) -> usize
-        ensures value { result ≡ length self.now.depths }
-        ensures counted { result ≡ depth_count self.now.spans }
-    {
-        self.depths.len()
-    }
-
     /// Whether so many more spans, colours and depths have room.
     pub(crate) fn takes(&self, more: Room) -> bool
         ensures { result ≡ true → (more.spans ≤ self.now.spans_left) × (more.colours ≤ self.now.colours_left) × (more.depths ≤ self.now.depths_left) }
@@ -102,8 +79,8 @@ impl Rows {
             && more.depths <= self.depths.capacity() - self.depths.len()
     }
 
-    /// Keeps the colours and the depths of a row, whose span this is. The spans from `first` on are of the same frame: where the row is as those of the last
-    /// one and lies right below them, that has one row more.
+    /// Keeps the colours and the depths of a row, whose span this is. The spans from `first` on are of the same frame: where the row lies right below those of
+    /// the last one, and is listed as they are, that has one row more.
     pub(crate) fn keep(&mut self, first: usize, row: Span, old: &[Colour], depths: &[u16])
         requires first { first ≤ length self.old.spans }
         requires row { IsRowOf old.now depths.now row }
@@ -115,31 +92,30 @@ impl Rows {
         ensures colours_left { self.old.colours_left ≤ self.new.colours_left + length old.now }
         ensures depths_left { self.old.depths_left ≤ self.new.depths_left + length depths.now }
     {
+        let deep = row.listed_depths();
         if let Some(grown) = self.grown(first, &row, old) {
             take_last(&mut self.spans);
             self.spans.push_reserved(grown);
+            add(&mut self.colours, &old[..row.more_colours()]);
+            add(&mut self.depths, &depths[..deep]);
             return;
         }
-        self.colours
-            .extend_from_slice(&old[..row.listed_colours()])
-            .unwrap();
-        self.depths
-            .extend_from_slice(&depths[..row.listed_depths()])
-            .unwrap();
         self.spans.push_reserved(row);
+        add(&mut self.colours, &old[..row.listed_colours()]);
+        add(&mut self.depths, &depths[..deep]);
     }
 
-    /// The last span with one row more, if it is one of those from `first` on, and the span of that row, which has these colours, is as its rows and lies
-    /// right below them.
+    /// The last span with one row more, if it is one of those from `first` on, and the row of this span, which has these colours, lies right below its own
+    /// ones and is listed as they are.
     fn grown(&self, first: usize, row: &Span, old: &[Colour]) -> Option<Span>
         requires { row.now.one_colour ≡ true → 0 < length old.now }
         ensures { IfSome result (λ grown. GrowsBy first self.now row.now (slice_index_or old.now 0 fresh) grown) }
     {
-        if !row.one_colour() || self.spans.len() <= first {
+        if self.spans.len() <= first {
             return None;
         }
         let grown = last_of(self.spans.as_slice()).with_row(row)?;
-        if self.colours[self.colours.len() - 1].is_same(old[0]) {
+        if !row.one_colour() || self.colours[self.colours.len() - 1].is_same(old[0]) {
             Some(grown)
         } else {
             None
@@ -198,6 +174,15 @@ impl Rows {
             depths: part(&self.depths, first.depth, end.depth),
         }
     }
+}
+
+/// Adds values to a list that has room for them.
+fn add<T: Copy>(values: &mut Vec<T>, more: &[T])
+    requires { length values.old.items + length more.now ≤ vec_capacity values.old }
+    ensures items { values.new.items ≡ values.old.items ++ more.now }
+    ensures capacity { vec_capacity values.old ≤ vec_capacity values.new }
+{
+    values.extend_from_slice(more).unwrap();
 }
 
 /// How many pixels some spans have.

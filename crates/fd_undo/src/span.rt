@@ -1,10 +1,11 @@
-ghost use Rattle.std.specs.Prelude.{◌≡◌, ◌+◌, ◌-◌, ◌*◌, ◌<◌, ◌≤◌, length, drop, slice_index_or, replicate, Some, None, IfSome, ℕ, ◌≢◌, true, false};
+ghost use Rattle.std.specs.Prelude.{◌≡◌, ◌+◌, ◌-◌, ◌*◌, ◌^◌, ◌<◌, ◌≤◌, length, drop, slice_index_or, replicate, Some, None, IfSome, ℕ, ◌≢◌, true, false};
+ghost use Rattle.std.specs.Prelude.{if◌then◌else◌};
 ghost use Rattle.fd_snap.specs.Limits.{most_pixels};
 ghost use Rattle.fd_blend.specs.Channel.{fresh};
 ghost use Rattle.fd_tile.specs.Place.{IsTilePlace};
 ghost use Rattle.fd_undo.specs.Packed.{unmarked, len_of, rows_of_len};
 ghost use Rattle.fd_undo.specs.Span.{IsGrown, IsRowOf};
-ghost use Rattle.fd_undo.specs.Rows.{no_span, span_holds, listed_colours, colours_in, listed_depths, depths_in};
+ghost use Rattle.fd_undo.specs.Rows.{no_span, span_holds, row_colours, listed_colours, colours_in, depths_listed, row_depths, listed_depths, depths_in};
 
 use fd_blend::Colour;
 use fd_tile::Place;
@@ -16,8 +17,8 @@ const LISTED: u16 = 1 << 15;
 /// A length above this one is that of several rows: 32 more for each row but the first, and the pixels of a row but one.
 const LONGEST: u16 = 1 << 14;
 
-/// Neighbouring pixels of a row, whose colours stand in the stack's list: one for all, or one for each. Their one depth is here, or their depths stand in
-/// another list. The rows below may have the same pixels.
+/// Neighbouring pixels of a row, and those right below them in more rows. Their colours stand in the stack's list: one for all, or one for each, row after
+/// row. Their one depth is here, or their depths stand in another list.
 #[derive(Clone, Copy)]
 pub(crate) struct Span {
     x: u16,
@@ -127,14 +128,16 @@ impl Span {
 
     /// How many pixels it has of each row.
     pub(crate) fn len(&self) -> usize
-        ensures { result ≡ self.now.len }
+        ensures value { result ≡ self.now.len }
+        ensures small { result < 2 ^ 16 }
     {
         len_of(unmarked(self.marked_len)) as usize
     }
 
     /// How many rows it has.
     pub(crate) fn rows(&self) -> u32
-        ensures { result ≡ self.now.rows }
+        ensures value { result ≡ self.now.rows }
+        ensures some { 1 ≤ result }
     {
         rows_of_len(unmarked(self.marked_len)) as u32
     }
@@ -154,22 +157,23 @@ impl Span {
         rows_of_len(len) as usize * len_of(len) as usize
     }
 
-    /// This span with one row more, where that row is as its own ones and lies right below them, and all are of one colour and one depth.
+    /// This span with one row more, where that lies right below its own ones, is as long, and has its values listed as they have.
     pub(crate) fn with_row(&self, row: &Span) -> Option<Span>
         ensures { IfSome result (λ grown. IsGrown self.now row.now grown) }
     {
-        if !self.one_colour() || !row.one_colour() || self.x != row.x || self.depth != row.depth {
+        let plain = unmarked(self.marked_len);
+        let (len, rows) = (len_of(plain), rows_of_len(plain));
+        if self.x != row.x || row.len() != len as usize || len < 1 || len > 32 || rows > 31 {
             return None;
         }
-        if self.marked_len >= LISTED || row.marked_len >= LISTED || self.bottom() != row.y() {
+        if self.bottom() != row.y() || self.one_colour() != row.one_colour() {
             return None;
         }
-        let (len, rows) = (len_of(self.marked_len), rows_of_len(self.marked_len));
-        if len != row.marked_len || len < 1 || len > 32 || rows > 31 {
+        if self.same_depth() != row.same_depth() {
             return None;
         }
         Some(Span {
-            marked_len: LONGEST + 32 * rows + (len - 1),
+            marked_len: (self.marked_len - plain) + (LONGEST + 32 * rows + (len - 1)),
             ..*self
         })
     }
@@ -200,7 +204,7 @@ impl Span {
     pub(crate) fn listed_colours(&self) -> usize
         ensures { result ≡ listed_colours self.now }
     {
-        if self.one_colour() { 1 } else { self.len() }
+        if self.one_colour() { 1 } else { self.pixels() }
     }
 
     /// How many depths of the stack's list are the span's.
@@ -209,14 +213,46 @@ impl Span {
     {
         match self.same_depth() {
             Some(_) => 0,
-            None => self.len(),
+            None => self.pixels(),
         }
     }
 
-    /// The colour of the span's pixel in this column, from 0. Its colours in the list stand from `first` on.
+    /// How many colours in the list are those of one row more: none where it has the colour of all.
+    pub(crate) fn more_colours(&self) -> usize
+        ensures { result ≡ (if self.now.one_colour then 0 else self.now.len) }
+    {
+        if self.one_colour() { 0 } else { self.len() }
+    }
+
+    /// How many colours in the list are those of the rows above this one, from 0.
+    pub(crate) fn colours_above(&self, row: u32) -> usize
+        requires { row < self.now.rows }
+        ensures value { result ≡ (if self.now.one_colour then 0 else row * self.now.len) }
+        ensures behind { result + row_colours self.now ≤ listed_colours self.now }
+    {
+        if self.one_colour() {
+            0
+        } else {
+            row as usize * self.len()
+        }
+    }
+
+    /// The same of depths.
+    pub(crate) fn depths_above(&self, row: u32) -> usize
+        requires { row < self.now.rows }
+        ensures value { result ≡ depths_listed self.now.same_depth (row * self.now.len) }
+        ensures behind { result + row_depths self.now ≤ listed_depths self.now }
+    {
+        match self.same_depth() {
+            Some(_) => 0,
+            None => row as usize * self.len(),
+        }
+    }
+
+    /// The colour of the pixel in this column, from 0, of a row whose colours in the list stand from `first` on.
     pub(crate) fn colour(&self, colours: &[Colour], first: usize, column: usize) -> Colour
         requires within { column < self.now.len }
-        requires listed { first + listed_colours self.now ≤ length colours.now }
+        requires listed { first + row_colours self.now ≤ length colours.now }
         ensures { result ≡ slice_index_or (colours_in self.now (drop first colours.now)) column fresh }
     {
         if self.one_colour() {
@@ -226,10 +262,10 @@ impl Span {
         }
     }
 
-    /// The depth of the span's pixel in this column, from 0. Its depths in the list stand from `first` on.
+    /// The depth of the pixel in this column, from 0, of a row whose depths in the list stand from `first` on.
     pub(crate) fn depth(&self, depths: &[u16], first: usize, column: usize) -> u16
         requires within { column < self.now.len }
-        requires listed { first + listed_depths self.now ≤ length depths.now }
+        requires listed { first + row_depths self.now ≤ length depths.now }
         ensures { result ≡ slice_index_or (depths_in self.now (drop first depths.now)) column 65535 }
     {
         match self.same_depth() {

@@ -123,6 +123,20 @@ fn kept_by_the_second(owner: &Owner) -> Result<[Option<(Colour, u16)>; 3], Fail>
     ])
 }
 
+#[test]
+fn the_bounds_are_those_of_the_tile(rt: HostRuntime) -> Result<(), Fail> {
+    let alloc = rt.alloc();
+    let owner = Owner::of(alloc, one_pixel(alloc, colour(1, 2, 3, 4), 5)?);
+    let pixel = Bounds {
+        left: 0,
+        top: 0,
+        right: 1,
+        bottom: 1,
+    };
+    assert_eq!(rt; owner.bounds(), pixel);
+    Ok(())
+}
+
 /// A tile of any colour and depth.
 #[test]
 fn back_returns_to_the_image_before_the_draw(rt: HostRuntime) -> Result<(), Fail> {

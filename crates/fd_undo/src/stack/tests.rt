@@ -251,6 +251,30 @@ fn rows_that_are_alike_are_one_span(rt: HostRuntime) -> Result<(), Fail> {
     expect_counts(&rt, &undo, 0, 0)
 }
 
+/// Rows whose pixels differ are one span, with their colours and depths row after row; a row that doesn't follow is another one.
+#[test]
+fn listed_rows_are_one_span(rt: HostRuntime) -> Result<(), Fail> {
+    let mut tile = Tile::fresh(rt.alloc(), SMALL)?;
+    let mut undo = UndoStack::new(rt.alloc());
+    undo.reserve(3, 6)?;
+    undo.begin();
+    undo.keep(0, 0, &[RED, FRESH], &[7, 8]);
+    undo.keep(0, 1, &[FRESH, RED], &[9, 7]);
+    let held = undo.last.held();
+    assert_eq!(rt; (held.spans, held.colours, held.depths), (1, 4, 4));
+    undo.keep(0, 1, &[RED, RED], &[8, 9]);
+    assert_eq!(rt; undo.last.held().spans, 2);
+    expect_counts(&rt, &undo, 6, 1)?;
+    assert_eq!(rt; undo.kept(0, 1, 1, 0), Some((RED, 7)));
+    assert_eq!(rt; undo.kept(0, 0, 1, 1), Some((RED, 8)));
+    undo.undo_top(&mut tile);
+    assert_eq!(rt; tile.row(0), [RED, FRESH].as_slice());
+    assert_eq!(rt; tile.row(1), [FRESH, RED].as_slice());
+    assert_eq!(rt; tile.depth_row(0), [7, 8].as_slice());
+    assert_eq!(rt; tile.depth_row(1), [9, 7].as_slice());
+    expect_counts(&rt, &undo, 0, 0)
+}
+
 /// Two frames of a pixel each, the second of which is in a block of its own: room for many pixels was asked for.
 fn with_two_blocks(alloc: Global) -> Result<UndoStack, Fail> {
     let mut undo = UndoStack::new(alloc);

@@ -14,7 +14,7 @@ draw_run-requires-clause-drawn c = λ column low high.
     let p = c.args.primitive.now in
     let done = c.loop-done.done in
     let count = c.alike-count in
-    let size = length-take (done + count.result - done) (drop done c.args.tested.now.depths) in
+    let size = length-take (done + count.result - done) (drop done c.args.tested.now.depths.now) in
     drawn_alike (triangle_of p) p.interp p.state c.args.x c.args.y done count.result
     c.args.tested.now.passed c.args.tile.now c.loop-done.tile c.args.undo.now c.loop-done.undo
     c.loop-done.invariant.painted c.requires.crossed c.requires.from_left
@@ -31,11 +31,12 @@ loop-done-preserved c =
     let done = c.loop-done.done in
     let inv = c.loop-done.invariant in
     let count = c.alike-count in
-    let most : done + count.result ≤ c.args.tested.now.count = omega (arith, count.ensures.most, inv.within) in
-    let size : length (take (done + count.result - done) (drop done c.args.tested.now.depths)) ≡ count.result =
-    length-take (done + count.result - done) (drop done c.args.tested.now.depths)
-    ∙ omega (arith, most, c.requires.tested.few, length-drop done c.args.tested.now.depths) in
-    let last : x + done + length (take (done + count.result - done) (drop done c.args.tested.now.depths)) ≡ x + (done + count.result) = omega (arith, size) in
+    let most : done + count.result ≤ length c.args.tested.now.depths.now = omega (arith, count.ensures.most, inv.within) in
+    let size : length (take (done + count.result - done) (drop done c.args.tested.now.depths.now)) ≡ count.result =
+    length-take (done + count.result - done) (drop done c.args.tested.now.depths.now)
+    ∙ omega (arith, most, c.requires.tested.few, length-drop done c.args.tested.now.depths.now) in
+    let last : x + done + length (take (done + count.result - done) (drop done c.args.tested.now.depths.now)) ≡ x + (done + count.result) =
+    omega (arith, size) in
     elim c.if-left-eq1.branch [
       | then-left-eq1 w ↦ record {
         painted =

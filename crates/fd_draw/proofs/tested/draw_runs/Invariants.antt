@@ -1,4 +1,4 @@
-use Rattle.std.proofs.Common.{◌≤◌, ◌+◌, ◌-◌}
+use Rattle.std.proofs.Common.{◌≤◌, ◌+◌, ◌-◌, length}
 use Rattle.fd_draw.specs.Paints.{Paints}
 use Rattle.fd_draw.specs.Primitive.{kept_of, painted_by}
 use Rattle.fd_draw.specs.Writing.{after_where, kept_where, columns_between, in_row}
@@ -10,10 +10,10 @@ invariant-loop-done l = record {
   painted : Paints (after_where (in_row (columns_between l.x (l.x + l.done)) l.y) (painted_by l.primitive))
       (kept_where (in_row (columns_between l.x (l.x + l.done)) l.y) (kept_of l.primitive))
       l.initial.tile l.initial.undo l.tile l.undo;
-  within : l.done ≤ l.tested.count;
+  within : l.done ≤ length l.tested.depths.now;
   spans : l.initial.undo.spans_left ≤ l.undo.spans_left + l.done;
   pixels : l.initial.undo.pixels_left ≤ l.undo.pixels_left + l.done;
 }
 
 abbrev pub decreases-loop-done : goal.decreases-loop-done
-decreases-loop-done l = l.tested.count - l.done
+decreases-loop-done l = length l.tested.depths.now - l.done

@@ -17,7 +17,7 @@ returns-in-Some c =
     let s = c.args.primitive.now.state in
     let row = c.args.row.now in
     let brushed = subst (λ (o : Option Stroke). IfSome o (λ b. (p.interp ≡ Flat) × (b ≡ stroke_of s (colour_of p.colours 0)))) c.in-Some.is
-    c.requires.ready.brush in
+    c.requires.ready in
     c.draw.ensures
     ∙ ap (λ (b : Stroke). drawn_row b.state b.factor b.source row) brushed.1
     ∙ drawn_columns t s c.args.x c.args.y row

@@ -8,14 +8,14 @@ use Rattle.fd_draw.proofs.write.draw_row.Goals as goal
 pub draw_span-requires-clause-room : goal.draw_span-requires-clause-room
 draw_span-requires-clause-room c =
     let p = c.args.primitive.now in
-    span_room p.state.depth.enable (reached_by p) c.args.tile.now c.args.undo.now c.args.y c.in-Some.left c.in-Some.right (search rules)
+    span_room p.state.depth.enable (reached_by p) c.args.tile.now c.args.undo.now c.args.y c.in-Some.columns.0 c.in-Some.columns.1 (search rules)
     (span_written (reached_by p) (covers p.corners) c.args.tile.now.place c.args.found.now.area c.args.y _ c.requires.found.inside c.requires.found.reached
     c.requires.from_top c.requires.to_bottom c.in-Some.ensures) c.requires.room
 
 pub returns-in-Some : goal.returns-in-Some
 returns-in-Some c =
     let p = c.args.primitive.now in
-    span_done p.state.depth.enable (reached_by p) c.args.tile.now c.args.undo.now c.args.y c.in-Some.left c.in-Some.right (search rules)
+    span_done p.state.depth.enable (reached_by p) c.args.tile.now c.args.undo.now c.args.y c.in-Some.columns.0 c.in-Some.columns.1 (search rules)
     (span_written (reached_by p) (covers p.corners) c.args.tile.now.place c.args.found.now.area c.args.y _ c.requires.found.inside c.requires.found.reached
     c.requires.from_top c.requires.to_bottom c.in-Some.ensures) (painted_by p) (kept_of p) _ _ c.draw_span.ensures
 

@@ -1,6 +1,5 @@
 use Rattle.std.proofs.Common.{◌≡◌, ◌∙◌, sym, [], ap, None}
 use Rattle.std.specs.Prelude.{slice_get}
-use Rattle.fd_tile.specs.declared.place.Place.{Place}
 use Rattle.fd_tile.specs.Tile.{Pixel, TileImage, with_depths}
 use Rattle.fd_undo.specs.Frame.{kept_at, restored, alike}
 use Rattle.fd_undo.specs.Parts.{kept_in_parts}
@@ -10,7 +9,7 @@ use Rattle.fd_undo.proofs.restore.put_alike.Goals.{After-kept_in}
 
 -- what is read is the first that is kept of the first pixel
 read : (c : After-kept_in) → c.kept_in.result ≡ slice_get (kept_at (kept_in_parts c.args.parts) c.args.tile.now.place.left c.args.tile.now.place.top) 0
-read c = c.kept_in.ensures ∙ ap (λ (q : Place). slice_get (kept_at (kept_in_parts c.args.parts) q.left q.top) 0) c.place-place.ensures.value
+read c = cc
 
 nothing : (c : After-kept_in) → c.kept_in.result ≡ None → kept_in_parts c.args.parts ≡ []
 nothing c none =

@@ -1,17 +1,14 @@
-use Rattle.std.proofs.Common.{◌≡◌, ℕ, suc, ◌+◌, ◌-◌, ◌<◌, ◌++◌, List, sym, ap, ◌∙◌, subst, arith}
-use Rattle.std.specs.List.{zip}
+use Rattle.std.proofs.Common.{◌≡◌, ℕ, suc, ◌+◌, ◌-◌, ◌++◌, List, length, take, drop, sym, ap, ◌∙◌, subst, arith}
+use Rattle.fd_blend.specs.declared.channel.Colour.{Colour}
 use Rattle.fd_tile.specs.Tile.{Pixel, TileImage}
 use Rattle.fd_undo.specs.Frame.{KeptPixel, kept_row, kept_rows, restored}
-use Rattle.fd_undo.specs.Rows.{colours_in, depths_in, span_pixels}
+use Rattle.fd_undo.specs.Rows.{row_of_span, pixels_of_row}
 use Rattle.fd_undo.proofs.SpanLemmas.{span_pixels-none}
-use Rattle.fd_undo.proofs.Restored.{Inside, Inside-front, Inside-back, restored-append, restored-place, restored-made}
+use Rattle.fd_undo.proofs.RowLemmas.{tail_is}
+use Rattle.fd_undo.proofs.RowsAtOnce.{rows_from_top, rows_to_bottom, rows_written, Inside-row, row_held}
+use Rattle.fd_undo.proofs.Restored.{Inside, Inside-front, restored-append, restored-place, restored-made}
 use Rattle.fd_undo.proofs.restore.put_back.Goals as goal
-
--- of the rows that are left the last one stands behind the others
-last_row : (x top y : ℕ) (pixels : List Pixel) → top < y → kept_rows x top (y - top) pixels ≡ kept_rows x top (y - 1 - top) pixels ++ kept_row x (y - 1) pixels
-last_row x top y pixels above =
-    ap (λ n. kept_rows x top n pixels) {x = y - top} {y = suc (y - 1 - top)} (omega (arith, above))
-    ∙ ap (λ k. kept_rows x top (y - 1 - top) pixels ++ kept_row x k pixels) {x = top + (y - 1 - top)} {y = y - 1} (omega (arith, above))
+use Rattle.fd_undo.proofs.restore.put_back.Goals.{After-y-in-loop-row}
 
 pub returns-then-len-eq0 : goal.returns-then-len-eq0
 returns-then-len-eq0 c =
@@ -19,54 +16,92 @@ returns-then-len-eq0 c =
     (span_pixels-none c.args.span.now c.args.colours.now c.args.depths.now c.requires.counted c.requires.depths_counted
     (omega (arith, c.len.ensures, c.if-len-eq0.true))))
 
-pub loop-y-init : goal.loop-y-init
-loop-y-init c =
+-- ---- whole rows
+pub put_rows-requires-clause-from_top : goal.put_rows-requires-clause-from_top
+put_rows-requires-clause-from_top c =
+    let r = c.requires in
+    omega (
+      arith,
+      rows_from_top c.args.tile.now c.args.span.now c.args.colours.now c.args.depths.now c.are_whole_rows.ensures.filled
+          (c.are_whole_rows.ensures.whole c.if-are_whole_rows.true) r.counted r.depths_counted (omega (arith, c.rows.ensures.some, c.rows.ensures.value))
+          r.inside,
+      c.y.ensures,
+    )
+
+pub put_rows-requires-clause-to_bottom : goal.put_rows-requires-clause-to_bottom
+put_rows-requires-clause-to_bottom c =
+    let r = c.requires in
+    omega (
+      arith,
+      rows_to_bottom c.args.tile.now c.args.span.now c.args.colours.now c.args.depths.now c.are_whole_rows.ensures.filled
+          (c.are_whole_rows.ensures.whole c.if-are_whole_rows.true) r.counted r.depths_counted (omega (arith, c.rows.ensures.some, c.rows.ensures.value))
+          r.inside,
+      c.y.ensures,
+      c.rows.ensures.value,
+    )
+
+pub returns-then-are_whole_rows : goal.returns-then-are_whole_rows
+returns-then-are_whole_rows c =
+    let t = c.args.tile.now in
+    let r = c.requires in
+    cc (rows_written t c.args.span.now c.args.colours.now c.args.depths.now c.are_whole_rows.ensures.filled
+    (c.are_whole_rows.ensures.whole c.if-are_whole_rows.true) r.counted r.depths_counted (omega (arith, c.rows.ensures.some, c.rows.ensures.value)) r.inside)
+
+-- ---- one row after the other: the last of those that are left
+abbrev pixels : (c : After-y-in-loop-row) → ℕ → List Pixel
+pixels c = pixels_of_row c.args.span.now c.args.colours.now c.args.depths.now
+
+row_is : (c : After-y-in-loop-row) → row_of_span c.args.span.now (c.y-in-loop-row.result + (c.loop-row.row - 1))
+    (take (length c.args.colours.now - c.colours_above.result) (drop c.colours_above.result c.args.colours.now))
+    (take (length c.args.depths.now - c.depths_above.result) (drop c.depths_above.result c.args.depths.now))
+    ≡ kept_row c.args.span.now.x (c.args.span.now.y + (c.loop-row.row - 1)) (pixels c (c.loop-row.row - 1))
+row_is c =
     let s = c.args.span.now in
-    let pixels : List Pixel = zip (colours_in s c.args.colours.now) (depths_in s c.args.depths.now) in
-    let all : kept_rows s.x s.y (c.bottom-y.result - s.y) pixels ≡ span_pixels s c.args.colours.now c.args.depths.now =
-    ap (λ n. kept_rows s.x s.y n pixels) {x = c.bottom-y.result - s.y} {y = s.rows} (omega (arith, c.bottom-y.ensures)) in
-    record {
-      made = c.requires.made;
-      some = omega (arith, c.len.ensures, c.if-len-eq0.false);
-      top = c.y-top.ensures;
-      from = omega (arith, c.bottom-y.ensures);
-      inside = subst (λ ks. Inside c.args.tile.now.place ks) (sym all) c.requires.inside;
-      rest = ap (λ ks. restored ks c.args.tile.now) all;
-    }
+    let n : ℕ = c.loop-row.row - 1 in
+    let R : ℕ → List Colour → List ℕ → List KeptPixel = λ y cs ds. row_of_span s (y + n) cs ds in
+    let deep : List ℕ = take (length c.args.depths.now - c.depths_above.result) (drop c.depths_above.result c.args.depths.now) in
+    cc (tail_is c.colours_above.result c.args.colours.now, tail_is c.depths_above.result c.args.depths.now)
+
+parts : (c : After-y-in-loop-row) → kept_rows c.args.span.now.x c.args.span.now.y c.loop-row.row (pixels c)
+    ≡ kept_rows c.args.span.now.x c.args.span.now.y (c.loop-row.row - 1) (pixels c)
+    ++ kept_row c.args.span.now.x (c.args.span.now.y + (c.loop-row.row - 1)) (pixels c (c.loop-row.row - 1))
+parts c =
+    ap (λ n. kept_rows c.args.span.now.x c.args.span.now.y n (pixels c)) {x = c.loop-row.row} {y = suc (c.loop-row.row - 1)}
+    (omega (arith, c.loop-row-test.true))
+
+inside : (c : After-y-in-loop-row) → Inside c.loop-row.tile.place (kept_row c.args.span.now.x (c.args.span.now.y + (c.loop-row.row - 1))
+    (pixels c (c.loop-row.row - 1)))
+inside c =
+    Inside-row c.loop-row.tile.place c.args.span.now.x c.args.span.now.y c.loop-row.row (pixels c) c.loop-row.invariant.inside (c.loop-row.row - 1)
+    (omega (arith, c.loop-row-test.true))
+
+pub overflow_add-y : goal.overflow_add-y
+overflow_add-y c =
+    let s = c.args.span.now in
+    omega (
+      arith,
+      row_held c.args.tile.now.place s c.args.colours.now c.args.depths.now (omega (arith, c.requires.counted)) (omega
+          (arith, c.requires.depths_counted)) (omega (arith, c.len.ensures.value, c.if-len-eq0.false)) c.requires.inside (c.loop-row.row - 1) (omega
+          (arith, c.loop-row.invariant.within, c.loop-row-test.true)),
+    )
 
 pub put_row-requires-clause-inside : goal.put_row-requires-clause-inside
-put_row-requires-clause-inside c =
-    let s = c.args.span.now in
-    let pixels : List Pixel = zip (colours_in s c.args.colours.now) (depths_in s c.args.depths.now) in
-    Inside-back c.loop-y.tile.place (kept_rows s.x s.y (c.loop-y.y - 1 - s.y) pixels) (kept_row s.x (c.loop-y.y - 1) pixels)
-    (subst (λ ks. Inside c.loop-y.tile.place ks)
-    (last_row s.x s.y c.loop-y.y pixels (omega (arith, c.loop-y.invariant.top, c.loop-y-test.true))) c.loop-y.invariant.inside)
+put_row-requires-clause-inside c = subst (λ ks. Inside c.loop-row.tile.place ks) (sym (row_is c)) (inside c)
 
-pub loop-y-preserved : goal.loop-y-preserved
-loop-y-preserved c =
+pub loop-row-preserved : goal.loop-row-preserved
+loop-row-preserved c =
+    let d = (goal.at-loop-row-preserved c).After-y-in-loop-row in
+    let i = c.loop-row.invariant in
     let s = c.args.span.now in
-    let i = c.loop-y.invariant in
-    let t : TileImage = c.loop-y.tile in
+    let t : TileImage = c.loop-row.tile in
     let now : TileImage = c.put_row.new.tile in
-    let pixels : List Pixel = zip (colours_in s c.args.colours.now) (depths_in s c.args.depths.now) in
-    let row : List KeptPixel = kept_row s.x (c.loop-y.y - 1) pixels in
-    let left : List KeptPixel = kept_rows s.x s.y (c.loop-y.y - 1 - s.y) pixels in
-    let parts : kept_rows s.x s.y (c.loop-y.y - s.y) pixels ≡ left ++ row =
-    last_row s.x s.y c.loop-y.y pixels (omega (arith, c.loop-y.invariant.top, c.loop-y-test.true)) in
-    let placed : now.place ≡ t.place = ap (λ v. v.place) c.put_row.ensures ∙ restored-place row t in
+    let row : List KeptPixel = kept_row s.x (s.y + (c.loop-row.row - 1)) (pixels d (c.loop-row.row - 1)) in
+    let left : List KeptPixel = kept_rows s.x s.y (c.loop-row.row - 1) (pixels d) in
+    let written : now ≡ restored row t = c.put_row.ensures ∙ ap (λ ks. restored ks t) (row_is d) in
     record {
-      made = ap (λ v. v.made) c.put_row.ensures ∙ restored-made row t ∙ i.made;
-      some = i.some;
-      top = i.top;
-      from = omega (arith, i.top, c.loop-y-test.true);
-      inside = subst (λ p. Inside p left) (sym placed) (Inside-front t.place left row (subst (λ ks. Inside t.place ks) parts i.inside));
-      rest = ap (restored left) c.put_row.ensures ∙ sym (restored-append left row t) ∙ sym (ap (λ ks. restored ks t) parts) ∙ i.rest;
+      made = ap (λ v. v.made) written ∙ restored-made row t ∙ i.made;
+      within = omega (arith, i.within);
+      inside = subst (λ p. Inside p left) (sym (ap (λ v. v.place) written ∙ restored-place row t))
+          (Inside-front t.place left row (subst (λ ks. Inside t.place ks) (parts d) i.inside));
+      rest = cc (restored-append left row t, parts d);
     }
-
-pub returns : goal.returns
-returns c =
-    let s = c.args.span.now in
-    let pixels : List Pixel = zip (colours_in s c.args.colours.now) (depths_in s c.args.depths.now) in
-    sym (ap (λ n. restored (kept_rows s.x s.y n pixels) c.loop-y.tile) {x = c.loop-y.y - s.y} {y = 0}
-    (omega (arith, c.loop-y.invariant.top, c.loop-y.invariant.from, c.loop-y-test.false)))
-    ∙ c.loop-y.invariant.rest

@@ -1,5 +1,4 @@
-use Rattle.std.proofs.Common.{◌≡◌, ◌+◌, ◌-◌, ◌<◌, ◌≤◌, ◌∙◌, ℕ, refl, ap, sym, subst, length, drop, length-drop, arith}
-use Rattle.std.proofs.lemmas.List.{length-take}
+use Rattle.std.proofs.Common.{◌≡◌, ◌+◌, ◌-◌, ◌<◌, ◌≤◌, ◌∙◌, refl, ap, sym, subst, length, arith}
 use borrow.Rule.Slice.PartMut.{put_mid}
 use Rattle.fd_tile.specs.declared.place.Place.{Place}
 use Rattle.fd_tile.specs.Place.{Holds, HasRow}
@@ -24,14 +23,13 @@ within c = row_within c.args.span.now c.args.colours.now c.args.depths.now (omeg
 
 -- the row of depths that is written, and where
 read : (c : After-depth_row_mut-row) → c.depth_row_mut-row.result.now ≡ depth_row_of c.args.tile.now c.args.y
-read c =
-    c.depth_row_mut-row.ensures.value ∙ ap (λ (t : TileImage). depth_row_of t c.args.y) c.put_colours.ensures.written
+read c = c.depth_row_mut-row.ensures.value ∙ ap (λ (t : TileImage). depth_row_of t c.args.y) c.put_colours.ensures.written
 
 wide : (c : After-depth_row_mut-row) → HasRow c.args.tile.now.place c.args.y → length c.depth_row_mut-row.result.now ≡ c.args.tile.now.place.width
 wide c has = ap length (read c) ∙ length-row_in c.args.tile.now.place c.args.tile.now.depths c.args.y c.place.ensures.filled.depths has
 
 start_is : (c : After-place) → c.x.result - c.place.result.left ≡ c.args.span.now.x - c.args.tile.now.place.left
-start_is c = ap (λ x. x - c.place.result.left) c.x.ensures ∙ ap (λ (p : Place). c.args.span.now.x - p.left) c.place.ensures.value
+start_is c = cc
 
 pub overflow_sub-start : goal.overflow_sub-start
 overflow_sub-start c =
@@ -49,34 +47,10 @@ depth_row_mut-row-requires-clause-crossed c =
     let same : c.put_colours.new.tile.place ≡ c.args.tile.now.place = ap (λ (t : TileImage). t.place) c.put_colours.ensures.written in
     subst (λ p. HasRow p c.args.y) (sym same) (crossed (goal.at-depth_row_mut-row-requires-clause-crossed c).After-len-len)
 
-pub overflow_add-start : goal.overflow_add-start
-overflow_add-start c =
-    let inside = within (goal.at-overflow_add-start c).After-len-len in
-    record { fits = omega (arith, inside, c.place.ensures.filled.colours.placed.right, start_is (goal.at-overflow_add-start c).After-place, c.len-len.ensures) }
-
 pub slice_bounds-write_depths-end : goal.slice_bounds-write_depths-end
 slice_bounds-write_depths-end c =
     let at = goal.at-slice_bounds-write_depths-end c in
-    let first = held at.After-len-len in
-    let inside = within at.After-len-len in
-    omega (arith, inside, first.from_left, wide at.After-depth_row_mut-row (crossed at.After-len-len), start_is at.After-place, c.len-len.ensures)
-
-pub write_depths-requires-clause-counted : goal.write_depths-requires-clause-counted
-write_depths-requires-clause-counted c =
-    let at = goal.at-write_depths-requires-clause-counted c in
-    let start : ℕ = c.x.result - c.place.result.left in
-    let first = held at.After-len-len in
-    let inside = within at.After-len-len in
-    omega (
-      arith,
-      length-take (start + c.len-len.result - start) (drop start c.depth_row_mut-row.result.now),
-      length-drop start c.depth_row_mut-row.result.now,
-      inside,
-      first.from_left,
-      wide at.After-depth_row_mut-row (crossed at.After-len-len),
-      start_is at.After-place,
-      c.len-len.ensures,
-    )
+    omega (arith, held at.After-len-len, within at.After-len-len, wide at.After-depth_row_mut-row (crossed at.After-len-len), start_is at.After-place)
 
 pub returns : goal.returns
 returns c =

@@ -1,7 +1,6 @@
 use Rattle.std.proofs.Common.{◌∙◌, arith}
 use Rattle.fd_undo.proofs.SpanLemmas.{row_first, row_within, put_back_flat}
 use Rattle.fd_undo.proofs.restore.put_row.Goals as goal
-use Rattle.fd_undo.proofs.restore.put_row.Goals.{After-is_flat}
 
 pub put_colours-requires-clause-first : goal.put_colours-requires-clause-first
 put_colours-requires-clause-first c =
@@ -14,5 +13,5 @@ put_colours-requires-clause-within c =
 pub returns-then-is_flat : goal.returns-then-is_flat
 returns-then-is_flat c =
     c.put_colours.ensures.written
-    ∙ put_back_flat c.args.tile.now c.args.span.now c.args.y c.args.colours.now c.args.depths.now c.requires.counted c.requires.depths_counted c.requires.some
+    ∙ put_back_flat c.args.tile.now c.args.span.now c.args.y c.args.colours.now c.args.depths.now c.requires.counted c.requires.some
     (c.is_flat.ensures c.if-is_flat.true) c.put_colours.ensures.filled c.requires.inside

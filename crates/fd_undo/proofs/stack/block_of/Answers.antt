@@ -1,9 +1,9 @@
-use Rattle.std.proofs.Common.{rules, ◌≡◌, ℕ, ◌+◌, ◌-◌, ◌<◌, ◌≤◌, ◌∙◌, true, false, sym, subst, length, get_or, ap, arith}
+use Rattle.std.proofs.Common.{rules, ◌≡◌, ℕ, ◌+◌, ◌-◌, ◌<◌, ◌≤◌, true, false, sym, subst, length, get_or, ap, arith}
 use Rattle.std.proofs.Math.Dec.{leb}
 use Rattle.std.proofs.lemmas.Bool.{leb-true, leb-false}
 use Rattle.std.specs.List.Sorted.{IsPartitionPoint}
 use Rattle.std.proofs.lemmas.List.Sorted.{IsPartitionPoint-from_clause, IsPartitionedBy-leb}
-use Rattle.fd_undo.specs.Block.{Filled, found, first_number, Rise}
+use Rattle.fd_undo.specs.Block.{Filled, first_number, Rise}
 use Rattle.fd_undo.specs.Stack.{stored_in}
 use Rattle.fd_undo.proofs.StackLemmas.{rise-back}
 use Rattle.fd_undo.proofs.Blocks.{firsts-rise, block_rise, in_block, in_last, in_none}
@@ -25,8 +25,7 @@ point c =
     IsPartitionPoint-from_clause
     (λ b. leb (first_number b.frames) c.args.number) c.args.full.now c.partition_point-after.result c.partition_point-after.ensures.partitioned
     (IsPartitionedBy-leb (λ b. first_number b.frames) c.args.full.now c.args.number
-    (firsts-rise 0 c.args.full.now c.args.last.now.frames c.requires.rise.0 c.requires.have c.requires.rise.1))
-    (λ a r f called. search rules)
+    (firsts-rise 0 c.args.full.now c.args.last.now.frames c.requires.rise.0 c.requires.have c.requires.rise.1)) (λ a r f called. search rules)
 
 some_after : (n : ℕ) → (n ≡ 0 → ⊥) → 0 < n
 some_after n not = omega (arith, not)
@@ -50,8 +49,7 @@ returns-then-first_number-number-clause-found c =
     (omega (arith, c.first_number.ensures, c.if-first_number-number.true))
 
 pub returns-then-after-eq0-clause-rise : goal.returns-then-after-eq0-clause-rise
-returns-then-after-eq0-clause-rise c =
-    (c.requires.rise.0, rise-back 0 (stored_in c.args.full.now) c.args.last.now.frames c.requires.rise.0 c.requires.rise.1)
+returns-then-after-eq0-clause-rise c = (c.requires.rise.0, rise-back 0 (stored_in c.args.full.now) c.args.last.now.frames c.requires.rise.0 c.requires.rise.1)
 
 pub returns-then-after-eq0-clause-found : goal.returns-then-after-eq0-clause-found
 returns-then-after-eq0-clause-found c =
@@ -63,11 +61,7 @@ pub returns-else-after-eq0-clause-rise : goal.returns-else-after-eq0-clause-rise
 returns-else-after-eq0-clause-rise c =
     let n = c.requires.rise.0 in
     let d : Filled = c.index-full-after.result in
-    let within : c.partition_point-after.result - 1 < length c.args.full.now = omega (
-      arith,
-      c.partition_point-after.ensures.bound,
-      some_after c.partition_point-after.result c.if-after-eq0.false,
-    ) in (
+    let within : c.partition_point-after.result - 1 < length c.args.full.now = omega arith in (
       n,
       subst (λ (b : Filled). Rise 0 b.frames n) (sym c.index-full-after.is)
           (block_rise c.args.full.now c.args.last.now.frames n c.requires.have c.requires.rise.1 (c.partition_point-after.result - 1) d within),
@@ -80,6 +74,5 @@ returns-else-after-eq0-clause-found c =
     let d : Filled = c.index-full-after.result in
     let some : 0 < c.partition_point-after.result = some_after c.partition_point-after.result c.if-after-eq0.false in
     let within : c.partition_point-after.result - 1 < length c.args.full.now = omega (arith, c.partition_point-after.ensures.bound, some) in
-    ap (λ (b : Filled). found c.args.number b.frames) c.index-full-after.is
-    ∙ in_block c.args.full.now c.args.last.now.frames c.requires.rise.0 c.requires.have c.requires.rise.1 p d within c.args.number
-    (begun e p d (omega (arith, some))) (λ more. above e (p + 1) d (omega (arith, some)) more) (later e)
+    cc (in_block c.args.full.now c.args.last.now.frames c.requires.rise.0 c.requires.have c.requires.rise.1 p d within c.args.number (begun e p d
+    (omega (arith, some))) (λ more. above e (p + 1) d (omega (arith, some)) more) (later e))

@@ -21,17 +21,16 @@ stored c is =
 
 kept_is : (c : After-is_newest) → c.is_newest.result ≡ true
     → (newest c.refill.new.last.frames).kept ≡ top (frames_from 0 (all_stored c.args.full.now.items c.args.last.now) (c.args.number + 1))
-kept_is c is = sym (stored c is).top_is ∙ ap (λ l. top (frames_from 0 l (c.args.number + 1))) c.refill.ensures.same
+kept_is c is = cc ((stored c is).top_is)
 
 -- where it hasn't
 lower : (c : After-is_newest) → c.is_newest.result ≡ false → Rise 0 (low c ++ c.refill.new.last.frames) c.args.number
 lower c not = missed (low c) c.refill.new.last.frames c.args.number (c.is_newest.ensures.no not) c.refill.ensures.some (rise c)
 
-empty_is : (c : After-is_newest) → c.is_newest.result ≡ false
-    → frames_from 0 (all_stored c.args.full.now.items c.args.last.now) (c.args.number + 1)
+empty_is : (c : After-is_newest) → c.is_newest.result ≡ false → frames_from 0 (all_stored c.args.full.now.items c.args.last.now) (c.args.number + 1)
     ≡ frames_from 0 (low c ++ c.refill.new.last.frames) c.args.number ++ [] ∷ []
 empty_is c not =
-    ap (λ l. frames_from 0 l (c.args.number + 1)) (sym c.refill.ensures.same) ∙ frames-next (low c ++ c.refill.new.last.frames) c.args.number (lower c not)
+    cc (frames-next (low c ++ c.refill.new.last.frames) c.args.number (lower c not))
 
 pub returns-then-not-is_newest-clause-rise : goal.returns-then-not-is_newest-clause-rise
 returns-then-not-is_newest-clause-rise c = lower (goal.at-returns-then-not-is_newest-clause-rise c).After-is_newest c.if-not-is_newest.true
@@ -58,7 +57,7 @@ returns-clause-rise c =
     let d = (goal.at-returns-clause-rise c).After-is_newest in
     let yes : (0 < length c.refill.new.last.frames) × ((newest c.refill.new.last.frames).number ≡ c.args.number) =
     c.is_newest.ensures.yes c.if-not-is_newest.false in
-    subst (λ l. Rise 0 l c.args.number) (sym (c.refill-2.ensures.same ∙ ap (λ l. low d ++ l) c.drop_newest-pixels.ensures.frames))
+    subst (λ l. Rise 0 l c.args.number) (cc)
     (subst (λ n. Rise 0 (low d ++ others c.refill.new.last.frames) n) yes.1 (stored d c.if-not-is_newest.false).rise_low)
 
 pub returns-clause-frames : goal.returns-clause-frames
@@ -66,10 +65,7 @@ returns-clause-frames c =
     let d = (goal.at-returns-clause-frames c).After-is_newest in
     let yes : (0 < length c.refill.new.last.frames) × ((newest c.refill.new.last.frames).number ≡ c.args.number) =
     c.is_newest.ensures.yes c.if-not-is_newest.false in
-    ap (λ l. frames_from 0 l c.args.number) (c.refill-2.ensures.same ∙ ap (λ l. low d ++ l) c.drop_newest-pixels.ensures.frames)
-    ∙ ap (λ n. frames_from 0 (low d ++ others c.refill.new.last.frames) n) (sym yes.1) ∙ sym (stored d c.if-not-is_newest.false).older_are
-    ∙ ap (λ l. older (frames_from 0 l (c.args.number + 1))) c.refill.ensures.same
+    cc ((stored d c.if-not-is_newest.false).older_are)
 
 pub returns-clause-pixels : goal.returns-clause-pixels
-returns-clause-pixels c =
-    c.drop_newest-pixels.ensures.pixels ∙ ap length (kept_is (goal.at-returns-clause-pixels c).After-is_newest c.if-not-is_newest.false)
+returns-clause-pixels c = c.drop_newest-pixels.ensures.pixels ∙ ap length (kept_is (goal.at-returns-clause-pixels c).After-is_newest c.if-not-is_newest.false)

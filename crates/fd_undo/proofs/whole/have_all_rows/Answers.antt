@@ -29,11 +29,7 @@ grown c y low high = by_row (cases_lt y c.loop-span.y)
         )
 
 pub returns-then-y-place : goal.returns-then-y-place
-returns-then-y-place c = λ _ y low high.
-    grown (goal.at-returns-then-y-place c).After-max-y y low (omega (arith, high, c.if-y-place.true, c.loop-span.invariant.low, c.max-y.ensures))
+returns-then-y-place c = λ _ y low high. grown (goal.at-returns-then-y-place c).After-max-y y low (omega arith)
 
 pub loop-span-preserved : goal.loop-span-preserved
-loop-span-preserved c = record {
-  low = omega (arith, c.loop-span.invariant.low, c.max-y.ensures);
-  rows = grown (goal.at-loop-span-preserved c).After-max-y;
-}
+loop-span-preserved c = record { low = omega (arith, c.loop-span.invariant.low, c.max-y.ensures); rows = grown (goal.at-loop-span-preserved c).After-max-y }

@@ -1,4 +1,4 @@
-use Rattle.std.proofs.Common.{◌-◌, ◌∙◌, ap, arith}
+use Rattle.std.proofs.Common.{◌-◌, ◌∙◌, ap}
 use Rattle.fd_owner.specs.History.{drop_last}
 use Rattle.fd_owner.specs.Shown.{gone_back_to}
 use Rattle.fd_owner.proofs.owner.Owner.back.Goals as goal

@@ -1,32 +1,21 @@
-use Rattle.std.proofs.Common.{◌≡◌, ◌+◌, ◌^◌, ◌<◌, ◌∙◌, Result, Ok, Err, Some, true, false, [], ◌∷◌, ◌++◌, refl, ap, sym, subst, arith, inl}
-use Rattle.std.specs.Prelude.{OnOk, is_err}
-use Rattle.std.proofs.lemmas.Bool.{false≢true}
+use Rattle.std.proofs.Common.{◌≡◌, ◌+◌, ◌^◌, ◌<◌, ◌∙◌, [], ◌∷◌, ◌++◌, refl, ap, sym, subst, arith, inl, length}
 use Rattle.fd_tile.specs.declared.place.Place.{Place}
 use Rattle.fd_tile.specs.Tile.{TileImage, IsTileImage}
 use Rattle.fd_undo.specs.Frame.{top}
 use Rattle.fd_undo.specs.Undo.{Undo}
 use Rattle.fd_undo.proofs.FrameLemmas.{top-push}
-use Rattle.fd_events.specs.Table.{flag_at}
-use Rattle.fd_owner.specs.History.{History, position, extend, pixel_past, kept_past}
+use Rattle.fd_owner.specs.History.{History, extend, pixel_past, kept_past}
 use Rattle.fd_draw.specs.Paints.{Paints}
 use Rattle.fd_owner.specs.Shown.{Shown, refused}
-use Rattle.fd_owner.specs.Step.{IsPlanPast, spans_past, pixels_past}
 use Rattle.fd_owner.specs.Owner.{history_of, IsOwner}
 use Rattle.fd_owner.proofs.Pictures.{position_seen, history_of-made, IsOwner-made, OpensFresh-kept}
 use Rattle.fd_owner.proofs.Forward.{history_of-step, IsOwner-step}
 use Rattle.fd_owner.proofs.owner.Owner.draw_planned.Goals as goal
 use Rattle.fd_owner.proofs.owner.Owner.draw_planned.Goals.{After-make_room, After-begin}
 
-on_ok : {T E P : Type 0} (r : Result T E) → OnOk r P → is_err r ≡ false → P
-on_ok (Ok x) is none = is
-on_ok (Err e) is none = absurd (false≢true (sym none))
-
--- the position as the history tells it, and the place
-here : (c : After-make_room) → position c.args.self.now.history ≡ c.frames-position.result
-here c = position_seen c.self.inside.tile c.self.inside.undo _ (ap (λ (s : Shown). s.history) c.self.view_is) ∙ sym c.frames-position.ensures
-
-place : (c : After-make_room) → c.args.self.now.place ≡ c.make_room.new.tile.place
-place c = sym (ap (λ (s : Shown). s.place) c.self.view_is) ∙ sym (ap (λ (t : TileImage). t.place) c.make_room.ensures.same)
+-- the position as the stack tells it
+here : (c : After-make_room) → c.position-position.result ≡ length c.self.inside.undo.frames
+here c = c.position-position.ensures ∙ position_seen c.self.inside.tile c.self.inside.undo _ (ap (λ (s : Shown). s.history) c.self.view_is)
 
 filled : (c : After-make_room) → IsTileImage c.make_room.new.tile
 filled c =
@@ -46,14 +35,14 @@ stays c = ap (λ (t : TileImage). t.place) c.make_room.ensures.same
 
 -- what is drawn is the next event of the history
 history : (c : After-make_room) → (u₁ : Undo) (t' : TileImage) (u' : Undo) → u₁.frames ≡ c.self.inside.undo.frames ++ [] ∷ []
-    → Paints (pixel_past c.args.table.now c.frames-position.result) (kept_past c.args.table.now c.frames-position.result) c.make_room.new.tile u₁ t' u'
+    → Paints (pixel_past c.args.table.now c.position-position.result) (kept_past c.args.table.now c.position-position.result) c.make_room.new.tile u₁ t' u'
     → history_of t' u' ≡ extend c.args.table.now c.self.inside.tile.place (history_of c.self.inside.tile c.self.inside.undo)
 history c u₁ t' u' begun painted =
     let t = c.self.inside.tile in
     let t1 = c.make_room.new.tile in
     let u = c.self.inside.undo in
     let table = c.args.table.now in
-    history_of-step table c.frames-position.result t1 t' u u₁ u' (filled c) (owner c u refl) c.frames-position.ensures begun painted
+    history_of-step table c.position-position.result t1 t' u u₁ u' (filled c) (owner c u refl) (here c) begun painted
     ∙ ap (λ p. extend table p (history_of t1 u)) (stays c)
     ∙ ap (extend table t.place) (history_of-made t t1 u u c.make_room.ensures.same refl)
 
@@ -80,61 +69,16 @@ invariant_of-self c =
     )
 
 -- ---- drawn
-room : (c : After-begin) → {P : Type 0} → OnOk c.make_room.result P → c.is_err.result ≡ false → P
-room c is none = on_ok c.make_room.result is (sym c.is_err.ensures.value ∙ none)
-
-pub draw_past-requires-clause-below : goal.draw_past-requires-clause-below
-draw_past-requires-clause-below c =
-    omega (arith, c.requires.below, here (goal.at-draw_past-requires-clause-below c).After-make_room)
-
-pub draw_past-requires-clause-on : goal.draw_past-requires-clause-on
-draw_past-requires-clause-on c =
-    subst (λ k. flag_at c.args.table.now (k + 1) ≡ Some true) (here (goal.at-draw_past-requires-clause-on c).After-make_room) c.requires.on
-
-pub draw_past-requires-clause-planned : goal.draw_past-requires-clause-planned
-draw_past-requires-clause-planned c =
-    let d = (goal.at-draw_past-requires-clause-planned c).After-make_room in
-    subst (λ p. IsPlanPast c.args.plan.now c.args.table.now c.frames-position.result p) (place d)
-    (subst (λ k. IsPlanPast c.args.plan.now c.args.table.now k c.args.self.now.place) (here d) c.requires.planned)
-
-pub draw_past-requires-clause-most_pixels : goal.draw_past-requires-clause-most_pixels
-draw_past-requires-clause-most_pixels c =
-    let d = (goal.at-draw_past-requires-clause-most_pixels c).After-make_room in
-    c.requires.pixels ∙ ap (λ k. pixels_past c.args.table.now k c.args.self.now.place) (here d)
-    ∙ ap (λ p. pixels_past c.args.table.now c.frames-position.result p) (place d)
-
-pub draw_past-requires-clause-spans : goal.draw_past-requires-clause-spans
-draw_past-requires-clause-spans c =
-    let at = goal.at-draw_past-requires-clause-spans c in
-    omega (
-      arith,
-      c.requires.spans ∙ ap (λ k. spans_past c.args.table.now k c.args.self.now.place) (here at.After-make_room)
-          ∙ ap (λ p. spans_past c.args.table.now c.frames-position.result p) (place at.After-make_room),
-      ap (λ (u : Undo). u.spans_left) c.begin.ensures,
-      ap (λ (u : Undo). u.spans_left) (room at.After-begin c.make_room.ensures.room c.if-is_err.false),
-    )
-
-pub draw_past-requires-clause-pixels : goal.draw_past-requires-clause-pixels
-draw_past-requires-clause-pixels c =
-    let at = goal.at-draw_past-requires-clause-pixels c in
-    omega (
-      arith,
-      c.requires.pixels ∙ ap (λ k. pixels_past c.args.table.now k c.args.self.now.place) (here at.After-make_room)
-          ∙ ap (λ p. pixels_past c.args.table.now c.frames-position.result p) (place at.After-make_room),
-      ap (λ (u : Undo). u.pixels_left) c.begin.ensures,
-      ap (λ (u : Undo). u.pixels_left) (room at.After-begin c.make_room.ensures.room c.if-is_err.false),
-    )
-
 pub invariant_of-self-2 : goal.invariant_of-self-2
 unfolding extend
 invariant_of-self-2 c =
     let at = goal.at-invariant_of-self-2 c in
     let u = c.self.inside.undo in
-    let fits : c.frames-position.result + 1 < 2 ^ 32 =
-    omega (arith, c.requires.below, here at.After-make_room, c.len-len.ensures.value, c.len-len.type_inv) in
+    let fits : c.position-position.result + 1 < 2 ^ 32 =
+    omega (arith, c.requires.below, c.position-position.ensures, c.len-len.ensures.value, c.len-len.type_inv) in
     let told = history at.After-make_room c.begin.new.self c.draw_past.new.tile c.draw_past.new.undo (begun at.After-begin) c.draw_past.ensures.painted in (
-      IsOwner-step c.args.table.now c.frames-position.result c.make_room.new.tile c.draw_past.new.tile u c.begin.new.self c.draw_past.new.undo
-          (filled at.After-make_room) (owner at.After-make_room u refl) c.frames-position.ensures (begun at.After-begin) c.draw_past.ensures.painted fits
+      IsOwner-step c.args.table.now c.position-position.result c.make_room.new.tile c.draw_past.new.tile u c.begin.new.self c.draw_past.new.undo
+          (filled at.After-make_room) (owner at.After-make_room u refl) (here at.After-make_room) (begun at.After-begin) c.draw_past.ensures.painted fits
           (λ not. inl (ap (λ (v : Undo). top v.frames) (c.draw_past.ensures.not_made not) ∙ ap top (begun at.After-begin) ∙ top-push u.frames [])),
       OpensFresh-kept c.self.inside.opens_fresh c.self.inside.tile c.draw_past.new.tile u c.draw_past.new.undo
           (ap (λ (h : History). h.opening) told) (c.draw_past.ensures.painted.placed ∙ stays at.After-make_room) c.self.invariant.1,

@@ -2,7 +2,7 @@ use Rattle.std.proofs.Common.{◌≡◌, ◌∙◌, sym, subst, length, drop, ta
 use Rattle.fd_undo.specs.declared.parts.Cut.{Cut}
 use Rattle.fd_undo.specs.Rows.{Held, rows_of, joined}
 use Rattle.fd_undo.specs.Parts.{IsCut}
-use Rattle.fd_undo.specs.Block.{KeptFrame, Filled, newest, marked, AreInOrder, others}
+use Rattle.fd_undo.specs.Block.{Filled, newest, marked, AreInOrder, others}
 use Rattle.fd_undo.proofs.RowLemmas.{length-rows_in}
 use Rattle.fd_undo.proofs.BlockLemmas.{TopFrame, top_frame, fewer}
 use Rattle.fd_undo.proofs.block.Block.drop_newest.Goals as goal
@@ -19,13 +19,12 @@ top c =
 pub drop_from-requires-clause-first : goal.drop_from-requires-clause-first
 drop_from-requires-clause-first c =
     let t = top (goal.at-drop_from-requires-clause-first c).After-take_last-mark in
-    subst (λ k. IsCut k c.self.inside.rows.spans) (sym c.cut.ensures) (record { within = t.within; colour = t.mark.colour; depth = t.mark.depth })
+    subst (λ k. IsCut k c.self.inside.rows.spans) (sym c.cut.ensures) (omega arith)
 
 -- what goes
 gone : (c : After-cut) → TopFrame c.take_last-mark.new.marks.items c.take_last-mark.result c.self.inside.rows.spans (rows_of c.self.inside.rows)
     c.args.self.now.frames → joined (drop c.cut.result.span (rows_of c.self.inside.rows)) ≡ (newest c.args.self.now.frames).kept
-gone c t =
-    ap (λ (k : Cut). joined (drop k.span (rows_of c.self.inside.rows))) c.cut.ensures ∙ ap (λ (f : KeptFrame). f.kept) (sym t.newest_is)
+gone c t = cc
 
 pub drop_from-requires-clause-countable : goal.drop_from-requires-clause-countable
 drop_from-requires-clause-countable c =
@@ -48,9 +47,7 @@ invariant_of-self c = (left (goal.at-invariant_of-self c).After-take_last-mark c
     (c.drop_from.ensures.rows ∙ ap (λ (k : Cut). take k.span (rows_of c.self.inside.rows)) c.cut.ensures)).1
 
 pub returns-clause-pixels : goal.returns-clause-pixels
-returns-clause-pixels c =
-    let at = goal.at-returns-clause-pixels c in
-    c.drop_from.ensures.pixels ∙ ap length (gone at.After-cut (top at.After-take_last-mark))
+returns-clause-pixels c = let at = goal.at-returns-clause-pixels c in c.drop_from.ensures.pixels ∙ ap length (gone at.After-cut (top at.After-take_last-mark))
 
 pub returns-clause-frames : goal.returns-clause-frames
 returns-clause-frames c =

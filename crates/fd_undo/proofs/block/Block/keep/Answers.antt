@@ -24,8 +24,7 @@ more c =
     let pixels = zip c.args.old.now c.args.depths.now in
     let mark : Mark = last_mark c.self.inside.marks.items in
     subst (λ y. KeepsMore mark.span h n (kept_row c.args.x y pixels)) c.of-row.ensures.row
-    (subst (λ x. KeepsMore mark.span h n (kept_row x c.of-row.result.y pixels)) c.of-row.ensures.column
-    (subst (λ (m : Mark). KeepsMore m.span h n (kept_row c.of-row.result.x c.of-row.result.y pixels))
+    (rw c.of-row.ensures.column at (subst (λ (m : Mark). KeepsMore m.span h n (kept_row c.of-row.result.x c.of-row.result.y pixels))
     (c.newest_mark-first.ensures ∙ ap last_mark c.as_slice.ensures) c.keep.ensures.more))
 
 pub invariant_of-self : goal.invariant_of-self

@@ -1,4 +1,4 @@
-use Rattle.std.proofs.Common.{◌≡◌, ◌∙◌, sym, ap, arith}
+use Rattle.std.proofs.Common.{◌≡◌, ◌∙◌, sym, ap}
 use Rattle.fd_undo.specs.declared.block.Mark.{Mark}
 use Rattle.fd_undo.specs.Rows.{rows_of}
 use Rattle.fd_undo.specs.Block.{KeptFrame, Filled, others}
@@ -6,8 +6,7 @@ use Rattle.fd_undo.proofs.BlockLemmas.{TopFrame, last_mark, newest_frame}
 use Rattle.fd_undo.proofs.block.Block.newest_number.Goals as goal
 use Rattle.fd_undo.proofs.block.Block.newest_number.Goals.{After-newest_mark}
 
-newest : (c : After-newest_mark)
-    → TopFrame (others c.self.inside.marks.items) (last_mark c.self.inside.marks.items) c.self.inside.rows.spans
+newest : (c : After-newest_mark) → TopFrame (others c.self.inside.marks.items) (last_mark c.self.inside.marks.items) c.self.inside.rows.spans
     (rows_of c.self.inside.rows) c.args.self.now.frames
 newest c =
     newest_frame c.self.inside.marks.items c.self.inside.rows c.args.self.now.frames c.self.invariant (ap (λ (b : Filled). b.frames) c.self.view_is) c.requires
@@ -19,8 +18,3 @@ pub returns-clause-value : goal.returns-clause-value
 returns-clause-value c =
     let d = (goal.at-returns-clause-value c).After-newest_mark in
     ap (λ (m : Mark). m.number) (mark_is d) ∙ sym (ap (λ (f : KeptFrame). f.number) (newest d).newest_is)
-
-pub returns-clause-small : goal.returns-clause-small
-returns-clause-small c =
-    let d = (goal.at-returns-clause-small c).After-newest_mark in
-    omega (arith, (newest d).mark.number, ap (λ (m : Mark). m.number) (mark_is d))

@@ -25,16 +25,15 @@ mark_at-requires c = omega (arith, ap length c.as_slice-marks.ensures, within (g
 
 -- where its frame begins and ends
 cut_is : (c : After-cut) → c.cut.result ≡ cut_of (get_or c.self.inside.marks.items c.args.place no_mark)
-cut_is c = c.cut.ensures ∙ ap cut_of (c.mark_at.ensures ∙ ap (λ l. get_or l c.args.place no_mark) c.as_slice-marks.ensures)
+cut_is c = cc
 
 end_is : (c : After-cut) → c.end_of-end.result.span ≡ next (drop (suc c.args.place) c.self.inside.marks.items) (length c.self.inside.rows.spans)
-end_is c = c.end_of-end.ensures.span ∙ ap (λ l. next (drop (suc c.args.place) l) (length c.self.inside.rows.spans)) c.as_slice-marks.ensures
+end_is c = cc
 
 pub parts-requires-clause-ordered : goal.parts-requires-clause-ordered
 parts-requires-clause-ordered c =
     let at = goal.at-parts-requires-clause-ordered c in
-    let says =
-    mark-at c.self.inside.marks.items c.self.inside.rows.spans (length c.self.inside.rows.spans) c.args.place c.self.invariant
+    let says = mark-at c.self.inside.marks.items c.self.inside.rows.spans (length c.self.inside.rows.spans) c.args.place c.self.invariant
     (within at.After-as_slice-marks) in
     omega (arith, says.1, ap (λ (k : Cut). k.span) (cut_is at.After-cut), end_is at.After-cut)
 

@@ -23,10 +23,11 @@ pub returns-then-is_newest-clause-there : goal.returns-then-is_newest-clause-the
 returns-then-is_newest-clause-there c =
     let frames = c.args.self.now.frames in
     let yes = c.is_newest.ensures.yes c.if-is_newest.true in
-    c.parts_at.ensures.there
-    ∙ ap (λ n. (get_or frames (n - 1) no_frame).kept) (last_is (goal.at-returns-then-is_newest-clause-there c).After-len)
-    ∙ sym (found-place frames 0 c.requires.0 (length frames - 1) c.requires.1 (omega (arith, yes.0)))
-    ∙ ap (λ n. found n frames) yes.1
+    cc (
+      last_is (goal.at-returns-then-is_newest-clause-there c).After-len,
+      found-place frames 0 c.requires.0 (length frames - 1) c.requires.1
+          (omega (arith, yes.0)),
+    )
 
 -- ---- another one
 rise : (c : After-as_slice) → Rise 0 (marked c.self.inside.marks.items (rows_of c.self.inside.rows) (length c.self.inside.rows.spans)) c.requires.0
@@ -41,9 +42,8 @@ place_of-requires c =
 pub returns-in_err-place-clause-absent : goal.returns-in_err-place-clause-absent
 returns-in_err-place-clause-absent c = λ _.
     let P : List Mark → Type 0 = λ l. (a : ℕ) → a < length l → number_at l a ≢ c.args.number in
-    sym (ap (λ (h : Filled). found c.args.number h.frames) c.self.view_is)
-    ∙ found-none c.self.inside.marks.items (rows_of c.self.inside.rows) (length c.self.inside.rows.spans) c.args.number
-    (subst P c.as_slice.ensures (c.in_err-place.ensures.absent refl))
+    cc (found-none c.self.inside.marks.items (rows_of c.self.inside.rows) (length c.self.inside.rows.spans) c.args.number (subst P c.as_slice.ensures
+    (c.in_err-place.ensures.absent refl)))
 
 -- the mark that was found
 place : (c : In_ok-place) → (c.in_ok-place.place < length c.self.inside.marks.items)
@@ -51,8 +51,7 @@ place : (c : In_ok-place) → (c.in_ok-place.place < length c.self.inside.marks.
 place c =
     let within : c.in_ok-place.place < length c.self.inside.marks.items = omega (arith, c.in_ok-place.ensures.there.0, ap length c.as_slice.ensures) in (
       within,
-      ap (λ (h : Filled). (get_or h.frames c.in_ok-place.place no_frame).number) (sym c.self.view_is)
-          ∙ ap (λ (f : KeptFrame). f.number)
+      ap (λ (h : Filled). (get_or h.frames c.in_ok-place.place no_frame).number) (sym c.self.view_is) ∙ ap (λ (f : KeptFrame). f.number)
           (marked-at c.self.inside.marks.items (rows_of c.self.inside.rows) (length c.self.inside.rows.spans) c.in_ok-place.place within)
           ∙ ap (λ l. number_at l c.in_ok-place.place) (sym c.as_slice.ensures) ∙ c.in_ok-place.ensures.there.1,
     )
@@ -73,5 +72,4 @@ pub returns-clause-there : goal.returns-clause-there
 returns-clause-there c =
     let d = (goal.at-returns-clause-there c).In_ok-place in
     let frames = c.args.self.now.frames in
-    c.parts_at-2.ensures.there ∙ sym (found-place frames 0 c.requires.0 c.in_ok-place.place c.requires.1 (framed d))
-    ∙ ap (λ n. found n frames) (place d).1
+    c.parts_at-2.ensures.there ∙ sym (found-place frames 0 c.requires.0 c.in_ok-place.place c.requires.1 (framed d)) ∙ ap (λ n. found n frames) (place d).1

@@ -25,10 +25,11 @@ gone : (c : After-as_slice) → pixel_count (take (length c.as_slice.result.now 
     ≡ length (joined (drop c.args.first.span (rows_of c.args.self.now)))
 gone c =
     let h : Held = c.args.self.now in
-    ap (λ l. pixel_count (take (length l - c.args.first.span) (drop c.args.first.span l))) c.as_slice.ensures
-    ∙ ap pixel_count (tail_is c.args.first.span c.self.inside.spans.items)
-    ∙ ap (λ (g : Held). pixel_count (drop c.args.first.span g.spans)) c.self.view_is
-    ∙ sym (pixels-from h c.args.first.span (subst (λ (g : Held). IsHeld g.spans g.colours g.depths) c.self.view_is c.self.invariant))
+    cc (
+      tail_is c.args.first.span c.self.inside.spans.items,
+      pixels-from h c.args.first.span (subst (λ (g : Held). IsHeld g.spans g.colours g.depths)
+          c.self.view_is c.self.invariant),
+    )
 
 pub pixels_in-pixels-requires : goal.pixels_in-pixels-requires
 pixels_in-pixels-requires c = omega (arith, gone (goal.at-pixels_in-pixels-requires c).After-as_slice, c.requires.countable)

@@ -31,7 +31,7 @@ returns c = λ first low.
     ∙ ap (λ l. rows_in (spans ++ s ∷ []) l ds) c.push_reserved.ensures.items
     ∙ ap (λ l. rows_in (spans ++ s ∷ []) (cs ++ c.args.colour ∷ []) l) (sym (append-nil ds))
     ∙ rows_in-push spans cs (c.args.colour ∷ []) ds [] s c.self.invariant.colours_counted c.self.invariant.depths_counted
-    ∙ ap (λ row. rows_in spans cs ds ++ kept_rows p.left p.top p.height row ∷ []) (zip-replicate p.width c.args.colour c.args.depth)
+    ∙ ap (λ row. rows_in spans cs ds ++ kept_rows p.left p.top p.height (λ _. row) ∷ []) (zip-replicate p.width c.args.colour c.args.depth)
     ∙ ap (λ (h : Held). rows_of h ++ alike p (c.args.colour, c.args.depth) ∷ []) c.self.view_is in
     let same : spans ≡ h.spans = ap (λ (g : Held). g.spans) c.self.view_is in
     let t : Span = c.whole.result in

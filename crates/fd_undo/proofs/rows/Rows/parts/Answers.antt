@@ -15,29 +15,23 @@ pub part-requires-2-clause-ordered : goal.part-requires-2-clause-ordered
 part-requires-2-clause-ordered c =
     let d = (goal.at-part-requires-2-clause-ordered c).After-part in
     let s = c.self.inside in
-    omega (
-      arith,
-      (colours_between s.spans.items s.colours.items s.depths.items c.args.first c.args.end c.self.invariant c.requires.ordered (low d) (high d)).0,
-    )
+    omega (arith, (colours_between s.spans.items s.colours.items s.depths.items c.args.first c.args.end c.self.invariant c.requires.ordered (low d) (high d)).0)
 
 pub part-requires-3-clause-ordered : goal.part-requires-3-clause-ordered
 part-requires-3-clause-ordered c =
     let d = (goal.at-part-requires-3-clause-ordered c).After-part in
     let s = c.self.inside in
-    omega (
-      arith,
-      (depths_between s.spans.items s.colours.items s.depths.items c.args.first c.args.end c.self.invariant c.requires.ordered (low d) (high d)).0,
-    )
+    omega (arith, (depths_between s.spans.items s.colours.items s.depths.items c.args.first c.args.end c.self.invariant c.requires.ordered (low d) (high d)).0)
 
 -- the slices
 spans_are : (c : After-part-3) → c.part.result.now ≡ take (c.args.end.span - c.args.first.span) (drop c.args.first.span c.self.inside.spans.items)
-spans_are c = c.part.ensures ∙ ap (λ l. take (c.args.end.span - c.args.first.span) (drop c.args.first.span l)) c.as_slice.ensures
+spans_are c = cc
 
 colours_are : (c : After-part-3) → c.part-2.result.now ≡ take (c.args.end.colour - c.args.first.colour) (drop c.args.first.colour c.self.inside.colours.items)
-colours_are c = c.part-2.ensures ∙ ap (λ l. take (c.args.end.colour - c.args.first.colour) (drop c.args.first.colour l)) c.deref.ensures.value
+colours_are c = cc
 
 depths_are : (c : After-part-3) → c.part-3.result.now ≡ take (c.args.end.depth - c.args.first.depth) (drop c.args.first.depth c.self.inside.depths.items)
-depths_are c = c.part-3.ensures ∙ ap (λ l. take (c.args.end.depth - c.args.first.depth) (drop c.args.first.depth l)) c.deref-2.ensures.value
+depths_are c = cc
 
 pub returns-clause-whole : goal.returns-clause-whole
 returns-clause-whole c =
@@ -45,9 +39,8 @@ returns-clause-whole c =
     let e = at.After-part-3 in
     let s = c.self.inside in
     subst (λ l. IsHeld l c.part-2.result.now c.part-3.result.now) (sym (spans_are e))
-    (subst (λ l. IsHeld (take (c.args.end.span - c.args.first.span) (drop c.args.first.span s.spans.items)) l c.part-3.result.now) (sym (colours_are e))
-    (subst (λ l. IsHeld (take (c.args.end.span - c.args.first.span) (drop c.args.first.span s.spans.items))
-    (take (c.args.end.colour - c.args.first.colour) (drop c.args.first.colour s.colours.items)) l) (sym (depths_are e))
+    (rw (colours_are e) (subst (λ l. IsHeld (take (c.args.end.span - c.args.first.span) (drop c.args.first.span s.spans.items)) (take
+    (c.args.end.colour - c.args.first.colour) (drop c.args.first.colour s.colours.items)) l) (sym (depths_are e))
     (held_between s.spans.items s.colours.items s.depths.items c.args.first c.args.end c.self.invariant c.requires.ordered (low at.After-part)
     (high at.After-part))))
 

@@ -28,8 +28,7 @@ grown : (c : After-max-self-inside) → frames_from 0 (all_stored c.self.inside.
     ≡ frames_from 0 (all_stored c.refill.new.full.items c.refill.new.last) c.max-self-inside.result ++ replicate
     (c.self.inside.count - c.max-self-inside.result) []
 grown c =
-    ap (λ l. frames_from 0 l c.self.inside.count) (sym c.refill.ensures.same)
-    ∙ frames-grow 0 (all_stored c.refill.new.full.items c.refill.new.last) c.max-self-inside.result c.self.inside.count (left c).0 (left c).1
+    cc (frames-grow 0 (all_stored c.refill.new.full.items c.refill.new.last) c.max-self-inside.result c.self.inside.count (left c).0 (left c).1)
 
 pub invariant_of-self : goal.invariant_of-self
 invariant_of-self c =

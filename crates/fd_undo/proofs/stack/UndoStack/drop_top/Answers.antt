@@ -31,16 +31,14 @@ pub invariant_of-self : goal.invariant_of-self
 invariant_of-self c =
     let t = known (goal.at-invariant_of-self c).After-self in
     closed c.drop_stored.new.full.items c.drop_stored.new.last (c.self.inside.count - 1)
-    (c.self.inside.recorded - c.drop_stored.result) c.drop_stored.ensures.have c.drop_stored.ensures.rise
-    (omega (
+    (c.self.inside.recorded - c.drop_stored.result) c.drop_stored.ensures.have c.drop_stored.ensures.rise (omega (
       arith,
       ap (λ l. length (top l)) t.shown,
       t.recorded_is,
       c.drop_stored.ensures.pixels,
       ap recorded_in c.drop_stored.ensures.frames,
       ap (λ l. recorded_in (older l)) t.shown,
-    ))
-    (omega (arith, c.self.invariant.countable))
+    )) (omega (arith, c.self.invariant.countable))
 
 pub returns : goal.returns
 returns c = ap without_room (c.drop_stored.ensures.frames ∙ ap older (known (goal.at-returns c).After-self).shown)

@@ -17,12 +17,11 @@ abbrev row : (c : After-keep) → List KeptPixel
 row c = kept_row c.args.x c.args.y (zip c.args.old.now c.args.depths.now)
 
 length-row : (c : After-keep) → length (row c) ≡ length c.args.old.now
-length-row c =
-    length-kept_row c.args.x c.args.y (zip c.args.old.now c.args.depths.now) ∙ length-zip_equal c.args.old.now c.args.depths.now c.requires.equal
+length-row c = length-kept_row c.args.x c.args.y (zip c.args.old.now c.args.depths.now) ∙ length-zip_equal c.args.old.now c.args.depths.now c.requires.equal
 
 there : (c : After-keep) → (0 < length c.self.inside.last.frames) × ((newest c.self.inside.last.frames).number + 1 ≡ c.self.inside.count)
 there c =
-    c.self.invariant.begun (ap (λ (u : Undo). u.frame_left) c.self.view_is ∙ c.requires.begun)
+    c.self.invariant.begun (cc)
     (omega (arith, ap (λ (u : Undo). u.spans_left) c.self.view_is, c.requires.span))
 
 stored : (c : After-keep) → TopStored (low c) c.self.inside.last.frames c.self.inside.count
@@ -56,9 +55,9 @@ invariant_of-self c =
         omega (arith, ap length c.keep.ensures.frames, length-append (others frames) (f ∷ [])),
         ap (λ (g : KeptFrame). g.number + 1) (ap newest c.keep.ensures.frames ∙ newest-push (others frames) f no_frame) ∙ yes.1,
       );
-      span_room = omega (arith, c.self.invariant.span_room, c.keep.ensures.spans_left, c.requires.span, spans);
-      colour_room = omega (arith, c.self.invariant.colour_room, c.keep.ensures.colours_left, c.requires.pixels, pixels);
-      depth_room = omega (arith, c.self.invariant.depth_room, c.keep.ensures.depths_left, c.requires.pixels, c.requires.equal, pixels);
+      span_room = omega arith;
+      colour_room = omega arith;
+      depth_room = omega arith;
     }
 
 pub returns : goal.returns
@@ -73,7 +72,7 @@ returns c =
       spans_left = c.self.inside.spans_left - 1;
       pixels_left = c.self.inside.pixels_left - length c.args.old.now;
     })
-    (ap (λ l. frames_from 0 (low d ++ l) count) c.keep.ensures.frames ∙ more_stored (low d) frames count (row d) yes.1 (stored d))
+    (cc (more_stored (low d) frames count (row d) yes.1 (stored d)))
     ∙ ap (λ n. record {
       frames = (with_kept (record { frames = frames_from 0 (low d ++ frames) count; frame_left = false; spans_left = 0; pixels_left = 0 }) (row d)).frames;
       frame_left = c.self.inside.frame_left;

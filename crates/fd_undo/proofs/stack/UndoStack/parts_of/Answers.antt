@@ -15,8 +15,7 @@ found_is c =
     let stored = all_stored c.self.inside.full.items c.self.inside.last in
     c.block_of.ensures.found ∙ ap (λ l. found c.args.frame (all_stored l c.self.inside.last)) c.deref.ensures.value
     ∙ ap (λ n. found n stored) {x = c.args.frame} {y = 0 + c.args.frame} (omega arith)
-    ∙ sym (found-frames 0 stored c.self.inside.count c.args.frame c.self.invariant.rise)
-    ∙ ap (λ (u : Undo). get_or u.frames c.args.frame []) c.self.view_is
+    ∙ sym (found-frames 0 stored c.self.inside.count c.args.frame c.self.invariant.rise) ∙ ap (λ (u : Undo). get_or u.frames c.args.frame []) c.self.view_is
 
 pub returns-clause-there : goal.returns-clause-there
 returns-clause-there c =

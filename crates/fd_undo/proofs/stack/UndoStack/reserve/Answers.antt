@@ -13,6 +13,6 @@ returns-then-self-most_frames-clause-free c no-spans no-pixels few =
     let same = ap (λ (u : Undo). length u.frames) c.drop_room.ensures in
     elim c.then-self-most_frames.branch [
       | then-self-most_frames-via-then-self-most_frames w ↦ absurd
-          (omega (arith, size, seen, same, few, c.most_frames.ensures.counted no-spans, w.if-self-most_frames.true))
+          (omega arith)
       | then-self-most_frames-via-else-self-most_frames+then-self-pixels w ↦ absurd (omega (arith, no-pixels, w.if-self-pixels.true))
     ]
