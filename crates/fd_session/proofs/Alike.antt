@@ -6,12 +6,12 @@ use Rattle.fd_tile.specs.Tile.{Pixel, pixel_in}
 use Rattle.fd_tile.proofs.Pixels.{over_place_same}
 use Rattle.fd_events.specs.Table.{Table}
 use Rattle.fd_owner.specs.History.{Frame, History, position, last_image, pixel_past, kept_past, frame_after, extend, fresh_history, drawn_history}
+use Rattle.fd_session.specs.Switch.{IsSameAt}
 use Rattle.fd_owner.proofs.Histories.{extend_none}
 use Rattle.fd_owner.proofs.Drawn.{position_drawn, drawn_more}
 
 module _ (old new : Table) (place : Place) (to : ℕ)
-    (same : (k x y : ℕ) (before : Pixel) → k < to → Holds place x y → (pixel_past old k x y before ≡ pixel_past new k x y before)
-    × (kept_past old k x y before ≡ kept_past new k x y before)) where
+    (same : (k x y : ℕ) (before : Pixel) → k < to → Holds place x y → IsSameAt old new k x y before) where
   frame_same : (k : ℕ) (image : List (List Pixel)) → k < to → frame_after old place k image ≡ frame_after new place k image
   unfolding frame_after
   frame_same k image below =

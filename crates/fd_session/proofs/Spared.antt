@@ -9,16 +9,15 @@ use Rattle.fd_tile.specs.declared.place.Place.{Place}
 use Rattle.fd_tile.specs.Tile.{Pixel}
 use Rattle.fd_events.specs.declared.event.Event.{Event}
 use Rattle.fd_events.specs.declared.pipeline.Pipeline.{Pipeline}
-use Rattle.fd_events.specs.Pipeline.{state_after}
 use Rattle.fd_events.specs.Reach.{HoldsWritten}
 use Rattle.fd_events.specs.Table.{Table, with_flag, is_set, flag_at, event_at, active_event, state_at, state_after_event}
 use Rattle.fd_events.specs.Image.{pixel_after_event, kept_by_event}
-use Rattle.fd_events.proofs.States.{state_of-set}
-use Rattle.fd_owner.specs.History.{pixel_past, kept_past, drawn_history}
+use Rattle.fd_owner.specs.History.{drawn_history}
 use Rattle.fd_owner.specs.Shown.{IsInside}
-use Rattle.fd_session.specs.Switch.{HoldsByState, HoldsChanged, Misses}
+use Rattle.fd_owner.specs.Untouched.{Misses}
+use Rattle.fd_session.specs.Switch.{HoldsChanged, IsSameAt}
 use Rattle.fd_session.proofs.Alike.{history_same}
-use Rattle.fd_session.proofs.Switching.{active_other, same_past}
+use Rattle.fd_session.proofs.Switching.{active_other, same_past, same_before}
 
 -- a place that the box misses
 pub spared : (box : Bounds) (old new : Table) (to : ℕ) (place : Place) → HoldsChanged box old new to → IsInside place new → Misses box place
@@ -33,7 +32,7 @@ neither false false none = (refl, refl)
 neither false true none = absurd (none refl)
 neither true q none = absurd (none refl)
 
-outside : (box a b : Bounds) (x y : ℕ) → HoldsBoth box a b → is_within box x y ≡ false → (is_within a x y ≡ false) × (is_within b x y ≡ false)
+pub outside : (box a b : Bounds) (x y : ℕ) → HoldsBoth box a b → is_within box x y ≡ false → (is_within a x y ≡ false) × (is_within b x y ≡ false)
 outside box a b x y both out = neither (is_within a x y) (is_within b x y) (λ within. let same : true ≡ false = sym (both x y within) ∙ out in cc)
 
 -- outside the box of what it can write an event leaves all as it is, also where it is missing or switched off
@@ -49,117 +48,73 @@ pub record IsFollowed (table : Table) (number : ℕ) (was : Bool) (at : ℕ) (st
   pub follows : state ≡ state_at (with_flag table number was) at
   pub changed : HoldsChanged box (with_flag table number was) table at
 
-module _ (table : Table) (i : ℕ) (was : Bool) where
+-- one event more
+changed_more : (box : Bounds) (old new : Table) (n : ℕ) → HoldsChanged box old new n
+    → ((x y : ℕ) (before : Pixel) → x < new.width → y < new.height → is_within box x y ≡ false → IsSameAt old new n x y before)
+    → HoldsChanged box old new (suc n)
+changed_more box old new n changed next k x y before below right bottom out =
+    elim (cases_lt k n) [
+      | inl earlier ↦ changed k x y before earlier right bottom out
+      | inr there ↦
+          let here : n ≡ k = omega (arith, below, there) in
+          subst (λ (j : ℕ). IsSameAt old new j x y before) here (next x y before right bottom out)
+    ]
+
+-- up to the event itself
+pub changed_here : (table : Table) (number : ℕ) (was : Bool) (box : Bounds) → IfSome (event_at table number) (HoldsWritten box table.width table.height)
+    → HoldsChanged box (with_flag table number was) table number
+changed_here table zero was box written = λ k x y before below right bottom out. absurd (omega (arith, below))
+changed_here table (suc i) was box written =
+    changed_more box (with_flag table (suc i) was) table i
+    (λ k x y before below right bottom out. same_before table (suc i) was k x y before (omega (arith, below)))
+    (λ x y before right bottom out.
+    let left = λ (t : Table). kept (is_set t.flags (suc i)) (event_at table (suc i)) (state_at t i) x y before box table.width table.height right bottom out
+    written in
+    let old = left (with_flag table (suc i) was) in
+    let new = left table in (old.0 ∙ sym new.0, old.1 ∙ sym new.1))
+
+module _ (table : Table) (number : ℕ) (was : Bool) where
   abbrev old : Table
-  old = with_flag table (suc i) was
+  old = with_flag table number was
 
   -- the states after the event, once they are the same
-  state_same : (n k : ℕ) → suc i ≤ n → state_at old n ≡ state_at table n → n ≤ k → state_at old k ≡ state_at table k
-  state_same n zero later is within = absurd (omega (arith, later, within))
+  state_same : (n k : ℕ) → number ≤ n → state_at old n ≡ state_at table n → n ≤ k → state_at old k ≡ state_at table k
+  state_same n zero later is within = let here : n ≡ zero = omega (arith, within) in subst (λ (j : ℕ). state_at old j ≡ state_at table j) here is
   state_same n (suc k) later is within =
       elim (cases_lt k n) [
         | inl below ↦ let here : n ≡ suc k = omega (arith, below, within) in subst (λ (j : ℕ). state_at old j ≡ state_at table j) here is
         | inr above ↦
-            ap (λ (event : Option Event). state_after_event event (state_at old k)) (active_other table i was k (λ e. absurd (omega (arith, e, later, above))))
+            ap (λ (event : Option Event). state_after_event event (state_at old k))
+            (active_other table number was k (λ e. absurd (omega (arith, e, later, above))))
             ∙ ap (state_after_event (active_event table (suc k))) (state_same n k later is above)
       ]
 
-  -- up to the event itself
-  changed_here : (box : Bounds) → IfSome (event_at table (suc i)) (HoldsWritten box table.width table.height) → HoldsChanged box old table (suc i)
-  changed_here box written k x y before below right bottom out =
-      elim (cases_lt k i) [
-        | inl earlier ↦ same_past table i was k x y before (λ e. absurd (omega (arith, e, earlier)))
-            (state_of-set table.events table.flags i was k (omega (arith, earlier)))
-        | inr there ↦
-            let here : i ≡ k = omega (arith, below, there) in
-            let by_old = kept (is_set old.flags (suc i)) (event_at table (suc i)) (state_at old i) x y before box table.width table.height right bottom out
-            written in
-            let by_new = kept (is_set table.flags (suc i)) (event_at table (suc i)) (state_at table i) x y before box table.width table.height right bottom
-            out written in
-            subst (λ (j : ℕ). (pixel_past old j x y before ≡ pixel_past table j x y before) × (kept_past old j x y before ≡ kept_past table j x y before)) here
-            (by_old.0 ∙ sym by_new.0, by_old.1 ∙ sym by_new.1)
-      ]
-
-  -- up to a position from which on the states are the same, and further
-  changed_on : (box : Bounds) (n to : ℕ) → suc i ≤ n → state_at old n ≡ state_at table n → HoldsChanged box old table n → HoldsChanged box old table to
-  changed_on box n to later is changed k x y before below right bottom out =
+  -- up to a position, from another one on which the states are the same
+  pub followed : (n to : ℕ) (state : Pipeline) (box : Bounds) → number ≤ n → state ≡ state_at table n → IsFollowed table number was n state box
+      → HoldsChanged box old table to
+  followed n to state box later is so_far k x y before below right bottom out =
       elim (cases_lt k n) [
-        | inl earlier ↦ changed k x y before earlier right bottom out
-        | inr further ↦ same_past table i was k x y before (λ e. absurd (omega (arith, e, later, further))) (state_same n k later is further)
+        | inl earlier ↦ so_far.changed k x y before earlier right bottom out
+        | inr further ↦
+            same_past table number was k x y before (λ e. absurd (omega (arith, e, later, further)))
+            (state_same n k later (sym so_far.follows ∙ is) further)
       ]
 
-  -- one event more
-  changed_more : (box : Bounds) (n : ℕ) → HoldsChanged box old table n
-      → ((x y : ℕ) (before : Pixel) → x < table.width → y < table.height → is_within box x y ≡ false
-      → (pixel_past old n x y before ≡ pixel_past table n x y before) × (kept_past old n x y before ≡ kept_past table n x y before))
-      → HoldsChanged box old table (suc n)
-  changed_more box n changed next k x y before below right bottom out =
-      elim (cases_lt k n) [
-        | inl earlier ↦ changed k x y before earlier right bottom out
-        | inr there ↦
-            let here : n ≡ k = omega (arith, below, there) in
-            subst (λ (j : ℕ). (pixel_past old j x y before ≡ pixel_past table j x y before) × (kept_past old j x y before ≡ kept_past table j x y before))
-            here (next x y before right bottom out)
-      ]
-
-  -- which is missing in both tables, or this one, in their states
-  followed_by : (event : Option Event) (n : ℕ) (state : Pipeline) (box joined : Bounds) → suc i ≤ n → active_event table (suc n) ≡ event
+  -- past one event more, which may be none: outside the box it does the same in the states of both tables
+  pub followed_by : (event : Option Event) (n : ℕ) (state : Pipeline) (box joined : Bounds) → number ≤ n → active_event table (n + 1) ≡ event
       → ((x y : ℕ) → is_within joined x y ≡ false → is_within box x y ≡ false)
-      → ((x y : ℕ) (before : Pixel) → x < table.width → y < table.height → is_within joined x y ≡ false
-      → (pixel_after_event event (state_at old n) x y before ≡ pixel_after_event event (state_at table n) x y before)
-      × (kept_by_event event (state_at old n) x y before ≡ kept_by_event event (state_at table n) x y before))
-      → IsFollowed table (suc i) was n state box → IsFollowed table (suc i) was (suc n) (state_after_event event state) joined
+      → ((s t : Pipeline) (x y : ℕ) (before : Pixel) → x < table.width → y < table.height → is_within joined x y ≡ false
+      → (pixel_after_event event s x y before ≡ pixel_after_event event t x y before) × (kept_by_event event s x y before ≡ kept_by_event event t x y before))
+      → IsFollowed table number was n state box → IsFollowed table number was (n + 1) (state_after_event event state) joined
   followed_by event n state box joined later is wider same so_far =
-      let is_old : active_event old (suc n) ≡ event = active_other table i was n (λ e. absurd (omega (arith, e, later))) ∙ is in
-      record {
-        follows = ap (state_after_event event) so_far.follows ∙ ap (λ (e : Option Event). state_after_event e (state_at old n)) (sym is_old);
-        changed = changed_more joined n (λ k x y before below right bottom out. so_far.changed k x y before below right bottom (wider x y out))
-            (λ x y before right bottom out.
-            let both = same x y before right bottom out in (
-              ap (λ (e : Option Event). pixel_after_event e (state_at old n) x y before) is_old ∙ both.0
-                  ∙ ap (λ (e : Option Event). pixel_after_event e (state_at table n) x y before) (sym is),
-              ap (λ (e : Option Event). kept_by_event e (state_at old n) x y before) is_old ∙ both.1
-                  ∙ ap (λ (e : Option Event). kept_by_event e (state_at table n) x y before) (sym is),
-            ));
-      }
+      let here : active_event table (suc n) ≡ event = subst (λ (m : ℕ). active_event table m ≡ event) (add-one n) is in
+      let there : active_event old (suc n) ≡ event = active_other table number was n (λ e. absurd (omega (arith, e, later))) ∙ here in
+      subst (λ (m : ℕ). IsFollowed table number was m (state_after_event event state) joined) (sym (add-one n)) (record {
+        follows = ap (state_after_event event) so_far.follows ∙ ap (λ (e : Option Event). state_after_event e (state_at old n)) (sym there);
+        changed = changed_more joined old table n (λ k x y before below right bottom out. so_far.changed k x y before below right bottom (wider x y out))
+            (λ x y before right bottom out. rw (there, here) (same (state_at old n) (state_at table n) x y before right bottom out));
+      })
 
--- ---- for a number that names an event
-pub follow : (table : Table) (number : ℕ) (was : Bool) (state : Pipeline) (box : Bounds) → 1 ≤ number
-    → IfSome (event_at table number) (HoldsWritten box table.width table.height)
-    → state ≡ state_at (with_flag table number was) number → IsFollowed table number was number state box
-follow table zero was state box first written is = absurd (omega (arith, first))
-follow table (suc i) was state box first written is = record { follows = is; changed = changed_here table i was box written }
-
--- the event after a position, switched off or on
-active_is : (table : Table) (n : ℕ) (on : Bool) → flag_at table (n + 1) ≡ Some on → active_event table (suc n) ≡ cond on (event_at table (suc n)) None
-active_is table n on is =
-    let flag : flag_at table (suc n) ≡ Some on = subst (λ (m : ℕ). flag_at table m ≡ Some on) (add-one n) is in
-    ap (λ (o : Option Bool). cond (unwrap_or o false) (event_at table (suc n)) None) flag
-
-pub follow_off : (table : Table) (number : ℕ) (was : Bool) (n : ℕ) (state : Pipeline) (box : Bounds) → 1 ≤ number → number ≤ n
-    → flag_at table (n + 1) ≡ Some false → IsFollowed table number was n state box
-    → IsFollowed table number was (n + 1) state box
-follow_off table zero was n state box first later off so_far = absurd (omega (arith, first))
-follow_off table (suc i) was n state box first later off so_far =
-    subst (λ (m : ℕ). IsFollowed table (suc i) was m state box) (sym (add-one n))
-    (followed_by table i was None n state box box later (active_is table n false off) (λ x y out. out) (λ x y before right bottom out. (refl, refl)) so_far)
-
-pub follow_on : (table : Table) (number : ℕ) (was : Bool) (n : ℕ) (state : Pipeline) (box drawn joined : Bounds) (event : Event) → 1 ≤ number → number ≤ n
-    → flag_at table (n + 1) ≡ Some true
-    → event_at table (n + 1) ≡ Some event → HoldsByState drawn table.width table.height event → HoldsBoth joined box drawn
-    → IsFollowed table number was n state box
-    → IsFollowed table number was (n + 1) (state_after event state) joined
-follow_on table zero was n state box drawn joined event first later on is by_state both so_far = absurd (omega (arith, first))
-follow_on table (suc i) was n state box drawn joined event first later on is by_state both so_far =
-    subst (λ (m : ℕ). IsFollowed table (suc i) was m (state_after event state) joined) (sym (add-one n))
-    (followed_by table i was (Some event) n state box joined later (active_is table n true on ∙ subst (λ (m : ℕ). event_at table m ≡ Some event) (add-one n) is)
-    (λ x y out. (outside joined box drawn x y both out).0)
-    (λ x y before right bottom out. by_state (state_at (with_flag table (suc i) was) n) (state_at table n) x y before right bottom
-    (outside joined box drawn x y both out).1) so_far)
-
--- up to a position, or until the states are the same
-pub followed : (table : Table) (number : ℕ) (was : Bool) (n to : ℕ) (state : Pipeline) (box : Bounds) → 1 ≤ number → number ≤ n → state ≡ state_at table n
-    → IsFollowed table number was n state box
-    → HoldsChanged box (with_flag table number was) table to
-followed table zero was n to state box first later is so_far = absurd (omega (arith, first))
-followed table (suc i) was n to state box first later is so_far = changed_on table i was box n to later (sym so_far.follows ∙ is) so_far.changed
+-- an event that is switched off or on
+pub active_is : (table : Table) (number : ℕ) (on : Bool) → flag_at table number ≡ Some on → active_event table number ≡ cond on (event_at table number) None
+active_is table number on is = ap (λ (o : Option Bool). cond (unwrap_or o false) (event_at table number) None) is

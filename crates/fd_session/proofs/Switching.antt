@@ -1,112 +1,140 @@
 -- A switch of an event leaves all that stands before it.
-use Rattle.std.proofs.Common.{◌≡◌, ◌≢◌, ℕ, zero, suc, ◌+◌, ◌<◌, ◌≤◌, Bool, not, List, length, get_or, refl, sym, ◌∙◌, subst, arith, All, Some, inl, inr}
-use Rattle.std.proofs.lemmas.Bool.{cases_lt}
+use Rattle.std.proofs.Common.{◌≡◌, ◌≢◌, ℕ, zero, suc, ◌-◌, ◌<◌, ◌≤◌, Bool, false, List, [], ◌∷◌, get_or, refl, sym, ap, ◌∙◌, arith, All, Some}
+use Rattle.std.proofs.Common.{slice_get, slice_set}
+use Rattle.std.specs.List.{AllZip}
 use Rattle.std.proofs.lemmas.List.{length-set}
 use Rattle.fd_tile.specs.declared.place.Place.{Place}
 use Rattle.fd_tile.specs.Tile.{Pixel}
 use Rattle.fd_tile.specs.Grid.{TargetSize}
 use Rattle.fd_events.specs.Table.{Table, IsTable, with_flag, flag_at, active_event, state_at}
 use Rattle.fd_events.proofs.States.{slice_get-set_other, state_of-set}
-use Rattle.fd_owner.specs.History.{pixel_past, kept_past, drawn_history}
-use Rattle.fd_owner.specs.Shown.{Shown, IsInside}
-use Rattle.fd_crew.specs.Lanes.{opening_position}
-use Rattle.fd_session.specs.Held.{StandsAt, size_of, HoldsFrame}
-use Rattle.fd_session.specs.declared.answer.Answer.{Answer}
-use Rattle.fd_session.specs.declared.answer.Answer.TheVariants.{Moved, Stopped}
-use Rattle.fd_session.specs.Machine.{State, with_flag_at, Switches}
+use Rattle.fd_owner.specs.History.{drawn_history}
+use Rattle.fd_owner.specs.Shown.{Shown, IsInside, gone_back_to}
+use Rattle.fd_session.specs.Held.{Stands, StandsFrom, size_of, IsLeft}
+use Rattle.fd_session.specs.Redraw.{IsTakenBefore}
+use Rattle.fd_session.specs.Switch.{IsSameAt, IsSpared, unswitched}
+use Rattle.fd_session.specs.declared.switch.Switch.{Switch}
 use Rattle.fd_session.proofs.Alike.{history_same}
+use Rattle.fd_session.proofs.Frames.{stands_less, stands_from, all_moved}
 
--- the flag of event number i + 1 says nothing of the events before it
-module _ (table : Table) (i : ℕ) (on : Bool) where
-  abbrev switched : Table
-  switched = with_flag table (suc i) on
-
-  pub active_other : (k : ℕ) → k ≢ i → active_event switched (suc k) ≡ active_event table (suc k)
-  active_other k other = rw (slice_get-set_other table.flags i k on other) refl
-
-  -- an event before which the state is the same
-  pub same_past : (k x y : ℕ) (before : Pixel) → k ≢ i → state_at switched k ≡ state_at table k
-      → (pixel_past switched k x y before ≡ pixel_past table k x y before) × (kept_past switched k x y before ≡ kept_past table k x y before)
-  same_past k x y before other is = rw (active_other k other, is) (refl, refl)
-
-  pub history_other : (place : Place) (k : ℕ) → k ≤ i → drawn_history switched place k ≡ drawn_history table place k
-  history_other place =
-      history_same switched table place i
-      (λ k x y before below held. same_past k x y before (λ e. absurd (omega (arith, e, below)))
-      (state_of-set table.events table.flags i on k (omega (arith, below))))
-
-  stands_other : (k : ℕ) (o : Shown) → k ≤ i → StandsAt table k o → StandsAt switched k o
-  stands_other k o within at = record {
-    history = at.history ∙ sym (history_other o.place k within);
-    inside =
-        record { right = at.inside.right; bottom = at.inside.bottom };
-  }
-
-  stands_again : (k : ℕ) (o : Shown) → k ≤ i → StandsAt switched k o → StandsAt table k o
-  stands_again k o within at = record {
-    history = at.history ∙ history_other o.place k within;
-    inside =
-        record { right = at.inside.right; bottom = at.inside.bottom };
-  }
-
-  table_other : IsTable table → IsTable switched
-  table_other valid = record {
-    min_width = valid.min_width;
-    max_width = valid.max_width;
-    min_height = valid.min_height;
-    max_height = valid.max_height;
-    max_events = valid.max_events;
-    version = valid.version;
-    flags = length-set table.flags i on ∙ valid.flags;
-  }
-
--- ---- owners that stand before the event that is switched
-pub all_other : (table : Table) (number : ℕ) (on : Bool) (k : ℕ) (owners : List Shown) → k < number → All (StandsAt table k) owners
-    → All (StandsAt (with_flag table number on) k) owners
-all_other table zero on k owners below at n d within = absurd (omega (arith, below))
-all_other table (suc i) on k owners below at n d within = stands_other table i on k (get_or owners n d) (omega (arith, below)) (at n d within)
-
--- one that stood before the event that was switched
-pub stood_before : (table : Table) (number : ℕ) (on : Bool) (k : ℕ) (o : Shown) → k < number → StandsAt (with_flag table number on) k o → StandsAt table k o
-stood_before table zero on k o below at = at
-stood_before table (suc i) on k o below at = stands_again table i on k o (omega (arith, below)) at
-
-pub inside_with : (table : Table) (number : ℕ) (on : Bool) (place : Place) → IsInside place (with_flag table number on) → IsInside place table
-inside_with table zero on place inside = inside
-inside_with table (suc i) on place inside = record { right = inside.right; bottom = inside.bottom }
+-- ---- what the table with one flag set has of the table
 
 pub events_with : (table : Table) (number : ℕ) (on : Bool) → (with_flag table number on).events ≡ table.events
 events_with table zero on = refl
 events_with table (suc i) on = refl
 
--- what the table after a switch has of the one before
-pub table_with : (table : Table) (number : ℕ) (on : Bool) (size : TargetSize) → IsTable table → size ≡ size_of table
-    → IsTable (with_flag table number on) × (size ≡ size_of (with_flag table number on)) × (length (with_flag table number on).events ≡ length table.events)
-table_with table zero on size valid sized = (valid, sized, refl)
-table_with table (suc i) on size valid sized = (table_other table i on valid, sized, refl)
+pub size_with : (table : Table) (number : ℕ) (on : Bool) → size_of (with_flag table number on) ≡ size_of table
+size_with table zero on = refl
+size_with table (suc i) on = refl
 
--- a switch of an event that is still to come
-pub held_ahead : (table : Table) (number : ℕ) (on : Bool) (size : TargetSize) (owners : List Shown) (workers : ℕ) → opening_position owners < number
-    → HoldsFrame table size owners workers → HoldsFrame (with_flag table number on) size owners workers
-held_ahead table number on size owners workers below held =
-    let after = table_with table number on size held.valid held.sized in
-    record {
-      valid = after.0;
-      sized = after.1;
-      places = held.places;
-      stand = all_other table number on (opening_position owners) owners below held.stand;
-      reached = omega (arith, held.reached, after.2);
-      crewed = held.crewed;
-    }
+pub table_with : (table : Table) (number : ℕ) (on : Bool) → IsTable table → IsTable (with_flag table number on)
+table_with table zero on valid = valid
+table_with table (suc i) on valid = record {
+  min_width = valid.min_width;
+  max_width = valid.max_width;
+  min_height = valid.min_height;
+  max_height = valid.max_height;
+  max_events = valid.max_events;
+  version = valid.version;
+  flags = length-set table.flags i on ∙ valid.flags;
+}
 
--- what is answered
-pub switches : (old : State) (number : ℕ) (on : Bool) (at : ℕ) (answer : Answer) → flag_at old.table number ≡ Some (not on) → number ≤ at + 1
-    → at ≤ old.position
-    → (at < old.position → answer ≡ Stopped at) → (old.position ≤ at → answer ≡ Moved at) → Switches old number on answer (with_flag_at old number on at)
-switches old number on at answer other first last stopped moved =
-    elim (cases_lt at old.position) [
-      | inl below ↦ subst (λ (a : Answer). Switches old number on a (with_flag_at old number on at)) (sym (stopped below)) (other, first, below, refl)
-      | inr above ↦
-          let same : at ≡ old.position = omega (arith, last, above) in
-          subst (λ (a : Answer). Switches old number on a (with_flag_at old number on at)) (sym (moved (omega (arith, above)))) (other, same, refl)
-    ]
+pub active_other : (table : Table) (number : ℕ) (on : Bool) (k : ℕ) → suc k ≢ number → active_event (with_flag table number on) (suc k)
+    ≡ active_event table (suc k)
+active_other table zero on k other = refl
+active_other table (suc i) on k other = rw (slice_get-set_other table.flags i k on (λ e. other (ap suc e))) refl
+
+state_before : (table : Table) (number : ℕ) (on : Bool) (k : ℕ) → k < number → state_at (with_flag table number on) k ≡ state_at table k
+state_before table zero on k before = absurd (omega arith)
+state_before table (suc i) on k before = state_of-set table.events table.flags i on k (omega arith)
+
+set_back : (flags : List Bool) (n : ℕ) (first second : Bool) → slice_get flags n ≡ Some second → slice_set (slice_set flags n first) n second ≡ flags
+set_back [] n first second is = refl
+set_back (flag ∷ flags) zero first second is = let same : flag ≡ second = cc in ap (λ b. b ∷ flags) (sym same)
+set_back (flag ∷ flags) (suc n) first second is = ap (λ bs. flag ∷ bs) (set_back flags n first second is)
+
+pub flag_back : (table : Table) (number : ℕ) (first second : Bool) → flag_at table number ≡ Some second
+    → with_flag (with_flag table number first) number second ≡ table
+flag_back table zero first second is = refl
+flag_back table (suc n) first second is = ap (λ flags. record table { flags = flags }) (set_back table.flags n first second is)
+
+-- by the table as it is after the switch, the one before it
+pub unswitched_is : (table : Table) (switch : Switch) (number : ℕ) (on : Bool) → switch.number ≡ number → flag_at table number ≡ Some switch.was_on
+    → unswitched (with_flag table number on) switch ≡ table
+unswitched_is table switch number on of was = ap (λ (m : ℕ). with_flag (with_flag table number on) m switch.was_on) of
+    ∙ flag_back table number on switch.was_on was
+
+-- ---- what is drawn by it
+
+module _ (table : Table) (number : ℕ) (on : Bool) where
+  abbrev switched : Table
+  switched = with_flag table number on
+
+  -- an event before which the state is the same
+  pub same_past : (k x y : ℕ) (before : Pixel) → suc k ≢ number → state_at switched k ≡ state_at table k → IsSameAt switched table k x y before
+  same_past k x y before other is = rw (active_other table number on k other, is) (refl, refl)
+
+  pub same_before : (k x y : ℕ) (before : Pixel) → suc k < number → IsSameAt switched table k x y before
+  same_before k x y before below = same_past k x y before (λ e. absurd (omega (arith, e, below))) (state_before table number on k (omega (arith, below)))
+
+  history_before : (place : Place) (k : ℕ) → k < number → drawn_history switched place k ≡ drawn_history table place k
+  history_before place k below = history_same switched table place k (λ j x y before under held. same_before j x y before (omega (arith, under, below))) k
+      (omega arith)
+
+  inside_with : (place : Place) → IsInside place switched → IsInside place table
+  inside_with place inside =
+      let size = size_with table number on in
+      record {
+        right = omega (arith, inside.right, ap (λ (s : TargetSize). s.width) size);
+        bottom = omega (arith, inside.bottom, ap (λ (s : TargetSize). s.height) size);
+      }
+
+  -- one that stands before the event
+  pub stood_before : (k : ℕ) (o : Shown) → k < number → Stands false switched k o → Stands false table k o
+  stood_before k o below at = record { history = at.history ∙ history_before o.place k below; inside = inside_with o.place at.inside }
+
+  pub all_before : (k : ℕ) (owners : List Shown) → k < number → All (Stands false table k) owners → All (Stands false switched k) owners
+  all_before k owners below at n d within =
+      let o = get_or owners n d in
+      let stands = at n d within in
+      let size = size_with table number on in
+      record {
+        history = stands.history ∙ sym (history_before o.place k below);
+        inside = record {
+          right = omega (arith, stands.inside.right, ap (λ (s : TargetSize). s.width) size);
+          bottom = omega (arith, stands.inside.bottom, ap (λ (s : TargetSize). s.height) size);
+        };
+      }
+
+-- ---- what a switch leaves of the owners, before anything is drawn anew
+module _ (table : Table) (switch : Switch) where
+  -- one that stays
+  pub taken_spared : (o : Shown) → switch.number ≤ switch.position → IsSpared table switch o.place → Stands false (unswitched table switch) switch.position o
+      → IsTakenBefore table switch o o
+  taken_spared o reached spared stood = record {
+    place = refl;
+    stands = record {
+      at = switch.position;
+      stands = record {
+        history = stood.history ∙ spared switch.position (omega arith);
+        inside = inside_with table switch.number switch.was_on o.place stood.inside;
+      };
+      above = omega (arith, reached);
+      together = λ t. absurd (cc);
+    };
+  }
+
+  -- one that goes back
+  pub taken_back : (o p : Shown) → 1 ≤ switch.number → switch.number ≤ switch.position → Stands false (unswitched table switch) switch.position o
+      → p ≡ gone_back_to (switch.number - 1) o
+      → IsTakenBefore table switch o p
+  taken_back o p first reached stood gone = record {
+    place = ap (λ (s : Shown). s.place) gone;
+    stands = stands_from false table (switch.number - 1) p (stood_before table switch.number switch.was_on (switch.number - 1) p (omega (arith, first))
+        (stands_less false (unswitched table switch) switch.position (switch.number - 1) o p (omega (arith, reached)) (λ t. absurd (cc)) stood gone));
+  }
+
+  -- all of them
+  pub all_taken : (old new : List Shown) → AllZip (IsTakenBefore table switch) old new → IsLeft (StandsFrom false table (switch.number - 1)) old new
+  all_taken old new taken = all_moved (λ o. Unit {0}) (StandsFrom false table (switch.number - 1)) (IsTakenBefore table switch) (λ o p u t. (t.place, t.stands))
+      old new (λ k d within. tt) taken

@@ -1,4 +1,3 @@
-pub mod Drawing
 pub mod Held
 pub mod Machine
 pub mod Moves

@@ -3,7 +3,6 @@ use Rattle.std.specs.Prelude.{◌≡◌, ℕ, ◌<◌, ◌≤◌, false}
 use Rattle.fd_cover.specs.declared.bounds.Bounds.{Bounds}
 use Rattle.fd_cover.specs.Bounds.{is_within}
 use Rattle.fd_tile.specs.declared.place.Place.{Place}
-use Rattle.fd_tile.specs.Place.{Holds}
 use Rattle.fd_tile.specs.Tile.{Pixel}
 use Rattle.fd_events.specs.declared.event.Event.{Event}
 use Rattle.fd_events.specs.declared.pipeline.Pipeline.{Pipeline}
@@ -17,14 +16,14 @@ abbrev pub HoldsByState : Bounds → ℕ → ℕ → Event → Type 0
 HoldsByState box width height event = (s t : Pipeline) (x y : ℕ) (before : Pixel) → x < width → y < height → is_within box x y ≡ false
     → (pixel_after event s x y before ≡ pixel_after event t x y before) × (kept_by event s x y before ≡ kept_by event t x y before)
 
+-- The event after position k does the same to a pixel by either table.
+abbrev pub IsSameAt : Table → Table → ℕ → ℕ → ℕ → Pixel → Type 0
+IsSameAt old new k x y before = (pixel_past old k x y before ≡ pixel_past new k x y before) × (kept_past old k x y before ≡ kept_past new k x y before)
+
 -- Outside the box each event up to a position does the same to every pixel of the target by either table.
 abbrev pub HoldsChanged : Bounds → Table → Table → ℕ → Type 0
 HoldsChanged box old new to = (k x y : ℕ) (before : Pixel) → k < to → x < new.width → y < new.height → is_within box x y ≡ false
-    → (pixel_past old k x y before ≡ pixel_past new k x y before) × (kept_past old k x y before ≡ kept_past new k x y before)
-
--- The box holds no pixel of the place.
-abbrev pub Misses : Bounds → Place → Type 0
-Misses box place = (x y : ℕ) → Holds place x y → is_within box x y ≡ false
+    → IsSameAt old new k x y before
 
 -- the table as it was before the switch
 abbrev pub unswitched : Table → Switch → Table

@@ -3,6 +3,7 @@ ghost use Rattle.std.specs.Prelude.{◌<◌, ◌≤◌, length};
 
 use arrayvec::ArrayVec;
 use fd_cover::Bounds;
+use fd_crew::MOST_WORKERS;
 use fd_events::{Draw, Event, EventTable, GROUP_LEN};
 use fd_snap::MAX_SIDE;
 use fd_tile::TILE_SIDE;
@@ -25,8 +26,11 @@ const PASSED_WORK: usize = 60;
 /// The most rows of tiles that there are.
 const MOST_ROWS: usize = (MAX_SIDE / TILE_SIDE) as usize;
 
+/// The most workers that there are.
+const MOST_FIRSTS: usize = MOST_WORKERS as usize;
+
 /// The number of the tile at which each worker begins, or of none where that does not matter.
-pub(crate) type Firsts = ArrayVec<usize, 64>;
+pub(crate) type Firsts = ArrayVec<usize, MOST_FIRSTS>;
 
 /// The tiles of a target on which a move draws, and a box round what it draws.
 #[derive(Clone, Copy, Debug)]

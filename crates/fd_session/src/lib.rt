@@ -2,6 +2,7 @@
 #![tactic(auto)]
 
 pub use answer::{Answer, SessionFault};
+pub use fd_crew::MOST_WORKERS;
 pub use picture::Picture;
 pub use session::Session;
 pub use shows::Shows;

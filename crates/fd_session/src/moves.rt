@@ -1,15 +1,14 @@
 //! Moves of all owners of a frame from one position to another.
-ghost use Rattle.std.specs.Prelude.{◌≡◌, ℕ, ◌<◌, ◌≤◌, length, All, IfOk, MatchResult};
-ghost use Rattle.fd_tile.specs.Grid.{tile_count};
-ghost use Rattle.fd_events.specs.Table.{Table};
+ghost use Rattle.std.specs.Prelude.{◌≡◌, ℕ, ◌<◌, ◌≤◌, Bool, length, map, All, IfOk};
+ghost use Rattle.std.specs.Result.{result_unwrap_or};
 ghost use Rattle.fd_owner.specs.History.{position};
 ghost use Rattle.fd_crew.specs.Lanes.{opening_position};
-ghost use Rattle.fd_session.specs.Held.{StandsAt, IsLeftAt};
-ghost use Rattle.fd_session.specs.Moves.{IsFresh, StandsFrom, GoesOn, left_position, StopsBetween};
+ghost use Rattle.fd_session.specs.Held.{HoldsAll, Stands, StandsFrom, as_kept};
+ghost use Rattle.fd_session.specs.Moves.{MayGo, Comes};
 
 use crate::estimate::Area;
-use crate::worth::{MOVE_WORK, Slice, next_slice};
-use fd_crew::{Gate, Outcome, Run, run_back, run_shared};
+use crate::worth::{MOVE_WORK, PICTURE_WORK, Slice, next_slice};
+use fd_crew::{Gate, Outcome, run_back, run_shared};
 use fd_device::Progress;
 use fd_events::EventTable;
 use fd_owner::Owner;
@@ -40,16 +39,17 @@ pub(crate) fn lowest_position(owners: &[Owner], most: u32) -> u32
     lowest
 }
 
-/// An owner for each tile of the grid, at position 0. A tile takes its memory when an event first draws on it.
-pub(crate) fn fresh_owners(alloc: Global, grid: &Grid) -> Result<Vec<Owner>, AllocError>
-    ensures { IfOk result (λ owners. IsFresh grid.now (tile_count grid.now) owners.items) }
+/// The tiles of a table's target, and an owner of each at position 0. A tile takes its memory when an event first draws on it.
+pub(crate) fn open(alloc: Global, table: &EventTable) -> Result<(Grid, Vec<Owner>), AllocError>
+    ensures { IfOk result (λ opened. (forgets : Bool) → HoldsAll forgets table.now opened.0 opened.1.items × (opening_position opened.1.items ≡ 0)) }
 {
+    let grid = Grid::new(table.width(), table.height()).unwrap();
     let mut owners = Vec::with_capacity(alloc, grid.count())?;
     for number in 0..grid.count() {
         let tile = Tile::blank(alloc, grid.place(number));
         owners.push(Owner::of(alloc, tile))?;
     }
-    Ok(owners)
+    Ok((grid, owners))
 }
 
 /// How a move forward is cut for the crew.
@@ -57,7 +57,7 @@ pub(crate) fn fresh_owners(alloc: Global, grid: &Grid) -> Result<Vec<Owner>, All
 pub(crate) enum Pace {
     /// All at once, by all workers, among whom the tiles are shared out evenly.
     Whole,
-    /// Slice by slice, each by as many workers as it is worth; where memory runs out, the rest of a slice event by event. All that was done stays.
+    /// Slice by slice, each by as many workers as it is worth. All that was done stays where memory runs out.
     Slices,
 }
 
@@ -65,6 +65,8 @@ pub(crate) enum Pace {
 #[derive(Clone, Copy)]
 pub(crate) struct Drive<'a, G: Gate> {
     pub pace: Pace,
+    /// Whether the owners forget after each slice what was overwritten.
+    pub forgets: bool,
     /// The most that a slice starts.
     pub workers: u32,
     pub alloc: Global,
@@ -93,59 +95,82 @@ impl<G: Gate> Drive<'_, G> {
         ensures most { result.workers ≤ self.now.workers }
     {
         let to = way.to;
+        let work = if self.forgets {
+            PICTURE_WORK
+        } else {
+            MOVE_WORK
+        };
         match self.pace {
             Pace::Whole => Slice::even(at, to, self.workers),
-            Pace::Slices => next_slice(table, at, to, &way.area, self.workers, MOVE_WORK),
+            Pace::Slices => next_slice(table, at, to, &way.area, self.workers, work),
         }
     }
 }
 
-/// Takes owners on over a slice, or all to the position before the first event that one of them refuses. Those that stand above the slice stay there.
+/// Lets all owners forget what was overwritten, if they are to.
+fn settle(owners: &mut [Owner], forgets: bool)
+    ensures { owners.new ≡ map (as_kept forgets) owners.old }
+{
+    if !forgets {
+        return;
+    }
+    for owner in owners.iter_mut() {
+        owner.forget();
+    }
+}
+
+/// Takes owners on over a slice, or to the position before the first event that one of them refuses.
 fn run_on<R: Threads + Sync, G: Gate>(
     rt: &R,
     owners: &mut [Owner],
     table: &EventTable,
     slice: &Slice,
     drive: &Drive<'_, G>,
-) -> Result<Outcome, AllocError>
-    requires stand { All (StandsFrom table.now slice.now.from) owners.old }
-    requires target { slice.now.end ≤ length table.now.events }
-    requires workers { (1 ≤ slice.now.workers) × (slice.now.workers ≤ 64) }
-    ensures { MatchResult result (λ outcome. GoesOn table.now slice.now.from slice.now.end owners.old owners.new outcome) (λ _. owners.new ≡ owners.old) }
+) -> Result<u32, AllocError>
+    requires { MayGo drive.now.forgets table.now slice.now.from slice.now.end slice.now.workers owners.old }
+    ensures { Comes (StandsFrom drive.now.forgets table.now) slice.now.from slice.now.end (result_unwrap_or result slice.now.from) owners.old owners.new }
 {
-    run_shared(rt, drive.alloc, owners, &slice.run(table), drive.gate)
+    let outcome = run_shared(rt, drive.alloc, owners, &slice.run(table), drive.gate)?;
+    settle(owners, drive.forgets);
+    match outcome {
+        Outcome::Reached => Ok(slice.end),
+        Outcome::Stopped { at } => Ok(at),
+    }
 }
 
 /// Takes owners on over a slice. Where memory runs out in it the calling thread goes on alone, event by event: each thread wants memory of its own, and
-/// so does a tile that runs ahead.
+/// so does a tile that runs ahead. Owners that forget need come no further than one event, since a slice may begin there.
 fn go_slice<R: Threads + Sync, G: Gate>(
     rt: &R,
     owners: &mut [Owner],
     table: &EventTable,
     slice: &Slice,
     drive: &Drive<'_, G>,
-) -> Result<Outcome, AllocError>
-    requires stand { All (StandsFrom table.now slice.now.from) owners.old }
-    requires target { slice.now.end ≤ length table.now.events }
-    requires workers { (1 ≤ slice.now.workers) × (slice.now.workers ≤ 64) }
-    ensures { MatchResult result (λ outcome. GoesOn table.now slice.now.from slice.now.end owners.old owners.new outcome) (λ _. owners.new ≡ owners.old) }
+) -> Result<u32, AllocError>
+    requires { MayGo drive.now.forgets table.now slice.now.from slice.now.end slice.now.workers owners.old }
+    ensures { Comes (StandsFrom drive.now.forgets table.now) slice.now.from slice.now.end (result_unwrap_or result slice.now.from) owners.old owners.new }
 {
     let end = slice.end;
-    let outcome = run_on(rt, owners, table, slice, drive)?;
-    let Outcome::Stopped { mut at } = outcome else {
-        return Ok(outcome);
-    };
-    if drive.pace == Pace::Whole || (slice.workers == 1 && end == at + 1) {
-        return Ok(outcome);
+    let run = run_on(rt, owners, table, slice, drive);
+    if run.is_err() && !drive.forgets {
+        return run;
     }
-    while at < end {
+    let mut at = run.unwrap_or(slice.from);
+    let alone_to = if drive.forgets {
+        slice.from.saturating_add(1).min(end)
+    } else if drive.pace == Pace::Whole || (slice.workers == 1 && end - at == 1) {
+        at
+    } else {
+        end
+    };
+    while at < alone_to {
         let run = run_on(rt, owners, table, &Slice::even(at, at + 1, 1), drive);
-        if left_by(at, at + 1, &run) == at {
-            return Ok(Outcome::Stopped { at });
+        if run.unwrap_or(at) == at {
+            return Ok(at);
         }
         at += 1;
     }
-    Ok(Outcome::Reached)
+    Ok(at)
 }
 
 /// Takes owners on to a position slice by slice, or to the one before the first event that one of them refuses. It is refused itself only where no owner
@@ -157,42 +182,25 @@ fn go_on<R: Threads + Sync, G: Gate, T: Progress>(
     way: &Way,
     drive: &Drive<'_, G>,
     teller: &mut T,
-) -> Result<Outcome, AllocError>
-    requires stand { All (StandsFrom table.now way.now.from) owners.old }
-    requires target { (way.now.from ≤ way.now.to) × (way.now.to ≤ length table.now.events) }
-    requires workers { (1 ≤ drive.now.workers) × (drive.now.workers ≤ 64) }
-    ensures goes { MatchResult result (λ outcome. GoesOn table.now way.now.from way.now.to owners.old owners.new outcome) (λ _. owners.new ≡ owners.old) }
+) -> Result<u32, AllocError>
+    requires { MayGo drive.now.forgets table.now way.now.from way.now.to drive.now.workers owners.old }
+    ensures comes { Comes (StandsFrom drive.now.forgets table.now) way.now.from way.now.to (result_unwrap_or result way.now.from) owners.old owners.new }
     ensures told { T.kept teller.new ≡ T.kept teller.old }
 {
     let mut at = way.from;
     while at < way.to {
         let slice = drive.next(table, at, way);
         let run = go_slice(rt, owners, table, &slice, drive);
-        let end = left_by(at, slice.end, &run);
-        if end < slice.end {
-            return if at == way.from {
-                run
-            } else {
-                Ok(Outcome::Stopped { at: end })
-            };
+        let end = run.unwrap_or(at);
+        if end == at || (end < slice.end && !drive.forgets) {
+            return if at == way.from { run } else { Ok(end) };
         }
         at = end;
         if at < way.to {
             teller.on_the_way(at, way.to);
         }
     }
-    Ok(Outcome::Reached)
-}
-
-/// The position to which a run forward from one position to another brought the owners.
-pub(crate) fn left_by(from: u32, to: u32, run: &Result<Outcome, AllocError>) -> u32
-    ensures { result ≡ left_position from to run.now }
-{
-    match run {
-        Ok(Outcome::Reached) => to,
-        Ok(Outcome::Stopped { at }) => *at,
-        Err(_) => from,
-    }
+    Ok(at)
 }
 
 /// Takes owners forward to a position, or to the one before the first event that one of them refuses, and all to that one position: those that stand
@@ -204,24 +212,12 @@ pub(crate) fn go_forward<R: Threads + Sync, G: Gate, T: Progress>(
     way: &Way,
     drive: &Drive<'_, G>,
     teller: &mut T,
-) -> Result<Outcome, AllocError>
-    requires stand { All (StandsFrom table.now way.now.from) owners.old }
-    requires target { (way.now.from ≤ way.now.to) × (way.now.to ≤ length table.now.events) }
-    requires workers { (1 ≤ drive.now.workers) × (drive.now.workers ≤ 64) }
-    ensures between { StopsBetween way.now.from way.now.to result }
-    ensures left { IsLeftAt table.now (left_position way.now.from way.now.to result) owners.old owners.new }
+) -> Result<u32, AllocError>
+    requires { MayGo drive.now.forgets table.now way.now.from way.now.to drive.now.workers owners.old }
+    ensures comes { Comes (Stands drive.now.forgets table.now) way.now.from way.now.to (result_unwrap_or result way.now.from) owners.old owners.new }
     ensures told { T.kept teller.new ≡ T.kept teller.old }
 {
     let run = go_on(rt, owners, table, way, drive, teller);
-    run_back(owners, left_by(way.from, way.to, &run));
+    run_back(owners, run.unwrap_or(way.from));
     run
-}
-
-/// Takes all owners back to a position.
-pub(crate) fn go_back(owners: &mut [Owner], to: u32)
-    requires together { All (λ owner. position owner.history ≡ opening_position owners.old) owners.old }
-    requires within { to ≤ opening_position owners.old }
-    ensures { (table : Table) → All (StandsAt table (opening_position owners.old)) owners.old → IsLeftAt table to owners.old owners.new }
-{
-    run_back(owners, to);
 }

@@ -1,14 +1,14 @@
 //! A switch of an event that the owners of a frame have gone through. Tiles that the event can't reach are not drawn anew.
-ghost use Rattle.std.specs.Prelude.{◌≡◌, ◌+◌, ◌≤◌, Some, not, length, All};
+ghost use Rattle.std.specs.Prelude.{◌≡◌, ◌+◌, ◌≤◌, Some, false, not, length, All};
 ghost use Rattle.std.specs.List.{AllZip};
 ghost use Rattle.fd_events.specs.Table.{with_flag, flag_at};
 ghost use Rattle.fd_crew.specs.Lanes.{opening_position};
-ghost use Rattle.fd_session.specs.Held.{StandsAt, IsLeftAt};
+ghost use Rattle.fd_session.specs.Held.{Stands, IsLeft};
 ghost use Rattle.fd_session.specs.Redraw.{IsTakenBefore};
 ghost use Rattle.fd_session.specs.Switch.{HoldsSwitched, unswitched};
 
 use crate::estimate::Area;
-use crate::moves::{Drive, Way, common_position, go_forward, left_by, lowest_position};
+use crate::moves::{Drive, Way, common_position, go_forward, lowest_position};
 use crate::switch::Switch;
 use fd_crew::Gate;
 use fd_device::Untold;
@@ -20,7 +20,7 @@ use std::thread::Threads;
 fn take_before(owner: &mut Owner, table: &EventTable, switch: &Switch)
     requires number { (1 ≤ switch.now.number) × (switch.now.number ≤ switch.now.position) }
     requires reach { HoldsSwitched table.now switch.now }
-    requires stood { StandsAt (unswitched table.now switch.now) switch.now.position owner.old }
+    requires stood { Stands false (unswitched table.now switch.now) switch.now.position owner.old }
     ensures { IsTakenBefore table.now switch.now owner.old owner.new }
 {
     if switch.spares(table, owner) {
@@ -33,7 +33,7 @@ fn take_before(owner: &mut Owner, table: &EventTable, switch: &Switch)
 fn take_all_before(owners: &mut [Owner], table: &EventTable, switch: &Switch)
     requires number { (1 ≤ switch.now.number) × (switch.now.number ≤ switch.now.position) }
     requires reach { HoldsSwitched table.now switch.now }
-    requires stood { All (StandsAt (unswitched table.now switch.now) switch.now.position) owners.old }
+    requires stood { All (Stands false (unswitched table.now switch.now) switch.now.position) owners.old }
     ensures { AllZip (IsTakenBefore table.now switch.now) owners.old owners.new }
 {
     for owner in owners.iter_mut() {
@@ -50,15 +50,16 @@ pub(crate) fn go_again<R: Threads + Sync, G: Gate>(
     on: bool,
     drive: &Drive<'_, G>,
 ) -> u32
-    requires stand { All (StandsAt table.old (opening_position owners.old)) owners.old }
+    requires stand { All (Stands false table.old (opening_position owners.old)) owners.old }
     requires number { (1 ≤ number) × (number ≤ opening_position owners.old) }
     requires reached { opening_position owners.old ≤ length table.old.events }
     requires other { flag_at table.old number ≡ Some (not on) }
     requires workers { (1 ≤ drive.now.workers) × (drive.now.workers ≤ 64) }
+    requires whole { drive.now.forgets ≡ false }
     ensures table { table.new ≡ with_flag table.old number on }
     ensures low { number ≤ result + 1 }
     ensures high { result ≤ opening_position owners.old }
-    ensures left { IsLeftAt (with_flag table.old number on) result owners.old owners.new }
+    ensures left { IsLeft (Stands false (with_flag table.old number on) result) owners.old owners.new }
 {
     let position = common_position(owners);
     let switch = Switch::make(table, number, on, position);
@@ -68,6 +69,5 @@ pub(crate) fn go_again<R: Threads + Sync, G: Gate>(
         to: position,
         area: Area::round(table, switch.reach),
     };
-    let run = go_forward(rt, owners, table, &way, drive, &mut Untold);
-    left_by(way.from, way.to, &run)
+    go_forward(rt, owners, table, &way, drive, &mut Untold).unwrap_or(way.from)
 }

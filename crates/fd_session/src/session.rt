@@ -1,15 +1,13 @@
-ghost use Rattle.std.specs.Prelude.{◌≡◌, ◌≢◌, ◌<◌, ◌≤◌, ◌+◌, ◌-◌, Some, not, length, map, IfOk, IfErr};
-ghost use Rattle.std.specs.List.{range_with_len};
-ghost use Rattle.fd_session.specs.declared.answer.Answer.TheVariants.{Moved, Stopped};
-ghost use Rattle.fd_session.specs.Moves.{jump_answer};
+ghost use Rattle.std.specs.Prelude.{◌≡◌, ◌≤◌, ◌+◌, false, Some, not, length, IfOk, IfErr};
 
 use crate::answer::{Answer, SessionFault};
 use crate::estimate::Area;
-use crate::moves::{Drive, Pace, Way, common_position, fresh_owners, go_back, go_forward};
+use crate::moves::{Drive, Pace, Way, common_position, go_forward, open};
 use crate::redraw::go_again;
-use crate::rows::row_from;
+use crate::rows::{owner_of, row_from};
+use crate::shows::Shows;
 use fd_blend::Colour;
-use fd_crew::{Free, Gate, Outcome};
+use fd_crew::{Free, Gate, run_back};
 use fd_device::{Progress, Untold};
 use fd_events::{EventTable, Pipeline};
 use fd_history::{Entry, history};
@@ -32,21 +30,30 @@ pub struct Session {
 }
 
 impl Model for Session {
+    ghost use Rattle.std.specs.Prelude.{◌≤◌, false};
     ghost use Rattle.fd_crew.specs.Lanes.{opening_position};
-    ghost use Rattle.fd_session.specs.Held.{HoldsFrame};
+    ghost use Rattle.fd_session.specs.Held.{HoldsAll};
     ghost use Rattle.fd_session.specs.Machine.{State};
 
     ghost Value = { State };
 
     ghost view = { λ s. record { table = s.table; position = opening_position s.owners.items } };
 
-    ghost invariant = { λ s. HoldsFrame s.table s.grid s.owners.items s.workers };
+    ghost invariant = { λ s. HoldsAll false s.table s.grid s.owners.items × (1 ≤ s.workers) × (s.workers ≤ 64) };
 }
 
 impl Session {
-    ghost use Rattle.fd_events.specs.Image.{colour_at};
+    ghost use Rattle.std.specs.Prelude.{◌<◌, ◌*◌};
+    ghost use Rattle.std.specs.Result.{result_map_both, result_unwrap_or};
+    ghost use Rattle.fd_tile.specs.Place.{Holds};
+    ghost use Rattle.fd_tile.specs.Tile.{pixel_in};
+    ghost use Rattle.fd_events.specs.Image.{pixel_at};
+    ghost use Rattle.fd_owner.specs.History.{position, last_image};
+    ghost use Rattle.fd_events.specs.Limits.{most_triangles, most_events};
     ghost use Rattle.fd_events.specs.Table.{state_at, flag_at};
-    ghost use Rattle.fd_session.specs.Machine.{State, opening, Steps, GoesBack, Jumps, RefusesSwitch, Switches, ShowsPixel, ShowsDepth, ShowsFlag, ShowsHistory, IsState};
+    ghost use Rattle.fd_session.specs.Held.{Stands};
+    ghost use Rattle.fd_session.specs.Machine.{State, opening, at_position, with_flag_at, Steps, GoesBack, Jumps, RefusesSwitch, Switches, ShowsPixel};
+    ghost use Rattle.fd_session.specs.Machine.{ShowsDepth, ShowsFlag, ShowsHistory, IsState};
 
     /// A session at position 0, whose moves have at most so many workers. On want of memory the table is handed back.
     pub fn start(
@@ -58,9 +65,8 @@ impl Session {
         ensures ok { IfOk result (λ session. session ≡ opening table) }
         ensures err { IfErr result (λ e. e.0 ≡ table) }
     {
-        let grid = Grid::new(table.width(), table.height()).unwrap();
-        match fresh_owners(alloc, &grid) {
-            Ok(owners) => Ok(Session {
+        match open(alloc, &table) {
+            Ok((grid, owners)) => Ok(Session {
                 table,
                 grid,
                 owners,
@@ -73,15 +79,47 @@ impl Session {
 
     /// How a move forward at this pace is handed to the crew.
     fn drive<'a, G: Gate>(&self, pace: Pace, gate: &'a G) -> Drive<'a, G>
-        ensures some { 1 ≤ result.workers }
-        ensures most { result.workers ≤ 64 }
+        ensures workers { (1 ≤ result.workers) × (result.workers ≤ 64) }
+        ensures whole { result.forgets ≡ false }
     {
         Drive {
             pace,
+            forgets: false,
             workers: self.workers,
             alloc: self.alloc,
             gate,
         }
+    }
+
+    /// Goes forward at this pace to a position, or to the one before the first event that is refused, and gives that position.
+    fn forward<R: Threads + Sync, G: Gate, T: Progress>(
+        &mut self,
+        rt: &R,
+        to: u32,
+        pace: Pace,
+        gate: &G,
+        teller: &mut T,
+    ) -> Result<u32, AllocError>
+        requires ahead { self.old.position ≤ to }
+        requires within { to ≤ length self.old.table.events }
+        ensures on { self.old.position ≤ result_unwrap_or result self.old.position }
+        ensures within { result_unwrap_or result self.old.position ≤ to }
+        ensures moved { self.new ≡ at_position self.old (result_unwrap_or result self.old.position) }
+        ensures told { T.kept teller.new ≡ T.kept teller.old }
+    {
+        let drive = self.drive(pace, gate);
+        let from = common_position(&self.owners);
+        let area = Area::of(&self.table);
+        let way = Way { from, to, area };
+        go_forward(rt, &mut self.owners, &self.table, &way, &drive, teller)
+    }
+
+    /// Goes back to a position.
+    fn back_to(&mut self, to: u32)
+        requires { to ≤ self.old.position }
+        ensures { self.new ≡ at_position self.old to }
+    {
+        run_back(&mut self.owners, to);
     }
 
     /// Jumps to a position, forward at this pace.
@@ -96,19 +134,18 @@ impl Session {
         ensures jumps { Jumps self.old to result self.new }
         ensures told { T.kept teller.new ≡ T.kept teller.old }
     {
-        if to > self.table.len() {
+        if to > self.table().len() {
             return Answer::Refused(SessionFault::NoSuchPosition);
         }
-        let from = common_position(&self.owners);
-        if to <= from {
-            go_back(&mut self.owners, to);
+        if to <= self.position() {
+            self.back_to(to);
             return Answer::Moved { at: to };
         }
-        let drive = self.drive(pace, gate);
-        let area = Area::of(&self.table);
-        let way = Way { from, to, area };
-        let run = go_forward(rt, &mut self.owners, &self.table, &way, &drive, teller);
-        answer_to_jump(to, run)
+        match self.forward(rt, to, pace, gate, teller) {
+            Ok(at) if at < to => Answer::Stopped { at },
+            Ok(at) => Answer::Moved { at },
+            Err(_) => Answer::Refused(SessionFault::Memory),
+        }
     }
 
     /// Goes through the next event. On want of memory nothing changes.
@@ -155,6 +192,23 @@ impl Session {
         Ok(())
     }
 
+    /// Sets the flag of an event. Where it was gone through, it and the ones after it are drawn anew. Gives the position that was reached.
+    fn set_on<R: Threads + Sync>(&mut self, rt: &R, number: u32, on: bool) -> u32
+        requires { flag_at self.old.table number ≡ Some (not on) }
+        ensures low { number ≤ self.old.position → number ≤ result + 1 }
+        ensures high { result ≤ self.old.position }
+        ensures stays { self.old.position < number → result ≡ self.old.position }
+        ensures switched { self.new ≡ with_flag_at self.old number on result }
+    {
+        let position = common_position(&self.owners);
+        if number > position {
+            self.table.set_on(number, on);
+            return position;
+        }
+        let drive = self.drive(Pace::Slices, &Free);
+        go_again(rt, &mut self.owners, &mut self.table, number, on, &drive)
+    }
+
     /// Switches an event on or off. Where it was gone through, it and the ones after it are drawn anew, which may stop before the position.
     pub fn switch<R: Threads + Sync>(&mut self, rt: &R, number: u32, on: bool) -> Answer
         ensures { Switches self.old number on result self.new }
@@ -162,25 +216,23 @@ impl Session {
         if let Err(fault) = self.can_switch(number, on) {
             return Answer::Refused(fault);
         }
-        let position = common_position(&self.owners);
-        if number > position {
-            self.table.set_on(number, on);
-            return Answer::Moved { at: position };
+        let position = self.position();
+        let at = self.set_on(rt, number, on);
+        if at < position {
+            return Answer::Stopped { at };
         }
-        let drive = self.drive(Pace::Slices, &Free);
-        let at = go_again(rt, &mut self.owners, &mut self.table, number, on, &drive);
-        answer_to_switch(position, at)
+        Answer::Moved { at }
     }
 
     /// Goes back over the last event, and gives the new position.
     pub fn back(&mut self) -> Result<u32, SessionFault>
         ensures { GoesBack self.old result self.new }
     {
-        let position = common_position(&self.owners);
+        let position = self.position();
         if position == 0 {
             return Err(SessionFault::AtStart);
         }
-        go_back(&mut self.owners, position - 1);
+        self.back_to(position - 1);
         Ok(position - 1)
     }
 
@@ -216,91 +268,56 @@ impl Session {
         self.table.state_before(self.position() + 1)
     }
 
-    ghost use Rattle.fd_tile.specs.Place.{Holds};
-    ghost use Rattle.fd_session.specs.Held.{StandsAt};
-
-    /// The owner of the tile that holds a pixel.
-    fn owner_of(&self, x: u32, y: u32) -> &Owner
-        requires column { x < self.now.table.width }
-        requires row { y < self.now.table.height }
-        ensures holds { Holds result.now.place x y }
-        ensures stands { StandsAt self.now.table self.now.position result.now }
+    /// The owner of the tile that holds a pixel, if there is such a pixel.
+    fn owner_of(&self, x: u32, y: u32) -> Result<&Owner, SessionFault>
+        ensures inside { IfOk result (λ _. (x < self.now.table.width) × (y < self.now.table.height)) }
+        ensures holds { IfOk result (λ owner. Holds owner.now.place x y) }
+        ensures stands { IfOk result (λ owner. Stands false self.now.table self.now.position owner.now) }
+        ensures at { IfOk result (λ owner. position owner.now.history ≡ self.now.position) }
+        ensures shows { IfOk result (λ owner. pixel_in owner.now.place (last_image owner.now.history) x y ≡ pixel_at self.now.table self.now.position x y) }
+        ensures err { IfErr result (λ fault. ShowsPixel self.now x y (Err fault)) }
     {
-        &self.owners[self.grid.tile_of(x, y)]
+        if x >= self.table.width() || y >= self.table.height() {
+            return Err(SessionFault::NoSuchPixel);
+        }
+        Ok(owner_of(&self.grid, &self.owners, x, y))
     }
 
     /// The colour of a pixel at the session's position.
     pub fn pixel(&self, x: u32, y: u32) -> Result<Colour, SessionFault>
         ensures { ShowsPixel self.now x y result }
     {
-        if x >= self.table.width() || y >= self.table.height() {
-            return Err(SessionFault::NoSuchPixel);
-        }
-        Ok(self.owner_of(x, y).pixel(x, y))
+        Ok(self.owner_of(x, y)?.pixel(x, y))
     }
 
     /// The depth of a pixel at the session's position.
     pub fn depth(&self, x: u32, y: u32) -> Result<u16, SessionFault>
         ensures { ShowsDepth self.now x y result }
     {
-        if x >= self.table.width() || y >= self.table.height() {
-            return Err(SessionFault::NoSuchPixel);
-        }
-        Ok(self.owner_of(x, y).depth(x, y))
+        Ok(self.owner_of(x, y)?.depth(x, y))
     }
-
-    /// The colours of row y at the session's position, from column x to the right border of the tile there.
-    #[doc(hidden)]
-    pub fn row_from(&self, x: u32, y: u32) -> &[Colour]
-        requires column { x < self.now.table.width }
-        requires row { y < self.now.table.height }
-        ensures some { 0 < length result.now }
-        ensures inside { x + length result.now ≤ self.now.table.width }
-        ensures short { length result.now ≤ 32 }
-        ensures colours { result.now ≡ map (λ column. colour_at self.now.table self.now.position column y) (range_with_len x (length result.now)) }
-    {
-        row_from(&self.table, &self.grid, &self.owners, x, y)
-    }
-
-    ghost use Rattle.std.specs.Prelude.{◌*◌};
-    ghost use Rattle.std.specs.Result.{result_map_both};
-    ghost use Rattle.fd_events.specs.Limits.{most_triangles, most_events};
 
     /// What the switched-on events up to the session's position did to a pixel, in order.
     pub fn history(&self, alloc: Global, x: u32, y: u32) -> Result<Vec<Entry>, SessionFault>
         ensures shows { ShowsHistory self.now x y (result_map_both (λ entries. entries.items) (λ fault. fault) result) }
         ensures few { IfOk result (λ entries. length entries.items ≤ most_triangles * most_events) }
     {
-        if x >= self.table.width() || y >= self.table.height() {
-            return Err(SessionFault::NoSuchPixel);
-        }
-        match history(alloc, &self.table, self.owner_of(x, y), x, y) {
+        match history(alloc, &self.table, self.owner_of(x, y)?, x, y) {
             Ok(entries) => Ok(entries),
             Err(_) => Err(SessionFault::Memory),
         }
     }
 }
 
-/// The answer to a jump for which the crew ran.
-fn answer_to_jump(to: u32, run: Result<Outcome, AllocError>) -> Answer
-    ensures { result ≡ jump_answer to run }
-{
-    match run {
-        Ok(Outcome::Reached) => Answer::Moved { at: to },
-        Ok(Outcome::Stopped { at }) => Answer::Stopped { at },
-        Err(_) => Answer::Refused(SessionFault::Memory),
-    }
-}
+impl Shows for Session {
+    ghost state = { λ session. session };
 
-/// The answer to a switch that left the owners at a position, where they stood at another one before.
-fn answer_to_switch(position: u32, at: u32) -> Answer
-    ensures stopped { at < position → result ≡ Stopped at }
-    ensures moved { position ≤ at → result ≡ Moved at }
-{
-    if at < position {
-        Answer::Stopped { at }
-    } else {
-        Answer::Moved { at }
+    fn table(&self) -> &EventTable {
+        &self.table
+    }
+
+    fn row_from(&self, x: u32, y: u32) -> &[Colour] {
+        row_from(&self.grid, &self.owners, x, y)
     }
 }
 

@@ -3,8 +3,6 @@ ghost use Rattle.std.specs.Prelude.{◌≡◌, ◌<◌, ◌≤◌, ◌+◌, leng
 ghost use Rattle.std.specs.List.{range_with_len};
 ghost use Rattle.fd_events.specs.Image.{colour_at};
 
-use crate::picture::Picture;
-use crate::session::Session;
 use fd_blend::Colour;
 use fd_events::EventTable;
 
@@ -28,28 +26,4 @@ pub trait Shows {
         ensures inside { x + length result.now ≤ (state self.now).table.width }
         ensures short { length result.now ≤ 32 }
         ensures colours { result.now ≡ map (λ column. colour_at (state self.now).table (state self.now).position column y) (range_with_len x (length result.now)) };
-}
-
-impl Shows for Session {
-    ghost state = { λ session. session };
-
-    fn table(&self) -> &EventTable {
-        Session::table(self)
-    }
-
-    fn row_from(&self, x: u32, y: u32) -> &[Colour] {
-        Session::row_from(self, x, y)
-    }
-}
-
-impl Shows for Picture {
-    ghost state = { λ picture. picture };
-
-    fn table(&self) -> &EventTable {
-        Picture::table(self)
-    }
-
-    fn row_from(&self, x: u32, y: u32) -> &[Colour] {
-        Picture::row_from(self, x, y)
-    }
 }

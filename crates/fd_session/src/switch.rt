@@ -6,12 +6,11 @@ ghost use Rattle.fd_events.specs.Pipeline.{state_after};
 ghost use Rattle.fd_events.specs.Reach.{HoldsWritten};
 ghost use Rattle.fd_events.specs.Table.{with_flag, flag_at, state_at};
 ghost use Rattle.fd_owner.specs.Shown.{IsInside};
-ghost use Rattle.fd_session.specs.Switch.{HoldsChanged, HoldsByState, HoldsSwitched, IsSpared, Misses};
+ghost use Rattle.fd_session.specs.Switch.{HoldsChanged, HoldsByState, HoldsSwitched, IsSpared};
 
 use fd_cover::Bounds;
 use fd_events::{Event, EventTable, Pipeline};
 use fd_owner::Owner;
-use fd_tile::Place;
 
 /// A switch of an event, with the table as it is after it.
 #[derive(Clone, Copy, Debug)]
@@ -54,6 +53,13 @@ fn state_past(state: Pipeline, event: &Event) -> Pipeline
     }
 }
 
+/// Whether two states are the same.
+fn is_same(state: &Pipeline, other: &Pipeline) -> bool
+    ensures { IsTrue result → state.now ≡ other.now }
+{
+    *state == *other
+}
+
 /// The box of the pixels that an event can write otherwise in another state, by the box of all that it can write. A clear asks no state.
 fn reach_by_state(event: &Event, reach: Bounds) -> Bounds
     ensures { (width height : ℕ) → HoldsWritten reach width height event.now → HoldsByState result width height event.now }
@@ -75,7 +81,7 @@ fn changed_reach(table: &EventTable, number: u32, after: Pipeline, to: u32) -> B
     let mut reach = table.reach(number);
     let mut state = after;
     let mut at = number;
-    while at < to && state != *table.state_before(at + 1) {
+    while at < to && !is_same(&state, table.state_before(at + 1)) {
         at += 1;
         if table.is_on(at) {
             let event = table.event(at);
@@ -84,18 +90,6 @@ fn changed_reach(table: &EventTable, number: u32, after: Pipeline, to: u32) -> B
         }
     }
     reach
-}
-
-/// Whether a box holds no pixel of a place on the table's target.
-fn misses(table: &EventTable, reach: Bounds, place: Place) -> bool
-    requires { IsInside place table.now }
-    ensures { IsTrue result → Misses reach place }
-{
-    let (_width, _height) = (table.width(), table.height());
-    place.left + place.width <= reach.left
-        || reach.right <= place.left
-        || place.top + place.height <= reach.top
-        || reach.bottom <= place.top
 }
 
 impl Switch {
@@ -128,7 +122,8 @@ impl Switch {
         requires inside { IsInside owner.now.place table.now }
         ensures { IsTrue result → IsSpared table.now self.now owner.now.place }
     {
-        misses(table, self.reach, owner.place())
+        let _table = table;
+        !self.reach.meets(owner.bounds())
     }
 }
 

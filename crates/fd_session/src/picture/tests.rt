@@ -1,26 +1,7 @@
-ghost use Rattle.std.specs.Prelude.{◌≤◌};
-
 use crate::tests::frames::{Teller, grey};
-use crate::{Answer, Picture, SessionFault};
+use crate::{Answer, Picture, SessionFault, Shows};
 use fd_events::{Event, EventTable};
-use std::alloc::Global;
 use std::test::Fail;
-
-fn picture(
-    alloc: Global,
-    width: u32,
-    height: u32,
-    events: Vec<Event>,
-    workers: u32,
-) -> Result<Picture, Fail>
-    requires { (1 ≤ workers) × (workers ≤ 64) }
-{
-    let table = EventTable::start(alloc, 2, width, height, events)?;
-    match Picture::start(alloc, table, workers) {
-        Ok(picture) => Ok(picture),
-        Err(_) => Err(Fail::from("memory")),
-    }
-}
 
 /// How many pixels all owners keep.
 fn recorded(picture: &Picture) -> u64 {
@@ -38,14 +19,18 @@ fn a_picture_keeps_nothing(rt: HostRuntime) -> Result<(), Fail> {
     for level in 1..=40 {
         clears.push(Event::Clear(grey(level)))?;
     }
-    let mut picture = picture(rt.alloc(), 512, 512, clears, 1)?;
+    let table = EventTable::start(rt.alloc(), 2, 512, 512, clears)?;
+    let Ok(mut picture) = Picture::start(rt.alloc(), table, 1) else {
+        return Err(Fail::from("memory"));
+    };
     let mut teller = Teller::default();
     assert!(rt; picture.position() <= 40);
     assert_eq!(rt; picture.go(&rt, 40, &mut teller), Answer::Moved { at: 40 });
     assert_eq!(rt; (teller.times, teller.at, teller.to), (2, 34, 40));
     assert_eq!(rt; picture.position(), 40);
     assert_eq!(rt; recorded(&picture), 0);
-    assert!(rt; picture.table().width() == 512 && picture.table().height() == 512);
+    assert!(rt; picture.table().width() == 512);
+    assert!(rt; picture.table().height() == 512);
     assert_eq!(rt; picture.row_from(511, 511), [grey(40)].as_slice());
     assert!(rt; picture.position() <= 40);
     assert_eq!(rt; picture.go(&rt, 40, &mut teller), Answer::Moved { at: 40 });

@@ -3,7 +3,6 @@ ghost use Rattle.std.specs.Prelude.{◌≡◌, ◌≤◌, length, IfOk};
 use crate::switch::Switch;
 use crate::tests::frames::{blend, flat, grey};
 use fd_blend::Factor;
-use fd_cover::Bounds;
 use fd_events::{Event, EventTable};
 use std::alloc::Global;
 use std::process::Abort;
@@ -39,15 +38,9 @@ fn expect_reach(
     requires within { position ≤ length table.old.events }
     ensures { length table.new.events ≡ length table.old.events }
 {
-    let (left, top, right, bottom) = sides;
-    let switch = Switch::make(table, number, !table.is_on(number), position);
-    let sides = Bounds {
-        left,
-        top,
-        right,
-        bottom,
-    };
-    assert_eq!(rt; switch.reach, sides, "event {number} at {position}");
+    let reach = Switch::make(table, number, !table.is_on(number), position).reach;
+    let found = (reach.left, reach.top, reach.right, reach.bottom);
+    assert_eq!(rt; found, sides, "event {number} at {position}");
 }
 
 #[test]

@@ -1,8 +1,9 @@
 ghost use Rattle.std.specs.Prelude.{◌≤◌};
 
-use crate::tests::frames::{CLOCKWISE, expect_moved, expect_pixel, flat_at, grey, session};
+use crate::tests::frames::{
+    CLOCKWISE, depth_test, expect_moved, expect_pixel, flat_at, grey, session,
+};
 use crate::{Session, SessionFault};
-use fd_cover::{Depth, Func};
 use fd_events::Event;
 use std::alloc::Global;
 use std::process::Abort;
@@ -13,11 +14,7 @@ pub(crate) fn tested(alloc: Global, workers: u32) -> Result<Session, Fail>
     requires { (1 ≤ workers) × (workers ≤ 64) }
 {
     let mut events = Vec::new(alloc);
-    events.push(Event::SetDepth(Depth {
-        enable: true,
-        write: true,
-        func: Func::Less,
-    }))?;
+    events.push(depth_test(true))?;
     events.push(flat_at(alloc, CLOCKWISE, grey(1), 1000)?)?;
     events.push(flat_at(alloc, CLOCKWISE, grey(2), 2000)?)?;
     events.push(Event::DepthClear(65535))?;

@@ -3,7 +3,8 @@ ghost use Rattle.std.specs.Prelude.{◌<◌};
 use crate::SessionFault;
 use crate::tests::frames::{
     CLOCKWISE, added_twice, blend, colour, culled_and_scissored, draw, expect_moved, expect_pixel,
-    expect_refused, flat, grey, masked_and_scissored, position, raster, scissor, session,
+    expect_pixels, expect_refused, flat, grey, masked_and_scissored, position, raster, scissor,
+    session,
 };
 use fd_blend::Factor;
 use fd_cover::{Cull, Interp};
@@ -21,14 +22,10 @@ fn the_shared_edge_is_drawn_once(rt: HostRuntime) -> Result<(), Fail> {
         ([(2, 0), (2, 2), (0, 2)], [green; 3]),
     ];
     for workers in [1, 2, 64] {
-        let mut events = Vec::new(rt.alloc());
-        events.push(draw(rt.alloc(), Interp::Flat, &triangles)?)?;
+        let events = vec![in rt.alloc(); draw(rt.alloc(), Interp::Flat, &triangles)?]?;
         let mut session = session(rt.alloc(), 2, 2, events, workers)?;
         expect_moved(&rt, session.goto_gated(&rt, 1, &Free), 1);
-        expect_pixel(&rt, &session, (0, 0), red);
-        for (x, y) in [(1, 0), (0, 1), (1, 1)] {
-            expect_pixel(&rt, &session, (x, y), green);
-        }
+        expect_pixels(&rt, &session, red, green);
         assert_eq!(rt; session.pixel(2, 0), Err(SessionFault::NoSuchPixel));
     }
     Ok(())
@@ -53,10 +50,7 @@ fn mask_and_scissor_leave_clears_alone(rt: HostRuntime) -> Result<(), Fail> {
     for workers in [1, 2, 64] {
         let mut session = masked_and_scissored(rt.alloc(), workers)?;
         expect_moved(&rt, session.goto_gated(&rt, 5, &Free), 5);
-        expect_pixel(&rt, &session, (0, 0), colour(200, 9, 202, 9));
-        for (x, y) in [(1, 0), (0, 1), (1, 1)] {
-            expect_pixel(&rt, &session, (x, y), grey(9));
-        }
+        expect_pixels(&rt, &session, colour(200, 9, 202, 9), grey(9));
         assert_eq!(rt; session.back(), Ok(4));
         expect_pixel(&rt, &session, (0, 0), grey(9));
     }
@@ -102,8 +96,7 @@ fn linear_red_rounds_to_nearest(rt: HostRuntime) -> Result<(), Fail> {
     let red = colour(255, 0, 0, 255);
     let triangles = [(CLOCKWISE, [black, black, red])];
     for workers in [1, 2, 64] {
-        let mut events = Vec::new(rt.alloc());
-        events.push(draw(rt.alloc(), Interp::Linear, &triangles)?)?;
+        let events = vec![in rt.alloc(); draw(rt.alloc(), Interp::Linear, &triangles)?]?;
         let mut session = session(rt.alloc(), 1, 1, events, workers)?;
         expect_moved(&rt, session.step(&rt), 1);
         expect_pixel(&rt, &session, (0, 0), colour(64, 0, 0, 255));

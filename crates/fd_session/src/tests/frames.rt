@@ -3,7 +3,7 @@ ghost use Rattle.std.specs.Prelude.{◌≤◌};
 
 use crate::{Answer, Session, SessionFault};
 use fd_blend::{BlendOp, BlendState, Colour, Factor, Mask, Part};
-use fd_cover::{Cull, Interp, Raster, Rect};
+use fd_cover::{Cull, Depth, Func, Interp, Raster, Rect};
 use fd_device::Progress;
 use fd_events::{Draw, Event, EventTable, Vertex};
 use fd_snap::Pos;
@@ -107,6 +107,15 @@ pub(crate) fn scissor(left: i32, top: i32, right: i32, bottom: i32) -> Event {
     })
 }
 
+/// The depth test, by which the nearer one wins.
+pub(crate) fn depth_test(enable: bool) -> Event {
+    Event::SetDepth(Depth {
+        enable,
+        write: true,
+        func: Func::Less,
+    })
+}
+
 pub(crate) fn session(
     alloc: Global,
     width: u32,
@@ -132,9 +141,13 @@ pub(crate) fn one_clear(
 ) -> Result<Session, Fail>
     requires { (1 ≤ workers) × (workers ≤ 64) }
 {
-    let mut events = Vec::new(alloc);
-    events.push(Event::Clear(colour))?;
-    session(alloc, width, 1, events, workers)
+    session(
+        alloc,
+        width,
+        1,
+        vec![in alloc; Event::Clear(colour)]?,
+        workers,
+    )
 }
 
 /// A scissor and a mask, a clear of grey 9, and a draw on a target of two by two pixels.
@@ -166,10 +179,8 @@ pub(crate) fn culled_and_scissored(alloc: Global, drawn: Colour) -> Result<Vec<E
 /// Additive blending, and a draw of two triangles of grey 10 over one another.
 pub(crate) fn added_twice(alloc: Global) -> Result<Vec<Event>, Fail> {
     let twice = [(CLOCKWISE, [grey(10); 3]), (CLOCKWISE, [grey(10); 3])];
-    let mut events = Vec::new(alloc);
-    events.push(blend(true, Factor::One, Factor::One, 15)?)?;
-    events.push(draw(alloc, Interp::Flat, &twice)?)?;
-    Ok(events)
+    let adding = blend(true, Factor::One, Factor::One, 15)?;
+    Ok(vec![in alloc; adding, draw(alloc, Interp::Flat, &twice)?]?)
 }
 
 /// Checks that a move was carried out, and where it ended.
@@ -180,6 +191,14 @@ pub(crate) fn expect_moved(rt: &impl Abort, answer: Answer, at: u32) {
 /// Checks why a move was refused.
 pub(crate) fn expect_refused(rt: &impl Abort, answer: Answer, fault: SessionFault) {
     assert_eq!(rt; answer, Answer::Refused(fault));
+}
+
+/// Checks what the session shows of a target of two by two pixels.
+pub(crate) fn expect_pixels(rt: &impl Abort, session: &Session, first: Colour, others: Colour) {
+    expect_pixel(rt, session, (0, 0), first);
+    for (x, y) in [(1, 0), (0, 1), (1, 1)] {
+        expect_pixel(rt, session, (x, y), others);
+    }
 }
 
 /// Checks the colour that pixel (x, y) shows.

@@ -1,11 +1,9 @@
 use crate::tests::frames::{
-    colour, expect_moved, expect_pixel, expect_refused, grey, masked_and_scissored, one_clear,
-    session,
+    colour, expect_moved, expect_pixel, expect_pixels, expect_refused, grey, masked_and_scissored,
+    one_clear, session,
 };
-use crate::{Session, SessionFault};
-use fd_blend::Colour;
+use crate::{SessionFault, Shows};
 use fd_crew::Free;
-use std::process::Abort;
 use std::test::Fail;
 
 #[test]
@@ -34,14 +32,6 @@ fn no_events_refuse_every_move(rt: HostRuntime) -> Result<(), Fail> {
         expect_pixel(&rt, &session, (0, 0), grey(0));
     }
     Ok(())
-}
-
-/// What the session shows of a target of two by two pixels.
-fn expect_pixels(rt: &impl Abort, session: &Session, first: Colour, others: Colour) {
-    expect_pixel(rt, session, (0, 0), first);
-    for (x, y) in [(1, 0), (0, 1), (1, 1)] {
-        expect_pixel(rt, session, (x, y), others);
-    }
 }
 
 #[test]

@@ -2,11 +2,11 @@
 ghost use Rattle.std.specs.Prelude.{◌≤◌};
 
 use crate::tests::frames::{
-    blend, expect_moved, expect_pixel, flat, flat_at, grey, raster, scissor, session,
+    blend, depth_test, expect_moved, expect_pixel, flat, flat_at, grey, raster, scissor, session,
 };
 use crate::{Answer, Session};
 use fd_blend::{BlendOp, BlendState, Factor, Mask, Part};
-use fd_cover::{Cull, Depth, Func};
+use fd_cover::Cull;
 use fd_events::Event;
 use std::alloc::Global;
 use std::process::Abort;
@@ -75,14 +75,6 @@ fn a_switch_shows_on_the_tiles_that_it_reaches(rt: HostRuntime) -> Result<(), Fa
         expect_tiles(&rt, &session, 0, 0, 0);
     }
     Ok(())
-}
-
-fn depth_test(enable: bool) -> Event {
-    Event::SetDepth(Depth {
-        enable,
-        write: true,
-        func: Func::Less,
-    })
 }
 
 /// Blending in which each channel, alpha among them, is the source's times the blend factor.

@@ -18,28 +18,17 @@ fn table(alloc: Global, first: Event, second: Event) -> Result<EventTable, Fail>
     Ok(EventTable::start(alloc, 2, 1024, 512, events)?)
 }
 
-/// So many tiles, with a box round the whole target.
-fn area_of(tiles: usize) -> Area {
-    let bounds = Bounds {
-        left: 0,
-        top: 0,
-        right: 1024,
-        bottom: 512,
-    };
-    Area {
-        tiles,
-        columns: 32,
-        bounds,
-    }
-}
-
 /// The next slice of a session's move over so many tiles.
 fn slice_of(table: &EventTable, from: u32, to: u32, tiles: usize, workers: u32) -> Slice
     requires ahead { from < to }
     requires within { to ≤ length table.now.events }
     requires some { 1 ≤ workers }
 {
-    next_slice(table, from, to, &area_of(tiles), workers, MOVE_WORK)
+    let area = Area {
+        tiles,
+        ..Area::of(table)
+    };
+    next_slice(table, from, to, &area, workers, MOVE_WORK)
 }
 
 #[test]
@@ -137,7 +126,7 @@ fn workers_begin_where_the_work_is(rt: HostRuntime) -> Result<(), Fail> {
         &[(corners, [colour(1, 2, 3, 4); 3]); 2],
     )?;
     let table = table(alloc, clear, upper)?;
-    let all = area_of(512);
+    let all = Area::of(&table);
     let slice = next_slice(&table, 0, 1, &all, 4, MOVE_WORK);
     assert!(rt; slice.firsts.as_slice() == [0, 128, 256, 384].as_slice());
     let slice = next_slice(&table, 1, 2, &all, 4, MOVE_WORK);

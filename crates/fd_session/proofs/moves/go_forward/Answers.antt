@@ -1,12 +1,18 @@
-use Rattle.fd_session.proofs.Frames.{left_down, run_left}
+use Rattle.std.proofs.Common.{get_or}
+use Rattle.fd_session.proofs.Frames.{no_lower, left_down}
 use Rattle.fd_session.proofs.moves.go_forward.Goals as goal
 
-pub returns-clause-left : goal.returns-clause-left
-returns-clause-left g c =
-    let way = c.args.way.now in
-    let run = c.go_on-run.result in
-    rw (← c.left_by.ensures)
-    (left_down c.args.table.now c.left_by.result c.args.owners.now c.go_on-run.new.owners c.run_back.new.lanes
-    (rw c.left_by.ensures
-    (run_left c.args.table.now way.from way.to c.args.owners.now c.go_on-run.new.owners run c.requires.stand c.go_on-run.ensures.goes))
-    c.run_back.ensures.moved)
+pub run_back-requires-after_bounds : goal.run_back-requires-after_bounds
+run_back-requires-after_bounds g c κs k d below =
+    no_lower c.args.drive.now.forgets c.args.table.now c.unwrap_or.result (get_or c.go_on-run.new.owners k d)
+    (rw c.unwrap_or.ensures (c.go_on-run.ensures.comes.left.each k d below))
+
+pub returns-clause-comes : goal.returns-clause-comes
+returns-clause-comes g c =
+    let gone = c.go_on-run.ensures.comes in
+    rw (← c.unwrap_or.ensures) (record {
+      ahead = rw c.unwrap_or.ensures gone.ahead;
+      within = rw c.unwrap_or.ensures gone.within;
+      left = left_down c.args.drive.now.forgets c.args.table.now c.unwrap_or.result c.args.owners.now c.go_on-run.new.owners c.run_back.new.lanes
+          (rw c.unwrap_or.ensures gone.left) c.run_back.ensures.moved;
+    })

@@ -1,14 +1,13 @@
 use Rattle.std.proofs.Common.{◌≡◌, ◌≤◌, ◌-◌}
-use Rattle.fd_session.specs.Moves.{IsLeftFrom}
+use Rattle.fd_session.specs.Held.{StandsFrom, IsLeft}
 use Rattle.fd_session.proofs.moves.go_on.Given as goal
 
--- no owner stands lower than where the last slice ended; before the first one they have not changed
+-- no owner stands lower than where the last slice ended
 abbrev pub invariant-loop-at : goal.invariant-loop-at
 invariant-loop-at g l = record {
-  left : IsLeftFrom l.table l.at l.fn.owners l.owners;
+  left : IsLeft (StandsFrom l.drive.forgets l.table l.at) l.fn.owners l.owners;
   ahead : l.way.from ≤ l.at;
   high : l.at ≤ l.way.to;
-  unmoved : l.at ≡ l.way.from → l.owners ≡ l.fn.owners;
   told : g.T.Progress.kept l.teller ≡ g.T.Progress.kept l.fn.teller;
 }
 

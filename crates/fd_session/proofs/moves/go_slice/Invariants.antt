@@ -1,14 +1,14 @@
-use Rattle.std.proofs.Common.{◌≡◌, ◌≤◌, ◌-◌}
-use Rattle.fd_session.specs.Moves.{IsLeftFrom}
+use Rattle.std.proofs.Common.{◌≤◌, ◌-◌}
+use Rattle.fd_session.specs.Held.{StandsFrom, IsLeft}
 use Rattle.fd_session.proofs.moves.go_slice.Given as goal
 
 abbrev pub invariant-loop-at : goal.invariant-loop-at
 invariant-loop-at g l = record {
-  left : IsLeftFrom l.table l.at l.fn.owners l.owners;
+  left : IsLeft (StandsFrom l.drive.forgets l.table l.at) l.fn.owners l.owners;
   ahead : l.slice.from ≤ l.at;
-  high : l.at ≤ l.end;
-  end : l.end ≡ l.slice.end;
+  high : l.at ≤ l.slice.end;
+  alone : l.alone_to ≤ l.slice.end;
 }
 
 abbrev pub decreases-loop-at : goal.decreases-loop-at
-decreases-loop-at g l = l.end - l.at
+decreases-loop-at g l = l.alone_to - l.at

@@ -1,7 +1,14 @@
-use Rattle.fd_session.proofs.Frames.{run_goes}
+use Rattle.fd_session.proofs.Frames.{run_reached, run_stopped}
 use Rattle.fd_session.proofs.moves.run_on.Goals as goal
 
-pub returns : goal.returns
-returns g c =
-    run_goes c.args.table.now c.args.slice.now.from c.args.slice.now.end c.args.owners.now c.run_shared.new.lanes c.run_shared.result c.requires.stand
-    (rw (c.run.ensures.table, c.run.ensures.target) at c.run_shared.ensures.ended)
+pub returns-in-Reached : goal.returns-in-Reached
+returns-in-Reached g c =
+    let slice = c.args.slice.now in
+    run_reached c.args.drive.now.forgets c.args.table.now slice.from slice.end c.args.owners.now c.run_shared.new.lanes c.settle.new.owners c.requires.stand
+    c.settle.ensures c.requires.ahead (rw (c.run.ensures.table, c.run.ensures.target, c.in-Reached.is) at c.in_ok-outcome.ensures.ended)
+
+pub returns-in-Stopped : goal.returns-in-Stopped
+returns-in-Stopped g c =
+    let slice = c.args.slice.now in
+    run_stopped c.args.drive.now.forgets c.args.table.now slice.from slice.end c.args.owners.now c.run_shared.new.lanes c.settle.new.owners c.requires.stand
+    c.settle.ensures c.in-Stopped.at (rw (c.run.ensures.table, c.run.ensures.target, c.in-Stopped.is) at c.in_ok-outcome.ensures.ended)

@@ -1,8 +1,8 @@
-use Rattle.std.proofs.Common.{ap, sym, subst, get_or, arith}
+use Rattle.std.proofs.Common.{ap, false, sym, subst, get_or, arith}
 use Rattle.fd_owner.specs.Shown.{Shown}
 use Rattle.fd_crew.proofs.Working.{rest_after}
 use Rattle.fd_crew.proofs.Ending.{alike_at, zip_next, zip_whole}
-use Rattle.fd_session.specs.Held.{StandsAt}
+use Rattle.fd_session.specs.Held.{Stands}
 use Rattle.fd_session.specs.Redraw.{IsTakenBefore}
 use Rattle.fd_session.specs.Switch.{unswitched}
 use Rattle.fd_session.proofs.redraw.take_all_before.Goals as goal
@@ -13,7 +13,7 @@ take_before-requires-clause-stood c =
     let o : Shown = get_or owners c.loop-owner.owner-index c.owner-item.result in
     let is = alike_at c.args.owners.now owners c.loop-owner.owner-index o c.loop-owner-test.true c.loop-owner.auto.owners
     (ap (λ (d : Shown). get_or owners c.loop-owner.owner-index d) c.owner-item.is) c.loop-owner.invariant.rest in
-    subst (StandsAt (unswitched c.args.table.now c.args.switch.now) c.args.switch.now.position) (sym is)
+    subst (Stands false (unswitched c.args.table.now c.args.switch.now) c.args.switch.now.position) (sym is)
     (c.requires.stood c.loop-owner.owner-index o c.loop-owner-test.true)
 
 pub loop-owner-preserved : goal.loop-owner-preserved

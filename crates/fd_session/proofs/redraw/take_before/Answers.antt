@@ -1,6 +1,6 @@
-use Rattle.std.proofs.Common.{arith}
+use Rattle.std.proofs.Common.{arith, false}
 use Rattle.fd_session.proofs.Frames.{position_stands}
-use Rattle.fd_session.proofs.Redrawing.{taken_spared, taken_back}
+use Rattle.fd_session.proofs.Switching.{taken_spared, taken_back}
 use Rattle.fd_session.specs.Switch.{unswitched}
 use Rattle.fd_session.proofs.redraw.take_before.Goals as goal
 
@@ -12,7 +12,7 @@ pub back_to-requires : goal.back_to-requires
 back_to-requires c = omega (
   arith,
   c.requires.number.1,
-  position_stands (unswitched c.args.table.now c.args.switch.now)
+  position_stands false (unswitched c.args.table.now c.args.switch.now)
       c.args.switch.now.position c.args.owner.now c.requires.stood,
 )
 

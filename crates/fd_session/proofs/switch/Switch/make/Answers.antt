@@ -1,6 +1,6 @@
 use Rattle.std.proofs.Common.{◌≡◌, ℕ, ◌+◌, ◌-◌, sym, ap, ◌∙◌, arith}
 use Rattle.fd_events.specs.Table.{Table, with_flag, state_at}
-use Rattle.fd_session.proofs.Redrawing.{flag_back}
+use Rattle.fd_session.proofs.Switching.{flag_back}
 use Rattle.fd_session.proofs.switch.Switch.make.Goals as goal
 
 pub returns-clause-reach : goal.returns-clause-reach

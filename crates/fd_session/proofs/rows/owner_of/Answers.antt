@@ -1,0 +1,25 @@
+use Rattle.std.proofs.Common.{arith, ap, subst, sym}
+use Rattle.fd_tile.specs.declared.place.Place.{Place}
+use Rattle.fd_tile.specs.Place.{Holds}
+use Rattle.fd_session.specs.Held.{Stands}
+use Rattle.fd_session.proofs.Frames.{count_placed, owner_placed, owner_at}
+use Rattle.fd_session.proofs.rows.owner_of.Goals as goal
+
+pub index-requires : goal.index-requires
+index-requires c =
+    let owners = c.args.owners.now in
+    omega (arith, c.tile_of.ensures.below, owners.ok.0, count_placed c.args.grid.now owners.items c.requires.places)
+
+pub returns : goal.returns
+returns c =
+    let owner = c.index.result.now in
+    let items = c.args.owners.now.items in
+    let placed = owner_placed c.args.grid.now items c.requires.places c.tile_of.result owner c.tile_of.ensures.below c.index.ensures in
+    let holds : Holds owner.place c.args.x c.args.y = subst (λ (p : Place). Holds p c.args.x c.args.y) (sym placed) c.tile_of.ensures.holds in
+    record {
+      holds = holds;
+      within = omega (arith, ap (λ (p : Place). p.left) placed, ap (λ (p : Place). p.width) placed, holds.from_left, holds.to_right);
+      narrow = omega (arith, ap (λ (p : Place). p.width) placed);
+      stands = λ forgets table k. owner_at c.args.grid.now items c.requires.places c.tile_of.result owner c.tile_of.ensures.below c.index.ensures
+          (Stands forgets table k);
+    }
