@@ -26,12 +26,9 @@ true_false : {P : Type 0} → true ≡ false → P
 true_false e = absurd (cc)
 
 placed : {A : Type 0} (l : List A) (i : ℕ) (v w : A) → At l i v → At (set l i w) i w
-placed [] i v w e = absurd (some-ne-none v (sym e))
+placed [] i v w e = cc
 placed (x ∷ xs) zero v w e = refl
 placed (x ∷ xs) (suc i) v w e = placed xs i v w e
-
-same_there : {A : Type 0} (l : List A) (i : ℕ) (a b : A) → At l i a → At l i b → a ≡ b
-same_there l i a b e f = some-injective a b (sym e ∙ f)
 
 abbrev Kin : Table → ℕ → Lane → Lane → Type 0
 Kin table o a b = WentOn table a b × (position a.history ≡ o)
@@ -62,14 +59,14 @@ under_least x f (y ∷ ys) a b = let r = under_least y f ys (b y (inl refl)) (λ
 among_least : (x f : ℕ) (xs : List ℕ) → f ≤ x → ((r : ℕ) → In r xs → f ≤ r) → (f ≡ x) ⊎ In f xs → f ≡ min x (least_or x xs)
 among_least x f [] a b (inl e) = omega arith
 among_least x f [] a b (inr h) = absurd h
-among_least x f (y ∷ ys) a b (inl e) = let r = under_least y f ys (b y (inl refl)) (λ r h. b r (inr h)) in omega arith
+among_least x f (y ∷ ys) a b (inl e) = let r = under_least _ _ _ (b y (inl refl)) (λ r h. b r (inr h)) in omega arith
 among_least x f (y ∷ ys) a b (inr h) = let r = among_least y f ys (b y (inl refl)) (λ r k. b r (inr k)) h in omega arith
 
 least_is : (rs : List ℕ) (n f : ℕ) → (f ≡ n) ⊎ In f rs → ((r : ℕ) → In r rs → (f ≤ r) × (r < n)) → f ≡ least_or n rs
 least_is [] n f (inl e) b = e
 least_is [] n f (inr h) b = absurd h
-least_is (x ∷ xs) n f (inl e) b = let c = b x (inl refl) in let c0 = c.0 in let c1 = c.1 in absurd (omega arith)
-least_is (x ∷ xs) n f (inr h) b = among_least x f xs (b x (inl refl)).0 (λ r k. (b r (inr k)).0) h
+least_is (x ∷ xs) n f (inl e) b = let c = b x (inl refl) in omega arith
+least_is (x ∷ xs) n f (inr h) b = among_least _ _ _ (b x (inl refl)).0 (λ r k. (b r (inr k)).0) h
 
 module _ (table : Table) (o target : ℕ) (x0 : World) where
   abbrev I : World → Type 0
@@ -91,7 +88,6 @@ module _ (table : Table) (o target : ℕ) (x0 : World) where
   changed : (x : World) (w : ℕ) (p p' : Worker) (fence' : ℕ) (refused' : List ℕ) → I x → Change x w p p' fence' refused'
       → I (record { lanes = x.lanes; workers = set x.workers w p'; fence = fence'; refused = refused' })
   changed x w p p' fence' refused' i c =
-      let down = c.lower in
       record {
         lanes = i.lanes;
         floor = omega arith;
@@ -105,12 +101,11 @@ module _ (table : Table) (o target : ℕ) (x0 : World) where
         refused = λ r there. let f = c.refused r there in (
           f.0,
           f.1,
-          ⊎_elim (λ le. inl le)
-              (λ s. ⊎_elim (λ mine. inr (record { w = w; p = p'; at = placed x.workers w p p' c.at; owes = mine }))
+          ⊎_elim (λ le. inl le) (λ s. ⊎_elim (λ mine. inr (record { w = w; p = p'; at = placed x.workers w _ _ c.at; owes = mine }))
               (λ (v, u, e, owed, other). inr (record { w = v; p = u; at = set_else x.workers w v p' other ∙ e; owes = owed })) s) f.2,
         );
         owners = λ t l e. let h = i.owners t l e in dite (ℕ_discrete l.owner w)
-            (λ is. (p', subst (λ (n : ℕ). At (set x.workers w p') n p') (sym is) (placed x.workers w p p' c.at)))
+            (λ is. (p', subst (λ (n : ℕ). At (set x.workers w p') n p') (sym is) (placed x.workers w _ _ c.at)))
             (λ other. (h.0, set_else x.workers w l.owner p' other ∙ h.1));
         after = i.after;
         done = λ t l j b e f own out. ⊎_elim (λ s. c.done (ap (λ (u : Worker). u.left) s.1 ∙ out) t l e (own ∙ s.0))
@@ -119,10 +114,10 @@ module _ (table : Table) (o target : ℕ) (x0 : World) where
 
   zip_set : (xs ys : List Lane) (t : ℕ) (l l' : Lane) → AllZip (Kin table o) xs ys → At ys t l → ((a : Lane) → Kin table o a l → Kin table o a l')
       → AllZip (Kin table o) xs (set ys t l')
-  zip_set [] [] t l l' a e f = absurd (some-ne-none l (sym e))
+  zip_set [] [] t l l' a e f = cc
   zip_set [] (y ∷ ys) t l l' a e f = absurd a
   zip_set (x ∷ xs) [] t l l' a e f = absurd a
-  zip_set (x ∷ xs) (y ∷ ys) zero l l' a e f = (f x (subst (λ (z : Lane). Kin table o x z) (some-injective y l e) a.0), a.1)
+  zip_set (x ∷ xs) (y ∷ ys) zero l l' a e f = (f x (rw (some-injective y l e) at a.0), a.1)
   zip_set (x ∷ xs) (y ∷ ys) (suc t) l l' a e f = (a.0, zip_set xs ys t l l' a.1 e f)
 
   abbrev moved_lane : Lane → History → Lane
@@ -131,7 +126,7 @@ module _ (table : Table) (o target : ℕ) (x0 : World) where
   moved : (x : World) (t : ℕ) (l : Lane) (h : History) → I x → At x.lanes t l → ((a : Lane) → Kin table o a l → Kin table o a (moved_lane l h)) → o ≤ position h
       → ((w : ℕ) (p : Worker) → At x.workers w p → l.owner ≡ w → p.left ≡ true → x.fence ≤ position h) → I (with_history x t l h)
   moved x t l h i at kin le out = record {
-    lanes = zip_set x0.lanes x.lanes t l (moved_lane l h) i.lanes at kin;
+    lanes = zip_set _ _ _ _ _ i.lanes at kin;
     floor = i.floor;
     fence = i.fence;
     seen = i.seen;
@@ -151,15 +146,13 @@ module _ (table : Table) (o target : ℕ) (x0 : World) where
   -- the other that owes r is another worker, or this one
   still_owed : (x : World) (w : ℕ) (p : Worker) (r : ℕ) → At x.workers w p → Owed x r → (p.owed ≡ some r)
       ⊎ ((v : ℕ) × (u : Worker) × At x.workers v u × (u.owed ≡ some r) × (v ≢ w))
-  still_owed x w p r at q = dite (ℕ_discrete q.w w)
-      (λ is. inl (ap (λ (u : Worker). u.owed) (same_there x.workers w p q.p at (subst (λ (n : ℕ). At x.workers n q.p) is q.at)) ∙ q.owes))
-      (λ other. inr (q.w, q.p, q.at, q.owes, other))
+  still_owed x w p r at q = dite (ℕ_discrete q.w w) (λ is. inl (cc)) (λ other. inr (q.w, q.p, q.at, q.owes, other))
 
   looked : (x : World) (w : ℕ) (p : Worker) → I x → IsIn x w p → I (with_worker x w (record { seen = x.fence; owed = p.owed; left = false }))
   looked x w p i in' =
-      let top = seen_top x w p i in'.0 in
+      let top = seen_top _ _ _ i in'.0 in
       let floor = i.floor in
-      changed x w p (record { seen = x.fence; owed = p.owed; left = false }) x.fence x.refused i (record {
+      changed _ _ _ _ _ _ i (record {
         at = in'.0;
         lower = (omega arith, floor);
         least = i.fence;
@@ -167,25 +160,22 @@ module _ (table : Table) (o target : ℕ) (x0 : World) where
         owes = λ out. true_false (sym out);
         owed_in = λ q e. i.owed_in w p q in'.0 e;
         more = λ r h. h;
-        refused = λ r h. let f = i.refused r h in (f.0, f.1, ⊎_elim (λ a. inl a) (λ q. inr (still_owed x w p r in'.0 q)) f.2);
+        refused = λ r h. let f = i.refused r h in (f.0, f.1, ⊎_elim (λ a. inl a) (λ q. inr (still_owed _ _ _ _ in'.0 q)) f.2);
         done = λ out t l e own. true_false (sym out);
       })
 
-  refused' : (x : World) (w t : ℕ) (p : Worker) (l : Lane) → I x → MayDraw x w t p l
-      → I (record {
-        lanes = x.lanes;
-        workers = set x.workers w (record { seen = p.seen; owed = some (position l.history); left = false });
-        fence =
-            x.fence;
-        refused = position l.history ∷ x.refused;
-      })
+  refused' : (x : World) (w t : ℕ) (p : Worker) (l : Lane) → I x → MayDraw x w t p l → I (record {
+    lanes = x.lanes;
+    workers = set x.workers w (record { seen = p.seen; owed = some (position l.history); left = false });
+    fence = x.fence;
+    refused = position l.history ∷ x.refused;
+  })
   refused' x w t p l i may =
       let at = may.0.0 in
       let s = i.seen w p at in
-      let under = may.4 in
       let low = i.after t l may.1 in
       let floor = i.floor in
-      changed x w p (record { seen = p.seen; owed = some (position l.history); left = false }) x.fence (position l.history ∷ x.refused) i (record {
+      changed _ _ _ _ _ _ i (record {
         at = at;
         lower = (omega arith, floor);
         least = ⊎_elim (λ e. inl e) (λ h. inr (inr h)) i.fence;
@@ -193,12 +183,11 @@ module _ (table : Table) (o target : ℕ) (x0 : World) where
         owes = λ out. true_false (sym out);
         owed_in = λ q e. inl (sym (some-injective (position l.history) q e));
         more = λ r h. inr h;
-        refused = λ r h. ⊎_elim (λ is. let top = s.1 in (omega arith, omega arith, inr (inl (ap (λ (n : ℕ). let o : Option ℕ = some n in o) (sym is)))))
+        refused = λ r h. ⊎_elim (λ is. (omega arith, omega arith, inr (inl (ap (λ (n : ℕ). let o : Option ℕ = some n in o) (sym is)))))
             (λ h'. let f = i.refused r h' in (
               f.0,
               f.1,
-              ⊎_elim (λ a. inl a)
-                  (λ q. ⊎_elim (λ mine. absurd (some-ne-none r (sym mine ∙ may.3))) (λ other. inr (inr other)) (still_owed x w p r at q)) f.2,
+              ⊎_elim (λ a. inl a) (λ q. ⊎_elim (λ mine. absurd (some-ne-none r (sym mine ∙ may.3))) (λ other. inr (inr other)) (still_owed _ _ _ _ at q)) f.2,
             )) h;
         done = λ out t l e own. true_false (sym out);
       })
@@ -208,27 +197,22 @@ module _ (table : Table) (o target : ℕ) (x0 : World) where
 
   min_in : (m n : ℕ) (rs : List ℕ) → (m ≡ target) ⊎ In m rs → In n rs → (m ≤ n) ⊎ (n ≤ m) → (min m n ≡ target) ⊎ In (min m n) rs
   min_in m n rs a b (inl le) = let e : min m n ≡ m = omega arith in ⊎_elim (λ is. inl (e ∙ is)) (λ h. inr (subst (λ (k : ℕ). In k rs) (sym e) h)) a
-  min_in m n rs a b (inr le) = let e : min m n ≡ n = omega arith in inr (subst (λ (k : ℕ). In k rs) (sym e) b)
+  min_in m n rs a b (inr le) = let e : min m n ≡ n = omega arith in inr (rw e b)
 
-  lowered : (x : World) (w : ℕ) (p : Worker) (at : ℕ) → I x → IsIn x w p → p.owed ≡ some at
-      → I (record {
-        lanes = x.lanes;
-        workers = set x.workers w (record { seen = min x.fence at; owed = none; left = false });
-        fence =
-            min x.fence at;
-        refused = x.refused;
-      })
+  lowered : (x : World) (w : ℕ) (p : Worker) (at : ℕ) → I x → IsIn x w p → p.owed ≡ some at → I (record {
+    lanes = x.lanes;
+    workers = set x.workers w (record { seen = min x.fence at; owed = none; left = false });
+    fence = min x.fence at;
+    refused = x.refused;
+  })
   lowered x w p at i in' owes =
-      let top = seen_top x w p i in'.0 in
-      let floor = i.floor in
       let there = i.owed_in w p at in'.0 owes in
       let f = i.refused at there in
-      let above = f.0 in
-      changed x w p (record { seen = min x.fence at; owed = none; left = false }) (min x.fence at) x.refused i (record {
+      changed _ _ _ _ _ _ i (record {
         at = in'.0;
-        lower = (omega arith, omega arith);
-        least = min_in x.fence at x.refused i.fence there (le_cases x.fence at);
-        seen = (omega arith, omega arith);
+        lower = omega arith;
+        least = min_in _ at x.refused i.fence there (le_cases _ at);
+        seen = omega arith;
         owes = λ out. refl;
         owed_in = λ q e. absurd (some-ne-none q (sym e));
         more = λ r h. h;
@@ -236,7 +220,7 @@ module _ (table : Table) (o target : ℕ) (x0 : World) where
           h'.0,
           h'.1,
           ⊎_elim (λ a. inl (omega arith)) (λ q. ⊎_elim (λ mine. let is : at ≡ r = some-injective at r (sym owes ∙ mine) in inl (omega arith))
-              (λ other. inr (inr other)) (still_owed x w p r in'.0 q)) h'.2,
+              (λ other. inr (inr other)) (still_owed _ _ _ _ in'.0 q)) h'.2,
         );
         done = λ out t l e own. true_false (sym out);
       })
@@ -246,9 +230,8 @@ module _ (table : Table) (o target : ℕ) (x0 : World) where
       → I (with_worker x w (record { seen = p.seen; owed = none; left = true }))
   left' x w p i in' none' done =
       let s = i.seen w p in'.0 in
-      let under = s.0 in
       let floor = i.floor in
-      changed x w p (record { seen = p.seen; owed = none; left = true }) x.fence x.refused i (record {
+      changed _ _ _ _ _ _ i (record {
         at = in'.0;
         lower = (omega arith, floor);
         least = i.fence;
@@ -259,8 +242,7 @@ module _ (table : Table) (o target : ℕ) (x0 : World) where
         refused = λ r h. let f = i.refused r h in (
           f.0,
           f.1,
-          ⊎_elim (λ a. inl a)
-              (λ q. ⊎_elim (λ mine. absurd (some-ne-none r (sym mine ∙ none'))) (λ other. inr (inr other)) (still_owed x w p r in'.0 q)) f.2,
+          ⊎_elim (λ a. inl a) (λ q. ⊎_elim (λ mine. absurd (some-ne-none r (sym mine ∙ none'))) (λ other. inr (inr other)) (still_owed _ _ _ _ in'.0 q)) f.2,
         );
         done = λ out t l e own. let d = done t l e own in omega arith;
       })
@@ -268,51 +250,41 @@ module _ (table : Table) (o target : ℕ) (x0 : World) where
   drawn : (x : World) (w t : ℕ) (p : Worker) (l : Lane) → I x → MayDraw x w t p l → I (with_history x t l (extend table l.place l.history))
   drawn x w t p l i may =
       let h : History = extend table l.place l.history in
-      let long : position h ≡ position l.history + 1 = position_extend table l.place l.history in
+      let long : position h ≡ position l.history + 1 = position_extend _ _ _ in
       let low = i.after t l may.1 in
-      moved x t l h i may.1
-      (λ a k. let on = k.0 in let after = on.after in (
+      moved _ _ _ _ i may.1 (λ a k. let on = k.0 in let after = on.after in (
         record {
           owner = on.owner;
           place = on.place;
           after = omega arith;
-          history = ap (λ (q : Place). extend table q l.history) on.place
-              ∙ (ap (λ (g : History). extend table a.place g) on.history
-              ∙ (extend_more table a.place (position l.history) a.history after ∙ ap (λ (n : ℕ). extend_to table a.place n a.history) (sym long)));
+          history = ap (λ (q : Place). extend table q l.history) on.place ∙ (ap (λ (g : History). extend table a.place g) on.history
+              ∙ (extend_more _ _ _ _ after ∙ ap (λ (n : ℕ). extend_to table a.place n a.history) (sym long)));
         },
         k.1,
-      ))
-      (omega arith)
-      (λ v u e own out. let same = same_there x.workers w p u may.0.0 (subst (λ (n : ℕ). At x.workers n u) (sym own ∙ may.2) e) in true_false
-      (sym out ∙ (ap (λ (z : Worker). z.left) (sym same) ∙ may.0.1)))
+      )) (omega arith) (λ v u e own out. cc)
 
   -- an extended list, one image shorter
   shorter : (place : Place) (to : ℕ) (h : History) → position h < to → drop_last (extend_to table place to h) ≡ extend_to table place (to - 1) h
   shorter place to h less =
       let e : to - 1 + 1 ≡ to = omega arith in
-      ap drop_last (ap (λ (n : ℕ). extend_to table place n h) (sym e) ∙ sym (extend_more table place (to - 1) h (omega arith)))
-      ∙ drop_extend table place (extend_to table place (to - 1) h)
+      ap drop_last (ap (λ (n : ℕ). extend_to table place n h) (sym e) ∙ sym (extend_more table place (to - 1) h (omega arith))) ∙ drop_extend _ _ _
 
   went_home : (x : World) (t : ℕ) (l : Lane) → I x → At x.lanes t l → x.fence < position l.history → I (with_history x t l (drop_last l.history))
   went_home x t l i at above =
-      let floor = i.floor in
-      moved x t l (drop_last l.history) i at
-      (λ a k. let on = k.0 in let is = k.1 in
+      moved _ _ _ _ i at (λ a k. let on = k.0 in
       let e : drop_last l.history ≡ extend_to table a.place (position l.history - 1) a.history = ap drop_last on.history
       ∙ shorter a.place (position l.history) a.history (omega arith) in
-      let long : position (drop_last l.history) ≡ position l.history - 1 = ap position e
-      ∙ position_extend_to table a.place (position l.history - 1) a.history (omega arith) in
+      let long : position (drop_last l.history) ≡ position l.history - 1 = ap position e ∙ position_extend_to _ _ _ _ (omega arith) in
       (record { owner = on.owner; place = on.place; after = omega arith; history = e ∙ ap (λ (n : ℕ). extend_to table a.place n a.history) (sym long) }, k.1))
-      (let long = position_drop l.history in omega arith)
-      (λ w p e own out. let long = position_drop l.history in omega arith)
+      (omega (arith, position_drop l.history)) (omega (arith, position_drop l.history))
 
   step_kept : (x y : World) (a : Action) → I x → Acts table x a y → I y
-  step_kept x y (look w) i s = subst I (sym s.2) (looked x w s.0 i s.1)
-  step_kept x y (draw w t) i s = subst I (sym s.3) (drawn x w t s.0 s.1 i s.2)
-  step_kept x y (refuse w t) i s = subst I (sym s.3) (refused' x w t s.0 s.1 i s.2)
-  step_kept x y (lower w) i s = subst I (sym s.4) (lowered x w s.0 s.1 i s.2 s.3)
-  step_kept x y (leave w) i s = subst I (sym s.2) (left' x w s.0 i s.1.0 s.1.1 s.1.2)
-  step_kept x y (home t) i s = subst I (sym s.4) (went_home x t s.0 i s.2 s.3)
+  step_kept x y (look w) i s = subst I (sym s.2) (looked _ _ _ i s.1)
+  step_kept x y (draw w t) i s = subst I (sym s.3) (drawn _ _ _ _ _ i s.2)
+  step_kept x y (refuse w t) i s = subst I (sym s.3) (refused' _ _ _ _ _ i s.2)
+  step_kept x y (lower w) i s = subst I (sym s.4) (lowered _ _ _ _ i s.2 s.3)
+  step_kept x y (leave w) i s = subst I (sym s.2) (left' _ _ _ i s.1.0 s.1.1 s.1.2)
+  step_kept x y (home t) i s = subst I (sym s.4) (went_home _ _ _ i s.2 s.3)
 
   runs_kept : (actions : List Action) (x y : World) → I x → Runs table x actions y → I y
   runs_kept [] x y i r = subst I r i
@@ -327,13 +299,12 @@ module _ (table : Table) (o target : ℕ) (x0 : World) where
 
   opened : IsOpening o target x0 → I x0
   opened open' =
-      let within = open'.within in
       let at_target = open'.fence in
       record {
-        lanes = kin_none x0.lanes (λ t l e. (open'.lanes t l e).0);
+        lanes = kin_none _ (λ t l e. (open'.lanes t l e).0);
         floor = omega arith;
         fence = inl at_target;
-        seen = λ w p e. let h = open'.workers w p e in let s = h.0 in (omega arith, omega arith);
+        seen = λ w p e. let h = open'.workers w p e in (omega arith, omega arith);
         owes = λ w p e out. (open'.workers w p e).1;
         owed_in = λ w p q e owed. absurd (some-ne-none q (sym owed ∙ (open'.workers w p e).1));
         refused = λ r h. absurd (subst (λ (rs : List ℕ). In r rs) open'.refused h);
@@ -352,11 +323,11 @@ module _ (table : Table) (o target : ℕ) (x0 : World) where
       × (y.fence ≡ least_or target y.refused)
   ended y i gone none_above = (
     (λ t l e. let p = i.owners t l e in let low = i.done t l l.owner p.0 e p.1 refl (gone l.owner p.0 p.1) in let high = none_above t l e in omega arith),
-    least_is y.refused target y.fence i.fence
+    least_is _ _ _ i.fence
         (λ r h. let f = i.refused r h in (⊎_elim (λ a. a) (λ q. absurd (some-ne-none r (sym q.owes ∙ i.owes q.w q.p q.at (gone q.w q.p q.at)))) f.2, f.1)),
   )
 
 pub world_law : CrewWorld
 world_law table o target x y actions open' runs =
-    let i = runs_kept table o target x actions x y (opened table o target x open') runs in
-    (went_zip table o target x x.lanes y.lanes i.lanes, λ gone none_above. ended table o target x y i gone none_above)
+    let i = runs_kept _ _ _ _ _ _ _ (opened _ _ _ _ open') runs in
+    (went_zip _ _ target x _ _ i.lanes, λ gone none_above. ended _ _ _ _ _ i gone none_above)

@@ -1,14 +1,14 @@
 -- How lanes go back, and how a run ends.
 use Rattle.std.proofs.Common.{◌≡◌, ℕ, ◌+◌, ◌-◌, ◌<◌, ◌≤◌, inl, inr, ⊎_elim, List, [], ◌∷◌, ◌++◌, length, take, drop, set, get_or, sym, ap, ◌∙◌, subst, arith}
 use Rattle.std.proofs.Common.{All}
-use Rattle.std.specs.Prelude.{Option, Some, Result, Ok, Err, MatchResult}
+use Rattle.std.specs.Prelude.{Result, Ok, Err, MatchResult}
 use Rattle.std.specs.List.{AllZip}
 use Rattle.std.proofs.lemmas.List.{take_more, take_more_set, take_all, drop_more}
 use Rattle.std.proofs.lemmas.List.Elements.{AllZip-push, All-head, All-tail, All-cons, All-nil}
 use Rattle.std.proofs.lemmas.Bool.{cases_lt}
 use Rattle.fd_tile.specs.declared.place.Place.{Place}
 use Rattle.fd_events.specs.Table.{Table}
-use Rattle.fd_owner.specs.History.{History, position, extend_by, extend_to, first_frames, drop_last}
+use Rattle.fd_owner.specs.History.{History, position, extend_by, extend_to, first_frames}
 use Rattle.fd_owner.proofs.Histories.{drop_first, position_first, position_extend_to, extend_none, first_all, first_first, first_extend_to}
 use Rattle.fd_crew.specs.declared.fence.View.{View}
 use Rattle.fd_crew.specs.declared.crew.Outcome.{Outcome}
@@ -19,42 +19,35 @@ use Rattle.fd_crew.specs.Lanes.{RefusedAt, IsQuiet, Drawn, AnyZip, Worked, GoneT
 with_history : (s : Shown) (h k : History) → h ≡ k → (let a : Shown =
     record { place = s.place; history = h; refusals = s.refusals; refused_at = s.refused_at } in a) ≡ record
     { place = s.place; history = k; refusals = s.refusals; refused_at = s.refused_at }
-with_history s h k e = λ i. record { place = s.place; history = e i; refusals = s.refusals; refused_at = s.refused_at }
+with_history s h k e = cc
 
 pub back_none : (old : Shown) → old ≡ gone_back_to (position old.history) old
-back_none old = with_history old old.history (first_frames (position old.history) old.history)
-    (sym (first_all (position old.history) old.history (omega arith)))
+back_none old = with_history old _ _ (sym (first_all _ _ (omega arith)))
 
 pub back_more : (old now next : Shown) → now ≡ gone_back_to (position now.history) old → position now.history ≤ position old.history → next ≡ gone_back now
     → (position next.history ≡ position now.history - 1) × (next ≡ gone_back_to (position next.history) old)
 back_more old now next is le goes =
     let k : ℕ = position now.history in
-    let a : next ≡ gone_back (gone_back_to k old) = goes ∙ ap gone_back is in
-    let b : gone_back (gone_back_to k old) ≡ gone_back_to (k - 1) old =
-    with_history old (drop_last (first_frames k old.history)) (first_frames (k - 1) old.history) (drop_first k old.history le) in
+    let a : next ≡ gone_back (gone_back_to k old) = cc in
+    let b : gone_back (gone_back_to k old) ≡ gone_back_to (k - 1) old = with_history old _ _ (drop_first _ _ le) in
     let at : position next.history ≡ k - 1 = ap (λ (s : Shown). position s.history) (a ∙ b) ∙ position_first (k - 1) old.history (omega arith) in
-    (at, (a ∙ b) ∙ ap (λ (n : ℕ). gone_back_to n old) (sym at))
+    (at, cc)
 
 -- what stands at i in two lists that go on alike from i
 pub alike_at : {L : Type 0} (old now : List L) (i : ℕ) (x : L) → i < length old → length now ≡ length old → x ≡ get_or now i x → drop i now ≡ drop i old
     → x ≡ get_or old i x
-alike_at old now i x in' long is rest =
-    let a = drop_more now i x (omega arith) in
-    let b = drop_more old i x in' in
-    let both : get_or now i x ∷ drop (i + 1) now ≡ get_or old i x ∷ drop (i + 1) old = sym a ∙ (rest ∙ b) in cc
+alike_at old now i x in' long is rest = cc (drop_more now i x (omega arith), drop_more old i x in')
 
 module _ {L : Type 0} (R : L → L → Type 0) where
   pub zip_next : (old now : List L) (i : ℕ) (x y : L) → i < length old → length now ≡ length old → x ≡ get_or old i x → AllZip R (take i old) (take i now)
       → R x y → AllZip R (take (i + 1) old) (take (i + 1) (set now i y))
   zip_next old now i x y in' long is all here =
-      let e : take (i + 1) old ≡ take i old ++ x ∷ [] = take_more old i x in' ∙ ap (λ (z : L). take i old ++ z ∷ []) (sym is) in
+      let e : take (i + 1) old ≡ take i old ++ x ∷ [] = cc (take_more old i x in') in
       let f : take (i + 1) (set now i y) ≡ take i now ++ y ∷ [] = take_more_set now i y (omega arith) in
-      subst (λ (xs : List L). AllZip R xs (take (i + 1) (set now i y))) (sym e)
-      (subst (λ (ys : List L). AllZip R (take i old ++ x ∷ []) ys) (sym f) (AllZip-push R (take i old) (take i now) x y all here))
+      rw e (subst (λ (ys : List L). AllZip R (take i old ++ x ∷ []) ys) (sym f) (AllZip-push R (take i old) (take i now) x y all here))
 
   pub zip_whole : (old now : List L) (i : ℕ) → length old ≤ i → length now ≡ length old → AllZip R (take i old) (take i now) → AllZip R old now
-  zip_whole old now i le long all =
-      subst (λ (xs : List L). AllZip R xs now) (take_all i old le) (subst (λ (ys : List L). AllZip R (take i old) ys) (take_all i now (omega arith)) all)
+  zip_whole old now i le long all = subst (λ (xs : List L). AllZip R xs now) (take_all i old le) (rw (take_all i now (omega arith)) at all)
 
   zip_through : (B C : L → L → Type 0) (P : L → Type 0) → ((x y z : L) → P x → R x y → B y z → C x z) → (xs ys zs : List L) → All P xs → AllZip R xs ys
       → AllZip B ys zs → AllZip C xs zs
@@ -101,26 +94,21 @@ first_frames_on table place at end h le =
           let none : at - from ≡ 0 = omega (arith, below) in
           elim (cases_lt end from) [
             | inl short ↦ let none' : end - from ≡ 0 = omega (arith, short) in ap (λ (n : ℕ). first_frames at (extend_by table place n h)) (none' ∙ sym none)
-            | inr long ↦
-                sym (first_first at from (extend_to table place end h) (omega (arith, below)))
-                ∙ ap (first_frames at) (first_extend_to table place from end h (omega arith) long ∙ extend_none table place h)
+            | inr long ↦ sym (first_first at from (extend_to table place end h) (omega (arith, below)))
+                ∙ ap (first_frames at) (first_extend_to _ _ _ _ _ (omega arith) long ∙ extend_none _ _ _)
                 ∙ ap (λ (n : ℕ). first_frames at (extend_by table place n h)) (sym none)
           ]
-      | inr above ↦ first_extend_to table place at end h above le
-          ∙ sym (first_all at (extend_to table place at h) (omega (arith, position_extend_to table place at h above)))
+      | inr above ↦ first_extend_to _ _ at end h above le ∙ sym (first_all at (extend_to table place at h) (omega (arith, position_extend_to table place)))
     ]
 
 -- one lane that was drawn on, and stays
 stays : (table : Table) (target seen low : ℕ) (x y : Shown) → Drawn table target seen low x y → target ≤ seen → StandsOn table target x y
 stays table target seen low x y d under =
     let reached = d.reached in
-    let after = d.after in
     let on : ℕ → History = λ n. extend_to table x.place n x.history in
     record {
       place = d.place;
-      history = ⊎_elim
-          (λ below. let there : position y.history ≡ target = omega (arith, below, reached, under) in d.history ∙ ap on there)
-          (λ same.
+      history = ⊎_elim (λ below. let there : position y.history ≡ target = omega arith in d.history ∙ ap on there) (λ same.
           let above : target ≤ position x.history = omega (arith, reached, under, ap position same) in
           let none : target - position x.history ≡ 0 = omega (arith, above) in
           same ∙ ap (λ (n : ℕ). extend_by table x.place n x.history) (sym none)) d.within;
@@ -129,58 +117,36 @@ stays table target seen low x y d under =
 -- one that then went back
 gone : (table : Table) (target seen low at : ℕ) (x y z : Shown) → Drawn table target seen low x y → at ≤ seen → z ≡ gone_back_to at y → CameTo table at x z
 gone table target seen low at x y z d under back =
-    let reached = d.reached in
-    let after = d.after in
     let end : ℕ = position y.history in
-    let from : ℕ = position x.history in
-    record {
-      place = ap (λ (s : Shown). s.place) back ∙ d.place;
-      history = ap (λ (s : Shown). s.history) back ∙ ap (first_frames at) d.history
-          ∙ first_frames_on table x.place at end x.history (omega (arith, reached, under));
-    }
+    record { place = cc; history = cc (first_frames_on _ _ at end x.history (omega arith)) }
 
 quiet_back : (at : ℕ) (x y z : Shown) → IsQuiet x y → z ≡ gone_back_to at y → IsQuiet x z
-quiet_back at x y z q back = record {
-  refusals = ap (λ (s : Shown). s.refusals) back ∙ q.refusals;
-  refused_at = ap (λ (s : Shown). s.refused_at) back
-      ∙ q.refused_at;
-}
+quiet_back at x y z q back = record { refusals = cc; refused_at = cc }
 
 quiet : (table : Table) (target seen low : ℕ) (x y : Shown) → Drawn table target seen low x y → low ≡ target → IsQuiet x y
-quiet table target seen low x y d is = ⊎_elim (λ q. q) (λ t. let a = t.2 in let b = t.3 in absurd (omega arith)) d.refusals
+quiet table target seen low x y d is = ⊎_elim (λ q. q) (λ t. absurd (omega arith)) d.refusals
 
 refused_back_to : (r at : ℕ) (x y z : Shown) → RefusedAt r x y → z ≡ gone_back_to at y → RefusedAt r x z
 refused_back_to r at x y z a back =
-    let same : z.refusals ≡ y.refusals = ap (λ (s : Shown). s.refusals) back in
-    record {
-      there = ap (λ (s : Shown). s.refused_at) back ∙ a.there;
-      rose = ⊎_elim (λ less. inl (omega arith)) (λ full. inr (same ∙ full)) a.rose;
-      after = a.after;
-    }
+    let same : z.refusals ≡ y.refusals = cc in
+    record { there = cc; rose = ⊎_elim (λ less. inl (omega arith)) (λ full. inr (same ∙ full)) a.rose; after = a.after }
 
 no_lower : (table : Table) (target seen low at : ℕ) (x y z : Shown) → Drawn table target seen low x y → at ≡ low → z ≡ gone_back_to at y → RefusedNoLower at x z
-no_lower table target seen low at x y z d is back = ⊎_elim
-    (λ q. inl (quiet_back at x y z q back))
-    (λ t. let under = t.2 in inr (t.0, refused_back_to t.0 at x y z t.1 back, omega arith))
-    d.refusals
+no_lower table target seen low at x y z d is back = ⊎_elim (λ q. inl (quiet_back at x y z q back))
+    (λ t. inr (t.0, refused_back_to _ at x y z t.1 back, omega arith)) d.refusals
 
 refused_back : (low at : ℕ) (x y z : Shown) → RefusedAt low x y → at ≡ low → z ≡ gone_back_to at y → RefusedAt at x z
 refused_back low at x y z r is back =
-    let same : z.refusals ≡ y.refusals = ap (λ (s : Shown). s.refusals) back in
+    let same : z.refusals ≡ y.refusals = cc in
     let after = r.after in
-    record {
-      there = ap (λ (s : Shown). s.refused_at) back ∙ (r.there ∙ ap (λ (n : ℕ). let o : Option ℕ = Some n in o) (sym is));
-      rose = ⊎_elim (λ less. inl (omega arith)) (λ full. inr (same ∙ full)) r.rose;
-      after = omega arith;
-    }
+    record { there = cc; rose = ⊎_elim (λ less. inl (omega arith)) (λ full. inr (same ∙ full)) r.rose; after = omega arith }
 
 -- one that came to a position above which it did not stand
 pub came_further : (table : Table) (at : ℕ) (x z : Shown) → position x.history ≤ at → CameTo table at x z → GoneTo table at x z
 came_further table at x z after came =
     record {
       place = came.place;
-      history = came.history ∙ first_all at (extend_to table x.place at x.history)
-          (omega (arith, position_extend_to table x.place at x.history after));
+      history = came.history ∙ first_all at (extend_to table x.place at x.history) (omega (arith, position_extend_to table x.place));
       after = after;
     }
 
@@ -193,45 +159,32 @@ module _ {L : Type 0} (shown : L → Shown) (fits : L → Table → Type 0) (tab
 
   pub above_all : (v w : View) (at : ℕ) (old mid : List L) → Worked shown fits table target v w old mid → at ≤ w.seen
       → All (λ l. at ≤ position (shown l).history) mid
-  above_all v w at old mid worked under = all_second (Done w) (λ l. at ≤ position (shown l).history) (λ x y d. let r = d.0.reached in omega arith) old mid
-      worked.lanes
+  above_all v w at old mid worked under = all_second (Done w) (λ l. at ≤ position (shown l).history) (omega arith) old mid worked.lanes
 
   pub fits_worked : (v w : View) (old mid : List L) → Worked shown fits table target v w old mid → All (λ l. fits l table) mid
   fits_worked v w old mid worked = all_second (Done w) (λ l. fits l table) (λ x y d. d.1) old mid worked.lanes
 
   pub fits_all : (v w : View) (old mid new : List L) → Worked shown fits table target v w old mid → AllZip (λ x y. (t : Table) → fits x t → fits y t) mid new
       → All (λ l. fits l table) new
-  fits_all v w old mid new worked back = all_second (λ x z. fits z table) (λ l. fits l table) (λ x z f. f) old new
-      (zip_through (Done w) (λ x y. (t : Table) → fits x t → fits y t) (λ x z. fits z table) (λ x. Unit {0}) (λ x y z u d f. f table d.1) old mid new
-      (λ k d in'. tt) worked.lanes back)
+  fits_all v w old mid new worked back = all_second _ _ (λ x z f. f) _ _
+      (zip_through _ _ _ (λ x. Unit {0}) (λ x y z u d f. f table d.1) _ _ _ (λ k d in'. tt) worked.lanes back)
 
   module _ (at : ℕ) (v w : View) (old mid : List L) (open' : v.low ≡ target) (is : at ≡ w.low) (under : at ≤ w.seen)
       (worked : Worked shown fits table target v w old mid) where
     pub ends_reached : at ≡ target → EndsApart shown table target old mid Reached
     ends_reached there =
-        zip_with (Done w) (λ x y. StandsOn table target (shown x) (shown y) × IsQuiet (shown x) (shown y)) (λ x. Unit {0})
-        (λ x y u d. (
-          stays table target w.seen w.low (shown x) (shown y) d.0 (omega (arith, there, under)),
-          quiet table target w.seen w.low (shown x)
-              (shown y) d.0 (sym is ∙ there),
-        ))
-        old mid (λ k d in'. tt) worked.lanes
+        zip_with _ _ (λ x. Unit {0}) (λ x y u d. (stays _ _ _ _ _ _ d.0 (omega arith), quiet _ _ _ _ _ _ d.0 (sym is ∙ there))) _ _ (λ k d in'. tt) worked.lanes
 
     pub ends_stopped : (new : List L) → AllZip (Back at) mid new → ¬ (at ≡ target) → EndsApart shown table target old new (Stopped at)
-    ends_stopped new back not =
-        let lower = worked.lower in (
-          omega arith,
-          zip_through (Done w) (Back at) (λ x z. CameTo table at (shown x) (shown z) × RefusedNoLower at (shown x) (shown z)) (λ x. Unit {0})
-              (λ x y z u d b. (
-                gone table target w.seen w.low at (shown x) (shown y) (shown z) d.0 under b,
-                no_lower table target w.seen w.low at (shown x)
-                    (shown y) (shown z) d.0 is b,
-              )) old mid new (λ k d in'. tt) worked.lanes back,
-          ⊎_elim (λ e. absurd (not (is ∙ (e ∙ open'))))
-              (λ any. any_through (λ x y. RefusedAt w.low (shown x) (shown y)) (Back at) (λ x z. RefusedAt at (shown x) (shown z))
-              (λ x y z r b. refused_back w.low at (shown x) (shown y) (shown z) r is b) old mid new any back)
-              worked.low,
-        )
+    ends_stopped new back not = (
+      omega arith,
+      zip_through _ _ _ (λ x. Unit {0}) (λ x y z u d b. (
+        gone _ _ _ _ at (shown x) (shown y) (shown z) d.0 under b,
+        no_lower _ _ _ _ at (shown x) (shown y) (shown z) d.0 is b,
+      )) _ _ _ (λ k d in'. tt) worked.lanes back,
+      ⊎_elim (λ e. absurd (not (is ∙ (e ∙ open'))))
+          (λ any. any_through _ _ _ (λ x y z r b. refused_back _ at (shown x) (shown y) (shown z) r is b) _ _ _ any back) worked.low,
+    )
 
   -- lanes that began together
   module _ (o : ℕ) (old new : List L) (together : All (λ l. position (shown l).history ≡ o) old) (within : o ≤ target) where
@@ -239,14 +192,14 @@ module _ {L : Type 0} (shown : L → Shown) (fits : L → Table → Type 0) (tab
     ends_together Reached ended =
         zip_with (λ x y. StandsOn table target (shown x) (shown y) × IsQuiet (shown x) (shown y))
         (λ x y. GoneTo table target (shown x) (shown y) × IsQuiet (shown x) (shown y)) (λ l. position (shown l).history ≡ o)
-        (λ x y p e. (record { place = e.0.place; history = e.0.history; after = omega (arith, p, within) }, e.1)) old new together ended
+        (λ x y p e. (record { place = e.0.place; history = e.0.history; after = omega arith }, e.1)) old new together ended
     ends_together (Stopped at) ended =
         let low : o ≤ at = any_first (λ x y. RefusedAt at (shown x) (shown y)) (λ l. position (shown l).history ≡ o) (o ≤ at)
-        (λ x y p r. omega (arith, p, r.after)) old new together ended.2 in (
+        (λ x y p r. omega arith) old new together ended.2 in (
           ended.0,
           zip_with (λ x y. CameTo table at (shown x) (shown y) × RefusedNoLower at (shown x) (shown y))
               (λ x y. GoneTo table at (shown x) (shown y) × RefusedNoLower at (shown x) (shown y)) (λ l. position (shown l).history ≡ o)
-              (λ x y p e. (came_further table at (shown x) (shown y) (omega (arith, p, low)) e.0, e.1)) old new together ended.1,
+              (λ x y p e. (came_further _ at (shown x) (shown y) (omega arith) e.0, e.1)) old new together ended.1,
           ended.2,
         )
 

@@ -21,6 +21,9 @@ use fd_events::EventTable;
 use std::alloc::{AllocError, Global};
 use std::thread::{Threads, join_mut};
 
+/// The most workers that a run may have.
+pub const MOST_WORKERS: u32 = 64;
+
 /// How a run forward ended.
 #[derive(Clone, Copy, PartialEq, Eq, Debug)]
 pub enum Outcome {
@@ -35,7 +38,7 @@ pub enum Outcome {
 pub struct Run<'a> {
     pub table: &'a EventTable,
     pub target: u32,
-    /// From 1 to 64.
+    /// From 1 to `MOST_WORKERS`.
     pub workers: u32,
     /// The lane at which each worker is to begin. Where there is none for a worker, the lanes are shared out evenly.
     pub firsts: &'a [usize],

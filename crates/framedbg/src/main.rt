@@ -6,7 +6,7 @@ ghost use Rattle.fd_cli.specs.Program.{AsksWorkers};
 
 use clap::error::ErrorKind;
 use clap::{ArgMatches, Error};
-use fd_cli::{Devices, Ending, MAX_CAPTURE_LEN, Request, perform};
+use fd_cli::{Devices, Ending, MAX_CAPTURE_LEN, MOST_WORKERS, Request, perform};
 use fd_device::{Device, send};
 use screen::Screen;
 use std::alloc::Global;
@@ -40,7 +40,7 @@ fn workers(matches: &ArgMatches) -> u32
     ensures { (1 ≤ result) × (result ≤ 64) }
 {
     let workers = matches.get_one::<u32>("workers").unwrap_or(WORKERS);
-    workers.clamp(1, 64)
+    workers.clamp(1, MOST_WORKERS)
 }
 
 /// The bytes of a file, one more at most than a capture may have.

@@ -1,5 +1,6 @@
 //! The words of a command line: what they may be, and what the help says. The man page has the same texts.
 use clap::{Arg, Command, value_parser};
+use fd_cli::MOST_WORKERS;
 use std::alloc::{AllocError, Global};
 
 /// The version, and the program logic that it is proved with, as `rt version` says it behind the name of the kit.
@@ -96,6 +97,6 @@ fn workers_argument<'a>(alloc: Global) -> Result<Arg<'a>, AllocError> {
             .long("workers")
             .value_name("N")
             .help("The number of threads that draw, from 1 to 64 [default: 4]")
-            .value_parser(value_parser!(u32).range(1..=64)),
+            .value_parser(value_parser!(u32).range(1..=MOST_WORKERS as i64)),
     )
 }

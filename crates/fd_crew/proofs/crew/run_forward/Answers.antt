@@ -5,6 +5,5 @@ use Rattle.fd_crew.proofs.crew.run_forward.Goals as goal
 
 pub returns-clause-ended : goal.returns-clause-ended
 returns-clause-ended g c =
-    run_together g.L.Lane.shown g.L.Lane.fits c.args.table.now c.args.target (opening_position (map g.L.Lane.shown c.args.lanes.now)) c.args.lanes.now
-    c.run_shared.new.lanes c.requires.together c.requires.target.0 c.run_shared.result
+    run_together _ g.L.Lane.fits _ _ (opening_position (map g.L.Lane.shown c.args.lanes.now)) _ _ c.requires.together c.requires.target.0 _
     c.run_shared.ensures.ended

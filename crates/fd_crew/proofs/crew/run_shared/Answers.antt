@@ -5,39 +5,26 @@ use Rattle.fd_crew.proofs.Ending.{above_all, fits_worked, fits_all, ends_reached
 use Rattle.fd_crew.proofs.crew.run_shared.Goals as goal
 
 pub run_back-requires-after_bounds : goal.run_back-requires-after_bounds
-run_back-requires-after_bounds g c κs within =
-    above_all g.L.Lane.shown g.L.Lane.fits c.args.run.now.table.now c.in_ok-fence.fence.table.shared.key.target
-    c.in_ok-fence.seat.me.0 c.run_range.new.seat.me.0
-    c.close-at.result c.args.lanes.now c.run_range.new.lanes c.run_range.ensures.worked
-    c.close-at.ensures.seen
+run_back-requires-after_bounds g c κs within = above_all _ _ _ _ _ _ _ _ _ c.run_range.ensures.worked c.close-at.ensures.seen
 
 pub returns-then-at-run-clause-ended : goal.returns-then-at-run-clause-ended
 returns-then-at-run-clause-ended g c =
     let W : ℕ → Type 0 = λ n. Worked g.L.Lane.shown g.L.Lane.fits c.args.run.now.table.now n c.in_ok-fence.seat.me.0 c.run_range.new.seat.me.0 c.args.lanes.now
     c.run_range.new.lanes in
-    ends_reached g.L.Lane.shown g.L.Lane.fits c.args.run.now.table.now c.args.run.now.target c.close-at.result c.in_ok-fence.seat.me.0 c.run_range.new.seat.me.0
-    c.args.lanes.now c.run_range.new.lanes
+    ends_reached _ g.L.Lane.fits _ _ _ c.in_ok-fence.seat.me.0 c.run_range.new.seat.me.0 _ _
     (ap (λ (v : View). v.low) c.in_ok-fence.ensures.view) c.close-at.ensures.low c.close-at.ensures.seen
     (subst W c.in_ok-fence.ensures.workers.1 c.run_range.ensures.worked) c.if-at-run.true
 
 pub returns-then-at-run-clause-fits : goal.returns-then-at-run-clause-fits
-returns-then-at-run-clause-fits g c =
-    fits_worked g.L.Lane.shown g.L.Lane.fits c.args.run.now.table.now c.in_ok-fence.fence.table.shared.key.target
-    c.in_ok-fence.seat.me.0 c.run_range.new.seat.me.0
-    c.args.lanes.now c.run_range.new.lanes c.run_range.ensures.worked
+returns-then-at-run-clause-fits g c = fits_worked _ _ _ _ _ _ _ _ c.run_range.ensures.worked
 
 pub returns-clause-ended : goal.returns-clause-ended
 returns-clause-ended g c =
     let W : ℕ → Type 0 = λ n. Worked g.L.Lane.shown g.L.Lane.fits c.args.run.now.table.now n c.in_ok-fence.seat.me.0 c.run_range.new.seat.me.0 c.args.lanes.now
     c.run_range.new.lanes in
-    ends_stopped g.L.Lane.shown g.L.Lane.fits c.args.run.now.table.now c.args.run.now.target c.close-at.result c.in_ok-fence.seat.me.0 c.run_range.new.seat.me.0
-    c.args.lanes.now c.run_range.new.lanes
+    ends_stopped _ g.L.Lane.fits _ _ _ c.in_ok-fence.seat.me.0 c.run_range.new.seat.me.0 _ _
     (ap (λ (v : View). v.low) c.in_ok-fence.ensures.view) c.close-at.ensures.low c.close-at.ensures.seen
-    (subst W c.in_ok-fence.ensures.workers.1 c.run_range.ensures.worked)
-    c.run_back.new.lanes c.run_back.ensures.moved c.if-at-run.false
+    (subst W c.in_ok-fence.ensures.workers.1 c.run_range.ensures.worked) _ c.run_back.ensures.moved c.if-at-run.false
 
 pub returns-clause-fits : goal.returns-clause-fits
-returns-clause-fits g c =
-    fits_all g.L.Lane.shown g.L.Lane.fits c.args.run.now.table.now c.in_ok-fence.fence.table.shared.key.target c.in_ok-fence.seat.me.0 c.run_range.new.seat.me.0
-    c.args.lanes.now c.run_range.new.lanes c.run_back.new.lanes c.run_range.ensures.worked
-    c.run_back.ensures.fits
+returns-clause-fits g c = fits_all _ _ _ _ _ _ _ _ _ c.run_range.ensures.worked c.run_back.ensures.fits
