@@ -1,214 +1,231 @@
--- Every run writes the transcript, up to the first reply that tells of a want of memory.
-use Rattle.std.proofs.Common.{◌≡◌, ℕ, ◌+◌, ◌-◌, ◌<◌, ◌≤◌, List, [], ◌∷◌, ◌++◌, length, Some, None, Bool, true, false, cond, Result, Ok, Err, refl, sym, ap}
-use Rattle.std.proofs.Common.{◌∙◌, arith, subst, codes, inl, inr, ◌⊎◌, append_assoc}
-use Rattle.std.specs.Prelude.{not, ◌&&◌, nat_lt, nat_le}
+-- Every run writes the transcript, up to the first reply that tells of a want of memory, and the transcript is a run in which none does.
+use Rattle.std.proofs.Common.{◌≡◌, ℕ, zero, suc, ◌+◌, ◌-◌, ◌<◌, ◌≤◌, List, [], ◌∷◌, ◌++◌, length, codes, Option, Some, None, Bool, true, false, cond, eqb}
+use Rattle.std.proofs.Common.{Result, Ok, Err, refl, sym, ap, ◌∙◌, arith, inl, inr, ◌⊎◌, append_assoc}
+use Rattle.std.specs.Prelude.{not, ◌&&◌, nat_lt, nat_le, slice_index}
+use Rattle.std.proofs.lemmas.Bool.{lt-ltb, le-ltb, le-leb, lt-leb, ltb-true, ltb-false, leb-true, leb-false, eqb-false}
 use Rattle.std.proofs.lemmas.Bool.Decides.{nat_tests}
-use Rattle.fd_blend.specs.declared.channel.Colour.{Colour}
-use Rattle.fd_events.specs.Table.{flag_at}
-use Rattle.fd_events.specs.Image.{colour_at}
-use Rattle.fd_history.specs.declared.entry.Entry.{Entry}
+use Rattle.fd_events.specs.Table.{Table, flag_at, with_flag}
+use Rattle.fd_events.specs.Image.{colour_at, stored_at}
+use Rattle.fd_history.specs.History.{history_at}
 use Rattle.fd_session.specs.declared.answer.Answer.{Answer}
 use Rattle.fd_session.specs.declared.answer.Answer.TheVariants.{Moved, Stopped, Refused}
-use Rattle.fd_session.specs.declared.answer.SessionFault.{SessionFault}
 use Rattle.fd_session.specs.declared.answer.SessionFault.TheVariants.{AtEnd, AtStart, NoSuchPosition, NoSuchEvent, AlreadySo, NoSuchPixel, Memory}
-use Rattle.fd_session.specs.Machine.{State, at_position, with_flag_at, Steps, GoesBack, Jumps, Switches, ShowsPixel, ShowsDepth, ShowsHistory}
+use Rattle.fd_session.specs.Machine.{State, with_flag_at, Switches}
 use Rattle.fd_words.specs.declared.command.Command.{Command}
-use Rattle.fd_words.specs.declared.command.Command.TheVariants.{Step, Back, Goto, On, Off, Pixel, History, State as ShowState, Events, Show, Quit}
+use Rattle.fd_words.specs.declared.command.Command.TheVariants.{Step, Back, Goto, On, Off, Pixel, History, State as ShowState, Show}
 use Rattle.fd_words.specs.declared.command.CommandFault.{CommandFault}
+use Rattle.fd_words.specs.declared.command.CommandFault.TheVariants.{Unknown}
 use Rattle.fd_words.specs.Line.{command_of}
-use Rattle.fd_cli.specs.Run.{Answers, Run, NamesMemory}
-use Rattle.fd_cli.specs.Show.{show_text}
-use Rattle.fd_words.specs.Text.{number_line, entry_list}
-use Rattle.fd_cli.specs.ReplyText.{refusal_line, answer_line, back_line, pixel_text, history_text}
-use Rattle.fd_cli.specs.Transcript.{Reply, moved_to, refusal_reply, switched, at_pixel, replied, transcript, WritesUpToMemory, WritesTranscript}
+use Rattle.fd_words.specs.Text.{number_line, entry_list, state_line}
+use Rattle.fd_cli.specs.Run.{Answers, NamesMemory}
+use Rattle.fd_cli.specs.ReplyText.{answer_line, pixel_text, state_text}
+use Rattle.fd_cli.specs.Transcript.{Reply, moved_to, refusal_reply, switched, replied, transcript, left_by, WritesUpToMemory}
+use Rattle.fd_cli.specs.Transcript.{WritesTranscript, TranscriptRuns, WithoutMemoryWritesAll}
+
+-- ---- what may be replied is the transcript's reply, or tells of a want of memory
 
 -- the reply and the state are these
-abbrev pub Is : List ℕ → State → Reply → Type 0
+abbrev Is : List ℕ → State → Reply → Type 0
 Is text new r = let left : Reply = (text, new) in left ≡ r
 
-pair : (text other : List ℕ) (new last : State) → text ≡ other → new ≡ last → Is text new (other, last)
-pair text other new last e f = ap (λ (t : List ℕ). (t, new)) e ∙ ap (λ (s : State). (other, s)) f
-
-abbrev pub OrMemory : List ℕ → State → Reply → Type 0
+abbrev OrMemory : List ℕ → State → Reply → Type 0
 OrMemory text new r = NamesMemory text ⊎ Is text new r
 
--- of two replies the one that a test chooses
-yes : (b : Bool) (p q r : Reply) → b ≡ true → r ≡ p → r ≡ cond b p q
-yes b p q r is e = e ∙ sym (ap (λ (t : Bool). cond t p q) is)
-
-no : (b : Bool) (p q r : Reply) → b ≡ false → r ≡ q → r ≡ cond b p q
-no b p q r is e = e ∙ sym (ap (λ (t : Bool). cond t p q) is)
-
-less : (a b : ℕ) → a < b → nat_lt a b ≡ true
-less a b h = grind (arith, nat_tests)
-
-not_less : (a b : ℕ) → b ≤ a → nat_lt a b ≡ false
-not_less a b h = grind (arith, nat_tests)
-
-at_most : (a b : ℕ) → a ≤ b → nat_le a b ≡ true
-at_most a b h = grind (arith, nat_tests)
-
-above : (a b : ℕ) → b < a → nat_le a b ≡ false
-above a b h = grind (arith, nat_tests)
-
-moved : (old : State) (text : List ℕ) (new : State) (at to : ℕ) → text ≡ number_line (codes "at") at → new ≡ at_position old at → at ≡ to
-    → Is text new (moved_to old to)
-moved old text new at to is lands e = pair text _ new _ (is ∙ ap (number_line (codes "at")) e) (lands ∙ ap (at_position old) e)
-
-step_or : (old : State) (answer : Answer) (text : List ℕ) (new : State) → Steps old answer new → text ≡ answer_line answer
-    → OrMemory text new (replied old (Ok Step))
-step_or old (Moved at) text new h is = inr (yes _ _ _ (text, new) (less _ _ h.0) (moved old text new at (old.position + 1) is h.2 h.1))
-step_or old (Stopped at) text new h is = inl (inl (at, is))
-step_or old (Refused AtEnd) text new h is = inr (no _ _ _ (text, new) (not_less old.position (length old.table.events) (omega (arith, h.0)))
-    (pair text _ new _ is h.1))
-step_or old (Refused AtStart) text new h is = absurd h.0
-step_or old (Refused NoSuchPosition) text new h is = absurd h.0
-step_or old (Refused NoSuchEvent) text new h is = absurd h.0
-step_or old (Refused AlreadySo) text new h is = absurd h.0
-step_or old (Refused NoSuchPixel) text new h is = absurd h.0
-step_or old (Refused Memory) text new h is = inl (inr is)
-
-back_or : (old : State) (outcome : Result ℕ SessionFault) (text : List ℕ) (new : State) → GoesBack old outcome new → text ≡ back_line outcome
-    → Is text new (replied old (Ok Back))
-back_or old (Ok at) text new h is = yes _ _ _ (text, new) (less _ _ h.0) (moved old text new at (old.position - 1) is h.2 (omega (arith, h.1)))
-back_or old (Err fault) text new h is = no _ _ _ (text, new) (not_less 0 old.position (omega (arith, h.0))) (pair text _ new _ (is ∙ ap refusal_line h.1) h.2)
-
-jump_or : (old : State) (to : ℕ) (answer : Answer) (text : List ℕ) (new : State) → Jumps old to answer new → text ≡ answer_line answer
-    → OrMemory text new (replied old (Ok (Goto to)))
-jump_or old to (Moved at) text new h is = inr (yes _ _ _ (text, new) (at_most _ _ h.0) (moved old text new at to is h.2 h.1))
-jump_or old to (Stopped at) text new h is = inl (inl (at, is))
-jump_or old to (Refused NoSuchPosition) text new h is = inr (no _ _ _ (text, new) (above _ _ h.0) (pair text _ new _ is h.1))
-jump_or old to (Refused AtEnd) text new h is = absurd h.0
-jump_or old to (Refused AtStart) text new h is = absurd h.0
-jump_or old to (Refused NoSuchEvent) text new h is = absurd h.0
-jump_or old to (Refused AlreadySo) text new h is = absurd h.0
-jump_or old to (Refused NoSuchPixel) text new h is = absurd h.0
-jump_or old to (Refused Memory) text new h is = inl (inr is)
-
-switched_anew : (old : State) (number : ℕ) (on : Bool) → switched old number on
-    (Some (not on)) ≡ (number_line (codes "at") old.position, with_flag_at old number on old.position)
-switched_anew old number true = refl
-switched_anew old number false = refl
-
-switched_again : (old : State) (number : ℕ) (on : Bool) → switched old number on (Some on) ≡ refusal_reply old AlreadySo
-switched_again old number true = refl
-switched_again old number false = refl
-
-switched_none : (old : State) (number : ℕ) (on : Bool) → switched old number on None ≡ refusal_reply old NoSuchEvent
-switched_none old number true = refl
-switched_none old number false = refl
+switched_as : (old : State) (number : ℕ) (on : Bool) → (switched old number on None ≡ refusal_reply old NoSuchEvent)
+    × (switched old number on (Some on) ≡ refusal_reply old AlreadySo)
+    × (switched old number on (Some (not on)) ≡ (number_line (codes "at") old.position, with_flag_at old number on old.position))
+switched_as old number true = (refl, refl, refl)
+switched_as old number false = (refl, refl, refl)
 
 switch_or : (old : State) (number : ℕ) (on : Bool) (answer : Answer) (text : List ℕ) (new : State) → Switches old number on answer new
     → text ≡ answer_line answer
     → OrMemory text new (switched old number on (flag_at old.table number))
-switch_or old number on (Moved at) text new h is =
-    inr
-    (pair text _ new _ (is ∙ ap (number_line (codes "at")) h.1) (h.2 ∙ ap (with_flag_at old number on) h.1)
-    ∙ sym (switched_anew old number on) ∙ ap (switched old number on) (sym h.0))
+switch_or old number on (Moved at) text new h is = inr (rw (h.0, (switched_as old number on).2) (cc))
 switch_or old number on (Stopped at) text new h is = inl (inl (at, is))
-switch_or old number on (Refused NoSuchEvent) text new h is =
-    inr (pair text _ new _ is h.1 ∙ sym (switched_none old number on) ∙ ap (switched old number on) (sym h.0))
-switch_or old number on (Refused AlreadySo) text new h is =
-    inr (pair text _ new _ is h.1 ∙ sym (switched_again old number on) ∙ ap (switched old number on) (sym h.0))
-switch_or old number on (Refused AtEnd) text new h is = absurd h.0
-switch_or old number on (Refused AtStart) text new h is = absurd h.0
-switch_or old number on (Refused NoSuchPosition) text new h is = absurd h.0
-switch_or old number on (Refused NoSuchPixel) text new h is = absurd h.0
-switch_or old number on (Refused Memory) text new h is = absurd h.0
+switch_or old number on (Refused NoSuchEvent) text new h is = inr (rw (h.0, (switched_as old number on).0) (cc))
+switch_or old number on (Refused AlreadySo) text new h is = inr (rw (h.0, (switched_as old number on).1) (cc))
+switch_or old number on (Refused other) text new h is = absurd h.0
 
 -- a pixel that the target has, and one that it hasn't
 inside : (x y w h : ℕ) → x < w → y < h → (nat_lt x w && nat_lt y h) ≡ true
-inside x y w h a b = ap (λ (t : Bool). t && nat_lt y h) (less x w a) ∙ less y h b
+inside x y w h a b = grind (arith, nat_tests)
 
 outside : (x y w h : ℕ) → (x < w → y < h → ⊥) → (nat_lt x w && nat_lt y h) ≡ false
-outside x y w h none = by_tests (nat_lt x w) (nat_lt y h) refl refl
-  where
-    by_tests : (s t : Bool) → nat_lt x w ≡ s → nat_lt y h ≡ t → (s && t) ≡ false
-    by_tests false t p q = refl
-    by_tests true false p q = refl
-    by_tests true true p q = absurd (none (grind (arith, nat_tests)) (grind (arith, nat_tests)))
+outside x y w h none = grind (arith, nat_tests)
 
-shown : (old : State) (x y : ℕ) (text : List ℕ) (r : Reply) → x < old.table.width → y < old.table.height → r ≡ (text, old) → r ≡ at_pixel old x y text
-shown old x y text r a b e = yes _ _ _ r (inside x y _ _ a b) e
-
-hidden : (old : State) (x y : ℕ) (text : List ℕ) (r : Reply) → (x < old.table.width → y < old.table.height → ⊥) → r ≡ refusal_reply old NoSuchPixel
-    → r ≡ at_pixel old x y text
-hidden old x y text r none e = no _ _ _ r (outside x y _ _ none) e
-
-pixel_or : (old : State) (x y : ℕ) (colour : Result Colour SessionFault) (depth : Result ℕ SessionFault) (text : List ℕ) (new : State)
-    → ShowsPixel old x y colour → ShowsDepth old x y depth → text ≡ pixel_text old.table.version colour depth → new ≡ old
-    → Is text new (replied old (Ok (Pixel x y)))
-pixel_or old x y (Ok colour) (Ok depth) text new h e is same =
-    shown old x y _ (text, new) h.0 h.1
-    (pair text _ new old
-    (is ∙ ap (λ c. pixel_text old.table.version (Ok c) (Ok depth)) h.2
-    ∙ ap (λ d. pixel_text old.table.version (Ok (colour_at old.table old.position x y)) (Ok d)) e.2) same)
-pixel_or old x y (Ok colour) (Err fault) text new h e is same = hidden old x y _ (text, new) e.1 (pair text _ new old (is ∙ ap refusal_line e.0) same)
-pixel_or old x y (Err fault) depth text new h e is same = hidden old x y _ (text, new) h.1 (pair text _ new old (is ∙ ap refusal_line h.0) same)
-
-history_or : (old : State) (x y : ℕ) (outcome : Result (List Entry) SessionFault) (text : List ℕ) (new : State) → ShowsHistory old x y outcome
-    → text ≡ history_text old.table.version outcome → new ≡ old
-    → OrMemory text new (replied old (Ok (History x y)))
-history_or old x y (Ok entries) text new h is same = inr
-    (shown old x y _ (text, new) h.0 h.1 (pair text _ new old (is ∙ ap (entry_list old.table.version) h.2) same))
-history_or old x y (Err NoSuchPixel) text new h is same = inr (hidden old x y _ (text, new) h (pair text _ new old is same))
-history_or old x y (Err Memory) text new h is same = inl (inr is)
-history_or old x y (Err AtEnd) text new h is same = absurd h
-history_or old x y (Err AtStart) text new h is same = absurd h
-history_or old x y (Err NoSuchPosition) text new h is same = absurd h
-history_or old x y (Err NoSuchEvent) text new h is same = absurd h
-history_or old x y (Err AlreadySo) text new h is same = absurd h
-
-show_or : (old : State) (text : List ℕ) (new : State) → (text ≡ show_text old) ⊎ (text ≡ refusal_line Memory) → new ≡ old
-    → OrMemory text new (replied old (Ok Show))
-show_or old text new (inl is) same = inr (pair text _ new old is same)
-show_or old text new (inr is) same = inl (inr is)
-
-pub answer_or : (old : State) (command : Result Command CommandFault) (text : List ℕ) (new : State) → Answers old command text new
+answer_or : (old : State) (command : Result Command CommandFault) (text : List ℕ) (new : State) → Answers old command text new
     → OrMemory text new (replied old command)
-answer_or old (Err fault) text new h = inr (pair text _ new old h.0 h.1)
-answer_or old (Ok Step) text new h = step_or old h.0 text new h.1 h.2
-answer_or old (Ok Back) text new h = inr (back_or old h.0 text new h.1 h.2)
-answer_or old (Ok (Goto to)) text new h = jump_or old to h.0 text new h.1 h.2
+answer_or old (Ok Step) text new (Moved at, h, is) = inr (rw (lt-ltb old.position (length old.table.events) h.0) (cc))
+answer_or old (Ok Step) text new (Stopped at, h, is) = inl (inl (at, is))
+answer_or old (Ok Step) text new (Refused AtEnd, h, is) = inr (rw (le-ltb old.position (length old.table.events) (omega (arith, h.0))) (cc))
+answer_or old (Ok Step) text new (Refused Memory, h, is) = inl (inr is)
+answer_or old (Ok Step) text new (Refused other, h, is) = absurd h.0
+answer_or old (Ok Back) text new (Ok at, h, is) =
+    let at_is : at ≡ old.position - 1 = omega (arith, h.1) in
+    inr (rw (lt-ltb 0 old.position h.0) (cc))
+answer_or old (Ok Back) text new (Err fault, h, is) = inr (rw (le-ltb 0 old.position (omega (arith, h.0))) (cc))
+answer_or old (Ok (Goto to)) text new (Moved at, h, is) = inr (rw (le-leb to (length old.table.events) h.0) (cc))
+answer_or old (Ok (Goto to)) text new (Stopped at, h, is) = inl (inl (at, is))
+answer_or old (Ok (Goto to)) text new (Refused NoSuchPosition, h, is) = inr (rw (lt-leb to (length old.table.events) h.0) (cc))
+answer_or old (Ok (Goto to)) text new (Refused Memory, h, is) = inl (inr is)
+answer_or old (Ok (Goto to)) text new (Refused other, h, is) = absurd h.0
 answer_or old (Ok (On number)) text new h = switch_or old number true h.0 text new h.1 h.2
 answer_or old (Ok (Off number)) text new h = switch_or old number false h.0 text new h.1 h.2
-answer_or old (Ok (Pixel x y)) text new h = inr (pixel_or old x y h.0 h.1 text new h.2 h.3 h.4 h.5)
-answer_or old (Ok (History x y)) text new h = history_or old x y h.0 text new h.1 h.2 h.3
-answer_or old (Ok ShowState) text new h = inr (pair text _ new old h.0 h.1)
-answer_or old (Ok Events) text new h = inr (pair text _ new old h.0 h.1)
-answer_or old (Ok Show) text new h = show_or old text new h.0 h.1
-answer_or old (Ok Quit) text new h = inr (pair text _ new old h.0 h.1)
+answer_or old (Ok (Pixel x y)) text new (Ok colour, Ok depth, h, e, is, same) = inr (rw (inside x y old.table.width old.table.height h.0 h.1) (cc))
+answer_or old (Ok (Pixel x y)) text new (Ok colour, Err fault, h, e, is, same) = absurd (e.1 h.0 h.1)
+answer_or old (Ok (Pixel x y)) text new (Err fault, depth, h, e, is, same) = inr (rw (outside x y old.table.width old.table.height h.1) (cc))
+answer_or old (Ok (History x y)) text new (Ok entries, h, is, same) = inr (rw (inside x y old.table.width old.table.height h.0 h.1) (cc))
+answer_or old (Ok (History x y)) text new (Err NoSuchPixel, h, is, same) = inr (rw (outside x y old.table.width old.table.height h) (cc))
+answer_or old (Ok (History x y)) text new (Err Memory, h, is, same) = inl (inr is)
+answer_or old (Ok (History x y)) text new (Err other, h, is, same) = absurd h
+answer_or old (Ok Show) text new (inl is, same) = inr (cc)
+answer_or old (Ok Show) text new (inr is, same) = inl (inr is)
+answer_or old other text new h = inr (cc)
+
+-- ---- line by line
 
 -- one line more
-one_more : (old : State) (line : List ℕ) (lines : List (List ℕ)) (first others text : List ℕ) (mid : State) → Is first mid (replied old (command_of line))
-    → text ≡ first ++ others
-    → WritesUpToMemory (replied old (command_of line)).1 lines others → WritesUpToMemory old (line ∷ lines) text
-one_more old line lines first others text mid same whole (inl is) =
-    inl (whole ∙ ap (λ (xs : List ℕ). xs ++ others) (ap (λ (r : Reply). r.0) same) ∙ ap (λ (xs : List ℕ). (replied old (command_of line)).0 ++ xs) is)
-one_more old line lines first others text mid same whole (inr b) =
-    inr (record {
-      earlier = line ∷ b.earlier;
-      line = b.line;
-      later = b.later;
-      reply = b.reply;
-      more = b.more;
-      cut = ap (λ (ls : List (List ℕ)). line ∷ ls) b.cut;
-      names = b.names;
-      wrote = whole ∙ ap (λ (xs : List ℕ). xs ++ others) (ap (λ (r : Reply). r.0) same) ∙ ap (λ (xs : List ℕ). (replied old (command_of line)).0 ++ xs) b.wrote
-          ∙ sym (append_assoc (replied old (command_of line)).0 (transcript (replied old (command_of line)).1 b.earlier) (b.reply ++ b.more));
-    })
-
-by_answer : (old : State) (line : List ℕ) (lines : List (List ℕ)) (text : List ℕ) (new : State) (first : List ℕ) (mid : State) (others : List ℕ)
-    → Run mid lines others new → text ≡ first ++ others
-    → ((s : State) → Run s lines others new → WritesUpToMemory s lines others) → OrMemory first mid (replied old (command_of line))
-    → WritesUpToMemory old (line ∷ lines) text
-by_answer old line lines text new first mid others run whole later (inl names) =
+one_more : (old : State) (line : List ℕ) (lines : List (List ℕ)) (first others text : List ℕ) (mid : State) → text ≡ first ++ others
+    → OrMemory first mid (replied old (command_of line)) → WritesUpToMemory mid lines others → WritesUpToMemory old (line ∷ lines) text
+one_more old line lines first others text mid whole (inl names) later =
     inr (record { earlier = []; line = line; later = lines; reply = first; more = others; cut = refl; names = names; wrote = whole })
-by_answer old line lines text new first mid others run whole later (inr same) =
-    one_more old line lines first others text mid same whole
-    (later (replied old (command_of line)).1 (subst (λ (s : State). Run s lines others new) (ap (λ (r : Reply). r.1) same) run))
+one_more old line lines first others text mid whole (inr same) (inl is) =
+    inl (whole ∙ ap (λ (xs : List ℕ). first ++ xs) is ∙ ap (λ (r : Reply). r.0 ++ transcript r.1 lines) same)
+one_more old line lines first others text mid whole (inr same) (inr b) =
+    let cut = ap (λ (ls : List (List ℕ)). line ∷ ls) b.cut in
+    let wrote = whole ∙ ap (λ (xs : List ℕ). first ++ xs) b.wrote ∙ sym (append_assoc first (transcript mid b.earlier) (b.reply ++ b.more))
+    ∙ ap (λ (r : Reply). (r.0 ++ transcript r.1 b.earlier) ++ (b.reply ++ b.more)) same in
+    inr (record { earlier = line ∷ b.earlier; line = b.line; later = b.later; reply = b.reply; more = b.more; cut = cut; names = b.names; wrote = wrote })
 
 pub writes_transcript : WritesTranscript
 writes_transcript old [] text new h = inl h.0
 writes_transcript old (line ∷ lines) text new h =
-    by_answer old line lines text new h.0 h.1 h.2 h.4 h.5 (λ (mid : State). writes_transcript mid lines h.2 new) (answer_or old (command_of line) h.0 h.1 h.3)
+    one_more old line lines h.0 h.2 text h.1 h.5 (answer_or old (command_of line) h.0 h.1 h.3) (writes_transcript h.1 lines h.2 new h.4)
+
+pub writes_all : WithoutMemoryWritesAll
+writes_all old [] text new h = (h, h.0, h.1)
+writes_all old (line ∷ lines) text new h =
+    let rest = writes_all h.1 lines h.2 new h.5 in
+    elim (answer_or old (command_of line) h.0 h.1 h.3) [
+      | inl names ↦ absurd (h.4 names)
+      | inr same ↦
+          let wrote = h.6 ∙ ap (λ (xs : List ℕ). h.0 ++ xs) rest.1 ∙ ap (λ (r : Reply). r.0 ++ transcript r.1 lines) same in
+          ((h.0, h.1, h.2, h.3, rest.0, h.6), wrote, rest.2 ∙ ap (λ (r : Reply). left_by r.1 lines) same)
+    ]
+
+-- ---- which replies name no memory: the third byte tells them from "stopped" and "refused", and the ninth one refusal from another
+
+abbrev Free : List ℕ → Type 0
+Free text = NamesMemory text → ⊥
+
+free : (text : List ℕ) (byte : ℕ) → slice_index text 2 ≡ byte → eqb byte 111 ≡ false → eqb byte 102 ≡ false → Free text
+free text byte is a b (inl stopped) = eqb-false byte 111 a (sym is ∙ ap (λ (t : List ℕ). slice_index t 2) stopped.1)
+free text byte is a b (inr names) = eqb-false byte 102 b (sym is ∙ ap (λ (t : List ℕ). slice_index t 2) names)
+
+free_refusal : (text : List ℕ) (digit : ℕ) → slice_index text 2 ≡ 102 → slice_index text 8 ≡ digit → eqb digit 55 ≡ false → Free text
+free_refusal text digit is at other (inl stopped) = eqb-false 102 111 refl (sym is ∙ ap (λ (t : List ℕ). slice_index t 2) stopped.1)
+free_refusal text digit is at other (inr names) = eqb-false digit 55 other (sym at ∙ ap (λ (t : List ℕ). slice_index t 8) names)
+
+-- ---- the transcript's reply to each command
+
+abbrev Within : State → Type 0
+Within state = state.position ≤ length state.table.events
+
+-- The machine allows it, it names no memory, and the position is one of the frame's.
+abbrev Allowed : State → Result Command CommandFault → Reply → Type 0
+Allowed state command r = Answers state command r.0 r.1 × Free r.0 × Within r.1
+
+bad : (state : State) (fault : CommandFault) → Within state → Allowed state (Err fault) (replied state (Err fault))
+bad state Unknown within = ((refl, refl), free _ 100 refl refl refl, within)
+bad state other within = ((refl, refl), free _ 100 refl refl refl, within)
+
+step : (state : State) → Within state → (b : Bool) → nat_lt state.position (length state.table.events) ≡ b
+    → Allowed state (Ok Step) (cond b (moved_to state (state.position + 1)) (refusal_reply state AtEnd))
+step state within true is =
+    let before = ltb-true state.position (length state.table.events) is in
+    ((Moved (state.position + 1), (before, refl, refl), refl), free _ 32 refl refl refl, omega (arith, before))
+step state within false is = (
+  (Refused AtEnd, (omega (arith, ltb-false state.position (length state.table.events) is), refl), refl),
+  free_refusal _ 49 refl refl refl,
+  within,
+)
+
+back : (state : State) → Within state → (b : Bool) → nat_lt 0 state.position ≡ b
+    → Allowed state (Ok Back) (cond b (moved_to state (state.position - 1)) (refusal_reply state AtStart))
+back state within true is =
+    let some = ltb-true 0 state.position is in
+    ((Ok (state.position - 1), (some, omega (arith, some), refl), refl), free _ 32 refl refl refl, omega (arith, within))
+back state within false is = ((Err AtStart, (omega (arith, ltb-false 0 state.position is), refl, refl), refl), free_refusal _ 50 refl refl refl, within)
+
+jump : (state : State) (to : ℕ) → Within state → (b : Bool) → nat_le to (length state.table.events) ≡ b
+    → Allowed state (Ok (Goto to)) (cond b (moved_to state to) (refusal_reply state NoSuchPosition))
+jump state to within true is =
+    let there = leb-true to (length state.table.events) is in ((Moved to, (there, refl, refl), refl), free _ 32 refl refl refl, there)
+jump state to within false is = ((Refused NoSuchPosition, (leb-false to (length state.table.events) is, refl), refl), free_refusal _ 51 refl refl refl, within)
+
+same_events : (table : Table) (number : ℕ) (on : Bool) → length (with_flag table number on).events ≡ length table.events
+same_events table zero on = refl
+same_events table (suc n) on = refl
+
+switch : (state : State) (number : ℕ) (on : Bool) → Within state → (flag : Option Bool) → flag_at state.table number ≡ flag
+    → (let r = switched state number on flag in ((answer : Answer) × Switches state number on answer r.1 × (r.0 ≡ answer_line answer)) × Free r.0 × Within r.1)
+switch state number true within (Some false) is =
+    ((Moved state.position, (is, refl, refl), refl), free _ 32 refl refl refl, omega (arith, within, same_events state.table number true))
+switch state number false within (Some true) is =
+    ((Moved state.position, (is, refl, refl), refl), free _ 32 refl refl refl, omega (arith, within, same_events state.table number false))
+switch state number on within None is = ((Refused NoSuchEvent, (is, refl), refl), free_refusal _ 52 refl refl refl, within)
+switch state number on within other is = ((Refused AlreadySo, (is, refl), refl), free_refusal _ 53 refl refl refl, within)
+
+-- a pixel that the target has, and one that it hasn't
+abbrev has_pixel : State → ℕ → ℕ → Bool
+has_pixel state x y = nat_lt x state.table.width && nat_lt y state.table.height
+
+there : (a b c d : ℕ) → (nat_lt a b && nat_lt c d) ≡ true → (a < b) × (c < d)
+there a b c d is = grind (arith, nat_tests)
+
+not_there : (a b c d : ℕ) → (nat_lt a b && nat_lt c d) ≡ false → a < b → c < d → ⊥
+not_there a b c d is h k = grind (arith, nat_tests)
+
+pixel : (state : State) (x y : ℕ) → Within state → (b : Bool) → has_pixel state x y ≡ b
+    → Allowed state (Ok (Pixel x y))
+    (cond b (pixel_text state.table.version (Ok (colour_at state.table state.position x y)) (Ok (stored_at state.table state.position x y)), state)
+    (refusal_reply state NoSuchPixel))
+pixel state x y within true is =
+    let at = there x state.table.width y state.table.height is in
+    ((Ok _, Ok _, (at.0, at.1, refl), (at.0, at.1, refl), refl, refl), free _ 120 refl refl refl, within)
+pixel state x y within false is =
+    let none = not_there x state.table.width y state.table.height is in
+    ((Err NoSuchPixel, Err NoSuchPixel, (refl, none), (refl, none), refl, refl), free_refusal _ 54 refl refl refl, within)
+
+history : (state : State) (x y : ℕ) → Within state → (b : Bool) → has_pixel state x y ≡ b
+    → Allowed state (Ok (History x y)) (cond b (entry_list state.table.version (history_at state.table state.position x y), state)
+    (refusal_reply state NoSuchPixel))
+history state x y within true is =
+    let at = there x state.table.width y state.table.height is in
+    ((Ok _, (at.0, at.1, refl), refl, refl), free _ 115 refl refl refl, within)
+history state x y within false is =
+    ((Err NoSuchPixel, not_there x state.table.width y state.table.height is, refl, refl), free_refusal _ 54 refl refl refl, within)
+
+shows_state : (state : State) → Free (state_text state)
+unfolding state_line
+shows_state state = free _ 97 refl refl refl
+
+allowed : (state : State) (command : Result Command CommandFault) → Within state → Allowed state command (replied state command)
+allowed state (Err fault) within = bad state fault within
+allowed state (Ok Step) within = step state within _ refl
+allowed state (Ok Back) within = back state within _ refl
+allowed state (Ok (Goto to)) within = jump state to within _ refl
+allowed state (Ok (On number)) within = switch state number true within _ refl
+allowed state (Ok (Off number)) within = switch state number false within _ refl
+allowed state (Ok (Pixel x y)) within = pixel state x y within _ refl
+allowed state (Ok (History x y)) within = history state x y within _ refl
+allowed state (Ok ShowState) within = ((refl, refl), shows_state state, within)
+allowed state (Ok Show) within = ((inl refl, refl), free _ 109 refl refl refl, within)
+allowed state (Ok other) within = ((refl, refl), free _ 101 refl refl refl, within)
+
+pub transcript_runs : TranscriptRuns
+transcript_runs state [] within = (refl, refl)
+transcript_runs state (line ∷ lines) within =
+    let is = allowed state (command_of line) within in
+    let first = replied state (command_of line) in
+    (first.0, first.1, transcript first.1 lines, is.0, is.1, transcript_runs first.1 lines is.2, refl)

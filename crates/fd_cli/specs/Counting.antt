@@ -2,27 +2,17 @@
 use Rattle.std.specs.Prelude.{◌≡◌, ℕ, Bool, true, false}
 use Rattle.fd_device.specs.Transfer.{CountsFailure}
 use Rattle.fd_words.specs.declared.ending.Ending.{Ending}
-use Rattle.fd_words.specs.declared.ending.Ending.TheVariants.{Done, Capture, NoSuchPosition, Read, Write, TooMuch, Memory}
+use Rattle.fd_words.specs.declared.ending.Ending.TheVariants.{Done, Read, Write, TooMuch}
 
 -- Only a write fault changes the writer's count, by one failure.
 abbrev pub CountsWriter : Ending → ℕ → ℕ → Type 0
-CountsWriter Done old new = new ≡ old
-CountsWriter (Capture fault) old new = new ≡ old
-CountsWriter NoSuchPosition old new = new ≡ old
-CountsWriter Read old new = new ≡ old
 CountsWriter (Write sent) old new = CountsFailure old new false
-CountsWriter TooMuch old new = new ≡ old
-CountsWriter Memory old new = new ≡ old
+CountsWriter other old new = new ≡ old
 
 -- Only a read fault changes the reader's count, by one failure.
 abbrev pub CountsReader : Ending → ℕ → ℕ → Type 0
-CountsReader Done old new = new ≡ old
-CountsReader (Capture fault) old new = new ≡ old
-CountsReader NoSuchPosition old new = new ≡ old
 CountsReader Read old new = CountsFailure old new false
-CountsReader (Write sent) old new = new ≡ old
-CountsReader TooMuch old new = new ≡ old
-CountsReader Memory old new = new ≡ old
+CountsReader other old new = new ≡ old
 
 -- Where all bytes had been passed on, they are again.
 abbrev pub StaysFlushed : Bool → Bool → Type 0
@@ -33,7 +23,4 @@ abbrev pub EndsFlushed : Ending → Bool → Bool → Type 0
 EndsFlushed Done old new = StaysFlushed old new
 EndsFlushed Read old new = StaysFlushed old new
 EndsFlushed TooMuch old new = StaysFlushed old new
-EndsFlushed (Write sent) old new = Unit {0}
-EndsFlushed (Capture fault) old new = Unit {0}
-EndsFlushed NoSuchPosition old new = Unit {0}
-EndsFlushed Memory old new = Unit {0}
+EndsFlushed other old new = Unit {0}

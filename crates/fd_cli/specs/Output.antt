@@ -8,7 +8,7 @@ use Rattle.fd_words.specs.declared.command.Command.{Command}
 use Rattle.fd_words.specs.declared.command.Command.TheVariants.{Quit}
 use Rattle.fd_words.specs.declared.command.CommandFault.{CommandFault}
 use Rattle.fd_words.specs.declared.ending.Ending.{Ending}
-use Rattle.fd_words.specs.declared.ending.Ending.TheVariants.{Done, Capture, NoSuchPosition, Read, Write, TooMuch, Memory}
+use Rattle.fd_words.specs.declared.ending.Ending.TheVariants.{Done, Capture, Read, Write, TooMuch, Memory}
 use Rattle.fd_words.specs.Line.{command_of, has_no_byte}
 use Rattle.fd_cli.specs.Serving.{ServesCapture}
 use Rattle.fd_cli.specs.Transcript.{transcript, WritesUpToMemory}
@@ -77,25 +77,16 @@ WritesAbout table taken written Done = WritesOutput table taken written
 WritesAbout table taken written (Write sent) = WritesFront table taken written sent
 WritesAbout table taken written Read = WritesLines table taken written
 WritesAbout table taken written TooMuch = WritesWithin table taken written
-WritesAbout table taken written (Capture fault) = ⊥
-WritesAbout table taken written NoSuchPosition = ⊥
-WritesAbout table taken written Memory = ⊥
+WritesAbout table taken written other = ⊥
 
 -- ---- from bytes to bytes
-
-abbrev pub OfTable : List ℕ → List ℕ → List ℕ → Ending → Type 0
-OfTable capture taken written ending = (table : Table) × (capture_of capture ≡ Ok table) × WritesAbout table taken written ending
 
 -- What a run wrote of a capture's bytes and of those that it took of the input, by how it ends. Nothing is taken and nothing written where the capture is
 -- refused, or where memory is wanted before the first reply.
 abbrev pub Outputs : List ℕ → List ℕ → List ℕ → Ending → Type 0
-Outputs capture taken written Done = OfTable capture taken written Done
-Outputs capture taken written (Write sent) = OfTable capture taken written (Write sent)
-Outputs capture taken written Read = OfTable capture taken written Read
-Outputs capture taken written TooMuch = OfTable capture taken written TooMuch
 Outputs capture taken written (Capture fault) = (capture_of capture ≡ Err fault) × (taken ≡ []) × (written ≡ [])
 Outputs capture taken written Memory = (taken ≡ []) × (written ≡ [])
-Outputs capture taken written NoSuchPosition = ⊥
+Outputs capture taken written other = (table : Table) × (capture_of capture ≡ Ok table) × WritesAbout table taken written other
 
 abbrev pub ServeWritesOutput : Type 0
 ServeWritesOutput =

@@ -21,10 +21,10 @@ pub record IsServing (table : Table) (input text : List ℕ) (progress : Progres
 abbrev pub CanCount : Progress → Type 0
 CanCount progress = progress.sent ≤ most_reply_bytes * progress.lines
 
--- So much of the input was taken and so much was written, and the run is there, or it stops among these bytes.
+-- So much of the input was taken and so much was written, and the run is there, or it stops among these bytes, whatever is taken behind them.
 abbrev pub AfterBytes : Table → List ℕ → List ℕ → Progress → Result (Unit {0}) Ending → Type 0
 AfterBytes table input text new (Ok done) = IsServing table input text new
-AfterBytes table input text new (Err ending) = Stops table input text ending
+AfterBytes table input text new (Err ending) = (more : List ℕ) → Stops table (input ++ more) text ending
 
 -- From old, these bytes of input lead to new.
 pub record Advances (old new : Progress) (held_old held_new : Option (List ℕ)) (bytes : List ℕ) (result : Result (Unit {0}) Ending) : Type 0 where

@@ -13,7 +13,7 @@ use fd_words::Ending;
 use std::alloc::Global;
 use std::thread::Threads;
 
-/// What the words of a command line ask for. The number of workers is from 1 to 64.
+/// What the words of a command line ask for. The number of workers is from 1 to `MOST_WORKERS`.
 #[derive(Clone, Copy, Debug, PartialEq, Eq)]
 pub enum Request {
     /// Answers the commands of the input.

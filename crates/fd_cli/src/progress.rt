@@ -1,7 +1,7 @@
 //! A run, byte by byte of its input.
 ghost use Rattle.std.specs.Prelude.{◌≡◌, ◌<◌, ◌+◌, ◌^◌, ◌⊎◌, ℕ, [], ◌∷◌, Err, OnOk, IfErr};
 ghost use Rattle.fd_words.specs.Limits.{most_reply_bytes};
-ghost use Rattle.fd_cli.specs.Counting.{CountsWriter, StaysFlushed, EndsFlushed};
+ghost use Rattle.fd_cli.specs.Counting.{CountsReader, CountsWriter, StaysFlushed, EndsFlushed};
 
 use crate::reply::answer;
 use arrayvec::ArrayVec;
@@ -45,6 +45,7 @@ impl Progress {
         ensures passed_on { OnOk result (StaysFlushed (W.is_flushed sink.old) (W.is_flushed sink.new)) }
         ensures flushed { IfErr result (λ ending. EndsFlushed ending (W.is_flushed sink.old) (W.is_flushed sink.new)) }
         ensures write { IfErr result (λ ending. CountsWriter ending (W.failure_count sink.old) (W.failure_count sink.new)) }
+        ensures read { IfErr result (λ ending. (old new : ℕ) → new ≡ old → CountsReader ending old new) }
     {
         if self.bytes >= MAX_BYTES || self.lines >= MAX_LINES {
             return Err(Ending::TooMuch);
@@ -78,6 +79,7 @@ impl Progress {
         ensures passed_on { OnOk result (StaysFlushed (W.is_flushed sink.old) (W.is_flushed sink.new)) }
         ensures flushed { IfErr result (λ ending. EndsFlushed ending (W.is_flushed sink.old) (W.is_flushed sink.new)) }
         ensures write { IfErr result (λ ending. CountsWriter ending (W.failure_count sink.old) (W.failure_count sink.new)) }
+        ensures read { IfErr result (λ ending. (old new : ℕ) → new ≡ old → CountsReader ending old new) }
     {
         for byte in bytes {
             self.take_byte(rt, alloc, *byte, sink)?;

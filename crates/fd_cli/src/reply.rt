@@ -31,11 +31,8 @@ fn send_answer<W: Sink>(answer: Answer, sink: &mut W, sent: &mut u64) -> Result<
     match answer {
         Answer::Moved { at } => send(sink, sent, number_line(b"at", u64::from(at)).as_slice()),
         Answer::Stopped { at } => {
-            send(
-                sink,
-                sent,
-                number_line(b"stopped", u64::from(at)).as_slice(),
-            )
+            let line = number_line(b"stopped", u64::from(at));
+            send(sink, sent, line.as_slice())
         }
         Answer::Refused(fault) => send(sink, sent, refusal_line(fault)),
     }
@@ -59,11 +56,10 @@ fn send_pixel<W: Sink>(
     let depth = session.depth(x, y);
     match colour {
         Ok(colour) => match depth {
-            Ok(depth) => send(
-                sink,
-                sent,
-                pixel_line(session.table().version(), colour, depth).as_slice(),
-            ),
+            Ok(depth) => {
+                let line = pixel_line(session.table().version(), colour, depth);
+                send(sink, sent, line.as_slice())
+            }
             Err(fault) => send(sink, sent, refusal_line(fault)),
         },
         Err(fault) => send(sink, sent, refusal_line(fault)),
@@ -116,11 +112,10 @@ fn reply<T: Threads + Sync, W: Sink>(
         Ok(Command::Off(number)) => send_answer(session.switch(rt, number, false), sink, sent),
         Ok(Command::Pixel(x, y)) => send_pixel(session, x, y, sink, sent),
         Ok(Command::History(x, y)) => send_history(alloc, session, x, y, sink, sent),
-        Ok(Command::State) => send(
-            sink,
-            sent,
-            state_line(session.table().version(), session.state()).as_slice(),
-        ),
+        Ok(Command::State) => {
+            let line = state_line(session.table().version(), session.state());
+            send(sink, sent, line.as_slice())
+        }
         Ok(Command::Events) => send_events(session.table(), session.position(), sink, sent),
         Ok(Command::Show) => show(alloc, session, sink, sent),
         Ok(Command::Quit) => send(sink, sent, b"bye\n"),

@@ -2,7 +2,6 @@
 ghost use Rattle.std.specs.Prelude.{codes, string_bytes, IfOk, ◌≡◌, ◌<◌, ◌≤◌, ◌+◌, ◌^◌, ◌⊎◌, ℕ, List, length, is_ok};
 ghost use Rattle.fd_words.specs.Limits.{most_reply_bytes};
 ghost use Rattle.fd_snap.specs.Limits.{most_pixels};
-ghost use Rattle.fd_pam.specs.Limits.{most_tuple_bytes};
 ghost use Rattle.fd_pam.specs.Pam.{header, pam_len, tuples};
 ghost use Rattle.fd_device.specs.Transfer.{Puts, CountsFailure};
 ghost use Rattle.fd_session.specs.declared.answer.SessionFault.TheVariants.{Memory};
@@ -31,7 +30,7 @@ pub(crate) fn target_size(session: &Session) -> (u32, u32)
 
 /// Sends the tuples of the image that the session shows.
 fn send_body<W: Sink>(session: &Session, sink: &mut W, sent: &mut u64) -> Result<(), Failed>
-    requires { sent.old + most_tuple_bytes < 2 ^ 64 }
+    requires { sent.old + length (tuples session.now) < 2 ^ 64 }
     ensures puts { Puts (W.contents sink.old) (W.contents sink.new) sent.old sent.new (tuples session.now) (is_ok result) }
     ensures failures { CountsFailure (W.failure_count sink.old) (W.failure_count sink.new) (is_ok result) }
 {
@@ -67,6 +66,27 @@ fn shown_header(alloc: Global, session: &Session) -> Result<String, AllocError>
     header(alloc, width, height)
 }
 
+/// Sends the image file that the session shows, after a line with its length: these two, and then its tuples.
+fn send_file<W: Sink>(
+    session: &Session,
+    line: &[u8],
+    head: &[u8],
+    sink: &mut W,
+    sent: &mut u64,
+) -> Result<(), Failed>
+    requires room { sent.old + most_reply_bytes < 2 ^ 64 }
+    requires line { line.now ≡ number_line (codes "pam") (pam_len session.now.table.width session.now.table.height) }
+    requires head { head.now ≡ header session.now.table.width session.now.table.height }
+    requires short { length (show_text session.now) ≤ most_reply_bytes }
+    ensures puts { Puts (W.contents sink.old) (W.contents sink.new) sent.old sent.new (show_text session.now) (is_ok result) }
+    ensures short { length (show_text session.now) ≤ most_reply_bytes }
+    ensures failures { CountsFailure (W.failure_count sink.old) (W.failure_count sink.new) (is_ok result) }
+{
+    send(sink, sent, line)?;
+    send(sink, sent, head)?;
+    send_body(session, sink, sent)
+}
+
 /// Sends the image file that the session shows, after a line with its length.
 pub(crate) fn show<W: Sink>(
     alloc: Global,
@@ -83,7 +103,11 @@ pub(crate) fn show<W: Sink>(
         return send(sink, sent, refusal_line(SessionFault::Memory));
     };
     let line = length_line(session);
-    send(sink, sent, line.as_slice())?;
-    send(sink, sent, header.as_str().as_bytes())?;
-    send_body(session, sink, sent)
+    send_file(
+        session,
+        line.as_slice(),
+        header.as_str().as_bytes(),
+        sink,
+        sent,
+    )
 }

@@ -5,7 +5,7 @@ use std::io;
 use std::io::{Read, Write};
 
 /// Gives so many bytes at a time, and then the end or a fault.
-#[derive(Drop)]
+#[derive(Clone, Copy)]
 pub(crate) struct Pieces<'a> {
     pub(crate) bytes: &'a [u8],
     pub(crate) step: usize,
@@ -18,15 +18,6 @@ impl<'a> Pieces<'a> {
             bytes,
             step,
             fails: false,
-        }
-    }
-
-    /// A reader that gives the same.
-    pub(crate) fn again(&self) -> Pieces<'a> {
-        Pieces {
-            bytes: self.bytes,
-            step: self.step,
-            fails: self.fails,
         }
     }
 }
@@ -70,10 +61,8 @@ impl Limited {
     pub(crate) fn again(&self, alloc: Global) -> Limited {
         Limited {
             bytes: Vec::new(alloc),
-            room: self.room,
-            step: self.step,
             flushes: 0,
-            last_flush: self.last_flush,
+            ..*self
         }
     }
 }

@@ -2,7 +2,6 @@ use crate::tests::captures::ONE_CLEAR;
 use crate::tests::devices::{Again, Asking, Flushing, Interrupted, Limited, Pieces, Repeats};
 use crate::{Ending, image, list_events, serve};
 use fd_device::{Device, Sink, Source};
-use std::alloc::Global;
 use std::cell::Cell;
 use std::process::Abort;
 use std::thread::Threads;
@@ -14,27 +13,22 @@ const OUTPUT: &[u8] =
 
 /// How a run ends over these devices, and what is then written, whatever the number of workers.
 fn expect_run(
-    rt: &(impl Abort + Threads + Sync),
-    alloc: Global,
-    reader: &Pieces<'_>,
+    rt: &(impl Abort + Threads + Sync + AllocGlobal),
+    reader: Pieces<'_>,
     writer: &Limited,
     ending: Ending,
     text: &[u8],
 ) {
     let capture = ONE_CLEAR.as_bytes();
     for workers in [1, 2, 64] {
-        let mut source = Device::new(reader.again());
-        let mut sink = Device::new(writer.again(alloc));
-        let ended = serve(rt, alloc, capture, workers, &mut source, &mut sink);
+        let mut source = Device::new(reader);
+        let mut sink = Device::new(writer.again(rt.alloc()));
+        let ended = serve(rt, rt.alloc(), capture, workers, &mut source, &mut sink);
         assert_eq!(rt; ended, ending);
-        let read_faults = if ending == Ending::Read { 1 } else { 0 };
-        assert_eq!(rt; source.failures(), read_faults);
-        let write_faults = if matches!(ending, Ending::Write { .. }) {
-            1
-        } else {
-            0
-        };
-        assert_eq!(rt; sink.failures(), write_faults);
+        let is_read = ending == Ending::Read;
+        assert_eq!(rt; source.failures(), if is_read { 1 } else { 0 });
+        let is_write = matches!(ending, Ending::Write { .. });
+        assert_eq!(rt; sink.failures(), if is_write { 1 } else { 0 });
         assert_eq!(rt; sink.into_inner().bytes.as_slice(), text);
     }
 }
@@ -43,18 +37,11 @@ fn expect_run(
 fn devices_that_fail_midway(rt: HostRuntime) {
     let writer = Limited::of(rt.alloc(), 8, 100);
     let ending = Ending::Write { sent: 8 };
-    expect_run(
-        &rt,
-        rt.alloc(),
-        &Pieces::of(INPUT, 100),
-        &writer,
-        ending,
-        b"at 1\npam",
-    );
+    expect_run(&rt, Pieces::of(INPUT, 100), &writer, ending, b"at 1\npam");
     let mut reader = Pieces::of(b"step\nst", 100);
     reader.fails = true;
     let writer = Limited::of(rt.alloc(), 100, 100);
-    expect_run(&rt, rt.alloc(), &reader, &writer, Ending::Read, b"at 1\n");
+    expect_run(&rt, reader, &writer, Ending::Read, b"at 1\n");
 }
 
 #[test]
@@ -63,34 +50,14 @@ fn a_writer_that_fails_after_each_byte(rt: HostRuntime) {
     for room in 0..85usize {
         let ending = Ending::Write { sent: room as u64 };
         let writer = Limited::of(rt.alloc(), room, 5);
-        expect_run(
-            &rt,
-            rt.alloc(),
-            &Pieces::of(INPUT, 7),
-            &writer,
-            ending,
-            &OUTPUT[..room],
-        );
+        expect_run(&rt, Pieces::of(INPUT, 7), &writer, ending, &OUTPUT[..room]);
     }
     let writer = Limited::of(rt.alloc(), 85, 1);
-    expect_run(
-        &rt,
-        rt.alloc(),
-        &Pieces::of(INPUT, 1),
-        &writer,
-        Ending::Done,
-        OUTPUT,
-    );
+    expect_run(&rt, Pieces::of(INPUT, 1), &writer, Ending::Done, OUTPUT);
     let mut source = Device::new(Pieces::of(INPUT, 100));
     let mut sink = Device::new(Interrupted(false));
-    let ended = serve(
-        &rt,
-        rt.alloc(),
-        ONE_CLEAR.as_bytes(),
-        1,
-        &mut source,
-        &mut sink,
-    );
+    let capture = ONE_CLEAR.as_bytes();
+    let ended = serve(&rt, rt.alloc(), capture, 1, &mut source, &mut sink);
     assert_eq!(rt; ended, Ending::Write { sent: 0 });
 }
 
@@ -100,14 +67,8 @@ fn a_flush_that_fails(rt: HostRuntime) {
         let mut writer = Limited::of(rt.alloc(), 100, 100);
         writer.last_flush = last;
         let ending = Ending::Write { sent: sent as u64 };
-        expect_run(
-            &rt,
-            rt.alloc(),
-            &Pieces::of(INPUT, 100),
-            &writer,
-            ending,
-            &OUTPUT[..sent],
-        );
+        let reader = Pieces::of(INPUT, 100);
+        expect_run(&rt, reader, &writer, ending, &OUTPUT[..sent]);
     }
 }
 
@@ -158,13 +119,12 @@ fn a_reader_that_fails_after_each_byte(rt: HostRuntime) {
             _ => (Ending::Done, 85),
         };
         let writer = Limited::of(rt.alloc(), 100, 100);
-        expect_run(&rt, rt.alloc(), &reader, &writer, ending, &OUTPUT[..length]);
+        expect_run(&rt, reader, &writer, ending, &OUTPUT[..length]);
     }
 }
 
 fn notes_of_run<'a>(
-    rt: &(impl Abort + Threads + Sync),
-    alloc: Global,
+    rt: &(impl Abort + Threads + Sync + AllocGlobal),
     flushed: &'a Cell<usize>,
 ) -> [usize; 3] {
     let lines = [
@@ -182,7 +142,8 @@ fn notes_of_run<'a>(
         waiting: 0,
         flushed,
     });
-    let ending = serve(rt, alloc, ONE_CLEAR.as_bytes(), 1, &mut source, &mut sink);
+    let capture = ONE_CLEAR.as_bytes();
+    let ending = serve(rt, rt.alloc(), capture, 1, &mut source, &mut sink);
     assert_eq!(rt; ending, Ending::Done);
     source.into_inner().notes
 }
@@ -190,14 +151,13 @@ fn notes_of_run<'a>(
 #[test]
 fn replies_before_it_reads_on(rt: HostRuntime) {
     let flushed = Cell::new(0usize);
-    let notes = notes_of_run(&rt, rt.alloc(), &flushed);
+    let notes = notes_of_run(&rt, &flushed);
     assert_eq!(rt; notes.as_slice(), [0, 5, 81].as_slice());
 }
 
 /// How a run on one byte so many times ends, and that it then wrote one line so many times, whatever the number of workers.
 fn expect_repeats(
-    rt: &(impl Abort + Threads + Sync),
-    alloc: Global,
+    rt: &(impl Abort + Threads + Sync + AllocGlobal),
     byte: u8,
     left: usize,
     ending: Ending,
@@ -212,7 +172,7 @@ fn expect_repeats(
             same: true,
         });
         let capture = ONE_CLEAR.as_bytes();
-        let ended = serve(rt, alloc, capture, workers, &mut source, &mut sink);
+        let ended = serve(rt, rt.alloc(), capture, workers, &mut source, &mut sink);
         assert_eq!(rt; ended, ending);
         let written = sink.into_inner();
         assert!(rt; written.same);
@@ -224,7 +184,7 @@ fn expect_repeats(
 fn bounds_of_input(rt: HostRuntime) {
     for (left, ending) in [(1_000_000, Ending::Done), (1_000_001, Ending::TooMuch)] {
         let line = b"bad 1 unknown command\n";
-        expect_repeats(&rt, rt.alloc(), b'\n', left, ending, line, 1_000_000);
+        expect_repeats(&rt, b'\n', left, ending, line, 1_000_000);
     }
 }
 
@@ -235,6 +195,6 @@ fn bounds_of_input_in_bytes(rt: HostRuntime) {
         (268_435_457, Ending::TooMuch, 0),
     ] {
         let line = b"bad 3 line too long\n";
-        expect_repeats(&rt, rt.alloc(), b'a', left, ending, line, times);
+        expect_repeats(&rt, b'a', left, ending, line, times);
     }
 }

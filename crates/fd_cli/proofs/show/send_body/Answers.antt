@@ -1,14 +1,17 @@
 use Rattle.std.proofs.Common.{◌≡◌, ◌+◌, ◌*◌, ap, sym, length, arith, true}
 use Rattle.fd_pam.specs.Pam.{tuples}
-use Rattle.fd_pam.proofs.Pams.{body_short, length-body}
+use Rattle.fd_pam.proofs.Pams.{length-body}
 use Rattle.fd_device.proofs.Transfers.{puts_whole, puts_from_front}
 use Rattle.fd_cli.proofs.show.send_body.Goals as goal
 
 pub overflow_add-sent-in-Err-Write : goal.overflow_add-sent-in-Err-Write
 overflow_add-sent-in-Err-Write g c =
-    let bytes = rw c.in-Err-Write.field-0-is at c.in-Err-Write.ensures.bytes in
+    let bytes = rw c.in-Err-Write.field-0-is at c.in-Err-Write.ensures.bytes in omega (arith, c.requires, bytes.0)
+
+pub overflow_add-sent : goal.overflow_add-sent
+overflow_add-sent g c =
     let size = c.target_size-width.ensures in
-    omega (arith, c.requires, bytes.0, body_short c.args.session.now (omega (arith, size.width, size.narrow)) (omega (arith, size.height, size.low)))
+    rw (c.from.ensures, c.from-in-Ok.ensures, size.height, size.width) (omega (arith, c.requires, length-body c.args.session.now))
 
 pub returns-in-Ok-clause-puts : goal.returns-in-Ok-clause-puts
 returns-in-Ok-clause-puts g c =

@@ -1,4 +1,4 @@
-use Rattle.std.proofs.Common.{◌≡◌, ◌⊎◌, ◌≤◌, ℕ, ◌∙◌, ap, inl, inr, sym, arith, refl}
+use Rattle.std.proofs.Common.{◌⊎◌, ◌≤◌, ℕ, ◌∙◌, ap, inl, inr, sym, arith, refl}
 use Rattle.std.proofs.lemmas.Bool.{false≢true}
 use Rattle.arrayvec.specs.ArrayVec.{ArrayVec}
 use Rattle.fd_words.specs.Line.{command_of}
@@ -20,28 +20,28 @@ returns-then-self-ge-MAX_BYTES-clause-advances g c =
 
 pub returns-then-byte-ne10-clause-advances : goal.returns-then-byte-ne10-clause-advances
 returns-then-byte-ne10-clause-advances g c =
-    advance_byte c.args.self.now _ (g.W.Sink.contents c.args.sink.now) c.args.byte c.if-byte-ne10.true c.if-self-ge-MAX_BYTES.false c.if-self-ge-MAX_LINES.false
-    refl (push_front (λ (v : ArrayVec ℕ). v.items) c.args.self.now.line c.try_push.new.self c.args.byte 258 c.try_push.result c.try_push.ensures.variant.0
-    c.try_push.ensures.ok c.try_push.ensures.err c.try_push.ensures.full) refl refl refl
+    advance_byte c.args.self.now c.try_push.new.self _ c.args.byte c.if-byte-ne10.true c.if-self-ge-MAX_BYTES.false c.if-self-ge-MAX_LINES.false
+    (push_front (λ (v : ArrayVec ℕ). v.items) c.args.self.now.line c.try_push.new.self c.args.byte c.try_push.result c.try_push.ensures.variant.0
+    c.try_push.ensures.ok c.try_push.ensures.err c.try_push.ensures.full)
 
 pub returns-in_default-clause-advances : goal.returns-in_default-clause-advances
-returns-in_default-clause-advances g c =
-    let same : c.as_slice-line.result.now ≡ c.args.self.now.line.items = c.as_slice-line.ensures.value in
-    advance_fault c.args.self.now _ (g.W.Sink.contents c.args.sink.now) _ c.args.byte c.if-byte-ne10.false c.if-self-ge-MAX_BYTES.false
-    c.if-self-ge-MAX_LINES.false (rw same at c.in_default.ensures.replies)
+returns-in_default-clause-advances g c = rw c.if-byte-ne10.false
+    (advance_fault c.args.self.now _ _ _ c.if-self-ge-MAX_BYTES.false c.if-self-ge-MAX_LINES.false
+    (rw c.as_slice-line.ensures.value at c.in_default.ensures.replies))
 
 pub returns-then-quit-clause-advances : goal.returns-then-quit-clause-advances
 returns-then-quit-clause-advances g c =
-    let same : c.as_slice-line.result.now ≡ c.args.self.now.line.items = c.as_slice-line.ensures.value in
-    advance_quit c.args.self.now _ (g.W.Sink.contents c.args.sink.now) _ c.args.byte c.if-byte-ne10.false c.if-self-ge-MAX_BYTES.false
-    (rw same at c.in-Ok.ensures.replies) (rw same at (c.in-Ok.ensures.quit.0 c.if-quit.true))
+    let same = c.as_slice-line.ensures.value in
+    rw c.if-byte-ne10.false
+    (advance_quit c.args.self.now _ _ _ c.if-self-ge-MAX_BYTES.false (rw same at c.in-Ok.ensures.replies)
+    (rw same at (c.in-Ok.ensures.quit.0 c.if-quit.true)))
 
 pub returns-else-quit-clause-advances : goal.returns-else-quit-clause-advances
 returns-else-quit-clause-advances g c =
-    let same : c.as_slice-line.result.now ≡ c.args.self.now.line.items = c.as_slice-line.ensures.value in
-    advance_line c.args.self.now _ (g.W.Sink.contents c.args.sink.now) _ c.args.byte c.if-byte-ne10.false c.if-self-ge-MAX_BYTES.false
-    c.if-self-ge-MAX_LINES.false (rw same at c.in-Ok.ensures.replies)
-    (λ e. absurd (false≢true (sym c.if-quit.false ∙ c.in-Ok.ensures.quit.1 (ap command_of same ∙ e)))) c.clear.ensures refl refl
+    let same = c.as_slice-line.ensures.value in
+    rw c.if-byte-ne10.false
+    (advance_line c.args.self.now _ _ _ c.if-self-ge-MAX_BYTES.false c.if-self-ge-MAX_LINES.false (rw same at c.in-Ok.ensures.replies)
+    (λ e. absurd (false≢true (sym c.if-quit.false ∙ c.in-Ok.ensures.quit.1 (ap command_of same ∙ e)))) c.clear.ensures refl refl)
 
 pub returns-else-quit-clause-room : goal.returns-else-quit-clause-room
 returns-else-quit-clause-room g c =
