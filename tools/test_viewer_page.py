@@ -375,7 +375,7 @@ class Page(Hands):
             hold, held = (pathlib.Path(folder) / name for name in ("hold", "held"))
             hold.touch()
             with Viewer(EXAMPLES / "row01.json", program_of(HOLDING, folder)) as viewer:
-                handover = Handover(viewer.server.address)
+                handover, viewer.leave = Handover(viewer.server.address), self.leave
                 try:
                     self.browser.open(handover.page.as_uri())
                     self.comes(held.exists, True)
@@ -388,6 +388,7 @@ class Page(Hands):
 
     def test_without_the_token(self):
         with Viewer(HOUSE) as viewer:
+            viewer.leave = self.leave
             self.browser.open(viewer.server.origin + "/")
             self.reads("#notice", "403 no token")
             self.open(viewer)

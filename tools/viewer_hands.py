@@ -4,8 +4,8 @@ import unittest
 
 import browser
 
-# Answers that the browser complains of, sometimes only in the next test: of a server that is gone before its page, or while the page asks, of a run that ended, without the token
-ASKED_FOR = ("ERR_CONNECTION_REFUSED", "ERR_CONNECTION_RESET", "410 (Gone)", "403 (Forbidden)")
+# Answers that the browser complains of and a test may want: of a run that ended, and without the token
+ASKED_FOR = ("410 (Gone)", "403 (Forbidden)")
 
 
 class Hands(unittest.TestCase):
@@ -23,8 +23,12 @@ class Hands(unittest.TestCase):
     def tearDown(self):
         self.assertEqual([complaint for complaint in self.browser.complaints() if not any(answer in complaint for answer in ASKED_FOR)], [])
 
-    def open(self, viewer):
+    def leave(self):
         self.browser.open("about:blank")
+
+    def open(self, viewer):
+        self.leave()
+        viewer.leave = self.leave
         self.browser.open(viewer.server.address)
         self.browser.until("return document.querySelector('#position b') !== null")
 

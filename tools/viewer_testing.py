@@ -142,9 +142,10 @@ def png(samples, width, height):
 
 
 class Viewer:
-    """A server over a run, for the time of a test."""
+    """A server over a run, for the time of a test. A page that asks while it closes complains in one of several ways, so a browser leaves first."""
 
     def __init__(self, capture, program=PROGRAM):
+        self.leave = lambda: None
         its = Capture(capture)
         self.session = Session(program, str(capture), 2, its.boxes_between if program == PROGRAM else None)
         self.server = Server(self.session, its)
@@ -155,10 +156,13 @@ class Viewer:
         return self
 
     def __exit__(self, *_):
-        self.server.shutdown()
-        self.server.server_close()
-        self.server.runs.close()
-        self.thread.join()
+        try:
+            self.leave()
+        finally:
+            self.server.shutdown()
+            self.server.server_close()
+            self.server.runs.close()
+            self.thread.join()
 
     def request(self, method="POST", path="/commands", body=b"state\n", more=(), **headers):
         """Status, headers and body of an answer. A header that is None isn't sent, one in `more` is sent once more."""
