@@ -3,20 +3,14 @@ use Rattle.std.specs.Prelude.{◌≡◌, ℕ, ◌≤◌, ◌<◌, List, [], leng
 use Rattle.std.specs.Io.KnownBytes.{Consumes, Appends}
 use Rattle.fd_device.specs.Transfer.{Puts, CountsFailure}
 use Rattle.fd_words.specs.declared.ending.Ending.{Ending}
-use Rattle.fd_cli.specs.declared.program.Request.{Request}
-use Rattle.fd_cli.specs.declared.program.Request.TheVariants.{Run, Image, Events}
+use Rattle.fd_words.specs.declared.request.Request.{Request}
+use Rattle.fd_words.specs.declared.request.Request.TheVariants.{Run, Image, Events}
 use Rattle.fd_cli.specs.Counting.{CountsReader, CountsWriter, EndsFlushed}
 use Rattle.fd_cli.specs.Listing.{WritesImage, ListsEvents}
 use Rattle.fd_cli.specs.Opening.{RefusesTooLong}
 use Rattle.fd_cli.specs.Output.{Outputs}
 use Rattle.fd_words.specs.Report.{status_of, report_of}
 use Rattle.fd_cli.specs.Serving.{ServesCapture}
-
--- the number of workers is from 1 to 64
-abbrev pub AsksWorkers : Request → Type 0
-AsksWorkers (Run workers) = (1 ≤ workers) × (workers ≤ 64)
-AsksWorkers (Image workers at) = (1 ≤ workers) × (workers ≤ 64)
-AsksWorkers Events = Unit {0}
 
 -- What a request takes of the input and writes about a capture, by how it ends: a run's output, an image, or a list of events.
 abbrev pub Does : Request → List ℕ → List ℕ → List ℕ → Ending → Bool → Type 0

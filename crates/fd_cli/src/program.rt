@@ -3,26 +3,16 @@ ghost use Rattle.std.specs.Prelude.{◌≡◌, ℕ, List};
 ghost use Rattle.std.specs.Io.KnownBytes.{Consumes, Appends};
 ghost use Rattle.fd_cli.specs.Counting.{CountsReader, CountsWriter, EndsFlushed};
 ghost use Rattle.fd_cli.specs.Opening.{RefusesTooLong};
-ghost use Rattle.fd_cli.specs.Program.{AsksWorkers, Does, Performs, shown};
+ghost use Rattle.fd_words.specs.Request.{AsksWorkers};
+ghost use Rattle.fd_cli.specs.Program.{Does, Performs, shown};
 
 use crate::imaging::image;
 use crate::list::list_events;
 use crate::serving::serve;
 use fd_device::{Sink, Source};
-use fd_words::Ending;
+use fd_words::{Ending, Request};
 use std::alloc::Global;
 use std::thread::Threads;
-
-/// What the words of a command line ask for. The number of workers is from 1 to `MOST_WORKERS`.
-#[derive(Clone, Copy, Debug, PartialEq, Eq)]
-pub enum Request {
-    /// Answers the commands of the input.
-    Run { workers: u32 },
-    /// Writes the image at a position, or at the last one.
-    Image { workers: u32, at: Option<u32> },
-    /// Writes the list of events.
-    Events,
-}
 
 /// What the program reads from, what it writes to, and what it tells its ending.
 #[derive(Drop)]

@@ -3,3 +3,4 @@ pub mod Line
 pub mod Text
 pub mod Sending
 pub mod Report
+pub mod Request

@@ -1,4 +1,4 @@
-//! The words of the debugger: commands as they are read, lines as they are written, and how a run ends.
+//! The words of the debugger: what is asked of it, commands as they are read, lines as they are written, and how a run ends.
 #![tactic(auto)]
 
 pub use command::{Command, CommandFault, read_command};
@@ -6,6 +6,7 @@ pub use ending::Ending;
 pub use entries::send_entries;
 pub use events::send_events;
 pub use lines::{fault_line, number_line};
+pub use request::Request;
 pub use text::{Line, pixel_line, state_line};
 
 mod chunk;
@@ -14,6 +15,7 @@ mod ending;
 mod entries;
 mod events;
 mod lines;
+mod request;
 #[cfg(test)]
 mod tests;
 mod text;

@@ -1,12 +1,12 @@
 //! The program `framedbg`: replays a captured frame forward and backward.
 #![tactic(auto)]
 
-ghost use Rattle.std.specs.Prelude.{◌≤◌};
-ghost use Rattle.fd_cli.specs.Program.{AsksWorkers};
+ghost use Rattle.fd_words.specs.Request.{AsksWorkers};
 
+use clap::Error;
 use clap::error::ErrorKind;
-use clap::{ArgMatches, Error};
-use fd_cli::{Devices, Ending, MAX_CAPTURE_LEN, MOST_WORKERS, Request, perform};
+use fd_arguments::read_arguments;
+use fd_cli::{Devices, Ending, MAX_CAPTURE_LEN, Request, perform};
 use fd_device::{Device, send};
 use screen::Screen;
 use std::alloc::Global;
@@ -17,13 +17,9 @@ use std::thread::Threads;
 use std::{env, fs, io};
 
 mod screen;
-mod words;
 
 /// The most bytes that are read of a capture: one more than a capture may have.
 const MAX_READ: u64 = MAX_CAPTURE_LEN as u64 + 1;
-
-/// The number of workers where none is asked for.
-const WORKERS: u32 = 4;
 
 /// The status of a command line that asks for nothing that there is.
 const USAGE: u8 = 1;
@@ -35,36 +31,12 @@ const CANNOT_READ: u8 = 3;
 const WAITING: &str =
     "framedbg: waiting for commands, as events, goto 3, pixel 0 0, quit; framedbg run --help has them all";
 
-/// The number of workers that the words ask for. `clap` has refused any other; no clause of it says so.
-fn workers(matches: &ArgMatches) -> u32
-    ensures { (1 ≤ result) × (result ≤ 64) }
-{
-    let workers = matches.get_one::<u32>("workers").unwrap_or(WORKERS);
-    workers.clamp(1, MOST_WORKERS)
-}
-
 /// The bytes of a file, one more at most than a capture may have.
 fn read_capture(rt: &impl Files, alloc: Global, path: &str) -> Result<Vec<u8>, io::Error> {
     let file = fs::open(rt, path)?;
     let mut bytes = Vec::new(alloc);
     file.take(MAX_READ).read_to_end(&mut bytes)?;
     Ok(bytes)
-}
-
-/// What the words ask for.
-fn request_of(name: &str, matches: &ArgMatches) -> Request
-    ensures { AsksWorkers result }
-{
-    match name {
-        "image" => Request::Image {
-            workers: workers(matches),
-            at: matches.get_one::<u32>("at"),
-        },
-        "events" => Request::Events,
-        _ => Request::Run {
-            workers: workers(matches),
-        },
-    }
 }
 
 /// Does what is asked for with a capture's bytes, and gives the status. Threads are started by a handle of their own, which is `main`'s runtime.
@@ -141,19 +113,12 @@ fn run<T: Threads + Sync>(rt: &HostRuntime, threads: &T) -> u8 {
     let Ok(words) = words.collect::<Vec<String>>(alloc) else {
         return report(rt, &Ending::Memory);
     };
-    let Ok(command) = words::command(alloc) else {
-        return report(rt, &Ending::Memory);
-    };
-    let matches = match command.try_get_matches_from(words.as_slice()) {
-        Ok(matches) => matches,
+    let arguments = match read_arguments(alloc, words.as_slice()) {
+        Ok(arguments) => arguments,
         Err(error) => return explain(rt, &error),
     };
-    let Some((name, matches)) = matches.subcommand() else {
-        return USAGE;
-    };
-    let path = matches.get_str("CAPTURE").unwrap_or("");
-    match read_capture(rt, alloc, path) {
-        Ok(capture) => perform_here(rt, threads, request_of(name, matches), &capture),
+    match read_capture(rt, alloc, arguments.capture) {
+        Ok(capture) => perform_here(rt, threads, arguments.request, &capture),
         Err(error) if error.kind() == io::ErrorKind::OutOfMemory => report(rt, &Ending::Memory),
         Err(_) => {
             let _ = rt.eprintln("framedbg: cannot read capture");

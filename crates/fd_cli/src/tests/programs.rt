@@ -1,5 +1,5 @@
 //! The whole program behind its words.
-ghost use Rattle.fd_cli.specs.Program.{AsksWorkers};
+ghost use Rattle.fd_words.specs.Request.{AsksWorkers};
 
 use crate::tests::captures::ONE_CLEAR;
 use crate::tests::devices::{Limited, Pieces};

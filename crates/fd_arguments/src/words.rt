@@ -1,6 +1,6 @@
 //! The words of a command line: what they may be, and what the help says. The man page has the same texts.
 use clap::{Arg, Command, value_parser};
-use fd_cli::MOST_WORKERS;
+use fd_crew::MOST_WORKERS;
 use std::alloc::{AllocError, Global};
 
 /// The version, and the program logic that it is proved with, as `rt version` says it behind the name of the kit.

@@ -1,0 +1,62 @@
+//! What the words of a command line ask for, and about which file.
+ghost use Rattle.std.specs.Prelude.{◌≤◌, IfOk};
+ghost use Rattle.fd_words.specs.Request.{AsksWorkers};
+
+use crate::words::command;
+use clap::{ArgMatches, Error};
+use fd_crew::MOST_WORKERS;
+use fd_words::Request;
+use std::alloc::Global;
+use std::convert::AsStr;
+
+/// The number of workers where none is asked for.
+const WORKERS: u32 = 4;
+
+/// What the words of a command line ask for.
+#[derive(Clone, Copy, Debug)]
+pub struct Arguments<'a> {
+    pub request: Request,
+    /// The path of the capture's file.
+    pub capture: &'a str,
+}
+
+/// The number of workers that the words ask for. `clap` has refused any other; no clause of it says so.
+fn workers(matches: &ArgMatches) -> u32
+    ensures { (1 ≤ result) × (result ≤ 64) }
+{
+    let workers = matches.get_one::<u32>("workers").unwrap_or(WORKERS);
+    workers.clamp(1, MOST_WORKERS)
+}
+
+/// What a subcommand asks for.
+fn request_of(name: &str, matches: &ArgMatches) -> Request
+    ensures { AsksWorkers result }
+{
+    match name {
+        "image" => Request::Image {
+            workers: workers(matches),
+            at: matches.get_one::<u32>("at"),
+        },
+        "events" => Request::Events,
+        _ => Request::Run {
+            workers: workers(matches),
+        },
+    }
+}
+
+/// Reads the words of a command line, of which the first is the program's name. The error is the text of the help or the version that they ask for, a fault
+/// of theirs, or a want of memory.
+pub fn read_arguments<'a, S: AsStr>(
+    alloc: Global,
+    words: &'a [S],
+) -> Result<Arguments<'a>, Error>
+    ensures { IfOk result (λ arguments. AsksWorkers arguments.request) }
+{
+    let matches = command(alloc)?.try_get_matches_from(words)?;
+    // words without a subcommand were refused
+    let (name, own) = matches.subcommand().unwrap_or(("run", &matches));
+    Ok(Arguments {
+        request: request_of(name, own),
+        capture: own.get_str("CAPTURE").unwrap_or(""),
+    })
+}
