@@ -1,5 +1,7 @@
 //! What the words of a command line ask for, and about which file.
-ghost use Rattle.std.specs.Prelude.{◌≤◌, IfOk};
+ghost use Rattle.std.specs.Prelude.{◌≤◌, IfOk, IsSomeAnd, map};
+ghost use Rattle.clap.specs.Words.{FailsBy, fault_of, found_of, rows_of, subcommand_of};
+ghost use Rattle.fd_arguments.specs.Words.{Asks, HasRequest, HasWorkers, program};
 ghost use Rattle.fd_words.specs.Request.{AsksWorkers};
 
 use crate::words::command;
@@ -22,7 +24,8 @@ pub struct Arguments<'a> {
 
 /// The number of workers that the words ask for. `clap` has refused any other; no clause of it says so.
 fn workers(matches: &ArgMatches) -> u32
-    ensures { (1 ≤ result) × (result ≤ 64) }
+    ensures value { HasWorkers (rows_of (found_of matches.now)) result }
+    ensures most { (1 ≤ result) × (result ≤ 64) }
 {
     let workers = matches.get_one::<u32>("workers").unwrap_or(WORKERS);
     workers.clamp(1, MOST_WORKERS)
@@ -30,7 +33,8 @@ fn workers(matches: &ArgMatches) -> u32
 
 /// What a subcommand asks for.
 fn request_of(name: &str, matches: &ArgMatches) -> Request
-    ensures { AsksWorkers result }
+    ensures value { HasRequest name.now (rows_of (found_of matches.now)) result }
+    ensures workers { AsksWorkers result }
 {
     match name {
         "image" => Request::Image {
@@ -44,19 +48,25 @@ fn request_of(name: &str, matches: &ArgMatches) -> Request
     }
 }
 
+/// What a subcommand with its arguments asks for.
+fn arguments_of<'a>(name: &str, matches: &ArgMatches<'a>) -> Arguments<'a>
+    ensures value { Asks (name.now, rows_of (found_of matches.now)) result }
+    ensures workers { AsksWorkers result.request }
+{
+    Arguments {
+        request: request_of(name, matches),
+        capture: matches.get_str("CAPTURE").unwrap_or(""),
+    }
+}
+
 /// Reads the words of a command line, of which the first is the program's name. The error is the text of the help or the version that they ask for, a fault
 /// of theirs, or a want of memory.
-pub fn read_arguments<'a, S: AsStr>(
-    alloc: Global,
-    words: &'a [S],
-) -> Result<Arguments<'a>, Error>
-    ensures { IfOk result (λ arguments. AsksWorkers arguments.request) }
+pub fn read_arguments<'a, S: AsStr>(alloc: Global, words: &'a [S]) -> Result<Arguments<'a>, Error>
+    ensures asks { IfOk result (λ arguments. IsSomeAnd (subcommand_of program (map S.text words.now)) (λ met. Asks met arguments)) }
+    ensures workers { IfOk result (λ arguments. AsksWorkers arguments.request) }
+    ensures fails { FailsBy (fault_of program (map S.text words.now)) result }
 {
     let matches = command(alloc)?.try_get_matches_from(words)?;
-    // words without a subcommand were refused
-    let (name, own) = matches.subcommand().unwrap_or(("run", &matches));
-    Ok(Arguments {
-        request: request_of(name, own),
-        capture: own.get_str("CAPTURE").unwrap_or(""),
-    })
+    let (name, own) = matches.subcommand().unwrap();
+    Ok(arguments_of(name, own))
 }

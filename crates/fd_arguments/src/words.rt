@@ -1,4 +1,9 @@
 //! The words of a command line: what they may be, and what the help says. The man page has the same texts.
+ghost use Rattle.std.specs.Prelude.{◌≡◌, IfOk, codes, [], ◌∷◌};
+ghost use Rattle.clap.specs.Words.{app_of};
+ghost use Rattle.fd_arguments.specs.Made.{HasRule, HasShape};
+ghost use Rattle.fd_arguments.specs.Words.{at_rule, capture_rule, program, subcommand, workers_rule};
+
 use clap::{Arg, Command, value_parser};
 use fd_crew::MOST_WORKERS;
 use std::alloc::{AllocError, Global};
@@ -40,7 +45,9 @@ Example: which triangles painted a pixel?
 Statuses: 0 done, 1 the words, 2 the capture is refused, 3 a read or write fault, 4 too much input, 5 memory.";
 
 /// What the words of a command line may be.
-pub(crate) fn command<'a>(alloc: Global) -> Result<Command<'a>, AllocError> {
+pub(crate) fn command<'a>(alloc: Global) -> Result<Command<'a>, AllocError>
+    ensures { IfOk result (λ command. app_of command ≡ program) }
+{
     Command::new(alloc, "framedbg")
         .about("A reverse-stepping frame debugger")
         .version(VERSION)
@@ -52,51 +59,65 @@ pub(crate) fn command<'a>(alloc: Global) -> Result<Command<'a>, AllocError> {
 }
 
 /// The words of a session.
-fn run_command<'a>(alloc: Global) -> Result<Command<'a>, AllocError> {
+fn run_command<'a>(alloc: Global) -> Result<Command<'a>, AllocError>
+    ensures { IfOk result (λ command. HasShape command (subcommand (codes "run") (workers_rule ∷ capture_rule ∷ []))) }
+{
     Command::new(alloc, "run")
         .about(
             "Replays a capture: takes commands from standard input, writes replies to standard output",
         )
         .after_help(SESSION)
-        .arg(workers_argument(alloc)?)?
+        .arg(workers_argument(alloc))?
         .arg(capture_argument(alloc))
 }
 
 /// The words for one image.
-fn image_command<'a>(alloc: Global) -> Result<Command<'a>, AllocError> {
-    let at = Arg::new(alloc, "at")
-        .long("at")
-        .value_name("K")
-        .help("The position, from 0 to the number of events [default: the last]")
-        .value_parser(value_parser!(u32));
+fn image_command<'a>(alloc: Global) -> Result<Command<'a>, AllocError>
+    ensures { IfOk result (λ command. HasShape command (subcommand (codes "image") (workers_rule ∷ at_rule ∷ capture_rule ∷ []))) }
+{
     Command::new(alloc, "image")
         .about("Writes the image at a position as PAM to standard output")
-        .arg(workers_argument(alloc)?)?
-        .arg(at)?
+        .arg(workers_argument(alloc))?
+        .arg(at_argument(alloc))?
         .arg(capture_argument(alloc))
 }
 
 /// The words for the list of events.
-fn events_command<'a>(alloc: Global) -> Result<Command<'a>, AllocError> {
+fn events_command<'a>(alloc: Global) -> Result<Command<'a>, AllocError>
+    ensures { IfOk result (λ command. HasShape command (subcommand (codes "events") (capture_rule ∷ []))) }
+{
     Command::new(alloc, "events")
         .about("Lists the events of a capture")
         .arg(capture_argument(alloc))
 }
 
 /// The capture's path.
-fn capture_argument<'a>(alloc: Global) -> Arg<'a> {
+fn capture_argument<'a>(alloc: Global) -> Arg<'a>
+    ensures { HasRule result capture_rule }
+{
     Arg::new(alloc, "CAPTURE")
         .required(true)
         .help("The capture, a JSON file")
 }
 
+/// The position of an image.
+fn at_argument<'a>(alloc: Global) -> Arg<'a>
+    ensures { HasRule result at_rule }
+{
+    Arg::new(alloc, "at")
+        .long("at")
+        .value_name("K")
+        .help("The position, from 0 to the number of events [default: the last]")
+        .value_parser(value_parser!(u32))
+}
+
 /// The number of threads that draw.
-fn workers_argument<'a>(alloc: Global) -> Result<Arg<'a>, AllocError> {
-    Ok(
-        Arg::new(alloc, "workers")
-            .long("workers")
-            .value_name("N")
-            .help("The number of threads that draw, from 1 to 64 [default: 4]")
-            .value_parser(value_parser!(u32).range(1..=MOST_WORKERS as i64)),
-    )
+fn workers_argument<'a>(alloc: Global) -> Arg<'a>
+    ensures { HasRule result workers_rule }
+{
+    Arg::new(alloc, "workers")
+        .long("workers")
+        .value_name("N")
+        .help("The number of threads that draw, from 1 to 64 [default: 4]")
+        .value_parser(value_parser!(u32).range(1..=MOST_WORKERS as i64))
 }
