@@ -2,7 +2,6 @@ pub mod Area
 pub mod Demand
 pub mod Found
 pub mod Mask
-pub mod Near
 pub mod Paints
 pub mod Plan
 pub mod Primitive

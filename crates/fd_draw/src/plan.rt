@@ -14,7 +14,6 @@ ghost use Rattle.fd_draw.specs.Plan.{ArePlanned, IsPlan, MayBeginAt};
 
 use crate::area::open_area;
 use crate::found::{Found, find};
-use crate::near::{near_from, next_near};
 use crate::room::{Demand, NOTHING};
 use arrayvec::ArrayVec;
 use fd_cover::{Bounds, Raster};
@@ -115,12 +114,12 @@ fn plan_draw(draw: &Draw, state: &Pipeline, place: Place, first: u32) -> Plan
     if is_idle(draw, &state.raster, window) {
         return plan;
     }
-    let mut triangle = near_from(draw, first, window);
+    let mut triangle = first;
     while triangle < count {
         if let Some(found) = find(&draw.tri(triangle), &state.raster, window) {
             plan.add(triangle, found, state);
         }
-        triangle = next_near(draw, triangle + 1, window);
+        triangle = draw.next_listed(triangle + 1, window);
     }
     plan
 }

@@ -19,7 +19,6 @@ ghost use Rattle.fd_draw.specs.Writing.{ChangesSpan, HasRoom, HasSpan, WritesReg
 use crate::area::{box_of, open_area};
 use crate::clear::{Clear, clear_rows};
 use crate::found::{Found, find};
-use crate::near::next_near;
 use crate::plan::{Plan, Planned};
 use crate::primitive::{Primitive, brush_of};
 use crate::tested::draw_span;
@@ -222,12 +221,12 @@ fn draw_triangles(draw: &Draw, state: &Pipeline, plan: &Plan, tile: &mut Tile, u
         return;
     }
     let window = open_area(&state.raster, &state.scissor, place);
-    let mut triangle = next_near(draw, plan.rest, window);
+    let mut triangle = draw.next_listed(plan.rest, window);
     while triangle < count {
         if let Some(found) = find(&draw.tri(triangle), &state.raster, window) {
             draw_found(draw, triangle, &found, state, tile, undo);
         }
-        triangle = next_near(draw, triangle + 1, window);
+        triangle = draw.next_listed(triangle + 1, window);
     }
 }
 

@@ -1,13 +1,14 @@
 -- Boxes round triangles.
 use Rattle.std.proofs.Common.{◌≡◌, ℕ, zero, suc, ◌+◌, ◌-◌, ◌*◌, ◌<◌, ◌≤◌, min, max, Bool, true, false, ◌||◌, IsTrue, ◌⊎◌, inl, inr, List, [], ◌∷◌}
 use Rattle.std.proofs.Common.{◌++◌, length, take, drop, Some, slice_get, option_map, add-one, arith, refl, sym, ap, ◌∙◌}
-use Rattle.std.proofs.lemmas.Bool.{cases_lt}
+use Rattle.std.proofs.lemmas.Bool.{both_ways, cases_lt, false_from_ne_true}
 use Rattle.std.proofs.lemmas.Option.{slice_get_within}
 use Rattle.std.proofs.lemmas.Bool.Decides.{nat_tests}
 use Rattle.fd_cover.specs.declared.bounds.Bounds.{Bounds}
 use Rattle.fd_cover.specs.declared.shading.Interp.{Interp}
 use Rattle.fd_cover.specs.declared.triangle.Tri.{Tri}
 use Rattle.fd_cover.specs.Bounds.{is_within, is_empty, HoldsCovered, HoldsBoth, bounds_of, joined_box}
+use Rattle.fd_cover.specs.Covers.{covers}
 use Rattle.fd_cover.proofs.BoundsLemmas.{missed_outside, bounds_of-holds}
 use Rattle.fd_events.specs.declared.pipeline.Pipeline.{Pipeline}
 use Rattle.fd_events.specs.Limits.{group_size}
@@ -211,3 +212,9 @@ CoverNone-then window ts first middle last before after i t from to at = elim (c
   | inl lower ↦ before i t from lower at
   | inr higher ↦ after i t higher to at
 ]
+
+-- a box that holds what they cover has none of the window's pixels
+pub CoverNone-apart : (box window : Bounds) (ts : List Triangle) (first last : ℕ) → ((x y : ℕ) → IsTrue (is_within window x y) → is_within box x y ≡ false)
+    → ((i : ℕ) (t : Triangle) → first ≤ i → i < last → slice_get ts i ≡ Some t → HoldsCovered box t.corners) → CoverNone window ts first last
+CoverNone-apart box window ts first last apart holds i t from to at x y within =
+    false_from_ne_true (covers t.corners x y) (λ covered. both_ways (is_within box x y) (apart x y within) (holds i t from to at x y covered))

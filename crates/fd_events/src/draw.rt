@@ -167,7 +167,7 @@ impl Draw {
     }
 
     /// The same where a table that was started with the draw keeps it, as for many triangles.
-    pub fn kept_bounds(&self, triangle: u32) -> Option<Bounds>
+    fn kept_bounds(&self, triangle: u32) -> Option<Bounds>
         ensures { IfSome result (λ bounds. IsTriangleBox bounds triangle (triangles_of self.now)) }
     {
         if let Some(finder) = &self.finder {
@@ -181,6 +181,21 @@ impl Draw {
     /// The first triangle from this one on that may cover a pixel of a window, by what a table that was started with the draw keeps, or the
     /// number of triangles. None of those that are passed over covers one.
     pub fn next_listed(&self, triangle: u32, window: Bounds) -> u32
+        requires { triangle ≤ length (triangles_of self.now) }
+        ensures from { triangle ≤ result }
+        ensures last { result ≤ length (triangles_of self.now) }
+        ensures missed { CoverNone window (triangles_of self.now) triangle result }
+    {
+        let count = self.triangles();
+        let mut next = self.next_in_cell(triangle, window);
+        while next < count && self.is_far(next, window) {
+            next = self.next_in_cell(next + 1, window);
+        }
+        next
+    }
+
+    /// The same by the window's cell alone, or where there are no cells by groups.
+    fn next_in_cell(&self, triangle: u32, window: Bounds) -> u32
         requires { triangle ≤ length (triangles_of self.now) }
         ensures from { triangle ≤ result }
         ensures last { result ≤ length (triangles_of self.now) }
@@ -211,6 +226,16 @@ impl Draw {
             next = count.min(next + GROUP_LEN);
         }
         next
+    }
+
+    /// Whether a triangle's own box is kept and misses a window.
+    fn is_far(&self, triangle: u32, window: Bounds) -> bool
+        ensures { IsTrue result → CoverNone window (triangles_of self.now) triangle (triangle + 1) }
+    {
+        match self.kept_bounds(triangle) {
+            Some(bounds) => !bounds.meets(window),
+            None => false,
+        }
     }
 
     /// Whether a group of triangles begins with this one, and its box misses a window.

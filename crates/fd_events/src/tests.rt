@@ -396,15 +396,18 @@ fn few_triangles_are_in_no_cells_and_large_ones_in_large_cells(
     rt: HostRuntime,
 ) -> Result<(), Fail> {
     // a large one reaches 36 of 64 cells of 32 pixels, those above a diagonal; 10 among 40 do so, 60 among 80 are too many, and cells of 64 are taken for them
-    for (side, vertices, corner, next) in [
-        (64, in_two_cells(rt.alloc(), 7)?, 32, 0),
-        (64, in_two_cells(rt.alloc(), 8)?, 32, 1),
-        (256, with_large_ones(rt.alloc(), 30, 10)?, 32, 1),
-        (256, with_large_ones(rt.alloc(), 30, 10)?, 96, 1),
-        (256, with_large_ones(rt.alloc(), 30, 10)?, 128, 40),
-        (256, with_large_ones(rt.alloc(), 20, 60)?, 32, 0),
-        (256, with_large_ones(rt.alloc(), 20, 60)?, 64, 1),
-        (256, with_large_ones(rt.alloc(), 20, 60)?, 128, 80),
+    for (side, vertices, (left, top), next) in [
+        (256, with_large_ones(rt.alloc(), 2, 5)?, (160, 160), 1),
+        (256, with_large_ones(rt.alloc(), 2, 6)?, (160, 160), 8),
+        (64, in_two_cells(rt.alloc(), 7)?, (32, 32), 1),
+        (64, in_two_cells(rt.alloc(), 8)?, (32, 32), 1),
+        (256, with_large_ones(rt.alloc(), 30, 10)?, (32, 32), 1),
+        (256, with_large_ones(rt.alloc(), 30, 10)?, (96, 96), 1),
+        (256, with_large_ones(rt.alloc(), 30, 10)?, (160, 96), 40),
+        (256, with_large_ones(rt.alloc(), 30, 10)?, (128, 128), 40),
+        (256, with_large_ones(rt.alloc(), 20, 60)?, (32, 32), 1),
+        (256, with_large_ones(rt.alloc(), 20, 60)?, (160, 96), 1),
+        (256, with_large_ones(rt.alloc(), 20, 60)?, (128, 128), 80),
     ] {
         let table = table_of(rt.alloc(), side, vertices)?;
         assert!(rt; table.len() == 1);
@@ -412,9 +415,9 @@ fn few_triangles_are_in_no_cells_and_large_ones_in_large_cells(
             return Err("a draw".into());
         };
         assert_eq!(rt;
-            draw.next_listed(0, square(corner, corner, 32)),
+            draw.next_listed(0, square(left, top, 32)),
             next,
-            "{} triangles, from {corner} on",
+            "{} triangles, from {left}, {top} on",
             draw.triangles()
         );
     }

@@ -6,11 +6,11 @@ use Rattle.fd_events.specs.Draw.{triangles_of}
 use Rattle.fd_draw.specs.declared.plan.Plan.{Plan}
 use Rattle.fd_draw.specs.declared.room.Demand.{Demand}
 use Rattle.fd_draw.specs.Demand.{triangle_pixels, triangle_spans}
-use Rattle.fd_draw.specs.Plan.{ArePlanned, AreUnreached}
+use Rattle.fd_draw.specs.Plan.{ArePlanned}
 use Rattle.fd_draw.specs.Triangles.{triangle_at}
 use Rattle.fd_draw.proofs.Triangles.{found_here, IsUndrawn, no_pixels, no_spans, none_pixels, none_spans, pixels-passed, pixels_found, planned_full}
 use Rattle.fd_draw.proofs.Triangles.{planned_kept, planned_past, spans-passed, spans_few, spans_found, sum_more, undrawn_closed, undrawn_culled}
-use Rattle.fd_draw.proofs.Triangles.{unreached_both, unreached_here, unreached_missed, unreached_uncovered}
+use Rattle.fd_draw.proofs.Triangles.{unreached_here, unreached_missed, unreached_uncovered}
 use Rattle.fd_draw.proofs.plan.plan_draw.Goals as goal
 use Rattle.fd_draw.proofs.plan.plan_draw.Goals.{in-Some, in_default}
 
@@ -35,22 +35,21 @@ loop-triangle-init c =
     let ts = triangles_of d in
     let s = c.args.state.now in
     let p = c.args.place in
-    let window = c.open_area-window in
-    let near = c.near_from-triangle in
+    let first = c.args.first in
     let plan = c.without_triangles-plan in
-    let none : AreUnreached ts s p 0 near.result = unreached_both ts s p 0 c.args.first near.result (unreached_uncovered ts s p c.args.first c.requires.missed)
-    (unreached_missed ts s p window.result c.args.first near.result window.ensures.left_open near.ensures.missed) in
-    let start : min plan.result.rest near.result ≡ near.result = omega (arith, plan.ensures.rest, c.triangles-count.ensures.value, near.ensures.last) in
-    let empty : ArePlanned d s p 0 plan.result.planned.items near.result = rw plan.ensures.planned (omega arith, near.ensures.last, none) in
+    let rest : plan.result.rest ≡ length ts = plan.ensures.rest ∙ c.triangles-count.ensures.value in
+    let none = unreached_uncovered ts s p first c.requires.missed in
+    let empty : ArePlanned d s p 0 plan.result.planned.items first = rw plan.ensures.planned (omega arith, c.requires.within, none) in
+    let start : min plan.result.rest first ≡ first = omega (arith, rest, c.requires.within) in
     record {
-      spans = omega (arith, ap (λ (e : Demand). e.spans) plan.ensures.demand, spans-passed ts d.interp s p 0 near.result (omega arith) none);
-      pixels = omega (arith, ap (λ (e : Demand). e.pixels) plan.ensures.demand, pixels-passed ts d.interp s p 0 near.result (omega arith) none);
-      within = near.ensures.last;
+      spans = omega (arith, ap (λ (e : Demand). e.spans) plan.ensures.demand, spans-passed ts d.interp s p 0 first (omega arith) none);
+      pixels = omega (arith, ap (λ (e : Demand). e.pixels) plan.ensures.demand, pixels-passed ts d.interp s p 0 first (omega arith) none);
+      within = c.requires.within;
       few_spans = omega (arith, ap (λ (e : Demand). e.spans) plan.ensures.demand);
       few_pixels = omega (arith, ap (λ (e : Demand). e.pixels) plan.ensures.demand);
       planned = rw start empty;
-      last = omega (arith, plan.ensures.rest, c.triangles-count.ensures.value);
-      room = λ _. omega (arith, plan.ensures.rest, c.triangles-count.ensures.value);
+      last = omega (arith, rest);
+      room = λ _. omega (arith, rest);
       few = omega (arith, ap length plan.ensures.planned);
     }
 
@@ -63,7 +62,7 @@ loop-triangle-preserved c =
     let p = c.args.place in
     let inv = c.loop-triangle.invariant in
     let window = c.open_area-window in
-    let near = c.next_near-triangle in
+    let near = c.next_listed-triangle in
     let old = c.loop-triangle.plan in
     let below : i < length ts = omega (arith, c.loop-triangle-test.true, c.triangles-count.ensures.value) in
     let spans = sum_more (triangle_spans s p) ts i below in
