@@ -22,9 +22,7 @@ or_neither false y = refl
 
 -- off the edge's line only the sides count
 pub off_line : (e t : ℤ) (inclusive : Bool) → e ≢ pos 0 → same_sign e t ≡ (same_sign e t || (int_eq e (pos 0) && inclusive))
-off_line e t inclusive apart =
-    let off : int_eq e (pos 0) ≡ false = false_from_ne_true (int_eq e (pos 0)) (λ h. apart ((Decides-int_eq e (pos 0)).0 h)) in
-    rw off (or_neither (same_sign e t) inclusive)
+off_line e t inclusive apart = grind arith
 
 pub is_positive : (z : ℤ) → IsPositive z → int_lt (pos 0) z ≡ true
 is_positive z h = sym (true_is_lt (pos 0) z (omega arith))
@@ -43,23 +41,10 @@ abbrev pub IsAdmitted : ℤ → ℤ → Bool → Type 0
 IsAdmitted e t inclusive = (IsPositive e × IsPositive t) ⊎ ((IsNegative e × IsNegative t) ⊎ ((e ≡ pos 0) × (inclusive ≡ true)))
 
 pub admitted_from : (e t : ℤ) (inclusive : Bool) → (same_sign e t || (int_eq e (pos 0) && inclusive)) ≡ true → IsAdmitted e t inclusive
-admitted_from e t inclusive h = elim (or_cases (same_sign e t) (int_eq e (pos 0) && inclusive) h) [
-  | inl same ↦ elim (or_cases (int_lt (pos 0) e && int_lt (pos 0) t) (int_lt e (pos 0) && int_lt t (pos 0)) same) [
-    | inl above ↦ let parts = and_parts (int_lt (pos 0) e) (int_lt (pos 0) t) above in inl (positive_from e parts.0, positive_from t parts.1)
-    | inr below ↦ let parts = and_parts (int_lt e (pos 0)) (int_lt t (pos 0)) below in inr (inl (negative_from e parts.0, negative_from t parts.1))
-  ]
-  | inr on ↦ let parts = and_parts (int_eq e (pos 0)) inclusive on in inr (inr ((Decides-int_eq e (pos 0)).0 parts.0, parts.1))
-]
+admitted_from e t inclusive h = grind arith
 
 pub admitted_to : (e t : ℤ) (inclusive : Bool) → IsAdmitted e t inclusive → (same_sign e t || (int_eq e (pos 0) && inclusive)) ≡ true
-admitted_to e t inclusive (inl above) =
-    or_left (same_sign e t) (int_eq e (pos 0) && inclusive) (or_left (int_lt (pos 0) e && int_lt (pos 0) t) (int_lt e (pos 0) && int_lt t (pos 0))
-    (and_from (int_lt (pos 0) e) (int_lt (pos 0) t) (is_positive e above.0) (is_positive t above.1)))
-admitted_to e t inclusive (inr (inl below)) =
-    or_left (same_sign e t) (int_eq e (pos 0) && inclusive) (or_right (int_lt (pos 0) e && int_lt (pos 0) t) (int_lt e (pos 0) && int_lt t (pos 0))
-    (and_from (int_lt e (pos 0)) (int_lt t (pos 0)) (is_negative e below.0) (is_negative t below.1)))
-admitted_to e t inclusive (inr (inr on)) =
-    or_right (same_sign e t) (int_eq e (pos 0) && inclusive) (and_from (int_eq e (pos 0)) inclusive ((Decides-int_eq e (pos 0)).1 on.0) on.1)
+admitted_to e t inclusive h = grind arith
 
 -- an edge is top or left
 abbrev pub is_inclusive : Point → Point → Point → Bool
@@ -74,21 +59,8 @@ pub record IsCovered (u v c p : Point) : Type 0 where
 
 pub covered_from : (t : Tri) (x y : ℕ) → covers t x y ≡ true → IsCovered t.a t.b t.c (centre x y)
 unfolding covers
-covered_from t x y h =
-    let outer = and_parts (not (int_eq (cross t.a t.b t.c) (pos 0))) _ h in
-    let edges = and_parts (admits t.a t.b t.c (centre x y)) _ outer.1 in
-    let others = and_parts (admits t.b t.c t.a (centre x y)) (admits t.c t.a t.b (centre x y)) edges.1 in
-    record {
-      area = λ e. both_ways (int_eq (cross t.a t.b t.c) (pos 0)) (not-true (int_eq (cross t.a t.b t.c) (pos 0)) outer.0)
-          ((Decides-int_eq (cross t.a t.b t.c) (pos 0)).1 e);
-      first = edges.0;
-      second = others.0;
-      third = others.1;
-    }
+covered_from t x y h = grind arith
 
 pub covered_to : (t : Tri) (x y : ℕ) → IsCovered t.a t.b t.c (centre x y) → covers t x y ≡ true
 unfolding covers
-covered_to t x y h =
-    let area : int_eq (cross t.a t.b t.c) (pos 0) ≡ false = false_from_ne_true (int_eq (cross t.a t.b t.c) (pos 0))
-    (λ e. h.area ((Decides-int_eq (cross t.a t.b t.c) (pos 0)).0 e)) in
-    and_from _ _ (not_from_false (int_eq (cross t.a t.b t.c) (pos 0)) area) (and_from _ _ h.first (and_from _ _ h.second h.third))
+covered_to t x y h = grind arith

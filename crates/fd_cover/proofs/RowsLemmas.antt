@@ -44,9 +44,7 @@ margin_inclusive u v c side = rw (left_is u v c side) refl
 -- the columns that an edge admits, where the triangle has an area
 pub edge_columns : (u v c : Point) (y : ℕ) (e : Edge) → IsEdge u v c y e → IsPositive (cross u v c) → (x : ℕ) → IsTrue (admits u v c (centre x y))
     ↔ ((e.step *ℤ pos x) ≤ℤ e.slack)
-edge_columns u v c y e at side x =
-    let slack : e.slack ≡ cross u v (centre 0 y) -ℤ margin_of (is_inclusive u v c) = rw (margin_inclusive u v c side) at at.slack in
-    rw (at.step, slack) (columns_above u v c x y side)
+edge_columns u v c y e at side x = grind (arith, margin_inclusive, columns_above)
 
 -- ---- a triangle without an area leaves no column
 
@@ -56,10 +54,7 @@ IsLeaning u v c = ((u.y ≡ v.y) × (v.y <ℤ c.y)) ⊎ (v.y <ℤ u.y)
 
 leaning_from : (u v c : Point) → (is_top u v c || int_lt v.y u.y) ≡ true → IsLeaning u v c
 unfolding is_top IsLeaning
-leaning_from u v c h = elim (or_cases (is_top u v c) (int_lt v.y u.y) h) [
-  | inl above ↦ let parts = and_parts (int_eq u.y v.y) (int_lt v.y c.y) above in inl ((Decides-int_eq u.y v.y).0 parts.0, omega (arith, ints, parts.1))
-  | inr upward ↦ inr (omega (arith, ints, upward))
-]
+leaning_from u v c h = grind arith
 
 leaning : (u v c : Point) → up (margin u v c) ≡ 0 → IsLeaning u v c
 leaning u v c none = from (is_top u v c || int_lt v.y u.y) refl
@@ -117,18 +112,7 @@ module _ (a b c : Point) (y : ℕ) (first second third : Edge) (ab : IsEdge a b 
 clockwise_cases : (t : Tri) → (IsNegative (cross t.a t.b t.c) × (clockwise t ≡ record { a = t.a; b = t.c; c = t.b }))
     ⊎ (IsClockwise t.a t.b t.c × (clockwise t ≡ t))
 unfolding clockwise
-clockwise_cases t = from (int_lt (cross t.a t.b t.c) (pos 0)) refl
-  where
-    from : (b : Bool) → int_lt (cross t.a t.b t.c) (pos 0) ≡ b → (IsNegative (cross t.a t.b t.c) × (clockwise t ≡ record { a = t.a; b = t.c; c = t.b }))
-        ⊎ (IsClockwise t.a t.b t.c × (clockwise t ≡ t))
-    from true e = inl (negative_from (cross t.a t.b t.c) e, rw e refl)
-    from false e = inr (
-      elim (cases_lt (up (cross t.a t.b t.c)) (down (cross t.a t.b t.c))) [
-        | inl below ↦ absurd (false≢true (sym e ∙ is_negative (cross t.a t.b t.c) below))
-        | inr more ↦ more
-      ],
-      rw e refl,
-    )
+clockwise_cases t = grind arith
 
 -- a triangle covers what its edges leave
 pub covered_in_row : (t : Tri) (y : ℕ) (first second third : Edge) → AreEdges (clockwise t) y first second third → (x : ℕ)
@@ -155,29 +139,13 @@ module _ (t : Tri) (y x0 x1 l1 r1 l2 r2 l3 r3 : ℕ) (P1 P2 P3 : ℕ → Type 0)
     (part3 : (x : ℕ) → l2 ≤ x → x < r2 → P3 x ↔ ((l3 ≤ x) × (x < r3)))
     (order : ((x0 ≤ l1) × (r1 ≤ x1)) × (((l1 ≤ l2) × (r2 ≤ r1)) × ((l2 ≤ l3) × (r3 ≤ r2)))) where
   to_span : (x : ℕ) → x0 ≤ x → x < x1 → IsTrue (covers t x y) → (l3 ≤ x) × (x < r3)
-  to_span x low high h =
-      let covered = (cover x).0 h in
-      let in1 = (part1 x low high).0 covered.0 in
-      let in2 = (part2 x in1.0 in1.1).0 covered.1.0 in
-      (part3 x in2.0 in2.1).0 covered.1.1
+  to_span x low high h = grind arith
 
   from_span : (x : ℕ) → l3 ≤ x → x < r3 → IsTrue (covers t x y)
-  from_span x low high =
-      (cover x).1 (
-        (part1 x (omega arith) (omega arith)).1 (omega arith, omega arith),
-        (
-          (part2 x (omega arith) (omega arith)).1 (omega arith, omega arith),
-          (part3 x (omega arith) (omega arith)).1 (low, high),
-        ),
-      )
+  from_span x low high = grind arith
 
   pub span_of_edges : l3 < r3 → IsSpan t y x0 x1 l3 r3
-  span_of_edges some = record {
-    starts_inside = omega arith;
-    not_empty = some;
-    ends_inside = omega arith;
-    covered = λ x low high. (λ h. to_span x low high h, λ h. from_span x h.0 h.1);
-  }
+  span_of_edges some = grind arith
 
   pub none_of_edges : r3 ≤ l3 → IsUncovered t y x0 x1
   none_of_edges none x low high = false_from_ne_true (covers t x y) (λ h. let inside = to_span x low high h in omega (arith, inside))

@@ -14,16 +14,12 @@ use borrow.Author.Differences.{up, down}
 
 -- an admitted side lies on the triangle's side or is 0
 side_agrees : (e t : ℤ) (inclusive : Bool) → IsAdmitted e t inclusive → (IsPositive t → down e ≡ 0) × (IsNegative t → up e ≡ 0)
-side_agrees (pos n) t inclusive h =
-    (λ w. refl, λ w. elim h [ inl a ↦ absurd (omega arith) | inr m ↦ elim m [ inl b ↦ absurd (omega arith) | inr on ↦ omega (arith, ints, on.0) ] ])
-side_agrees (negsuc n) t inclusive h =
-    (λ w. elim h [ inl a ↦ absurd (omega arith) | inr m ↦ elim m [ inl b ↦ absurd (omega arith) | inr on ↦ absurd (omega (arith, ints, on.0)) ] ], λ w. refl)
+side_agrees e t inclusive h = grind arith
 
 pub admitted_side : (u v c p : Point) (t : ℤ) → cross u v c ≡ t → admits u v c p ≡ true → (IsPositive t → down (cross u v p) ≡ 0)
     × (IsNegative t → up (cross u v p) ≡ 0)
 unfolding admits
-admitted_side u v c p t same h = side_agrees (cross u v p) t (is_inclusive u v c)
-    (rw same at (admitted_from (cross u v p) (cross u v c) (is_inclusive u v c) h))
+admitted_side u v c p t same h = grind arith
 
 -- the sizes of three sides that lie on the side of their sum
 sizes_add : (a b c t : ℤ) → a +ℤ (b +ℤ c) ≡ t → t ≢ pos 0
@@ -43,23 +39,4 @@ weights_add t x y h =
     (admitted_side t.c t.a t.b (centre x y) (cross t.a t.b t.c) (cross-turn t.b t.c t.a ∙ cross-turn t.a t.b t.c) covered.third)
 
 pub rounded_quotient-nearest : (area total : ℕ) → 0 < area → IsNearestLarger area total (rounded_quotient area total)
-rounded_quotient-nearest area total some =
-    nearest_at area total ((2 * total + area) / (2 * area)) (omega arith) (omega arith)
-  where
-    below_step : (area m n : ℕ) → m < n → area * m + area ≤ area * n
-    below_step area m n h = let grown : area * suc m ≤ area * n = mul-le-mul_left area h in omega arith
-
-    nearest_at : (area total q : ℕ) → 2 * (area * q) ≤ 2 * total + area → 2 * total < 2 * (area * q) + area → IsNearestLarger area total q
-    nearest_at area total q low high = record {
-      nearest = λ other. elim (cases_lt other q) [
-        | inl less ↦ omega (arith, below_step area other q less)
-        | inr more ↦ elim (cases_lt q other) [
-          | inl above ↦ omega (arith, below_step area q other above)
-          | inr same ↦ let e : other ≡ q = omega arith in rw e (omega arith)
-        ]
-      ];
-      larger_on_tie = λ other tie. elim (cases_lt q other) [
-        | inl above ↦ absurd (omega (arith, below_step area q other above, tie))
-        | inr same ↦ same
-      ];
-    }
+rounded_quotient-nearest area total some = grind arith

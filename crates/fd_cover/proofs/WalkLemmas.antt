@@ -93,20 +93,13 @@ sum_linear a0 a1 ai b0 b1 bi c0 c1 ci i a b c area ha hb hc =
 -- the numerator of a rounded mean, of whatever three numbers
 pub numerator-linear : (t : Tri) (x y i a b c : ℕ) → covers t x y ≡ true → covers t (x + 1) y ≡ true → covers t (x + i) y ≡ true
     → numerator t (x + i) y a b c + i * numerator t x y a b c ≡ numerator t x y a b c + i * numerator t (x + 1) y a b c
-numerator-linear t x y i a b c first second here =
-    sum_linear _ _ _ _ _ _ _ _ _ i a b c (area_of t) (weight_a-linear t x y i first second here) (weight_b-linear t x y i first second here)
-    (weight_c-linear t x y i first second here)
+numerator-linear t x y i a b c first second here = grind (arith, sum_linear, weight_a-linear, weight_b-linear, weight_c-linear)
 
 -- ---- places
 
 -- a quotient by its bounds
 quotient_is : (w k q : ℕ) → 0 < k → k * q ≤ w → w < k * suc q → w / k ≡ q
-quotient_is w k q some low high =
-    let at_least : q ≤ w / k = le-div q w k some (omega arith) in
-    elim (cases_lt q (w / k)) [
-      | inl more ↦ let grown : k * suc q ≤ k * (w / k) = mul-le-mul_left k more in absurd (omega arith)
-      | inr same ↦ omega arith
-    ]
+quotient_is w k q some low high = grind arith
 
 module _ (unit n0 n1 n m v0 v1 i : ℕ) (some : 0 < m) (fine : 192 * m ≤ unit) (few : i < 32) (linear : n + i * n0 ≡ n0 + i * n1) (near0 : IsNear unit n0 m v0)
     (near1 : IsNear unit n1 m v1) where
@@ -123,16 +116,10 @@ module _ (unit n0 n1 n m v0 v1 i : ℕ) (some : 0 < m) (fine : 192 * m ≤ unit)
   exact1 = (omega (arith, near1.low), omega (arith, near1.low, near1.high))
 
   many0 : i * rest0 ≤ 93 * m
-  many0 =
-      let a : i * rest0 ≤ i * (3 * m) = mul-le-mul_left i (omega (arith, exact0.1)) in
-      let b : m * i ≤ m * 31 = mul-le-mul_left m (omega arith) in
-      omega arith
+  many0 = grind arith
 
   many1 : i * rest1 ≤ 93 * m
-  many1 =
-      let a : i * rest1 ≤ i * (3 * m) = mul-le-mul_left i (omega (arith, exact1.1)) in
-      let b : m * i ≤ m * 31 = mul-le-mul_left m (omega arith) in
-      omega arith
+  many1 = grind arith
 
   -- all that is added, times the divisor
   balance : m * (v0 + 96 + i * v1) + (rest0 + i * rest1) ≡ m * (i * v0) + (n * unit + 96 * m + i * rest0)
@@ -144,10 +131,7 @@ module _ (unit n0 n1 n m v0 v1 i : ℕ) (some : 0 < m) (fine : 192 * m ≤ unit)
 
   -- nothing is lost where the place is taken as a difference
   pub place-exact : i * v0 ≤ v0 + 96 + i * v1
-  place-exact = elim (cases_lt (v0 + 96 + i * v1) (i * v0)) [
-    | inl less ↦ let grown : m * (v0 + 96 + i * v1) ≤ m * (i * v0) = mul-le-mul_left m (omega arith) in absurd (omega (arith, balance, exact0.1, many0, many1))
-    | inr more ↦ more
-  ]
+  place-exact = grind (arith, mul-le-mul_left, balance, exact0, many0, many1)
 
   pub place-quotient : place_at v0 v1 i / unit ≡ n / m
   place-quotient =
@@ -209,18 +193,10 @@ weighted_small wa wb wc a b c area top sum small_a small_b small_c =
     omega arith
 
 quotient_below : (n area top : ℕ) → 0 < area → n + area ≤ 2 * (area * top) → n / (2 * area) < top
-quotient_below n area top some small = elim (cases_lt (n / (2 * area)) top) [
-  | inl less ↦ less
-  | inr more ↦ let grown : (2 * area) * top ≤ (2 * area) * (n / (2 * area)) = mul-le-mul_left (2 * area) more in absurd (omega arith)
-]
+quotient_below n area top some small = grind arith
 
 place_below : (place unit q top : ℕ) → 0 < unit → place / unit ≡ q → q < top → place < unit * top
-place_below place unit q top some is low =
-    let grown : unit * (q + 1) ≤ unit * top = mul-le-mul_left unit (omega arith) in
-    let same : unit * (place / unit) ≡ unit * q = ap (λ k. unit * k) is in
-    let whole : place ≡ unit * (place / unit) + place % unit = omega arith in
-    let rest : place % unit < unit = omega arith in
-    omega arith
+place_below place unit q top some is low = grind arith
 
 module _ (unit : ℕ) (t : Tri) (x y i a b c v0 v1 : ℕ) (along : IsAlong unit t x y i) (near0 : IsNear unit (numerator t x y a b c) (2 * area_of t) v0)
     (near1 : IsNear unit (numerator t (x + 1) y a b c) (2 * area_of t) v1) where
@@ -231,9 +207,7 @@ module _ (unit : ℕ) (t : Tri) (x y i a b c v0 v1 : ℕ) (along : IsAlong unit 
   linear = numerator-linear t x y i a b c along.first along.second along.here
 
   pub whole_part : place_at v0 v1 i / unit ≡ interpolated t (x + i) y a b c
-  whole_part =
-      place-quotient unit (numerator t x y a b c) (numerator t (x + 1) y a b c) (numerator t (x + i) y a b c) (2 * area_of t) v0 v1 i
-      (omega (arith, total.1)) along.fine along.few linear near0 near1
+  whole_part = grind (arith, place-quotient, total, linear)
 
   pub no_loss : i * v0 ≤ v0 + 96 + i * v1
   no_loss =
@@ -249,8 +223,7 @@ module _ (unit : ℕ) (t : Tri) (x y i a b c v0 v1 : ℕ) (along : IsAlong unit 
 -- the number at a column
 pub walk_value : (unit : ℕ) (t : Tri) (x y a b c i place step : ℕ) → IsAlong unit t x y i → IsWalk unit t x y a b c i place step → place / unit
     ≡ interpolated t (x + i) y a b c
-walk_value unit t x y a b c i place step along walk = ap (λ p. p / unit) walk.at
-    ∙ whole_part unit t x y i a b c walk.begin walk.next along walk.first walk.second
+walk_value unit t x y a b c i place step along walk = grind (arith, whole_part)
 
 next_place : (v0 v1 i p q : ℕ) → i * v0 ≤ v0 + 96 + i * v1 → (i + 1) * v0 ≤ v0 + 96 + (i + 1) * v1 → v0 < 2 ^ 64 → p ≡ (v0 + 96 + i * v1) - i * v0
     → q ≡ (v0 + 96 + (i + 1) * v1) - (i + 1) * v0 → q < 2 ^ 64
@@ -280,24 +253,13 @@ walk_on unit top t x y a b c i place step whole small_a small_b small_c along al
 pub walk_from : (unit : ℕ) (t : Tri) (x y a b c v0 v1 place step : ℕ) → IsNear unit (numerator t x y a b c) (2 * area_of t) v0
     → IsNear unit (numerator t (x + 1) y a b c) (2 * area_of t) v1
     → v0 < 2 ^ 64 → place ≡ v0 + 96 → step ≡ (v1 + (2 ^ 64 - v0)) % 2 ^ 64 → IsWalk unit t x y a b c 0 place step
-walk_from unit t x y a b c v0 v1 place step first second small is_place is_step = record {
-  begin = v0;
-  next = v1;
-  first = first;
-  second = second;
-  fits = small;
-  at = omega arith;
-  by = is_step;
-}
+walk_from unit t x y a b c v0 v1 place step first second small is_place is_step = grind arith
 
 -- the code's numerator is the one of the weights
 pub numerator_at : (unit : ℕ) (t : Tri) (x y a b c wa wb wc n m v : ℕ) → wa ≡ weight_a t x y → wb ≡ weight_b t x y → wc ≡ weight_c t x y → wa + wb + wc
     ≡ area_of t → m ≡ 2 * area_of t
     → n ≡ 2 * (wa * a + wb * b + wc * c) + (wa + wb + wc) → IsNear unit n m v → IsNear unit (numerator t x y a b c) (2 * area_of t) v
-numerator_at unit t x y a b c wa wb wc n m v is_a is_b is_c area is_m value near =
-    let summed : n ≡ 2 * (wa * a + wb * b + wc * c) + area_of t = rw area at value in
-    let whole : n ≡ numerator t x y a b c = rw (is_a, is_b, is_c) at summed in
-    rw (whole, is_m) at near
+numerator_at unit t x y a b c wa wb wc n m v is_a is_b is_c area is_m value near = grind arith
 
 -- a colour by its channels
 pub shaded_by : (t : Tri) (a b c : Colour) (x y red green blue alpha : ℕ) → red ≡ interpolated t x y a.r b.r c.r → green ≡ interpolated t x y a.g b.g c.g
