@@ -1,7 +1,7 @@
 -- Boxes round triangles.
-use Rattle.std.proofs.Common.{◌≡◌, ℕ, zero, suc, ◌+◌, ◌-◌, ◌*◌, ◌<◌, ◌≤◌, min, max, Bool, true, false, ◌||◌, IsTrue, ◌⊎◌, inl, inr, List, [], ◌∷◌}
+use Rattle.std.proofs.Common.{◌≡◌, ℕ, zero, suc, ◌+◌, ◌-◌, ◌*◌, ◌<◌, ◌≤◌, min, true, false, IsTrue, ◌⊎◌, inl, inr, List, [], ◌∷◌}
 use Rattle.std.proofs.Common.{◌++◌, length, take, drop, Some, slice_get, option_map, add-one, arith, refl, sym, ap, ◌∙◌}
-use Rattle.std.proofs.lemmas.Bool.{both_ways, cases_lt, false_from_ne_true}
+use Rattle.std.proofs.lemmas.Bool.{both_ways, false_from_ne_true, or_left, or_right}
 use Rattle.std.proofs.lemmas.Option.{slice_get_within}
 use Rattle.std.proofs.lemmas.Bool.Decides.{nat_tests}
 use Rattle.fd_cover.specs.declared.bounds.Bounds.{Bounds}
@@ -17,33 +17,14 @@ use Rattle.fd_events.specs.Bounds.{joined_with, bounds_of_triangles, IsRound, Co
 use Rattle.fd_events.specs.Draw.{Triangle}
 use Rattle.fd_events.specs.Image.{Pixel, is_drawn_by, is_drawn, pixel_after_triangles, kept_by_triangles}
 
-either_left : (a b : Bool) → IsTrue a → IsTrue (a || b)
-either_left true b h = refl
-either_left false b h = cc
-
-either_right : (a b : Bool) → IsTrue b → IsTrue (a || b)
-either_right true b h = refl
-either_right false b h = h
-
-the_other : (a b : Bool) → IsTrue (a || b) → a ≡ false → IsTrue b
-the_other true b h none = cc
-the_other false b h none = h
-
-the_first : (a b : Bool) → IsTrue (a || b) → b ≡ false → IsTrue a
-the_first true b h none = refl
-the_first false b h none = cc
-
 grown : (ts : List Triangle) (k i : ℕ) (t : Triangle) (corners : Tri) (before own box : Bounds)
     → option_map (λ (u : Triangle). u.corners) (slice_get ts k) ≡ Some corners → HoldsTriangles before (take k ts) → HoldsCovered own corners
     → HoldsBoth box before own
     → slice_get (take (suc k) ts) i ≡ Some t → HoldsCovered box t.corners
 grown [] k i t corners before own box next holds covered both at = cc
-grown (first ∷ ts) zero zero t corners before own box next holds covered both at =
-    let same : t.corners ≡ corners = cc in
-    let own_holds : HoldsCovered own t.corners = rw same covered in
-    λ x y h. both x y (either_right _ _ (own_holds x y h))
+grown (first ∷ ts) zero zero t corners before own box next holds covered both at = grind arith
 grown (first ∷ ts) zero (suc i) t corners before own box next holds covered both at = cc
-grown (first ∷ ts) (suc k) zero t corners before own box next holds covered both at = λ x y h. both x y (either_left _ _ (holds zero t at x y h))
+grown (first ∷ ts) (suc k) zero t corners before own box next holds covered both at = λ x y h. both x y (or_left _ _ (holds zero t at x y h))
 grown (first ∷ ts) (suc k) (suc i) t corners before own box next holds covered both at =
     grown ts k i t corners before own box next (λ j u found. holds (suc j) u found) covered both at
 
@@ -173,25 +154,15 @@ kept_by_triangles-outside (t ∷ ts) interp s box x y before holds outside =
 pub empty_holds_none : (a : Bounds) (x y : ℕ) → is_empty a ≡ true → is_within a x y ≡ false
 empty_holds_none a x y empty = grind (arith, nat_tests)
 
-hull_holds : (a b : Bounds) (x y : ℕ) → (is_within a x y || is_within b x y) ≡ true
-    → is_within (record { left = min a.left b.left; top = min a.top b.top; right = max a.right b.right; bottom = max a.bottom b.bottom }) x y ≡ true
-hull_holds a b x y h = grind (arith, nat_tests)
-
-joined_by : (a b : Bounds) (x y : ℕ) (no_a no_b : Bool) → is_empty a ≡ no_a → is_empty b ≡ no_b → IsTrue (is_within a x y || is_within b x y)
-    → IsTrue (is_within (joined_box a b) x y)
-unfolding joined_box
-joined_by a b x y true no_b is_a is_b h = rw is_a (the_other (is_within a x y) (is_within b x y) h (empty_holds_none a x y is_a))
-joined_by a b x y false true is_a is_b h = rw (is_a, is_b) (the_first (is_within a x y) (is_within b x y) h (empty_holds_none b x y is_b))
-joined_by a b x y false false is_a is_b h = rw (is_a, is_b) (hull_holds a b x y h)
-
 joined_box-holds : (a b : Bounds) → HoldsBoth (joined_box a b) a b
-joined_box-holds a b x y h = joined_by a b x y (is_empty a) (is_empty b) refl refl h
+unfolding joined_box
+joined_box-holds a b x y h = grind (arith, nat_tests)
 
 joined_with-keeps : (ts : List Triangle) (box : Bounds) (x y : ℕ) → is_within box x y ≡ true → is_within (joined_with box ts) x y ≡ true
 joined_with-keeps [] box x y h = h
 joined_with-keeps (t ∷ ts) box x y h =
     joined_with-keeps ts (joined_box box (bounds_of t.corners)) x y
-    (joined_box-holds box (bounds_of t.corners) x y (either_left (is_within box x y) (is_within (bounds_of t.corners) x y) h))
+    (joined_box-holds box (bounds_of t.corners) x y (or_left (is_within box x y) (is_within (bounds_of t.corners) x y) h))
 
 joined_with-holds : (ts : List Triangle) (box : Bounds) → HoldsTriangles (joined_with box ts) ts
 joined_with-holds [] box i t at = cc
@@ -199,7 +170,7 @@ joined_with-holds (first ∷ ts) box zero t at = λ x y covered.
     let same : first ≡ t = cc in
     let own : is_within (bounds_of first.corners) x y ≡ true = bounds_of-holds first.corners x y (rw same covered) in
     joined_with-keeps ts (joined_box box (bounds_of first.corners)) x y
-    (joined_box-holds box (bounds_of first.corners) x y (either_right (is_within box x y) (is_within (bounds_of first.corners) x y) own))
+    (joined_box-holds box (bounds_of first.corners) x y (or_right (is_within box x y) (is_within (bounds_of first.corners) x y) own))
 joined_with-holds (first ∷ ts) box (suc i) t at = joined_with-holds ts (joined_box box (bounds_of first.corners)) i t at
 
 pub bounds_of_triangles-holds : (ts : List Triangle) → HoldsTriangles (bounds_of_triangles ts) ts
@@ -208,10 +179,7 @@ bounds_of_triangles-holds ts = joined_with-holds ts (record { left = 0; top = 0;
 -- two runs of triangles that cover nothing of the window
 pub CoverNone-then : (window : Bounds) (ts : List Triangle) (first middle last : ℕ) → CoverNone window ts first middle → CoverNone window ts middle last
     → CoverNone window ts first last
-CoverNone-then window ts first middle last before after i t from to at = elim (cases_lt i middle) [
-  | inl lower ↦ before i t from lower at
-  | inr higher ↦ after i t higher to at
-]
+CoverNone-then window ts first middle last before after i t from to at = grind arith
 
 -- a box that holds what they cover has none of the window's pixels
 pub CoverNone-apart : (box window : Bounds) (ts : List Triangle) (first last : ℕ) → ((x y : ℕ) → IsTrue (is_within window x y) → is_within box x y ≡ false)

@@ -1,11 +1,11 @@
 -- Cells that list the triangles which meet them.
-use Rattle.std.proofs.Common.{◌≡◌, ℕ, ◌+◌, ◌-◌, ◌<◌, ◌≤◌, inl, inr, List, [], ◌∷◌, ◌++◌, length, get_or, set, replicate, arith, refl, sym, ◌∙◌, subst}
+use Rattle.std.proofs.Common.{◌≡◌, ℕ, ◌+◌, ◌-◌, ◌<◌, ◌≤◌, inl, inr, List, [], ◌∷◌, ◌++◌, length, get_or, set, replicate, arith, refl, sym, subst}
 use Rattle.std.specs.List.{All, Contains}
 use Rattle.std.specs.List.Sorted.{IsNonDecreasing}
 use Rattle.std.proofs.Math.ListN.{length-set, get_or-eq_default}
 use Rattle.std.proofs.lemmas.Bool.{cases_eq, cases_lt}
 use Rattle.std.proofs.lemmas.List.{get_or-set_same, get_or-set_other, get_or-replicate, length-replicate}
-use Rattle.std.proofs.lemmas.List.Elements.{All-nil, All-push, All-get_or, All-weaker, Contains-append_left, Contains-push}
+use Rattle.std.proofs.lemmas.List.Elements.{All-nil, All-push, All-get_or, Contains-append_left, Contains-push}
 use Rattle.std.proofs.lemmas.List.Sorted.{IsNonDecreasingBy-push}
 use Rattle.fd_events.specs.Numbers.{listed_at, AreOrdered, Grow}
 
@@ -21,10 +21,7 @@ added_there lists cell other after apart = get_or-set_other lists cell other aft
 each_list : (P : List ℕ → Type 0) (lists : List (List ℕ)) (cell : ℕ) (after : List ℕ) → cell < length lists → ((other : ℕ) → P (listed_at lists other))
     → P after
     → (other : ℕ) → P (listed_at (set lists cell after) other)
-each_list P lists cell after here all own other = elim (cases_eq other cell) [
-  | inl same ↦ rw same (subst P (sym (added_here lists cell 0 after here)) own)
-  | inr apart ↦ subst P (sym (added_there lists cell other after apart)) (all other)
-]
+each_list P lists cell after here all own other = grind (arith, added_here, added_there)
 
 pub Grow-add : (lists : List (List ℕ)) (cell number : ℕ) → cell < length lists → Grow number lists (set lists cell (listed_at lists cell ++ number ∷ []))
 Grow-add lists cell number here = record {
@@ -56,17 +53,10 @@ pub Grow-nothing : (number : ℕ) (lists : List (List ℕ)) → Grow number list
 Grow-nothing number lists = record { same = refl; kept = λ cell other holds. holds; ordered = λ before. before }
 
 pub Grow-then : (number : ℕ) (a b c : List (List ℕ)) → Grow number a b → Grow number b c → Grow number a c
-Grow-then number a b c first second = record {
-  same = second.same ∙ first.same;
-  kept = λ cell other holds. second.kept cell other (first.kept cell other holds);
-  ordered = λ before. second.ordered (first.ordered before);
-}
+Grow-then number a b c first second = grind arith
 
 pub AreOrdered-more : (number : ℕ) (lists : List (List ℕ)) → AreOrdered number lists → AreOrdered (number + 1) lists
-AreOrdered-more number lists before = record {
-  rise = before.rise;
-  bounded = λ cell. All-weaker (λ k. k ≤ number) (λ k. k ≤ number + 1) (λ k most. omega arith) (listed_at lists cell) (before.bounded cell);
-}
+AreOrdered-more number lists before = grind arith
 
 get_or-empty : (count cell : ℕ) → get_or (replicate {A = List ℕ} count []) cell [] ≡ []
 get_or-empty count cell = elim (cases_lt cell count) [
@@ -75,7 +65,4 @@ get_or-empty count cell = elim (cases_lt cell count) [
 ]
 
 pub AreOrdered-none : (count : ℕ) → AreOrdered 0 (replicate count [])
-AreOrdered-none count = record {
-  rise = λ cell. rw (get_or-empty count cell) (λ i j d order within. absurd (omega (arith, within)));
-  bounded = λ cell. rw (get_or-empty count cell) (All-nil (λ k. k ≤ 0));
-}
+AreOrdered-none count = grind (arith, get_or-empty, All-nil)

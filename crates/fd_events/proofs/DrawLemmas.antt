@@ -1,7 +1,8 @@
 -- The triangles of a draw, one by one.
-use Rattle.std.proofs.Common.{◌≡◌, ℕ, zero, suc, ◌+◌, ◌*◌, ◌/◌, ◌<◌, ◌≤◌, Bool, true, false, ◌&&◌, List, [], ◌∷◌, length, Option, Some, Ok, refl, ap}
+use Rattle.std.proofs.Common.{◌≡◌, ℕ, zero, suc, ◌+◌, ◌*◌, ◌/◌, ◌<◌, ◌≤◌, true, false, List, [], ◌∷◌, length, Option, Some, Ok, refl, ap}
 use Rattle.std.proofs.Common.{slice_get, nat_lt, arith}
 use Rattle.std.specs.List.{list_all}
+use Rattle.std.proofs.lemmas.Bool.{and_parts}
 use Rattle.std.proofs.lemmas.Option.{slice_get_within}
 use Rattle.std.proofs.lemmas.Bool.Decides.{nat_tests}
 use Rattle.fd_cover.specs.declared.shading.Interp.{Interp}
@@ -38,22 +39,7 @@ pub record IsMade (vertices : List Vertex) (indices : Option (List ℕ)) : Type 
 
 pub IsMade-from_made : (vertices : List Vertex) (indices : Option (List ℕ)) (interp : Interp) (d : DrawList) → made vertices indices interp ≡ Ok d
     → IsMade vertices indices
-IsMade-from_made vertices indices interp d is = record {
-  few_vertices = grind (arith, nat_tests);
-  few_indices = grind (arith, nat_tests);
-  in_range = grind (arith, nat_tests);
-}
-
-and_left : (a b : Bool) → (a && b) ≡ true → a ≡ true
-and_left true b h = refl
-and_left false b h = h
-
-and_right : (a b : Bool) → (a && b) ≡ true → b ≡ true
-and_right true b h = h
-and_right false b h = cc
-
-below : (i n : ℕ) → nat_lt i n ≡ true → i < n
-below i n h = grind (arith, nat_tests)
+IsMade-from_made vertices indices interp d is = grind arith
 
 found : (vertices : List Vertex) (index : ℕ) → index < length vertices → (v : Vertex) × (slice_get vertices index ≡ Some v)
 found [] index h = absurd (omega arith)
@@ -63,7 +49,7 @@ found (v ∷ vs) (suc index) h = found vs index (omega arith)
 -- the vertex that the first of these indices names
 first_of_all : (vertices : List Vertex) (index : ℕ) (indices : List ℕ) → list_all (λ index. nat_lt index (length vertices)) (index ∷ indices) ≡ true
     → (v : Vertex) × (slice_get vertices index ≡ Some v)
-first_of_all vertices index indices all = found vertices index (below index (length vertices) (and_left _ _ all))
+first_of_all vertices index indices all = found vertices index (grind (arith, nat_tests))
 
 -- a vertex for each index in range
 pub length-listed_by : (vertices : List Vertex) (indices : List ℕ) → list_all (λ index. nat_lt index (length vertices)) indices ≡ true
@@ -71,47 +57,38 @@ pub length-listed_by : (vertices : List Vertex) (indices : List ℕ) → list_al
 length-listed_by vertices [] all = refl
 length-listed_by vertices (index ∷ indices) all =
     let named = first_of_all vertices index indices all in
-    rw named.1 (ap suc (length-listed_by vertices indices (and_right _ _ all)))
+    rw named.1 (ap suc (length-listed_by vertices indices (and_parts _ _ all).1))
 
 pub slice_get-listed_by : (vertices : List Vertex) (indices : List ℕ) (k index : ℕ) → list_all (λ index. nat_lt index (length vertices)) indices ≡ true
     → slice_get indices k ≡ Some index
     → slice_get (listed_by vertices (Some indices)) k ≡ slice_get vertices index
 slice_get-listed_by vertices [] k index all at = cc
-slice_get-listed_by vertices (first ∷ indices) zero index all at =
-    let same : first ≡ index = cc in
-    let named = first_of_all vertices first indices all in
-    rw (← same, named.1) refl
+slice_get-listed_by vertices (first ∷ indices) zero index all at = grind (arith, first_of_all)
 slice_get-listed_by vertices (first ∷ indices) (suc k) index all at =
     let named = first_of_all vertices first indices all in
-    rw named.1 (slice_get-listed_by vertices indices k index (and_right _ _ all) at)
+    rw named.1 (slice_get-listed_by vertices indices k index (and_parts _ _ all).1 at)
 
 -- an index in range names a vertex
 pub index_below : (count : ℕ) (indices : List ℕ) (k index : ℕ) → list_all (λ index. nat_lt index count) indices ≡ true → slice_get indices k ≡ Some index
     → index < count
 index_below count [] k index all at = cc
-index_below count (first ∷ indices) zero index all at = let same : first ≡ index = cc in rw (← same) (below first count (and_left _ _ all))
-index_below count (first ∷ indices) (suc k) index all at = index_below count indices k index (and_right _ _ all) at
+index_below count (first ∷ indices) zero index all at = let same : first ≡ index = cc in rw (← same) (grind (arith, nat_tests))
+index_below count (first ∷ indices) (suc k) index all at = index_below count indices k index (and_parts _ _ all).1 at
 
 -- ---- a draw with indices
 
 pub corner_below : (vs : List Vertex) (is : List ℕ) (interp : Interp) (d : DrawList) (corner : ℕ) → made vs (Some is) interp ≡ Ok d
     → corner < length (listed_by vs (Some is)) → corner < length is
-corner_below vs is interp d corner ok lt =
-    let tests = IsMade-from_made vs (Some is) interp d ok in
-    omega (arith, length-listed_by vs is tests.in_range)
+corner_below vs is interp d corner ok lt = grind (arith, IsMade-from_made, length-listed_by)
 
 pub index_in_range : (vs : List Vertex) (is : List ℕ) (interp : Interp) (d : DrawList) (corner index : ℕ) → made vs (Some is) interp ≡ Ok d
     → slice_get is corner ≡ Some index → index < length vs
-index_in_range vs is interp d corner index ok at =
-    let tests = IsMade-from_made vs (Some is) interp d ok in
-    index_below (length vs) is corner index tests.in_range at
+index_in_range vs is interp d corner index ok at = grind (arith, IsMade-from_made, index_below)
 
 pub slice_get-listed : (vs : List Vertex) (is : List ℕ) (interp : Interp) (d : DrawList) (corner index : ℕ) → made vs (Some is) interp ≡ Ok d
     → slice_get is corner ≡ Some index
     → slice_get (listed_by vs (Some is)) corner ≡ slice_get vs index
-slice_get-listed vs is interp d corner index ok at =
-    let tests = IsMade-from_made vs (Some is) interp d ok in
-    slice_get-listed_by vs is corner index tests.in_range at
+slice_get-listed vs is interp d corner index ok at = grind (arith, IsMade-from_made, slice_get-listed_by)
 
 pub length-listed : (vs : List Vertex) (is : List ℕ) (interp : Interp) (d : DrawList) → made vs (Some is) interp ≡ Ok d → length (listed_by vs (Some is))
     ≡ length is

@@ -1,48 +1,29 @@
 -- The index of a frame's events.
-use Rattle.std.proofs.Common.{◌≡◌, ℕ, suc, ◌+◌, ◌/◌, Bool, true, false, cond, not, List, Option, Some, None, option_map, map, slice_get, refl, sym}
-use Rattle.std.proofs.Common.{ap, ◌∙◌, subst, arith}
+use Rattle.std.proofs.Common.{◌≡◌, ℕ, suc, ◌+◌, Bool, true, false, cond, List, Option, Some, None, option_map, map, slice_get, refl, sym}
+use Rattle.std.proofs.Common.{ap, ◌∙◌, arith}
 use Rattle.std.specs.Prelude.{IfSome, IsTrue}
+use Rattle.std.proofs.lemmas.Bool.{false_from_ne_true}
 use Rattle.std.proofs.lemmas.Bool.Decides.{nat_tests}
 use Rattle.std.proofs.lemmas.Option.{slice_get-map}
 use Rattle.fd_cover.specs.declared.bounds.Bounds.{Bounds}
-use Rattle.fd_cover.specs.Bounds.{is_within, is_empty}
+use Rattle.fd_cover.specs.Bounds.{is_within}
 use Rattle.fd_events.specs.declared.event.Event.{Event}
 use Rattle.fd_events.specs.declared.index.EventIndex.{EventIndex}
 use Rattle.fd_events.specs.declared.reach.Reach.{Reach}
 use Rattle.fd_events.specs.Reach.{reach_of, box_of, may_write, may_write_at, AreReaches}
 use Rattle.fd_events.specs.Table.{Table, is_set, event_at}
-use Rattle.fd_events.specs.Marks.{words_of, KeepMarks, MarkBands}
 use Rattle.fd_events.specs.Index.{Marks, KeepsIndex, IsIndex, IsPassed}
 use Rattle.fd_events.specs.Far.{IsFar, AreFar}
 use Rattle.fd_events.proofs.Images.{at_number-next}
 use Rattle.fd_events.proofs.GridLemmas.{from_left, to_right, from_top, to_bottom}
 
-bands-kept : (shift shift' : ℕ) (before after : List (List ℕ)) (low high event : ℕ) → shift' ≡ shift → KeepMarks before after
-    → MarkBands shift before low high event → MarkBands shift' after low high event
-bands-kept shift shift' before after low high event same kept marks =
-    subst (λ (s : ℕ). MarkBands s after low high event) (sym same) (λ n from to. kept _ event (marks n from to))
-
 pub Marks-kept : (before after : EventIndex) (event : ℕ) (box : Bounds) → KeepsIndex before after → Marks before event box → Marks after event box
-Marks-kept before after event box kept marks = record {
-  rows = bands-kept before.shift after.shift (words_of before.rows.items) (words_of after.rows.items) box.top box.bottom event kept.shift kept.rows marks.rows;
-  columns = bands-kept before.shift after.shift (words_of before.columns.items) (words_of after.columns.items) box.left box.right event kept.shift
-      kept.columns marks.columns;
-  row_groups = bands-kept before.shift after.shift (words_of before.row_groups.items) (words_of after.row_groups.items) box.top box.bottom
-      (event / 64) kept.shift kept.row_groups marks.row_groups;
-  column_groups = bands-kept before.shift after.shift (words_of before.column_groups.items) (words_of after.column_groups.items) box.left box.right
-      (event / 64) kept.shift kept.column_groups marks.column_groups;
-}
+Marks-kept before after event box kept marks = grind arith
 
 -- the box that is kept under a number
 pub box_there : (reaches : List Reach) (n : ℕ) (reach : Reach) (box : Bounds) → slice_get reaches n ≡ Some reach → slice_get (map box_of reaches) n ≡ Some box
     → box_of reach ≡ box
-box_there reaches n reach box at is =
-    let some : option_map box_of (Some reach) ≡ Some box = ap (option_map box_of) (sym at) ∙ sym (slice_get-map box_of reaches n) ∙ is in
-    cc
-
-not_so : (b : Bool) → (b ≡ true → ⊥) → b ≡ false
-not_so true so = absurd (so refl)
-not_so false so = refl
+box_there reaches n reach box at is = grind (arith, slice_get-map)
 
 far_by : (on : Bool) (found : Option Event) (width height : ℕ) (window : Bounds)
     → ((event : Event) → found ≡ Some event → (x y : ℕ) → IsTrue (is_within window x y) → is_within (reach_of width height event) x y ≡ false)
@@ -57,11 +38,10 @@ pub far_from : (t : Table) (index : EventIndex) (reaches : List Reach) (from to 
     → IsPassed index window from to → AreFar t from to window
 far_from t index reaches from to window are is passed k above below =
     far_by (is_set t.flags (suc k)) (slice_get t.events k) t.width t.height window (λ event there x y within.
-    let box : Bounds = reach_of t.width t.height event in
     let at : slice_get (map box_of reaches) k ≡ Some (reach_of t.width t.height event) =
     ap (λ boxes. slice_get boxes k) are ∙ slice_get-map (reach_of t.width t.height) t.events k ∙ ap (option_map (reach_of t.width t.height)) there in
     let marks : Marks index k (reach_of t.width t.height event) = is.marks k (reach_of t.width t.height event) at in
-    not_so (is_within (reach_of t.width t.height event) x y) (λ inside.
+    false_from_ne_true (is_within (reach_of t.width t.height event) x y) (λ inside.
     let box_top = from_top (reach_of t.width t.height event) x y inside in
     let box_bottom = to_bottom (reach_of t.width t.height event) x y inside in
     let box_left = from_left (reach_of t.width t.height event) x y inside in
@@ -74,16 +54,7 @@ quiet : (on : Bool) (found : Option Event) (width height : ℕ) (window : Bounds
     → IfSome (cond on found None) (λ event. (x y : ℕ) → IsTrue (is_within window x y) → is_within (reach_of width height event) x y ≡ false)
 quiet false found width height window is = tt
 quiet true None width height window is = tt
-quiet true (Some event) width height window is =
-    let some : not (is_empty (reach_of width height event)) ≡ false = cc in
-    λ x y within. nothing (reach_of width height event) x y (not_false (is_empty (reach_of width height event)) some)
-  where
-    not_false : (b : Bool) → not b ≡ false → b ≡ true
-    not_false true is = refl
-    not_false false is = absurd (cc)
-
-    nothing : (box : Bounds) (x y : ℕ) → is_empty box ≡ true → is_within box x y ≡ false
-    nothing box x y empty = grind (arith, nat_tests)
+quiet true (Some event) width height window is = grind (arith, nat_tests)
 
 pub far_quiet : (t : Table) (k : ℕ) (window : Bounds) → may_write_at t (k + 1) ≡ Some false → IsFar t k window
 far_quiet t k window is =
@@ -98,12 +69,8 @@ missed : (on : Bool) (found : Option Event) (width height : ℕ) (reach window :
     → IfSome (cond on found None) (λ event. (x y : ℕ) → IsTrue (is_within window x y) → is_within (reach_of width height event) x y ≡ false)
 missed false found width height reach window is misses = tt
 missed true None width height reach window is misses = tt
-missed true (Some event) width height reach window is misses =
-    let same : reach_of width height event ≡ reach = cc in λ x y within. subst (λ (b : Bounds). is_within b x y ≡ false) (sym same) (misses x y within)
+missed true (Some event) width height reach window is misses = grind arith
 
 pub far_missed : (t : Table) (k : ℕ) (window reach : Bounds) → option_map (reach_of t.width t.height) (event_at t (k + 1)) ≡ Some reach
     → ((x y : ℕ) → IsTrue (is_within window x y) → is_within reach x y ≡ false) → IsFar t k window
-far_missed t k window reach is misses =
-    let there : option_map (reach_of t.width t.height) (slice_get t.events k) ≡ Some reach = ap (option_map (reach_of t.width t.height))
-    (sym (at_number-next t.events k)) ∙ is in
-    missed (is_set t.flags (suc k)) (slice_get t.events k) t.width t.height reach window there misses
+far_missed t k window reach is misses = grind arith

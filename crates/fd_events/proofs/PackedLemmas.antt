@@ -1,5 +1,5 @@
 -- Lists of numbers that are put one behind the other.
-use Rattle.std.proofs.Common.{◌≡◌, ℕ, ◌+◌, ◌-◌, ◌<◌, ◌≤◌, inl, inr, List, [], ◌∷◌, ◌++◌, length, length-append, get_or, take, drop, arith, refl, sym, ap, ◌∙◌}
+use Rattle.std.proofs.Common.{◌≡◌, ℕ, ◌+◌, ◌-◌, ◌<◌, ◌≤◌, inl, inr, List, [], ◌∷◌, ◌++◌, length, length-append, get_or, take, drop, arith, sym, ap, ◌∙◌}
 use Rattle.std.proofs.Math.ListN.{get_or-append, get_or-eq_default}
 use Rattle.std.proofs.Math.Seq.{drop-append_seam, get_or-append_seam, take-length}
 use Rattle.std.proofs.lemmas.Bool.{cases_lt}
@@ -65,11 +65,4 @@ ArePacked-next numbers starts list lists count end before its is =
 -- all lists
 pub ArePacked-all : (numbers starts : List ℕ) (lists : List (List ℕ)) → ArePacked numbers starts lists (length lists) → (cell : ℕ)
     → between_starts numbers starts cell ≡ listed_at lists cell
-ArePacked-all numbers starts lists packed cell = elim (cases_lt cell (length lists)) [
-  | inl within ↦ packed.same cell within
-  | inr past ↦
-      let none : start_of starts (cell + 1) ≡ 0 = get_or-eq_default starts 0 (omega (arith, packed.all, past)) in
-      let nothing : 0 - start_of starts cell ≡ 0 = omega arith in
-      let empty : listed_at lists cell ≡ [] = get_or-eq_default lists [] (omega (arith, past)) in
-      rw (none, nothing, empty) refl
-]
+ArePacked-all numbers starts lists packed cell = grind (arith, get_or-eq_default)

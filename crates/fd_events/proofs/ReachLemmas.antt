@@ -1,14 +1,15 @@
 -- What an event leaves outside its reach.
 use Rattle.std.proofs.Common.{◌≡◌, ◌≢◌, ℕ, suc, ◌<◌, ◌&&◌, Bool, true, false, ◌⊎◌, inl, inr, List, length, get_or, replicate, slice_get, Option, Some}
-use Rattle.std.proofs.Common.{None, option_map, refl, sym, ap, ◌∙◌, subst, arith}
+use Rattle.std.proofs.Common.{None, option_map, sym, ap, ◌∙◌, subst, arith}
 use Rattle.std.specs.Prelude.{IfSome, not, map, slice_set}
-use Rattle.std.proofs.lemmas.Bool.Decides.{nat_tests, eqb_tells}
+use Rattle.std.proofs.lemmas.Bool.{cases_eq}
+use Rattle.std.proofs.lemmas.Bool.Decides.{nat_tests}
 use Rattle.std.proofs.lemmas.List.{length-map, length-set, get_or-map, get_or-replicate, get_or-set_same, get_or-set_other}
 use Rattle.std.proofs.lemmas.Option.{slice_get-map, slice_get-get_or, unwrap_or-slice_get}
 use Rattle.fd_cover.specs.declared.bounds.Bounds.{Bounds}
 use Rattle.fd_cover.specs.Bounds.{is_within, is_empty}
 use Rattle.fd_events.specs.declared.event.Event.{Event}
-use Rattle.fd_events.specs.declared.event.Event.TheVariants.{Clear, DepthClear, Draw, SetRaster, SetScissor, SetBlend, SetFactor, SetDepth, Marker}
+use Rattle.fd_events.specs.declared.event.Event.TheVariants.{Draw}
 use Rattle.fd_events.specs.Bounds.{bounds_of_triangles}
 use Rattle.fd_events.specs.Draw.{triangles_of}
 use Rattle.fd_events.specs.declared.reach.Reach.{Reach}
@@ -26,22 +27,8 @@ pub in_whole : (width height x y : ℕ) → x < width → y < height → is_with
 in_whole width height x y column row = grind (arith, nat_tests)
 
 pub reach-holds : (width height : ℕ) (event : Event) → HoldsWritten (reach_of width height event) width height event
-reach-holds width height (Clear colour) state x y before column row outside = let inside = in_whole width height x y column row in absurd (cc (inside, outside))
-reach-holds width height (DepthClear depth) state x y before column row outside = let inside = in_whole width height x y column row in
-    absurd (cc (inside, outside))
-reach-holds width height (Draw draw) state x y before column row outside =
-    let ts = triangles_of draw in
-    let box = bounds_of_triangles ts in
-    let away = outside_clipped box width height x y column row outside in (
-      pixel_after_triangles-outside ts draw.interp state box x y before (bounds_of_triangles-holds ts) away,
-      kept_by_triangles-outside ts draw.interp state box x y before (bounds_of_triangles-holds ts) away,
-    )
-reach-holds width height (SetRaster raster) state x y before column row outside = (refl, refl)
-reach-holds width height (SetScissor rect) state x y before column row outside = (refl, refl)
-reach-holds width height (SetBlend blend) state x y before column row outside = (refl, refl)
-reach-holds width height (SetFactor factor) state x y before column row outside = (refl, refl)
-reach-holds width height (SetDepth depth) state x y before column row outside = (refl, refl)
-reach-holds width height (Marker label) state x y before column row outside = (refl, refl)
+reach-holds width height (Draw draw) state x y before column row outside = grind (arith, triangles_of, bounds_of_triangles, outside_clipped, pixel_after_triangles-outside, bounds_of_triangles-holds, kept_by_triangles-outside)
+reach-holds width height event state x y before column row outside = grind arith
 
 -- one box is kept for each event
 pub length-reaches : (width height : ℕ) (events : List Event) (reaches : List Reach) → AreReaches width height events reaches → length reaches ≡ length events
@@ -58,9 +45,7 @@ reach_at width height events reaches n reach are at =
 may_write_by : (width height : ℕ) (on : Bool) (found : Option Event) (box : Bounds) → option_map (reach_of width height) found ≡ Some box
     → option_map (may_write width height on) found ≡ Some (on && not (is_empty box))
 may_write_by width height on None box is = absurd (cc)
-may_write_by width height on (Some event) box is =
-    let same : reach_of width height event ≡ box = cc in
-    ap (λ b. Some (on && not (is_empty b))) same
+may_write_by width height on (Some event) box is = cc
 
 pub writer_at : (width height : ℕ) (events : List Event) (flags writers : List Bool) (reaches : List Reach) (n : ℕ) → AreReaches width height events reaches
     → AreWriters flags reaches writers
@@ -87,15 +72,9 @@ pub AreWriters-set : (flags writers : List Bool) (reaches : List Reach) (n : ℕ
     → AreWriters (slice_set flags n on) reaches (slice_set writers n (on && not (is_empty (box_of (get_or reaches n nowhere)))))
 AreWriters-set flags writers reaches n on are flagged within = record {
   number = length-set writers n (on && not (is_empty (box_of (get_or reaches n nowhere)))) ∙ are.number;
-  each = λ k below. at k below (tells k n);
+  each = λ k below. at k below (cases_eq k n);
 }
   where
-    tells : (a b : ℕ) → (a ≡ b) ⊎ (a ≢ b)
-    tells a b = elim (eqb_tells a b) [
-      | inl same ↦ inl same.1
-      | inr other ↦ inr other.1
-    ]
-
     now : Bool
     now = on && not (is_empty (box_of (get_or reaches n nowhere)))
 

@@ -5,7 +5,7 @@ use Rattle.std.proofs.Math.ListN.{set}
 use Rattle.std.proofs.lemmas.Bool.{cases_eq, cases_lt}
 use Rattle.std.proofs.lemmas.Option.{slice_get-get_or, get_or_from_slice_get, unwrap_or-slice_get}
 use Rattle.fd_events.specs.declared.event.Event.{Event}
-use Rattle.fd_events.specs.declared.event.Event.TheVariants.{Clear, SetRaster, SetScissor, SetBlend, SetFactor, SetDepth, DepthClear, Draw, Marker}
+use Rattle.fd_events.specs.declared.event.Event.TheVariants.{Clear, DepthClear, Draw, Marker}
 use Rattle.fd_events.specs.declared.pipeline.Pipeline.{Pipeline}
 use Rattle.fd_events.specs.Pipeline.{state_after}
 use Rattle.fd_events.specs.Table.{state_of, state_after_event}
@@ -61,9 +61,7 @@ state_place-next events k = rw (add-one k) (place_steps (slice_get events k) (st
 
 pub state_place-at : (events : List Event) (k : ℕ) (event : Event) → k < length events → event ≡ get_or events k event
     → state_place events (k + 1) ≡ place_past event (state_place events k)
-state_place-at events k event lt is =
-    let here : slice_get events k ≡ Some event = slice_get-get_or events k event lt ∙ ap (λ (e : Event). Some e) (sym is) in
-    rw (add-one k, here) refl
+state_place-at events k event lt is = grind (arith, slice_get-get_or, add-one)
 
 pub places_rise : (events : List Event) (j k : ℕ) → j ≤ k → state_place events j ≤ state_place events k
 places_rise events j zero le = let same : j ≡ zero = omega arith in rw same (omega arith)
@@ -82,14 +80,10 @@ place_read events places k place are le is = is ∙ get_or_from_slice_get places
 
 quiet : (event : Event) (state : Pipeline) → is_state_event event ≡ false → state_after event state ≡ state
 quiet (Clear colour) state is = refl
-quiet (SetRaster raster) state is = absurd (cc)
-quiet (SetScissor rect) state is = absurd (cc)
-quiet (SetBlend blend) state is = absurd (cc)
-quiet (SetFactor colour) state is = absurd (cc)
-quiet (SetDepth depth) state is = absurd (cc)
 quiet (DepthClear depth) state is = refl
 quiet (Draw draw) state is = refl
 quiet (Marker label) state is = refl
+quiet event state is = absurd (cc)
 
 stays : (on : Bool) (event : Event) (state : Pipeline) → is_state_event event ≡ false → state_after_event (cond on (Some event) None) state ≡ state
 stays true event state is = quiet event state is
@@ -108,18 +102,13 @@ quiet_event on (Some event) place state le = stays on event state (no_place (is_
 -- it leaves the state, whether it is on or off
 pub state_of-quiet : (events : List Event) (flags : List Bool) (k : ℕ) → state_place events (k + 1) ≤ state_place events k
     → state_of events flags (k + 1) ≡ state_of events flags k
-state_of-quiet events flags k le =
-    let none : state_place events (suc k) ≤ state_place events k = rw add-one at le in
-    rw add-one (quiet_event (unwrap_or (slice_get flags k) false) (slice_get events k) (state_place events k) (state_of events flags k) none)
+state_of-quiet events flags k le = grind arith
 
 -- so its flag says nothing of any state
 set_quiet : (events : List Event) (flags flags' : List Bool) (k : ℕ) → state_place events (k + 1) ≤ state_place events k
     → state_of events flags' k ≡ state_of events flags k
     → state_of events flags' (suc k) ≡ state_of events flags (suc k)
-set_quiet events flags flags' k le before =
-    let next : state_of events flags' (k + 1) ≡ state_of events flags (k + 1) =
-    state_of-quiet events flags' k le ∙ before ∙ sym (state_of-quiet events flags k le) in
-    rw add-one at next
+set_quiet events flags flags' k le before = grind arith
 
 pub state_of-set_quiet : (events : List Event) (flags : List Bool) (i : ℕ) (on : Bool) (k : ℕ) → state_place events (i + 1) ≤ state_place events i
     → state_of events (set flags i on) k ≡ state_of events flags k
@@ -136,14 +125,7 @@ state_of-set_quiet events flags i on (suc k) le =
 pub states_kept : (events : List Event) (flags : List Bool) (states : List Pipeline) (k : ℕ) → state_place events (k + 1) ≤ state_place events k
     → ((j : ℕ) → j ≤ k → slice_get states (state_place events j) ≡ Some (state_of events flags j))
     → (j : ℕ) → j ≤ k + 1 → slice_get states (state_place events j) ≡ Some (state_of events flags j)
-states_kept events flags states k le before j to =
-    elim (cases_lt j (k + 1)) [
-      | inl below ↦ before j (omega arith)
-      | inr above ↦
-          let same : j ≡ k + 1 = omega arith in
-          let place : state_place events (k + 1) ≡ state_place events k = omega (arith, le, (state_place-next events k).0) in
-          rw same (ap (slice_get states) place ∙ before k (omega arith) ∙ ap (λ (s : Pipeline). Some s) (sym (state_of-quiet events flags k le)))
-    ]
+states_kept events flags states k le before j to = grind arith
 
 -- and where it takes one
 pub states_grow : (events : List Event) (flags : List Bool) (states : List Pipeline) (k : ℕ) (v : Pipeline)
@@ -175,10 +157,4 @@ slice_get-append_end (x ∷ xs) y = slice_get-append_end xs y
 pub places_grow : (events : List Event) (places : List ℕ) (k place : ℕ) → length places ≡ k + 1 → place ≡ state_place events (k + 1)
     → ((j : ℕ) → j ≤ k → slice_get places j ≡ Some (state_place events j))
     → (j : ℕ) → j ≤ k + 1 → slice_get (places ++ place ∷ []) j ≡ Some (state_place events j)
-places_grow events places k place long is before j to =
-    elim (cases_lt j (k + 1)) [
-      | inl below ↦ slice_get-append places (place ∷ []) j (omega arith) ∙ before j (omega arith)
-      | inr above ↦
-          let same : j ≡ k + 1 = omega arith in
-          rw same (ap (slice_get (places ++ place ∷ [])) (sym long) ∙ slice_get-append_end places place ∙ ap (λ (p : ℕ). Some p) is)
-    ]
+places_grow events places k place long is before j to = grind (arith, slice_get-append, slice_get-append_end)

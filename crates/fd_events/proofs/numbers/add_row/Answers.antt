@@ -1,23 +1,7 @@
-use Rattle.std.proofs.Common.{◌≡◌, ℕ, inl, inr, Vec, arith}
-use Rattle.std.specs.declared.alloc.Global.{Global}
-use Rattle.std.proofs.lemmas.List.{length-map}
+use Rattle.std.proofs.Common.{◌≡◌, inl, inr, arith}
 use Rattle.std.proofs.lemmas.Bool.{cases_lt}
-use Rattle.fd_events.specs.Numbers.{numbers_of}
-use Rattle.fd_events.proofs.CellLemmas.{Grow-nothing, Grow-then}
+use Rattle.fd_events.proofs.CellLemmas.{Grow-then}
 use Rattle.fd_events.proofs.numbers.add_row.Goals as goal
-
-pub loop-cell-init : goal.loop-cell-init
-loop-cell-init c = record {
-  grown = Grow-nothing c.args.number (numbers_of c.args.lists.now.items);
-  added = λ cell from to. absurd (omega (arith, from, to));
-}
-
-pub add-requires : goal.add-requires
-add-requires c =
-    let items = λ (list : Vec ℕ Global). list.items in
-    let before = length-map c.args.lists.now.items items in
-    let now = length-map c.loop-cell.lists.items items in
-    omega (arith, c.requires, c.loop-cell.invariant.grown.same, before, now, c.args.lists.now.ok.0, c.loop-cell.lists.ok.0)
 
 pub loop-cell-preserved : goal.loop-cell-preserved
 loop-cell-preserved c =

@@ -1,34 +1,19 @@
-use Rattle.std.proofs.Common.{◌≡◌, ℕ, ◌<◌, inl, inr, [], length, get_or, Vec, ap, arith, ◌∙◌}
-use Rattle.std.proofs.lemmas.List.{length-map, length-replicate}
+use Rattle.std.proofs.Common.{◌≡◌, inl, inr, length, get_or, arith, ◌∙◌}
 use Rattle.std.proofs.lemmas.Bool.{cases_lt}
 use Rattle.std.proofs.lemmas.Option.{slice_get_within, slice_get-get_or}
-use Rattle.std.specs.declared.alloc.Global.{Global}
 use Rattle.fd_cover.specs.declared.bounds.Bounds.{Bounds}
 use Rattle.fd_events.specs.Draw.{triangles_of}
-use Rattle.fd_events.proofs.CellLemmas.{AreOrdered-none, AreOrdered-more}
+use Rattle.fd_events.proofs.CellLemmas.{AreOrdered-more}
 use Rattle.fd_events.proofs.GridLemmas.{corners_there, box_holds}
 use Rattle.fd_events.proofs.grid.Grid.lists.Goals as goal
 
-pub loop-number-init : goal.loop-number-init
-loop-number-init c = record {
-  all = ap length c.in_ok-lists.ensures ∙ length-replicate c.len.result [] ∙ c.len.ensures;
-  ordered = rw c.in_ok-lists.ensures (AreOrdered-none c.len.result);
-  listed = λ i t before at. absurd (omega (arith, before));
-}
-
-pub add-requires : goal.add-requires
-add-requires c =
-    let items = λ (list : Vec ℕ Global). list.items in
-    let now = length-map c.loop-number.lists.items items in
+pub add-requires-clause-covered : goal.add-requires-clause-covered
+add-requires-clause-covered c =
     let number = c.loop-number.number in
     let nothing : Bounds = record { left = 0; top = 0; right = 0; bottom = 0 } in
-    let within : number < length c.args.boxes.now = omega (arith, c.loop-number-test.true) in
-    record {
-      grid = c.requires.grid;
-      covered = box_holds (triangles_of c.args.list.now) number _ _
-          (c.requires.boxes number (get_or c.args.boxes.now number nothing) (slice_get-get_or c.args.boxes.now number nothing within)) c.tri-triangle.ensures;
-      lists = omega (arith, c.loop-number.invariant.all, now, c.loop-number.lists.ok.0);
-    }
+    box_holds (triangles_of c.args.list.now) number _ _
+    (c.requires.boxes number (get_or c.args.boxes.now number nothing) (slice_get-get_or c.args.boxes.now number nothing c.loop-number-test.true))
+    c.tri-triangle.ensures
 
 pub loop-number-preserved : goal.loop-number-preserved
 loop-number-preserved c =

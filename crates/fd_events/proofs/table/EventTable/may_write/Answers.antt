@@ -5,18 +5,6 @@ use Rattle.fd_events.specs.Table.{Table, is_set}
 use Rattle.fd_events.proofs.ReachLemmas.{length-reaches, writer_at}
 use Rattle.fd_events.proofs.table.EventTable.may_write.Goals as goal
 
-pub index-requires : goal.index-requires
-index-requires c =
-    let fields = c.self.inside in
-    let last : c.args.number ≤ length fields.events.items = rw (← c.self.view_is) at c.requires.last in
-    omega (
-      arith,
-      last,
-      c.requires.first,
-      length-reaches fields.width fields.height fields.events.items fields.reaches.items c.self.invariant.2,
-      c.self.invariant.3.number,
-    )
-
 pub returns : goal.returns
 returns c =
     let fields = c.self.inside in

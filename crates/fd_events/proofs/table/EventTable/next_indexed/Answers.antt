@@ -1,12 +1,6 @@
-use Rattle.std.proofs.Common.{arith}
 use Rattle.fd_events.specs.Table.{table_of}
 use Rattle.fd_events.proofs.IndexLemmas.{far_from}
 use Rattle.fd_events.proofs.table.EventTable.next_indexed.Goals as goal
-
-pub next-requires : goal.next-requires
-next-requires c =
-    let last = rw (← c.self.view_is) at c.requires.last in
-    record { order = c.requires.order; small = omega (arith, last, c.self.invariant.0.max_events); sides = c.self.invariant.4.sides }
 
 pub returns-clause-far : goal.returns-clause-far
 returns-clause-far c =
