@@ -1,6 +1,6 @@
 -- Boxes round triangles.
 use Rattle.std.proofs.Common.{◌≡◌, ℕ, zero, suc, ◌+◌, ◌-◌, ◌*◌, ◌<◌, ◌≤◌, min, true, false, IsTrue, ◌⊎◌, inl, inr, List, [], ◌∷◌}
-use Rattle.std.proofs.Common.{◌++◌, length, take, drop, Some, slice_get, option_map, add-one, arith, refl, sym, ap, ◌∙◌}
+use Rattle.std.proofs.Common.{◌++◌, length, take, drop, Some, slice_get, option_map, arith, refl, sym, ap, ◌∙◌}
 use Rattle.std.proofs.lemmas.Bool.{both_ways, false_from_ne_true, or_left, or_right}
 use Rattle.std.proofs.lemmas.Option.{slice_get_within}
 use Rattle.std.proofs.lemmas.Bool.Decides.{nat_tests}
@@ -12,47 +12,45 @@ use Rattle.fd_cover.specs.Covers.{covers}
 use Rattle.fd_cover.proofs.BoundsLemmas.{missed_outside, bounds_of-holds}
 use Rattle.fd_events.specs.declared.pipeline.Pipeline.{Pipeline}
 use Rattle.fd_events.specs.Limits.{group_size}
-use Rattle.fd_events.specs.Bounds.{HoldsTriangles, HoldsGroup, IsRoundGroup, AreRoundGroups, IsTriangleBox, AreTriangleBoxes, triangles_between}
+use Rattle.fd_events.specs.Bounds.{HoldsTriangles, HoldsGroup, IsTriangleBox, triangles_between}
 use Rattle.fd_events.specs.Bounds.{joined_with, bounds_of_triangles, IsRound, CoverNone}
 use Rattle.fd_events.specs.Draw.{Triangle}
 use Rattle.fd_events.specs.Image.{Pixel, is_drawn_by, is_drawn, pixel_after_triangles, kept_by_triangles}
 
-grown : (ts : List Triangle) (k i : ℕ) (t : Triangle) (corners : Tri) (before own box : Bounds)
-    → option_map (λ (u : Triangle). u.corners) (slice_get ts k) ≡ Some corners → HoldsTriangles before (take k ts) → HoldsCovered own corners
-    → HoldsBoth box before own
-    → slice_get (take (suc k) ts) i ≡ Some t → HoldsCovered box t.corners
-grown [] k i t corners before own box next holds covered both at = cc
-grown (first ∷ ts) zero zero t corners before own box next holds covered both at = grind arith
-grown (first ∷ ts) zero (suc i) t corners before own box next holds covered both at = cc
-grown (first ∷ ts) (suc k) zero t corners before own box next holds covered both at = λ x y h. both x y (or_left _ _ (holds zero t at x y h))
-grown (first ∷ ts) (suc k) (suc i) t corners before own box next holds covered both at =
-    grown ts k i t corners before own box next (λ j u found. holds (suc j) u found) covered both at
+-- ---- the box round triangles holds what they cover
 
--- the box of the first triangles, joined with that of the next one
-pub HoldsTriangles-next : (ts : List Triangle) (k : ℕ) (corners : Tri) (before own box : Bounds)
-    → option_map (λ (u : Triangle). u.corners) (slice_get ts k) ≡ Some corners → HoldsTriangles before (take k ts) → HoldsCovered own corners
-    → HoldsBoth box before own
-    → HoldsTriangles box (take (k + 1) ts)
-HoldsTriangles-next ts k corners before own box next holds covered both =
-    λ i t at. grown ts k i t corners before own box next holds covered both (rw add-one at at)
+pub empty_holds_none : (a : Bounds) (x y : ℕ) → is_empty a ≡ true → is_within a x y ≡ false
+empty_holds_none a x y empty = grind (arith, nat_tests)
+
+joined_box-holds : (a b : Bounds) → HoldsBoth (joined_box a b) a b
+unfolding joined_box
+joined_box-holds a b x y h = grind (arith, nat_tests)
+
+joined_with-keeps : (ts : List Triangle) (box : Bounds) (x y : ℕ) → is_within box x y ≡ true → is_within (joined_with box ts) x y ≡ true
+joined_with-keeps [] box x y h = h
+joined_with-keeps (t ∷ ts) box x y h =
+    joined_with-keeps ts (joined_box box (bounds_of t.corners)) x y
+    (joined_box-holds box (bounds_of t.corners) x y (or_left (is_within box x y) (is_within (bounds_of t.corners) x y) h))
+
+joined_with-holds : (ts : List Triangle) (box : Bounds) → HoldsTriangles (joined_with box ts) ts
+joined_with-holds [] box i t at = cc
+joined_with-holds (first ∷ ts) box zero t at = λ x y covered.
+    let same : first ≡ t = cc in
+    let own : is_within (bounds_of first.corners) x y ≡ true = bounds_of-holds first.corners x y (rw same covered) in
+    joined_with-keeps ts (joined_box box (bounds_of first.corners)) x y
+    (joined_box-holds box (bounds_of first.corners) x y (or_right (is_within box x y) (is_within (bounds_of first.corners) x y) own))
+joined_with-holds (first ∷ ts) box (suc i) t at = joined_with-holds ts (joined_box box (bounds_of first.corners)) i t at
+
+pub bounds_of_triangles-holds : (ts : List Triangle) → HoldsTriangles (bounds_of_triangles ts) ts
+bounds_of_triangles-holds ts = joined_with-holds ts (record { left = 0; top = 0; right = 0; bottom = 0 })
+
+-- ---- one triangle more
 
 joined_with-next : (ts : List Triangle) (k : ℕ) (corners : Tri) (box : Bounds) → option_map (λ (u : Triangle). u.corners) (slice_get ts k) ≡ Some corners
     → joined_with box (take (suc k) ts) ≡ joined_box (joined_with box (take k ts)) (bounds_of corners)
 joined_with-next [] k corners box next = cc
 joined_with-next (first ∷ ts) zero corners box next = let same : first.corners ≡ corners = cc in rw (← same) refl
 joined_with-next (first ∷ ts) (suc k) corners box next = joined_with-next ts k corners (joined_box box (bounds_of first.corners)) next
-
-pub IsRound-next : (ts : List Triangle) (k : ℕ) (corners : Tri) (before own box : Bounds)
-    → option_map (λ (u : Triangle). u.corners) (slice_get ts k) ≡ Some corners → IsRound before (take k ts)
-    → own ≡ bounds_of corners → HoldsCovered own corners → box ≡ joined_box before own → HoldsBoth box before own
-    → IsRound box (take (k + 1) ts)
-IsRound-next ts k corners before own box next round is_own covered is_joined both = record {
-  value =
-      let here = joined_with-next ts k corners (record { left = 0; top = 0; right = 0; bottom = 0 }) next in
-      let so_far = round.value in
-      rw add-one (is_joined ∙ rw (so_far, is_own) (sym here));
-  covered = HoldsTriangles-next ts k corners before own box next round.covered covered both;
-}
 
 -- ---- groups of triangles
 
@@ -64,20 +62,20 @@ slice_get-drop (x ∷ xs) (suc m) i = slice_get-drop xs m i ∙ (let further : s
 
 slice_get-take : {X : Type 0} (xs : List X) (n i : ℕ) → i < n → slice_get (take n xs) i ≡ slice_get xs i
 slice_get-take xs zero i below = absurd (omega arith)
-slice_get-take [] (suc n) i below = refl
-slice_get-take (x ∷ xs) (suc n) zero below = refl
 slice_get-take (x ∷ xs) (suc n) (suc i) below = slice_get-take xs n i (omega arith)
+slice_get-take xs n i below = refl
 
 -- the box of the triangles from first on, joined with that of the next one
-pub IsRound-further : (ts : List Triangle) (first k : ℕ) (corners : Tri) (before own box : Bounds) → first ≤ k
-    → option_map (λ (u : Triangle). u.corners) (slice_get ts k) ≡ Some corners → IsRound before (triangles_between first k ts)
-    → own ≡ bounds_of corners → HoldsCovered own corners → box ≡ joined_box before own → HoldsBoth box before own
-    → IsRound box (triangles_between first (k + 1) ts)
-IsRound-further ts first k corners before own box from next round is_own covered is_joined both =
+pub IsRound-further : (ts : List Triangle) (first k : ℕ) (corners : Tri) (before box : Bounds) → first ≤ k
+    → option_map (λ (u : Triangle). u.corners) (slice_get ts k) ≡ Some corners → before ≡ bounds_of_triangles (triangles_between first k ts)
+    → box ≡ joined_box before (bounds_of corners) → IsRound box (triangles_between first (k + 1) ts)
+IsRound-further ts first k corners before box from next so_far is =
     let whole : first + (k - first) ≡ k = omega (arith, from) in
     let at : slice_get (drop first ts) (k - first) ≡ slice_get ts k = slice_get-drop ts first (k - first) ∙ ap (λ n. slice_get ts n) whole in
-    let more : k - first + 1 ≡ k + 1 - first = omega (arith, from) in
-    rw (← more) (IsRound-next (drop first ts) (k - first) corners before own box (rw at next) round is_own covered is_joined both)
+    let more : k + 1 - first ≡ suc (k - first) = omega (arith, from) in
+    let joined = joined_with-next (drop first ts) (k - first) corners (record { left = 0; top = 0; right = 0; bottom = 0 }) (rw at next) in
+    let value : box ≡ bounds_of_triangles (triangles_between first (k + 1) ts) = is ∙ rw (so_far, more) (sym joined) in
+    record { value = value; covered = rw value (bounds_of_triangles-holds (triangles_between first (k + 1) ts)) }
 
 -- the box round a group holds what its triangles cover
 pub HoldsGroup-triangles_between : (ts : List Triangle) (group first last : ℕ) (box : Bounds) → first ≡ group_size * group
@@ -100,22 +98,13 @@ slice_get-last (z ∷ xs) x y (suc i) at = elim (slice_get-last xs x y i at) [
   | inr last ↦ inr (ap suc last.0, last.1)
 ]
 
--- one more group
-pub AreRoundGroups-next : (boxes : List Bounds) (ts : List Triangle) (group : ℕ) (box : Bounds) → length boxes ≡ group → AreRoundGroups boxes ts
-    → IsRoundGroup box group ts
-    → AreRoundGroups (boxes ++ box ∷ []) ts
-AreRoundGroups-next boxes ts group box is_next hold holds = λ i found at. elim (slice_get-last boxes box found i at) [
-  | inl before ↦ hold i found before
-  | inr last ↦ let same : i ≡ group = last.0 ∙ is_next in rw (same, last.1) holds
-]
-
--- one more box
-pub AreTriangleBoxes-next : (boxes : List Bounds) (ts : List Triangle) (number : ℕ) (box : Bounds) → length boxes ≡ number → AreTriangleBoxes boxes ts
-    → IsTriangleBox box number ts
-    → AreTriangleBoxes (boxes ++ box ∷ []) ts
-AreTriangleBoxes-next boxes ts number box is_next hold holds = λ i found at. elim (slice_get-last boxes box found i at) [
-  | inl before ↦ hold i found before
-  | inr last ↦ let same : i ≡ number = last.0 ∙ is_next in rw (same, last.1) holds
+-- what holds of each box holds also with one more
+pub each_box : (P : Bounds → ℕ → Type 0) (boxes : List Bounds) (number : ℕ) (box : Bounds) → length boxes ≡ number
+    → ((i : ℕ) (found : Bounds) → slice_get boxes i ≡ Some found → P found i) → P box number
+    → (i : ℕ) (found : Bounds) → slice_get (boxes ++ box ∷ []) i ≡ Some found → P found i
+each_box P boxes number box size each own i found at = elim (slice_get-last boxes box found i at) [
+  | inl before ↦ each i found before
+  | inr last ↦ let same : i ≡ number = last.0 ∙ size in rw (same, last.1) own
 ]
 
 -- a triangle's own box
@@ -148,33 +137,6 @@ kept_by_triangles-outside [] interp s box x y before holds outside = refl
 kept_by_triangles-outside (t ∷ ts) interp s box x y before holds outside =
     rw (is_drawn-outside t s box x y before.1 (holds zero t refl) outside)
     (kept_by_triangles-outside ts interp s box x y before (λ i u at. holds (suc i) u at) outside)
-
--- ---- the box round triangles holds what they cover
-
-pub empty_holds_none : (a : Bounds) (x y : ℕ) → is_empty a ≡ true → is_within a x y ≡ false
-empty_holds_none a x y empty = grind (arith, nat_tests)
-
-joined_box-holds : (a b : Bounds) → HoldsBoth (joined_box a b) a b
-unfolding joined_box
-joined_box-holds a b x y h = grind (arith, nat_tests)
-
-joined_with-keeps : (ts : List Triangle) (box : Bounds) (x y : ℕ) → is_within box x y ≡ true → is_within (joined_with box ts) x y ≡ true
-joined_with-keeps [] box x y h = h
-joined_with-keeps (t ∷ ts) box x y h =
-    joined_with-keeps ts (joined_box box (bounds_of t.corners)) x y
-    (joined_box-holds box (bounds_of t.corners) x y (or_left (is_within box x y) (is_within (bounds_of t.corners) x y) h))
-
-joined_with-holds : (ts : List Triangle) (box : Bounds) → HoldsTriangles (joined_with box ts) ts
-joined_with-holds [] box i t at = cc
-joined_with-holds (first ∷ ts) box zero t at = λ x y covered.
-    let same : first ≡ t = cc in
-    let own : is_within (bounds_of first.corners) x y ≡ true = bounds_of-holds first.corners x y (rw same covered) in
-    joined_with-keeps ts (joined_box box (bounds_of first.corners)) x y
-    (joined_box-holds box (bounds_of first.corners) x y (or_right (is_within box x y) (is_within (bounds_of first.corners) x y) own))
-joined_with-holds (first ∷ ts) box (suc i) t at = joined_with-holds ts (joined_box box (bounds_of first.corners)) i t at
-
-pub bounds_of_triangles-holds : (ts : List Triangle) → HoldsTriangles (bounds_of_triangles ts) ts
-bounds_of_triangles-holds ts = joined_with-holds ts (record { left = 0; top = 0; right = 0; bottom = 0 })
 
 -- two runs of triangles that cover nothing of the window
 pub CoverNone-then : (window : Bounds) (ts : List Triangle) (first middle last : ℕ) → CoverNone window ts first middle → CoverNone window ts middle last

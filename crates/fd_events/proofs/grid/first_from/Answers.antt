@@ -26,10 +26,9 @@ returns-in-Some-clause-passed c = λ i from to has.
     let point : Parts c.args.numbers.now c.args.number place =
     IsPartitionPoint-from_clause (λ n. ltb n c.args.number) _ _ c.partition_point-place.ensures.partitioned
     (IsPartitionedBy-ltb (λ n. n) _ c.args.number c.requires.rise) (λ a r q k. search rules) in
-    let is : get_or c.args.numbers.now has.0 i ≡ i = has.2 in
     elim (cases_lt has.0 place) [
-      | inl before ↦ omega (arith, ltb-true (get_or c.args.numbers.now has.0 i) c.args.number (point.0 has.0 i (omega arith) before), is, from)
-      | inr after ↦ omega (arith, c.requires.rise place has.0 i after has.1, is, lookup.3.1 i, c.min.ensures, to)
+      | inl before ↦ omega (arith, ltb-true (get_or c.args.numbers.now has.0 i) c.args.number (point.0 has.0 i (omega arith) before), from)
+      | inr after ↦ omega (arith, c.requires.rise place has.0 i after has.1, lookup.3.1 i, c.min.ensures, to)
     ]
 
 pub returns-in-None-clause-passed : goal.returns-in-None-clause-passed
@@ -39,6 +38,5 @@ returns-in-None-clause-passed c = λ i from to has.
     let point : Parts c.args.numbers.now c.args.number place =
     IsPartitionPoint-from_clause (λ n. ltb n c.args.number) _ _ c.partition_point-place.ensures.partitioned
     (IsPartitionedBy-ltb (λ n. n) _ c.args.number c.requires.rise) (λ a r q k. search rules) in
-    let is : get_or c.args.numbers.now has.0 i ≡ i = has.2 in
     let before : has.0 < place = omega (arith, has.1, lookup.3) in
-    omega (arith, ltb-true (get_or c.args.numbers.now has.0 i) c.args.number (point.0 has.0 i (omega arith) before), is, from)
+    omega (arith, ltb-true (get_or c.args.numbers.now has.0 i) c.args.number (point.0 has.0 i (omega arith) before), from)

@@ -1,9 +1,9 @@
 use Rattle.std.proofs.Common.{◌≡◌, ◌++◌, ◌∷◌, [], List, length, ◌∙◌, sym, subst, ap, arith}
 use Rattle.std.proofs.lemmas.List.{length_push}
 use Rattle.fd_cover.specs.declared.bounds.Bounds.{Bounds}
-use Rattle.fd_events.specs.Bounds.{AreTriangleBoxes}
+use Rattle.fd_events.specs.Bounds.{IsTriangleBox, AreTriangleBoxes}
 use Rattle.fd_events.specs.Draw.{triangles_of}
-use Rattle.fd_events.proofs.BoundsLemmas.{AreTriangleBoxes-next, IsTriangleBox-own}
+use Rattle.fd_events.proofs.BoundsLemmas.{each_box, IsTriangleBox-own}
 use Rattle.fd_events.proofs.list.TriangleList.boxes.Goals as goal
 
 pub loop-triangle-preserved : goal.loop-triangle-preserved
@@ -12,8 +12,8 @@ loop-triangle-preserved c =
     let boxes = c.loop-triangle.boxes.items in
     let i = c.loop-triangle.triangle in
     let own = IsTriangleBox-own ts i c.tri.result c.of.result c.tri.ensures c.of.ensures.value c.of.ensures.covered in
-    let all : AreTriangleBoxes (boxes ++ c.of.result ∷ []) ts = AreTriangleBoxes-next boxes ts i c.of.result c.loop-triangle.invariant.0
-    c.loop-triangle.invariant.1 own in
+    let all : AreTriangleBoxes (boxes ++ c.of.result ∷ []) ts = each_box (λ box number. IsTriangleBox box number ts) boxes i
+    c.of.result c.loop-triangle.invariant.0 c.loop-triangle.invariant.1 own in
     let items : c.push.new.self.items ≡ boxes ++ c.of.result ∷ [] = c.in_ok-push.ensures.items in (
       ap length items ∙ length_push boxes c.of.result ∙ omega (arith, c.loop-triangle.invariant.0),
       subst (λ (bs : List Bounds). AreTriangleBoxes bs ts)

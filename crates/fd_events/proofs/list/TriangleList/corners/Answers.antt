@@ -13,6 +13,4 @@ pub vertex-requires-3 : goal.vertex-requires-3
 vertex-requires-3 c = omega (arith, length-triangles_of_list (listed c.args.self.now))
 
 pub returns : goal.returns
-returns c =
-    slice_get-triangles_of_list (listed c.args.self.now) c.args.triangle c.vertex.result c.vertex-2.result c.vertex-3.result c.vertex.ensures
-    c.vertex-2.ensures c.vertex-3.ensures
+returns c = grind (arith, slice_get-triangles_of_list)

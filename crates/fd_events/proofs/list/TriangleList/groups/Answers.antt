@@ -1,7 +1,7 @@
 use Rattle.std.proofs.Common.{◌≡◌, ◌+◌, ◌++◌, ◌∷◌, [], length, length-append, sym, subst, arith}
-use Rattle.fd_events.specs.Bounds.{AreRoundGroups}
+use Rattle.fd_events.specs.Bounds.{IsRoundGroup, AreRoundGroups}
 use Rattle.fd_events.specs.Draw.{triangles_of}
-use Rattle.fd_events.proofs.BoundsLemmas.{AreRoundGroups-next}
+use Rattle.fd_events.proofs.BoundsLemmas.{each_box}
 use Rattle.fd_events.proofs.list.TriangleList.groups.Goals as goal
 
 pub loop-group-preserved : goal.loop-group-preserved
@@ -10,7 +10,7 @@ loop-group-preserved c =
     let ts = triangles_of c.args.self.now in
     let items = c.in_ok-push.ensures.items in
     let pushed : AreRoundGroups (c.loop-group.groups.items ++ c.group_bounds.result ∷ []) ts =
-    AreRoundGroups-next c.loop-group.groups.items ts c.loop-group.group c.group_bounds.result inv.0 inv.1 c.group_bounds.ensures in
+    each_box (λ box group. IsRoundGroup box group ts) _ c.loop-group.group _ inv.0 inv.1 c.group_bounds.ensures in
     let longer : length (c.loop-group.groups.items ++ c.group_bounds.result ∷ []) ≡ c.loop-group.group + 1 =
     omega (arith, inv.0, length-append c.loop-group.groups.items (c.group_bounds.result ∷ [])) in
     (rw items longer, subst (λ boxes. AreRoundGroups boxes ts) (sym items) pushed)

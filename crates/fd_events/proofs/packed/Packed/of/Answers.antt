@@ -30,9 +30,4 @@ loop-cell-preserved c =
     rw (longer, more) (ArePacked-next numbers starts list (numbers_of all) cell c.in-Ok.end c.loop-cell.invariant its end)
 
 pub returns : goal.returns
-returns c =
-    let items = λ (list : Vec ℕ Global). list.items in
-    let all = c.args.lists.now in
-    let cell = c.loop-cell.cell in
-    let last : cell ≡ length (numbers_of all) = omega (arith, c.loop-cell-test.false, c.loop-cell.auto.cell-end, length-map all items) in
-    λ at. ArePacked-all c.loop-cell.numbers.items c.loop-cell.starts.items (numbers_of all) (rw (← last) c.loop-cell.invariant) at
+returns c = grind (arith, length-map, ArePacked-all)

@@ -17,7 +17,6 @@ pub returns : goal.returns
 returns c =
     let events = c.args.events.items in
     let len = vec_len c.args.events in
-    let long : length events ≡ len = sym (ap length c.deref_mut.ensures.value) ∙ c.deref_mut.ensures.len in
     let few : length events ≤ most_events = omega (arith, c.if-len.false, c.len.ensures, c.args.events.ok.0) in
     let wide : is_side c.args.width ≡ true = sym c.if-not-is_side.ensures in
     let high : is_side c.args.height ≡ true = sym c.if-not-is_side-2.ensures in
@@ -26,7 +25,7 @@ returns c =
     ap (λ (es : List Event). take len (es ++ drop (length es) events)) same
     ∙ ap (λ (es : List Event). take len (events ++ es)) (drop_all (length events) events (omega arith))
     ∙ ap (take len) (append-nil events)
-    ∙ take_all len events (omega (arith, long)) in
+    ∙ take_all len events (omega (arith)) in
     let is : c.in_ok-all_on.field-0 ≡ all_on c.args.version c.args.width c.args.height events =
     c.in_ok-all_on.ensures ∙ ap (all_on c.args.version c.args.width c.args.height) left in
     record {
