@@ -1,7 +1,5 @@
 -- What the tests of coverage tell of signs.
-use Rattle.std.proofs.Common.{◌≡◌, ◌≢◌, ℕ, ◌<◌, ℤ, pos, ◌⊎◌, inl, inr, Bool, true, false, not, ◌&&◌, ◌||◌, refl, sym, arith}
-use Rattle.std.proofs.lemmas.Bool.{and_parts, or_cases, and_from, or_left, or_right, false_from_ne_true, not_from_false, not-true, both_ways}
-use Rattle.std.proofs.lemmas.Bool.Decides.{Decides-int_eq}
+use Rattle.std.proofs.Common.{◌≡◌, ◌≢◌, ℕ, ◌<◌, ℤ, pos, ◌⊎◌, Bool, true, ◌&&◌, ◌||◌, sym, arith}
 use Rattle.std.specs.Prelude.{int_lt}
 use Rattle.std.specs.Ordering.{int_eq}
 use Rattle.fd_snap.specs.Point.{Point}
@@ -16,22 +14,12 @@ IsPositive z = down z < up z
 abbrev pub IsNegative : ℤ → Type 0
 IsNegative z = up z < down z
 
-or_neither : (x y : Bool) → x ≡ (x || (false && y))
-or_neither true y = refl
-or_neither false y = refl
-
 -- off the edge's line only the sides count
 pub off_line : (e t : ℤ) (inclusive : Bool) → e ≢ pos 0 → same_sign e t ≡ (same_sign e t || (int_eq e (pos 0) && inclusive))
 off_line e t inclusive apart = grind arith
 
-pub is_positive : (z : ℤ) → IsPositive z → int_lt (pos 0) z ≡ true
-is_positive z h = sym (true_is_lt (pos 0) z (omega arith))
-
 pub is_negative : (z : ℤ) → IsNegative z → int_lt z (pos 0) ≡ true
 is_negative z h = sym (true_is_lt z (pos 0) (omega arith))
-
-pub positive_from : (z : ℤ) → int_lt (pos 0) z ≡ true → IsPositive z
-positive_from z h = omega (arith, lt-true (pos 0) z h)
 
 pub negative_from : (z : ℤ) → int_lt z (pos 0) ≡ true → IsNegative z
 negative_from z h = omega (arith, lt-true z (pos 0) h)

@@ -2,10 +2,8 @@
 use Rattle.std.proofs.Common.{◌≡◌, ℕ, zero, suc, ◌+◌, ◌*◌, ◌<◌, ◌≤◌, pos, ◌+ℤ◌, ◌-ℤ◌, ◌*ℤ◌, ◌≤ℤ◌, ◌<ℤ◌, ◌⊎◌, inl, inr, ◌↔◌, Bool, true, false, ◌&&◌}
 use Rattle.std.proofs.Common.{◌||◌, ℤ, IsTrue, refl, sym, ap, subst, ◌∙◌, arith}
 use Rattle.std.proofs.lemmas.Int.{ints}
-use Rattle.std.proofs.lemmas.Bool.{cases_lt, false≢true, false_from_ne_true, and_parts, or_cases}
-use Rattle.std.proofs.lemmas.Bool.Decides.{Decides-int_eq}
+use Rattle.std.proofs.lemmas.Bool.{cases_lt, false_from_ne_true}
 use Rattle.std.specs.Prelude.{int_lt}
-use Rattle.std.specs.Ordering.{int_eq}
 use Rattle.fd_snap.specs.Point.{Point}
 use Rattle.fd_cover.specs.declared.triangle.Tri.{Tri}
 use Rattle.fd_cover.specs.declared.edge.Edge.{Edge}
@@ -140,9 +138,6 @@ module _ (t : Tri) (y x0 x1 l1 r1 l2 r2 l3 r3 : ℕ) (P1 P2 P3 : ℕ → Type 0)
     (order : ((x0 ≤ l1) × (r1 ≤ x1)) × (((l1 ≤ l2) × (r2 ≤ r1)) × ((l2 ≤ l3) × (r3 ≤ r2)))) where
   to_span : (x : ℕ) → x0 ≤ x → x < x1 → IsTrue (covers t x y) → (l3 ≤ x) × (x < r3)
   to_span x low high h = grind arith
-
-  from_span : (x : ℕ) → l3 ≤ x → x < r3 → IsTrue (covers t x y)
-  from_span x low high = grind arith
 
   pub span_of_edges : l3 < r3 → IsSpan t y x0 x1 l3 r3
   span_of_edges some = grind arith

@@ -1,20 +1,14 @@
 -- The weights of a covered pixel add up to the area, and the rounded quotient is the nearest.
-use Rattle.std.proofs.Common.{◌≡◌, ◌≢◌, ℕ, suc, ◌+◌, ◌*◌, ◌/◌, ◌<◌, ◌≤◌, ℤ, pos, negsuc, ◌+ℤ◌, inl, inr, Bool, true, refl, ◌∙◌, arith, unsigned_abs}
+use Rattle.std.proofs.Common.{◌≡◌, ◌≢◌, ℕ, ◌+◌, ◌<◌, ℤ, pos, negsuc, ◌+ℤ◌, true, refl, ◌∙◌, arith, unsigned_abs}
 use Rattle.std.proofs.lemmas.Int.{ints}
-use Rattle.std.proofs.lemmas.Bool.{cases_lt}
-use Rattle.std.proofs.Math.Nat.{mul-le-mul_left}
 use Rattle.fd_snap.specs.Point.{Point}
 use Rattle.fd_cover.specs.declared.triangle.Tri.{Tri}
 use Rattle.fd_cover.specs.Cross.{cross, centre}
 use Rattle.fd_cover.specs.Covers.{covers, admits}
 use Rattle.fd_cover.specs.Shade.{IsNearestLarger, rounded_quotient, area_of, weight_a, weight_b, weight_c}
 use Rattle.fd_cover.proofs.CrossLemmas.{cross-sum, cross-turn}
-use Rattle.fd_cover.proofs.CoverLemmas.{IsPositive, IsNegative, IsAdmitted, is_inclusive, admitted_from, covered_from}
+use Rattle.fd_cover.proofs.CoverLemmas.{IsPositive, IsNegative, covered_from}
 use borrow.Author.Differences.{up, down}
-
--- an admitted side lies on the triangle's side or is 0
-side_agrees : (e t : ℤ) (inclusive : Bool) → IsAdmitted e t inclusive → (IsPositive t → down e ≡ 0) × (IsNegative t → up e ≡ 0)
-side_agrees e t inclusive h = grind arith
 
 pub admitted_side : (u v c p : Point) (t : ℤ) → cross u v c ≡ t → admits u v c p ≡ true → (IsPositive t → down (cross u v p) ≡ 0)
     × (IsNegative t → up (cross u v p) ≡ 0)

@@ -3,7 +3,6 @@ use Rattle.std.proofs.Common.{List, length, map, replicate, get_or, ◌≡◌, �
 use Rattle.std.proofs.Common.{◌+ℤ◌, ◌-ℤ◌, ◌*ℤ◌, inl, inr, true, refl, sym, ap, ◌∙◌, arith, unsigned_abs}
 use Rattle.std.proofs.lemmas.Int.{ints}
 use Rattle.std.proofs.lemmas.Bool.{cases_lt}
-use Rattle.std.proofs.lemmas.Nat.{le-div}
 use Rattle.std.proofs.lemmas.List.{ext_get_or, length-replicate, get_or-replicate}
 use Rattle.std.proofs.lemmas.List.FromFn.{get_or-map-range_with_len, length-map-range_with_len}
 use Rattle.std.specs.List.{range_with_len}
@@ -248,18 +247,6 @@ walk_on unit top t x y a b c i place step whole small_a small_b small_c along al
       (rw whole at (place_fits unit t x y (i + 1) a b c walk.begin walk.next along_next walk.first walk.second top small_a small_b small_c));
   by = walk.by;
 }
-
--- and the first one
-pub walk_from : (unit : ℕ) (t : Tri) (x y a b c v0 v1 place step : ℕ) → IsNear unit (numerator t x y a b c) (2 * area_of t) v0
-    → IsNear unit (numerator t (x + 1) y a b c) (2 * area_of t) v1
-    → v0 < 2 ^ 64 → place ≡ v0 + 96 → step ≡ (v1 + (2 ^ 64 - v0)) % 2 ^ 64 → IsWalk unit t x y a b c 0 place step
-walk_from unit t x y a b c v0 v1 place step first second small is_place is_step = grind arith
-
--- the code's numerator is the one of the weights
-pub numerator_at : (unit : ℕ) (t : Tri) (x y a b c wa wb wc n m v : ℕ) → wa ≡ weight_a t x y → wb ≡ weight_b t x y → wc ≡ weight_c t x y → wa + wb + wc
-    ≡ area_of t → m ≡ 2 * area_of t
-    → n ≡ 2 * (wa * a + wb * b + wc * c) + (wa + wb + wc) → IsNear unit n m v → IsNear unit (numerator t x y a b c) (2 * area_of t) v
-numerator_at unit t x y a b c wa wb wc n m v is_a is_b is_c area is_m value near = grind arith
 
 -- a colour by its channels
 pub shaded_by : (t : Tri) (a b c : Colour) (x y red green blue alpha : ℕ) → red ≡ interpolated t x y a.r b.r c.r → green ≡ interpolated t x y a.g b.g c.g

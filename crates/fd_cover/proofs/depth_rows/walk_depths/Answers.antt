@@ -3,27 +3,8 @@ use Rattle.std.proofs.lemmas.Bool.{cases_lt}
 use Rattle.std.proofs.lemmas.List.{get_or-set_other}
 use Rattle.std.proofs.lemmas.Grind.{get_or-set_at}
 use Rattle.fd_cover.specs.Depth.{depth_at, vertex_depth}
-use Rattle.fd_cover.proofs.WalkLemmas.{IsAlong, walk_value, walk_on, walk_from, numerator_at, columns_from}
+use Rattle.fd_cover.proofs.WalkLemmas.{IsAlong, walk_value, walk_on, columns_from}
 use Rattle.fd_cover.proofs.depth_rows.walk_depths.Goals as goal
-
-pub loop-i-init : goal.loop-i-init
-loop-i-init c =
-    let t = c.args.triangle.now in
-    let x = c.args.x in
-    let y = c.args.y in
-    let za = vertex_depth c.args.depths.now 0 in
-    let zb = vertex_depth c.args.depths.now 1 in
-    let zc = vertex_depth c.args.depths.now 2 in
-    let one = c.at.ensures in
-    let two = c.at-2.ensures in
-    record {
-      depths = λ k d low. absurd (omega arith);
-      walk = λ some. walk_from (2 ^ 48) t x y za zb zc _ _ _ _ (numerator_at (2 ^ 48) t x y za zb zc _ _ _ _ _ _ one.a one.b one.c one.area c.requires.divisor
-          c.depth_numerator-first.ensures.value c.depth_quotient-first.ensures.near)
-          (numerator_at (2 ^ 48) t (x + 1) y za zb zc _ _ _ _ _ _ two.a two.b two.c two.area c.requires.divisor c.depth_numerator-second.ensures.value
-          c.depth_quotient-second.ensures.near) (omega (arith, c.depth_quotient-first.ensures.bound)) c.between-place.ensures.place
-          c.between-place.ensures.step;
-    }
 
 pub loop-i-preserved : goal.loop-i-preserved
 unfolding depth_at

@@ -25,8 +25,4 @@ returns-in-Flat c =
     (sym c.in-Flat.is)
 
 pub returns-then-out-eq1 : goal.returns-then-out-eq1
-returns-then-out-eq1 c =
-    columns_from (colour_of c.args.colours.now 0) _ c.args.x _ _ (length-set c.args.out.now 0 _)
-    (λ k d low. let first : k ≡ 0 = omega (arith, low, c.if-out-eq1.true) in
-    let place : c.args.x + k ≡ c.args.x = omega (arith, first) in
-    get_or-set_at c.args.out.now 0 k _ d first (omega (arith, c.if-out-eq1.true)) ∙ rw place c.shade.ensures.value)
+returns-then-out-eq1 c = grind (arith, columns_from, length-set, get_or-set_at)

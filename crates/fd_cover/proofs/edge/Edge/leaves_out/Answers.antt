@@ -1,12 +1,10 @@
-use Rattle.std.proofs.Common.{◌≡◌, ℕ, ◌*◌, ◌^◌, ◌≤◌, ℤ, pos, ◌+ℤ◌, ◌-ℤ◌, ◌*ℤ◌, ◌≤ℤ◌, ◌<ℤ◌, IsTrue, unsigned_abs, FitsSigned, to_z, of_z, to_z-of_z}
+use Rattle.std.proofs.Common.{◌≡◌, ℕ, ◌^◌, ◌≤◌, ℤ, pos, ◌+ℤ◌, ◌-ℤ◌, ◌*ℤ◌, ◌≤ℤ◌, ◌<ℤ◌, IsTrue, unsigned_abs, FitsSigned, to_z, of_z, to_z-of_z}
 use Rattle.std.proofs.Common.{w64, arith, mul-le-mul, ap, int_lt}
 use Rattle.std.proofs.lemmas.Int.{ints, unsigned_abs-mul, fits_signed_from_abs}
 use Rattle.fd_cover.proofs.edge.Edge.leaves_out.Goals as goal
 
 pub small_product : (a : ℤ) (n : ℕ) → unsigned_abs a ≤ 2 ^ 31 → n ≤ 2 ^ 14 → unsigned_abs (a *ℤ pos n) ≤ 2 ^ 45
-small_product a n h k =
-    let m : unsigned_abs a * n ≤ 2 ^ 31 * 2 ^ 14 = mul-le-mul h k in
-    rw (unsigned_abs-mul a (pos n)) m
+small_product a n h k = grind (arith, mul-le-mul, unsigned_abs-mul)
 
 fits : (a : ℤ) → unsigned_abs a ≤ 2 ^ 51 → FitsSigned w64 a
 fits a h = fits_signed_from_abs w64 a (omega arith)
@@ -14,22 +12,11 @@ fits a h = fits_signed_from_abs w64 a (omega arith)
 -- what the code computes of the sum
 told : (room down row : ℤ) → unsigned_abs room ≤ 2 ^ 50 → unsigned_abs down ≤ 2 ^ 31 → unsigned_abs row ≤ 2 ^ 14 → unsigned_abs (down *ℤ row) ≤ 2 ^ 45
     → to_z w64 (of_z w64 (to_z w64 (of_z w64 room) +ℤ to_z w64 (of_z w64 (to_z w64 (of_z w64 down) *ℤ to_z w64 (of_z w64 row))))) ≡ room +ℤ down *ℤ row
-told room down row hr hd hn hp =
-    let fr : FitsSigned w64 room = fits room (omega arith) in
-    let fd : FitsSigned w64 down = fits down (omega arith) in
-    let fn : FitsSigned w64 row = fits row (omega arith) in
-    let fp : FitsSigned w64 (down *ℤ row) = fits (down *ℤ row) (omega arith) in
-    let fs : FitsSigned w64 (room +ℤ down *ℤ row) = fits (room +ℤ down *ℤ row) (omega (arith, ints)) in
-    simp to_z-of_z
+told room down row hr hd hn hp = grind (arith, fits, to_z-of_z)
 
 sum_fits : (room down row : ℤ) → unsigned_abs room ≤ 2 ^ 50 → unsigned_abs down ≤ 2 ^ 31 → unsigned_abs row ≤ 2 ^ 14 → unsigned_abs (down *ℤ row) ≤ 2 ^ 45
     → FitsSigned w64 (to_z w64 (of_z w64 room) +ℤ to_z w64 (of_z w64 (to_z w64 (of_z w64 down) *ℤ to_z w64 (of_z w64 row))))
-sum_fits room down row hr hd hn hp =
-    let fr : FitsSigned w64 room = fits room (omega arith) in
-    let fd : FitsSigned w64 down = fits down (omega arith) in
-    let fn : FitsSigned w64 row = fits row (omega arith) in
-    let fp : FitsSigned w64 (down *ℤ row) = fits (down *ℤ row) (omega arith) in
-    simp to_z-of_z (fits (room +ℤ down *ℤ row) (omega (arith, ints)))
+sum_fits room down row hr hd hn hp = grind (arith, fits, to_z-of_z)
 
 -- the product with the row below, by its bound
 row_product : (down row : ℤ) (n : ℕ) → row ≡ pos n → unsigned_abs down ≤ 2 ^ 31 → n ≤ 2 ^ 14 → unsigned_abs (down *ℤ row) ≤ 2 ^ 45

@@ -1,4 +1,4 @@
-use Rattle.std.proofs.Common.{pos, ◌*ℤ◌, ◌≤ℤ◌, arith}
+use Rattle.std.proofs.Common.{arith}
 use Rattle.fd_cover.proofs.RowsLemmas.{covered_in_row, span_of_edges, none_of_edges}
 use Rattle.fd_cover.proofs.rows.Rows.span.Goals as goal
 
@@ -6,9 +6,7 @@ pub returns-then-left-right-clause-span : goal.returns-then-left-right-clause-sp
 returns-then-left-right-clause-span c =
     let at = c.self.inside in
     rw (← c.self.view_is)
-    (span_of_edges at.triangle at.y c.args.x0 c.args.x1 c.within-left.result.0 c.within-left.result.1 c.within-left-2.result.0 c.within-left-2.result.1
-    c.within-left-3.result.0 c.within-left-3.result.1
-    (λ x. (at.first.step *ℤ pos x) ≤ℤ at.first.slack) (λ x. (at.second.step *ℤ pos x) ≤ℤ at.second.slack) (λ x. (at.third.step *ℤ pos x) ≤ℤ at.third.slack)
+    (span_of_edges _ _ _ _ _ _ _ _ _ _ _ _ _
     (covered_in_row at.triangle at.y at.first at.second at.third c.self.invariant.1)
     c.within-left.ensures.columns c.within-left-2.ensures.columns c.within-left-3.ensures.columns (
       (c.within-left.ensures.first, c.within-left.ensures.last),
@@ -20,9 +18,7 @@ pub returns-else-left-right-clause-none : goal.returns-else-left-right-clause-no
 returns-else-left-right-clause-none c =
     let at = c.self.inside in
     rw (← c.self.view_is)
-    (none_of_edges at.triangle at.y c.args.x0 c.args.x1 c.within-left.result.0 c.within-left.result.1 c.within-left-2.result.0 c.within-left-2.result.1
-    c.within-left-3.result.0 c.within-left-3.result.1
-    (λ x. (at.first.step *ℤ pos x) ≤ℤ at.first.slack) (λ x. (at.second.step *ℤ pos x) ≤ℤ at.second.slack) (λ x. (at.third.step *ℤ pos x) ≤ℤ at.third.slack)
+    (none_of_edges _ _ _ _ _ _ _ _ _ _ _ _ _
     (covered_in_row at.triangle at.y at.first at.second at.third c.self.invariant.1)
     c.within-left.ensures.columns c.within-left-2.ensures.columns c.within-left-3.ensures.columns (
       (c.within-left.ensures.first, c.within-left.ensures.last),
