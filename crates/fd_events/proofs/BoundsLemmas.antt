@@ -7,7 +7,7 @@ use Rattle.std.proofs.lemmas.Bool.Decides.{nat_tests}
 use Rattle.fd_cover.specs.declared.bounds.Bounds.{Bounds}
 use Rattle.fd_cover.specs.declared.shading.Interp.{Interp}
 use Rattle.fd_cover.specs.declared.triangle.Tri.{Tri}
-use Rattle.fd_cover.specs.Bounds.{is_within, is_empty, HoldsCovered, HoldsBoth, bounds_of, joined_box}
+use Rattle.fd_cover.specs.Bounds.{is_within, HoldsCovered, HoldsBoth, bounds_of, joined_box}
 use Rattle.fd_cover.specs.Covers.{covers}
 use Rattle.fd_cover.proofs.BoundsLemmas.{missed_outside, bounds_of-holds}
 use Rattle.fd_events.specs.declared.pipeline.Pipeline.{Pipeline}
@@ -18,9 +18,6 @@ use Rattle.fd_events.specs.Draw.{Triangle}
 use Rattle.fd_events.specs.Image.{Pixel, is_drawn_by, is_drawn, pixel_after_triangles, kept_by_triangles}
 
 -- ---- the box round triangles holds what they cover
-
-pub empty_holds_none : (a : Bounds) (x y : ℕ) → is_empty a ≡ true → is_within a x y ≡ false
-empty_holds_none a x y empty = grind (arith, nat_tests)
 
 joined_box-holds : (a b : Bounds) → HoldsBoth (joined_box a b) a b
 unfolding joined_box
@@ -137,11 +134,6 @@ kept_by_triangles-outside [] interp s box x y before holds outside = refl
 kept_by_triangles-outside (t ∷ ts) interp s box x y before holds outside =
     rw (is_drawn-outside t s box x y before.1 (holds zero t refl) outside)
     (kept_by_triangles-outside ts interp s box x y before (λ i u at. holds (suc i) u at) outside)
-
--- two runs of triangles that cover nothing of the window
-pub CoverNone-then : (window : Bounds) (ts : List Triangle) (first middle last : ℕ) → CoverNone window ts first middle → CoverNone window ts middle last
-    → CoverNone window ts first last
-CoverNone-then window ts first middle last before after i t from to at = grind arith
 
 -- a box that holds what they cover has none of the window's pixels
 pub CoverNone-apart : (box window : Bounds) (ts : List Triangle) (first last : ℕ) → ((x y : ℕ) → IsTrue (is_within window x y) → is_within box x y ≡ false)

@@ -1,11 +1,11 @@
 -- Cells that list the triangles which meet them.
-use Rattle.std.proofs.Common.{◌≡◌, ℕ, ◌+◌, ◌-◌, ◌<◌, ◌≤◌, inl, inr, List, [], ◌∷◌, ◌++◌, length, get_or, set, replicate, arith, refl, sym, subst}
+use Rattle.std.proofs.Common.{◌≡◌, ℕ, ◌+◌, ◌-◌, ◌<◌, ◌≤◌, inl, inr, List, [], ◌∷◌, ◌++◌, length, set, arith, sym, subst}
 use Rattle.std.specs.List.{All, Contains}
 use Rattle.std.specs.List.Sorted.{IsNonDecreasing}
-use Rattle.std.proofs.Math.ListN.{length-set, get_or-eq_default}
-use Rattle.std.proofs.lemmas.Bool.{cases_eq, cases_lt}
-use Rattle.std.proofs.lemmas.List.{get_or-set_same, get_or-set_other, get_or-replicate, length-replicate}
-use Rattle.std.proofs.lemmas.List.Elements.{All-nil, All-push, All-get_or, Contains-append_left, Contains-push}
+use Rattle.std.proofs.Math.ListN.{length-set}
+use Rattle.std.proofs.lemmas.Bool.{cases_eq}
+use Rattle.std.proofs.lemmas.List.{get_or-set_same, get_or-set_other}
+use Rattle.std.proofs.lemmas.List.Elements.{All-push, All-get_or, Contains-append_left, Contains-push}
 use Rattle.std.proofs.lemmas.List.Sorted.{IsNonDecreasingBy-push}
 use Rattle.fd_events.specs.Numbers.{listed_at, AreOrdered, Grow}
 
@@ -49,20 +49,8 @@ added lists cell number here =
 
 -- ---- one number more
 
-pub Grow-nothing : (number : ℕ) (lists : List (List ℕ)) → Grow number lists lists
-Grow-nothing number lists = record { same = refl; kept = λ cell other holds. holds; ordered = λ before. before }
-
 pub Grow-then : (number : ℕ) (a b c : List (List ℕ)) → Grow number a b → Grow number b c → Grow number a c
 Grow-then number a b c first second = grind arith
 
 pub AreOrdered-more : (number : ℕ) (lists : List (List ℕ)) → AreOrdered number lists → AreOrdered (number + 1) lists
 AreOrdered-more number lists before = grind arith
-
-get_or-empty : (count cell : ℕ) → get_or (replicate {A = List ℕ} count []) cell [] ≡ []
-get_or-empty count cell = elim (cases_lt cell count) [
-  | inl before ↦ get_or-replicate count cell [] [] before
-  | inr after ↦ get_or-eq_default (replicate count []) [] (omega (arith, after, length-replicate {A = List ℕ} count []))
-]
-
-pub AreOrdered-none : (count : ℕ) → AreOrdered 0 (replicate count [])
-AreOrdered-none count = grind (arith, get_or-empty, All-nil)

@@ -1,5 +1,5 @@
 -- The index of a frame's events.
-use Rattle.std.proofs.Common.{◌≡◌, ℕ, suc, ◌+◌, Bool, true, false, cond, List, Option, Some, None, option_map, map, slice_get, refl, sym}
+use Rattle.std.proofs.Common.{◌≡◌, ℕ, suc, ◌+◌, Bool, false, cond, List, Option, Some, None, option_map, map, slice_get, sym}
 use Rattle.std.proofs.Common.{ap, ◌∙◌, arith}
 use Rattle.std.specs.Prelude.{IfSome, IsTrue}
 use Rattle.std.proofs.lemmas.Bool.{false_from_ne_true}
@@ -28,8 +28,7 @@ box_there reaches n reach box at is = grind (arith, slice_get-map)
 far_by : (on : Bool) (found : Option Event) (width height : ℕ) (window : Bounds)
     → ((event : Event) → found ≡ Some event → (x y : ℕ) → IsTrue (is_within window x y) → is_within (reach_of width height event) x y ≡ false)
     → IfSome (cond on found None) (λ event. (x y : ℕ) → IsTrue (is_within window x y) → is_within (reach_of width height event) x y ≡ false)
-far_by true (Some event) width height window away = away event refl
-far_by a found width height window away = tt
+far_by on found width height window away = grind arith
 
 -- what the index passes over can't write in the window
 pub far_from : (t : Table) (index : EventIndex) (reaches : List Reach) (from to : ℕ) (window : Bounds) → AreReaches t.width t.height t.events reaches
@@ -51,8 +50,7 @@ far_from t index reaches from to window are is passed k above below =
 -- what is switched off, or has no pixel, can't write anywhere
 quiet : (on : Bool) (found : Option Event) (width height : ℕ) (window : Bounds) → option_map (may_write width height on) found ≡ Some false
     → IfSome (cond on found None) (λ event. (x y : ℕ) → IsTrue (is_within window x y) → is_within (reach_of width height event) x y ≡ false)
-quiet true (Some event) width height window is = grind (arith, nat_tests)
-quiet on found width height window is = tt
+quiet on found width height window is = grind (arith, nat_tests)
 
 pub far_quiet : (t : Table) (k : ℕ) (window : Bounds) → may_write_at t (k + 1) ≡ Some false → IsFar t k window
 far_quiet t k window is =
@@ -65,8 +63,7 @@ far_quiet t k window is =
 missed : (on : Bool) (found : Option Event) (width height : ℕ) (reach window : Bounds) → option_map (reach_of width height) found ≡ Some reach
     → ((x y : ℕ) → IsTrue (is_within window x y) → is_within reach x y ≡ false)
     → IfSome (cond on found None) (λ event. (x y : ℕ) → IsTrue (is_within window x y) → is_within (reach_of width height event) x y ≡ false)
-missed true (Some event) width height reach window is misses = grind arith
-missed a found width height reach window is misses = tt
+missed on found width height reach window is misses = grind arith
 
 pub far_missed : (t : Table) (k : ℕ) (window reach : Bounds) → option_map (reach_of t.width t.height) (event_at t (k + 1)) ≡ Some reach
     → ((x y : ℕ) → IsTrue (is_within window x y) → is_within reach x y ≡ false) → IsFar t k window

@@ -11,7 +11,6 @@ use Rattle.fd_cover.specs.Bounds.{is_within, is_empty}
 use Rattle.fd_events.specs.declared.event.Event.{Event}
 use Rattle.fd_events.specs.declared.event.Event.TheVariants.{Draw}
 use Rattle.fd_events.specs.Bounds.{bounds_of_triangles}
-use Rattle.fd_events.specs.Draw.{triangles_of}
 use Rattle.fd_events.specs.declared.reach.Reach.{Reach}
 use Rattle.fd_events.specs.Reach.{clipped_box, reach_of, box_of, nowhere, may_write, AreReaches, AreWriters, HoldsWritten}
 use Rattle.fd_events.specs.Table.{is_set}
@@ -27,7 +26,8 @@ pub in_whole : (width height x y : ℕ) → x < width → y < height → is_with
 in_whole width height x y column row = grind (arith, nat_tests)
 
 pub reach-holds : (width height : ℕ) (event : Event) → HoldsWritten (reach_of width height event) width height event
-reach-holds width height (Draw draw) state x y before column row outside = grind (arith, triangles_of, bounds_of_triangles, outside_clipped, pixel_after_triangles-outside, bounds_of_triangles-holds, kept_by_triangles-outside)
+reach-holds width height (Draw draw) state x y before column row outside =
+    grind (arith, bounds_of_triangles, outside_clipped, pixel_after_triangles-outside, bounds_of_triangles-holds, kept_by_triangles-outside)
 reach-holds width height event state x y before column row outside = grind arith
 
 -- one box is kept for each event
@@ -44,8 +44,7 @@ reach_at width height events reaches n reach are at =
 -- whether it may write, by its box
 may_write_by : (width height : ℕ) (on : Bool) (found : Option Event) (box : Bounds) → option_map (reach_of width height) found ≡ Some box
     → option_map (may_write width height on) found ≡ Some (on && not (is_empty box))
-may_write_by width height on None box is = absurd (cc)
-may_write_by width height on (Some event) box is = cc
+may_write_by width height on found box is = grind arith
 
 pub writer_at : (width height : ℕ) (events : List Event) (flags writers : List Bool) (reaches : List Reach) (n : ℕ) → AreReaches width height events reaches
     → AreWriters flags reaches writers

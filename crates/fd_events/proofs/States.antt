@@ -1,15 +1,14 @@
 -- The states that are computed one after the other.
-use Rattle.std.proofs.Common.{◌≡◌, ◌≢◌, ℕ, zero, suc, ◌+◌, ◌<◌, ◌≤◌, Bool, true, false, cond, List, [], ◌∷◌, ◌++◌, length, get_or, Option, Some, None}
+use Rattle.std.proofs.Common.{◌≡◌, ◌≢◌, ℕ, zero, suc, ◌+◌, ◌<◌, ◌≤◌, Bool, false, cond, List, [], ◌∷◌, ◌++◌, length, get_or, Option, Some, None}
 use Rattle.std.proofs.Common.{unwrap_or, slice_get, refl, sym, ap, ◌∙◌, add-one, arith, inl, inr}
 use Rattle.std.proofs.Math.ListN.{set}
 use Rattle.std.proofs.lemmas.Bool.{cases_eq, cases_lt}
 use Rattle.std.proofs.lemmas.Option.{slice_get-get_or, get_or_from_slice_get, unwrap_or-slice_get}
 use Rattle.fd_events.specs.declared.event.Event.{Event}
-use Rattle.fd_events.specs.declared.event.Event.TheVariants.{Clear, DepthClear, Draw, Marker}
 use Rattle.fd_events.specs.declared.pipeline.Pipeline.{Pipeline}
 use Rattle.fd_events.specs.Pipeline.{state_after}
 use Rattle.fd_events.specs.Table.{state_of, state_after_event}
-use Rattle.fd_events.specs.StateList.{is_state_event, place_past, place_past_event, state_place, ArePlaces}
+use Rattle.fd_events.specs.StateList.{place_past, place_past_event, state_place, ArePlaces}
 
 pub slice_get-set_same : {A : Type 0} (xs : List A) (i : ℕ) (v : A) → i < length xs → slice_get (set xs i v) i ≡ Some v
 slice_get-set_same [] i v h = absurd (omega arith)
@@ -26,8 +25,7 @@ slice_get-set_other (x ∷ xs) (suc i) (suc j) v h = slice_get-set_other xs i j 
 -- ---- states
 
 chosen : (on : Bool) (event : Event) (state : Pipeline) → state_after_event (cond on (Some event) None) state ≡ cond on (state_after event state) state
-chosen true event state = refl
-chosen false event state = refl
+chosen on event state = grind arith
 
 -- the state past the event at index k
 pub state_of-next : (events : List Event) (flags : List Bool) (k : ℕ) (event : Event) (on : Bool) (state : Pipeline) → k < length events
@@ -46,13 +44,8 @@ state_of-set events flags i on (suc k) le = rw (slice_get-set_other flags i k on
 
 -- ---- places
 
-place_by : (found : Bool) (place : ℕ) → (place ≤ cond found (place + 1) place) × (cond found (place + 1) place ≤ place + 1)
-place_by true place = (omega arith, omega arith)
-place_by false place = (omega arith, omega arith)
-
 place_steps : (found : Option Event) (place : ℕ) → (place ≤ place_past_event found place) × (place_past_event found place ≤ place + 1)
-place_steps None place = (omega arith, omega arith)
-place_steps (Some event) place = place_by (is_state_event event) place
+place_steps found place = grind arith
 
 -- an event takes at most one place
 pub state_place-next : (events : List Event) (k : ℕ) → (state_place events k ≤ state_place events (k + 1)) ×
@@ -78,33 +71,7 @@ place_read events places k place are le is = is ∙ get_or_from_slice_get places
 
 -- ---- an event that takes no place
 
-quiet : (event : Event) (state : Pipeline) → is_state_event event ≡ false → state_after event state ≡ state
-quiet (Clear colour) state is = refl
-quiet (DepthClear depth) state is = refl
-quiet (Draw draw) state is = refl
-quiet (Marker label) state is = refl
-quiet event state is = absurd (cc)
-
-stays : (on : Bool) (event : Event) (state : Pipeline) → is_state_event event ≡ false → state_after_event (cond on (Some event) None) state ≡ state
-stays true event state is = quiet event state is
-stays false event state is = refl
-
-no_place : (found : Bool) (place : ℕ) → cond found (place + 1) place ≤ place → found ≡ false
-no_place true place le = absurd (omega arith)
-no_place false place le = refl
-
-quiet_event : (on : Bool) (found : Option Event) (place : ℕ) (state : Pipeline) → place_past_event found place ≤ place
-    → state_after_event (cond on found None) state ≡ state
-quiet_event true None place state le = refl
-quiet_event false None place state le = refl
-quiet_event on (Some event) place state le = stays on event state (no_place (is_state_event event) place le)
-
--- it leaves the state, whether it is on or off
-pub state_of-quiet : (events : List Event) (flags : List Bool) (k : ℕ) → state_place events (k + 1) ≤ state_place events k
-    → state_of events flags (k + 1) ≡ state_of events flags k
-state_of-quiet events flags k le = grind arith
-
--- so its flag says nothing of any state
+-- its flag says nothing of any state
 set_quiet : (events : List Event) (flags flags' : List Bool) (k : ℕ) → state_place events (k + 1) ≤ state_place events k
     → state_of events flags' k ≡ state_of events flags k
     → state_of events flags' (suc k) ≡ state_of events flags (suc k)
