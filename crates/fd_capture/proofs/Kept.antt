@@ -1,5 +1,5 @@
 -- What an event stands for is the same from the members that are kept and from all that were found.
-use Rattle.std.proofs.Common.{◌≡◌, ℕ, List, Option, Some, None, true, codes, option_map, option_and_then, refl, ap, ◌∙◌}
+use Rattle.std.proofs.Common.{arith, ◌≡◌, ℕ, List, Option, Some, None, true, codes, option_map, option_and_then, refl, ap, ◌∙◌}
 use Rattle.serde_json.specs.Data.{Data, object, Members}
 use Rattle.serde_json.specs.Find.{get_member, as_bool, as_str, as_i64}
 use Rattle.fd_json.specs.Clipped.{clipped}
@@ -72,25 +72,18 @@ module _ (kept found : Members) (clips : Clips kept found) where
 -- the vertices and the indices of a draw, from what was read of them
 vertices_from : (version : ℕ) (o : Option Data) → well_formed (option_map (vertices_of version) o) ≡ option_and_then (all_of (vertex_of version))
     (option_and_then array_of o)
-vertices_from version None = refl
-vertices_from version (Some d) = refl
+vertices_from version o = grind arith
 
 pub vertices-found : (version : ℕ) (found : Members) → well_formed (option_map (vertices_of version) (get_member (codes "vertices") found))
     ≡ vertices_member version "vertices" (object found)
 vertices-found version found = vertices_from version (get_member (codes "vertices") found)
 
-some_list : (o : Option (List ℕ)) → listed_indices (Some o) ≡ option_and_then (λ (is : List ℕ). Some (Some is)) o
-some_list None = refl
-some_list (Some is) = refl
-
 joined : (o : Option (List Data)) → option_and_then (λ (is : List ℕ). Some (Some is)) (option_and_then (all_of unsigned_32) o)
     ≡ option_and_then (λ (ds : List Data). option_and_then (λ (is : List ℕ). Some (Some is)) (all_of unsigned_32 ds)) o
-joined None = refl
-joined (Some ds) = refl
+joined o = grind arith
 
 indices_from : (o : Option Data) → listed_indices (option_map indices_of_array o) ≡ indices_of o
-indices_from None = refl
-indices_from (Some d) = some_list (indices_of_array d) ∙ joined (array_of d)
+indices_from o = grind arith
 
 pub indices-found : (found : Members) → listed_indices (option_map indices_of_array (get_member (codes "indices") found))
     ≡ indices_member "indices" (object found)

@@ -3,14 +3,14 @@ use Rattle.std.proofs.Common.{◌≡◌, ℕ, suc, ◌+◌, List, [], ◌∷◌,
 use Rattle.serde_json.specs.Data.{Data}
 use Rattle.fd_events.specs.declared.event.Event.{Event}
 use Rattle.fd_capture.specs.declared.fault.CaptureFault.{CaptureFault}
-use Rattle.fd_capture.specs.Fault.{◌>>=◌, Fails, Gives}
+use Rattle.fd_capture.specs.Fault.{◌>>=◌, Gives}
 use Rattle.fd_capture.specs.Capture.{event_numbered, events_from}
-use Rattle.std.specs.Prelude.{nat_lt, min, ◌^◌, ◌-◌, ◌<◌, ◌≤◌, Bool, true, false, cond}
+use Rattle.std.specs.Prelude.{nat_lt, min, ◌^◌, ◌-◌, ◌<◌, ◌≤◌, Bool, true, false}
 use Rattle.std.specs.Bool.{MatchBool}
 use Rattle.std.proofs.lemmas.Bool.Decides.{nat_tests}
 use Rattle.std.proofs.lemmas.List.{length_push}
 use Rattle.fd_capture.specs.Listed.{GivesMore, GivesNext, few_events}
-use Rattle.fd_capture.specs.declared.fault.CaptureFault.TheVariants.{TooLong, NotJson, NotCapture, Version, Size, TooMany, UnknownEvent, BadField, Memory}
+use Rattle.fd_capture.specs.declared.fault.CaptureFault.TheVariants.{TooMany}
 
 -- one more, after those that were read
 abbrev pub and_one : Result (List Event) CaptureFault → Result Event CaptureFault → Result (List Event) CaptureFault
@@ -18,19 +18,15 @@ and_one so_far read = so_far >>= (λ (es : List Event). read >>= (λ (e : Event)
 
 before : (event : Event) (so_far : Result (List Event) CaptureFault) (read : Result Event CaptureFault)
     → (and_one so_far read >>= (λ (es : List Event). Ok (event ∷ es))) ≡ and_one (so_far >>= (λ (es : List Event). Ok (event ∷ es))) read
-before event (Err fault) read = refl
-before event (Ok es) (Err fault) = refl
-before event (Ok es) (Ok e) = refl
+before event so_far read = grind arith
 
 alone : (read : Result Event CaptureFault) → (read >>= (λ (e : Event). Ok [] >>= (λ (es : List Event). Ok (e ∷ es)))) ≡ and_one (Ok []) read
-alone (Ok e) = refl
-alone (Err fault) = refl
+alone read = grind arith
 
 first : (read : Result Event CaptureFault) (whole so_far : Result (List Event) CaptureFault) (last : Result Event CaptureFault) → whole ≡ and_one so_far last
     → (read >>= (λ (e : Event). whole >>= (λ (es : List Event). Ok (e ∷ es))))
     ≡ and_one (read >>= (λ (e : Event). so_far >>= (λ (es : List Event). Ok (e ∷ es)))) last
-first (Err fault) whole so_far last is = refl
-first (Ok e) whole so_far last is = ap (λ (r : Result (List Event) CaptureFault). r >>= (λ (es : List Event). Ok (e ∷ es))) is ∙ before e so_far last
+first read whole so_far last is = grind arith
 
 pub events_from-push : (version number : ℕ) (front : List Data) (d : Data) → events_from version number (front ++ d ∷ [])
     ≡ and_one (events_from version number front) (event_numbered version (number + length front) d)
@@ -42,50 +38,19 @@ events_from-push version number (e ∷ front) d =
     (event_numbered version (number + suc (length front)) d)
     (events_from-push version (number + 1) front d ∙ ap (λ (n : ℕ). and_one (events_from version (number + 1) front) (event_numbered version n d)) same)
 
-fails_after : (fault : CaptureFault) (so_far : Result (List Event) CaptureFault) (read : Result Event CaptureFault) → so_far ≡ Err fault → and_one so_far read
-    ≡ Err fault
-fails_after fault so_far read is = rw is refl
-
-fails_there : (fault : CaptureFault) (so_far : Result (List Event) CaptureFault) (es : List Event) (read : Result Event CaptureFault) → so_far ≡ Ok es
-    → read ≡ Err fault → and_one so_far read ≡ Err fault
-fails_there fault so_far es read is failed = rw (is, failed) refl
-
--- if it fails so here, it fails so there
-Fails-weaker : {A B : Type 0} (fault : CaptureFault) (here : Result A CaptureFault) (there : Result B CaptureFault) → (here ≡ Err fault → there ≡ Err fault)
-    → Fails fault here → Fails fault there
-Fails-weaker TooLong here there f h = f h
-Fails-weaker NotJson here there f h = f h
-Fails-weaker NotCapture here there f h = f h
-Fails-weaker Version here there f h = f h
-Fails-weaker Size here there f h = f h
-Fails-weaker TooMany here there f h = f h
-Fails-weaker (UnknownEvent number) here there f h = f h
-Fails-weaker (BadField number) here there f h = f h
-Fails-weaker Memory here there f h = tt
-
 -- what the calls so far gave, and one call more
 pub gives_more : (events more : Result (Vec Event Global) CaptureFault) (so_far : Result (List Event) CaptureFault) (read : Result Event CaptureFault)
     → Gives (λ (v : Vec Event Global). v.items) events so_far → GivesMore events more read
     → Gives (λ (v : Vec Event Global). v.items) more (and_one so_far read)
-gives_more (Ok events) (Ok more) so_far (Ok event) so is = rw (so, is) refl
-gives_more (Ok events) (Ok more) so_far (Err fault) so is = absurd is
-gives_more (Ok events) (Err fault) so_far read so is = Fails-weaker fault read (and_one so_far read) (fails_there fault so_far events.items read so) is
-gives_more (Err first) (Ok more) so_far read so is = absurd is
-gives_more (Err first) (Err fault) so_far read so is = rw is (Fails-weaker first so_far (and_one so_far read) (fails_after first so_far read) so)
+gives_more events more so_far read so is = grind arith
 
 -- ---- up to the limit
 
 few_are : (version : ℕ) (ds : List Data) → length ds ≤ 1000000 → few_events version ds ≡ events_from version 1 ds
-few_are version ds few = ap (λ (b : Bool). cond b (Err TooMany) (events_from version 1 ds)) (within (length ds) few)
-  where
-    within : (n : ℕ) → n ≤ 1000000 → nat_lt 1000000 n ≡ false
-    within n few = grind (arith, nat_tests)
+few_are version ds few = grind arith
 
 many_are : (version : ℕ) (ds : List Data) → 1000000 < length ds → few_events version ds ≡ Err TooMany
-many_are version ds many = ap (λ (b : Bool). cond b (Err TooMany) (events_from version 1 ds)) (beyond (length ds) many)
-  where
-    beyond : (n : ℕ) → 1000000 < n → nat_lt 1000000 n ≡ true
-    beyond n many = grind (arith, nat_tests)
+many_are version ds many = grind arith
 
 -- one item more of a list, whose number stays at the greatest of 32 bits
 pub next_of : (version number : ℕ) (front : List Data) (d : Data) (events more : Result (Vec Event Global) CaptureFault)

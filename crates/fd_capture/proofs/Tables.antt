@@ -1,15 +1,15 @@
 -- The table of what was read is the table of the whole capture.
-use Rattle.std.proofs.Common.{◌≡◌, ℕ, List, Bool, true, false, cond, Option, Some, None, Result, Ok, Err, Vec, Global, length, codes, bytes_eq}
-use Rattle.std.proofs.Common.{option_and_then, refl, sym, subst}
+use Rattle.std.proofs.Common.{arith, ◌≡◌, ℕ, List, Bool, true, false, cond, Option, Some, None, Result, Ok, Err, Vec, Global, length, codes, bytes_eq}
+use Rattle.std.proofs.Common.{option_and_then, refl, subst}
 use Rattle.std.specs.Prelude.{nat_lt, ok_or, IfSome}
-use Rattle.serde_json.specs.Data.{Data, Members, object, null, boolean, number, string, array}
+use Rattle.serde_json.specs.Data.{Data, Members, object}
 use Rattle.serde_json.specs.Find.{get_member, as_str, as_object}
 use Rattle.fd_snap.specs.Limits.{most_pixels}
 use Rattle.fd_events.specs.declared.event.Event.{Event}
 use Rattle.fd_events.specs.Limits.{most_events}
 use Rattle.fd_events.specs.Table.{Table, all_on}
 use Rattle.fd_capture.specs.declared.fault.CaptureFault.{CaptureFault}
-use Rattle.fd_capture.specs.declared.fault.CaptureFault.TheVariants.{TooLong, NotJson, NotCapture, Version, Size, TooMany, UnknownEvent, BadField, Memory}
+use Rattle.fd_capture.specs.declared.fault.CaptureFault.TheVariants.{NotCapture, Version, Size, TooMany}
 use Rattle.fd_capture.specs.Fault.{Fails, Gives, ◌>>=◌}
 use Rattle.fd_capture.specs.Field.{array_of, number_between, number_member, text_member}
 use Rattle.fd_capture.specs.Capture.{events_from, table_of_value}
@@ -30,39 +30,14 @@ here t = t
 abbrev refused : CaptureFault → Result Table CaptureFault
 refused fault = Err fault
 
-step : (g fault : CaptureFault) (whole : Result (List Event) CaptureFault) (k : List Event → Result Table CaptureFault) → (Fails g whole → whole ≡ Err g)
-    → refused fault ≡ refused g → Fails fault whole → (whole >>= k) ≡ Err g
-step g fault whole k plain is failed = let same : fault ≡ g = cc in let ended : whole ≡ Err g =
-    plain (subst (λ (f : CaptureFault). Fails f whole) same failed) in rw ended refl
-
 behind : (g fault : CaptureFault) (whole : Result (List Event) CaptureFault) (k : List Event → Result Table CaptureFault) → Fails g (refused fault)
     → Fails fault whole → Fails g (whole >>= k)
-behind TooLong fault whole k is failed = step TooLong fault whole k (λ f. f) is failed
-behind NotJson fault whole k is failed = step NotJson fault whole k (λ f. f) is failed
-behind NotCapture fault whole k is failed = step NotCapture fault whole k (λ f. f) is failed
-behind Version fault whole k is failed = step Version fault whole k (λ f. f) is failed
-behind Size fault whole k is failed = step Size fault whole k (λ f. f) is failed
-behind TooMany fault whole k is failed = step TooMany fault whole k (λ f. f) is failed
-behind (UnknownEvent n) fault whole k is failed = step (UnknownEvent n) fault whole k (λ f. f) is failed
-behind (BadField n) fault whole k is failed = step (BadField n) fault whole k (λ f. f) is failed
-behind Memory fault whole k is failed = tt
+behind g fault whole k is failed = grind arith
 
 through : (result : Result Table CaptureFault) (read : ReadEvents) (whole : Result (List Event) CaptureFault) (k : List Event → Result Table CaptureFault)
     → Gives (λ (v : Vec Event Global). v.items) read whole
     → Gives here result (read >>= λ (v : Vec Event Global). k v.items) → Gives here result (whole >>= k)
-through result (Ok events) whole k gives is = rw gives is
-through (Ok t) (Err fault) whole k gives is = absurd (cc)
-through (Err g) (Err fault) whole k gives is = behind g fault whole k is gives
-
--- the test of the number stands before the events, or round them
-limited : (version : ℕ) (ds : List Data) (k : List Event → Result Table CaptureFault)
-    → ((cond (nat_lt most_events (length ds)) (Err TooMany) (Ok ds)) >>= λ (few : List Data). events_from version 1 few >>= k) ≡ (few_events version ds >>= k)
-limited version ds k = by_test (nat_lt most_events (length ds))
-  where
-    by_test : (b : Bool) → ((cond b (Err TooMany) (Ok ds)) >>= λ (few : List Data). events_from version 1 few >>= k)
-        ≡ (cond b (Err TooMany) (events_from version 1 ds) >>= k)
-    by_test true = refl
-    by_test false = refl
+through result read whole k gives is = grind (arith, behind)
 
 -- ---- the members that are kept serve as those that were found
 
@@ -88,14 +63,7 @@ module _ (version : ℕ) (result : Result Table CaptureFault) where
       (all_on v w h es.items))
       → Gives here result (ok_or found Version >>= λ v. ok_or width Size >>= λ w. ok_or height Size >>= λ h.
       (cond (nat_lt most_events (length ds)) (Err TooMany) (Ok ds)) >>= λ few. events_from v 1 few >>= λ es. Ok (all_on v w h es))
-  sized ds read None width height in_version gives is = is
-  sized ds read (Some v) None height in_version gives is = is
-  sized ds read (Some v) (Some w) None in_version gives is = is
-  sized ds read (Some v) (Some w) (Some h) in_version gives is =
-      let as_read : Gives (λ (v : Vec Event Global). v.items) read (few_events v ds) =
-      subst (λ (n : ℕ). Gives (λ (v : Vec Event Global). v.items) read (few_events n ds)) (sym in_version) gives in
-      subst (Gives here result) (sym (limited v ds (λ es. Ok (all_on v w h es))))
-      (through result read (few_events v ds) (λ es. Ok (all_on v w h es)) as_read is)
+  sized ds read found width height in_version gives is = grind arith
 
   table_is : (d : Data) (format : Option (List ℕ)) (read : Option ReadEvents) (listed : Option (List Data)) → text_member "format" d ≡ format
       → GivesListed version read listed → IsReadIn version (number_member "version" 1 2 d)
@@ -136,41 +104,16 @@ module _ (version : ℕ) (result : Result Table CaptureFault) where
 -- a value that is no object is no capture
 pub table-no_object : (d : Data) → as_object d ≡ None → table_of_value d ≡ Err NotCapture
 unfolding table_of_value
-table-no_object null is = refl
-table-no_object (boolean b) is = refl
-table-no_object (number n) is = refl
-table-no_object (string s) is = refl
-table-no_object (array ds) is = refl
-table-no_object (object ms) is = absurd (cc)
-
--- events that were read in a version are events of it
-pub in_its_version : (version : ℕ) (found : Option ℕ) (read : Option ReadEvents) → IsReadIn version found → IfSome read (λ r. AreOf version r)
-    → IfSome read (λ r. IfSome found (λ v. AreOf v r))
-in_its_version version found None in_version are = tt
-in_its_version version None (Some r) in_version are = tt
-in_its_version version (Some v) (Some r) in_version are = rw in_version are
+table-no_object d is = grind arith
 
 read_then : (d : Data) (read : Option ReadEvents) (r : ReadEvents) → listed_from d read ≡ Some r → read ≡ Some r
-read_then d read r is = by_format (text_member "format" d) is
-  where
-    by_format : (format : Option (List ℕ)) → option_and_then (λ text. cond (bytes_eq text (codes "framedbg")) read None) format ≡ Some r → read ≡ Some r
-    by_format None is = absurd (cc)
-    by_format (Some text) is = by_text (bytes_eq text (codes "framedbg")) is
-      where
-        by_text : (b : Bool) → cond b read None ≡ Some r → read ≡ Some r
-        by_text true is = is
-        by_text false is = absurd (cc)
+read_then d read r is = grind arith
 
 -- the events of a capture that has them and a version
 pub are_of : (d : Data) (read : Option ReadEvents) (r : ReadEvents) (found : Option ℕ) (v : ℕ) (events : Vec Event Global)
     → IfSome read (λ q. IfSome found (λ w. AreOf w q)) → listed_from d read ≡ Some r → found ≡ Some v → r ≡ Ok events
     → AreOf v (Ok events)
-are_of d read r found v events are listed version is =
-    let some : IfSome (Some r) (λ q. IfSome found (λ w. AreOf w q)) = subst (λ (o : Option ReadEvents). IfSome o (λ q. IfSome found (λ w. AreOf w q)))
-    (read_then d read r listed) are in
-    let here : IfSome (Some v) (λ w. AreOf w r) = subst (λ (o : Option ℕ). IfSome o (λ w. AreOf w r)) version some in
-    subst (AreOf v) is here
+are_of d read r found v events are listed version is = grind (arith, read_then)
 
 pub some_from_ok_or : {X E : Type 0} (o : Option X) (e : E) (x : X) → Ok x ≡ ok_or o e → o ≡ Some x
-some_from_ok_or (Some y) e x h = cc
-some_from_ok_or None e x h = cc
+some_from_ok_or o e x h = grind arith

@@ -1,21 +1,17 @@
 -- A capture that version 1 accepts is read as version 1 reads it.
-use Rattle.std.proofs.Common.{◌≡◌, ℕ, ℤ, pos, negsuc, ◌+◌, List, [], ◌∷◌, length, Bool, true, false, cond, Option, Some, None, Result, Ok, Err, refl}
+use Rattle.std.proofs.Common.{◌≡◌, ℕ, ◌+◌, List, [], ◌∷◌, length, Bool, true, false, cond, Option, Some, None, Result, Ok, Err, refl}
 use Rattle.std.proofs.Common.{ap, arith, nat_lt}
-use Rattle.std.specs.Prelude.{unsigned_abs, codes, ok_or, All, IfSome, IfOk, nat_le, ◌&&◌}
+use Rattle.std.specs.Prelude.{codes, ok_or, All, IfSome, IfOk}
 use Rattle.std.specs.Str.{bytes_eq}
 use Rattle.std.specs.Result.{result_ok}
 use Rattle.std.proofs.lemmas.Bool.Decides.{nat_tests}
 use Rattle.std.proofs.lemmas.List.Elements.{All-nil, All-cons}
 use Prim.Native.String.{String}
 use Rattle.serde_json.specs.Data.{Data}
-use Rattle.serde_json.specs.Find.{get}
 use Rattle.fd_blend.specs.Equation.{has_colour_factor}
 use Rattle.fd_cover.specs.declared.shading.Interp.{Interp}
 use Rattle.fd_events.specs.declared.draw.Vertex.{Vertex}
 use Rattle.fd_events.specs.declared.event.Event.{Event}
-use Rattle.fd_events.specs.declared.draw.DrawFault.TheVariants.{Vertices, Indices, IndexRange}
-use Rattle.fd_events.specs.Draw.{draw_of as listed_draw}
-use Rattle.fd_events.specs.Indices.{are_in_range}
 use Rattle.fd_events.specs.Label.{labelled}
 use Rattle.fd_events.specs.Table.{Table, all_on}
 use Rattle.fd_events.specs.VersionOne.{IsFlat}
@@ -25,9 +21,9 @@ use Rattle.fd_capture.specs.declared.fault.EventFault.{EventFault}
 use Rattle.fd_capture.specs.declared.fault.EventFault.TheVariants.{BadField, UnknownEvent}
 use Rattle.fd_events.specs.declared.event.Event.TheVariants.{Draw}
 use Rattle.fd_capture.specs.Fault.{map_fault, numbered, ◌>>=◌}
-use Rattle.fd_capture.specs.Field.{text_member, number_member, colour_member, flag_member, rect_member, part_member, signed_member, position_within}
-use Rattle.fd_capture.specs.Field.{vertex_of, vertices_member, array_member, indices_member, all_of, between, number_between, whole_number}
-use Rattle.fd_snap.specs.Limits.{most_pixels, position_limit}
+use Rattle.fd_capture.specs.Field.{text_member, number_member, colour_member, flag_member, rect_member, part_member}
+use Rattle.fd_capture.specs.Field.{vertex_of, vertices_member, array_member, indices_member, all_of}
+use Rattle.fd_snap.specs.Limits.{most_pixels}
 use Rattle.fd_events.specs.Limits.{most_events}
 use Rattle.fd_capture.specs.Limits.{most_bytes}
 use Rattle.fd_capture.specs.Kind.{draw_event, clear_event, raster_event, scissor_event, blend_event, factor_of, marker_event}
@@ -43,51 +39,32 @@ abbrev Stays : {A : Type 0} → Option A → Option A → Type 0
 Stays o p = IfSome o (λ a. p ≡ Some a)
 
 stays : {A : Type 0} (o : Option A) → Stays o o
-stays None = tt
-stays (Some a) = refl
+stays o = grind arith
 
 next : {A B : Type 0} (o p : Option A) (f g : A → Option B) → Stays o p → ((a : A) → Stays (f a) (g a)) → Stays (o >>? f) (p >>? g)
-next None p f g first each = tt
-next (Some a) p f g first each = rw first (each a)
+next o p f g first each = grind arith
 
 -- the same of results
 abbrev StaysOk : {A E : Type 0} → Result A E → Result A E → Type 0
 StaysOk r s = IfOk r (λ a. s ≡ Ok a)
 
 stays_ok : {A E : Type 0} (r : Result A E) → StaysOk r r
-stays_ok (Ok a) = refl
-stays_ok (Err e) = tt
+stays_ok r = grind arith
 
 next_ok : {A B E : Type 0} (r s : Result A E) (f g : A → Result B E) → StaysOk r s → ((a : A) → StaysOk (f a) (g a)) → StaysOk (r >>= f) (s >>= g)
-next_ok (Err e) s f g first each = tt
-next_ok (Ok a) s f g first each = rw first (each a)
+next_ok r s f g first each = grind arith
 
 or_stays : {A E : Type 0} (o p : Option A) (e : E) → Stays o p → StaysOk (ok_or o e) (ok_or p e)
-or_stays None p e first = tt
-or_stays (Some a) p e first = ap (λ (q : Option _). ok_or q e) first
+or_stays o p e first = grind arith
 
 under : {A : Type 0} (a : A) (b c : Bool) → (b ≡ true → c ≡ true) → Stays (cond b (Some a) None) (cond c (Some a) None)
-under a true c wider = ap (λ (d : Bool). cond d (Some a) None) (wider refl)
-under a false c wider = tt
-
--- what is within the smaller limits is within the larger ones
-between_stays : (z : ℤ) → Stays (between 1 one.most_pixels z) (between 1 most_pixels z)
-between_stays (pos n) = under n (nat_le 1 n && nat_le n 2048) (nat_le 1 n && nat_le n 16384) (λ is. grind (arith, nat_tests))
-between_stays (negsuc n) = tt
-
-position_stays : (x y : ℤ) → Stays (one.position_of x y) (position_within x y)
-position_stays x y = under (record { x = x; y = y }) (nat_le (unsigned_abs x) one.position_limit && nat_le (unsigned_abs y) one.position_limit)
-    (nat_le (unsigned_abs x) position_limit && nat_le (unsigned_abs y) position_limit) (λ is. grind (arith, nat_tests))
+under a b c wider = grind arith
 
 side_stays : (name : String) (d : Data) → Stays (number_member name 1 one.most_pixels d) (number_member name 1 most_pixels d)
-side_stays name d = next (get (codes name) d) _ _ _ (stays (get (codes name) d))
-    (λ value. next (whole_number value) _ _ _ (stays (whole_number value)) between_stays)
+side_stays name d = grind arith
 
 vertex_stays : (d : Data) → Stays (one.vertex_of d) (vertex_of 1 d)
-vertex_stays d =
-    next (signed_member "x" d) _ _ _ (stays (signed_member "x" d)) (λ x. next (signed_member "y" d) _ _ _ (stays (signed_member "y" d)) (λ y.
-    next (one.position_of x y) (position_within x y) _ _ (position_stays x y)
-    (λ position. stays (colour_member "color" d >>? λ colour. Some (record { pos = position; colour = colour; z = 0 })))))
+vertex_stays d = grind (arith, nat_tests)
 
 vertices_stay : (ds : List Data) → Stays (all_of one.vertex_of ds) (all_of (vertex_of 1) ds)
 vertices_stay [] = refl
@@ -140,25 +117,19 @@ abbrev Flat : Option Event → Type 0
 Flat event = IfSome event IsFlat
 
 after : {A : Type 0} (P : A → Type 0) (o : Option A) (f : A → Option Event) → IfSome o P → ((a : A) → P a → Flat (f a)) → Flat (o >>? f)
-after P None f holds each = tt
-after P (Some a) f holds each = each a holds
+after P o f holds each = grind arith
 
 any : {A : Type 0} (o : Option A) (f : A → Option Event) → ((a : A) → Flat (f a)) → Flat (o >>? f)
-any None f each = tt
-any (Some a) f each = each a
+any o f each = grind arith
 
 through : {A B : Type 0} (P : B → Type 0) (o : Option A) (f : A → Option B) → ((a : A) → IfSome (f a) P) → IfSome (o >>? f) P
-through P None f each = tt
-through P (Some a) f each = each a
+through P o f each = grind arith
 
 abbrev IsZero : Vertex → Type 0
 IsZero v = v.z ≡ 0
 
 vertex_zero : (d : Data) → IfSome (one.vertex_of d) IsZero
-vertex_zero d =
-    through IsZero (signed_member "x" d) _
-    (λ x. through IsZero (signed_member "y" d) _
-    (λ y. through IsZero (one.position_of x y) _ (λ position. through IsZero (colour_member "color" d) _ (λ colour. refl))))
+vertex_zero d = grind arith
 
 all_zero : (ds : List Data) → IfSome (all_of one.vertex_of ds) (λ vs. All IsZero vs)
 all_zero [] = All-nil IsZero
@@ -172,26 +143,16 @@ all_zero (d ∷ ds) = both (one.vertex_of d) (all_of one.vertex_of ds) (vertex_z
 
 made_of : (vs : List Vertex) (is : Option (List ℕ)) (interp : Interp) → All IsZero vs
     → IfSome (result_ok (one.made vs is interp)) (λ draw. All IsZero draw.vertices)
-made_of vs is interp zeros = tests (nat_lt one.most_vertices (length vs)) (one.has_too_many is) (are_in_range (length vs) is)
-  where
-    tests : (a b c : Bool) → IfSome (result_ok (cond a (Err Vertices) (cond b (Err Indices) (cond c (Ok (listed_draw vs is interp)) (Err IndexRange)))))
-        (λ draw. All IsZero draw.vertices)
-    tests true b c = tt
-    tests false true c = tt
-    tests false false true = zeros
-    tests false false false = tt
+made_of vs is interp zeros = grind arith
 
 or_fault : (o : Option Event) → Flat o → IfOk (ok_or o BadField) IsFlat
-or_fault None flat = tt
-or_fault (Some e) flat = flat
+or_fault o flat = grind arith
 
 either : (b : Bool) (first second : Result Event EventFault) → IfOk first IsFlat → IfOk second IsFlat → IfOk (cond b first second) IsFlat
-either true first second f s = f
-either false first second f s = s
+either b first second f s = grind arith
 
 nothing_or : (b : Bool) (o : Option Event) → Flat o → Flat (cond b None o)
-nothing_or true o flat = tt
-nothing_or false o flat = flat
+nothing_or b o flat = grind arith
 
 flat_kind : (kind : List ℕ) (d : Data) → IfOk (one.event_of_kind kind d) IsFlat
 flat_kind kind d =
@@ -249,45 +210,18 @@ Reads r s = IfOk r (λ t. (s ≡ Ok t) × IsRead t)
 -- a step before it, of which something is known
 reads : {A : Type 0} (P : A → Type 0) (r s : Result A CaptureFault) (f g : A → Result Table CaptureFault) → IfOk r (λ a. (s ≡ Ok a) × P a)
     → ((a : A) → P a → Reads (f a) (g a)) → Reads (r >>= f) (s >>= g)
-reads P (Err e) s f g first each = tt
-reads P (Ok a) s f g first each = rw first.0 (each a first.1)
+reads P r s f g first each = grind arith
 
 with_nothing : {A : Type 0} (r s : Result A CaptureFault) → StaysOk r s → IfOk r (λ a. (s ≡ Ok a) × Unit {0})
-with_nothing (Ok a) s first = (first, tt)
-with_nothing (Err e) s first = tt
+with_nothing r s first = grind arith
 
 first_version : (d : Data) → IfOk (ok_or (number_member "version" 1 1 d) Version) (λ v. (ok_or (number_member "version" 1 2 d) Version ≡ Ok v) × (v ≡ 1))
-first_version d = of_value (get (codes "version") d)
-  where
-    of_number : (z : ℤ) → IfOk (ok_or (between 1 1 z) Version) (λ v. (ok_or (between 1 2 z) Version ≡ Ok v) × (v ≡ 1))
-    of_number (negsuc n) = tt
-    of_number (pos n) = tested (nat_le 1 n && nat_le n 1) refl
-      where
-        tested : (b : Bool) → (nat_le 1 n && nat_le n 1) ≡ b
-            → IfOk (ok_or (cond b (Some n) None) Version) (λ v. (ok_or (cond (nat_le 1 n && nat_le n 2) (Some n) None) Version ≡ Ok v) × (v ≡ 1))
-        tested false test = tt
-        tested true test =
-            let first : n ≡ 1 = grind (arith, nat_tests) in
-            let second : (nat_le 1 n && nat_le n 2) ≡ true = grind (arith, nat_tests) in
-            (ap (λ b. ok_or (cond b (Some n) None) Version) second, first)
-
-    of_whole : (z : Option ℤ) → IfOk (ok_or (z >>? between 1 1) Version) (λ v. (ok_or (z >>? between 1 2) Version ≡ Ok v) × (v ≡ 1))
-    of_whole None = tt
-    of_whole (Some z) = of_number z
-
-    of_value : (value : Option Data) → IfOk (ok_or (value >>? number_between 1 1) Version) (λ v. (ok_or (value >>? number_between 1 2) Version ≡ Ok v)
-        × (v ≡ 1))
-    of_value None = tt
-    of_value (Some e) = of_whole (whole_number e)
+first_version d = grind arith
 
 few_stay : (listed : List Data)
     → StaysOk {E = CaptureFault} (cond (nat_lt one.most_events (length listed)) (Err TooMany) (Ok listed))
     (cond (nat_lt most_events (length listed)) (Err TooMany) (Ok listed))
-few_stay listed = fewer (nat_lt 65536 (length listed)) (nat_lt 1000000 (length listed)) (λ is. grind (arith, nat_tests))
-  where
-    fewer : (b c : Bool) → (b ≡ false → c ≡ false) → StaysOk {E = CaptureFault} (cond b (Err TooMany) (Ok listed)) (cond c (Err TooMany) (Ok listed))
-    fewer true c wider = tt
-    fewer false c wider = ap (λ d. cond d (Err TooMany) (Ok listed)) (wider refl)
+few_stay listed = grind arith
 
 table_stays : (d : Data) → Reads (one.table_of_value d) (table_of_value d)
 unfolding table_of_value one.table_of_value

@@ -1,5 +1,5 @@
 -- Captures of version 1 have no events of version 2.
-use Rattle.std.proofs.Common.{◌≡◌, ℕ, zero, suc, ◌+◌, ◌≤◌, List, [], ◌∷◌, Bool, true, false, Option, Some, None, Result, Ok, Err, refl, inl, inr, ◌⊎◌}
+use Rattle.std.proofs.Common.{◌≡◌, ℕ, zero, suc, ◌+◌, ◌≤◌, List, [], ◌∷◌, Bool, false, Option, Some, None, Result, Ok, Err, refl, inl, inr, ◌⊎◌}
 use Rattle.std.proofs.Common.{cond, arith}
 use Rattle.std.specs.Prelude.{codes, ok_or, All, IfSome, IfOk}
 use Rattle.std.specs.Str.{bytes_eq}
@@ -28,20 +28,16 @@ abbrev PlainResult : {E : Type 0} → Result Event E → Type 0
 PlainResult event = IfOk event (λ e. is_of_depth e ≡ false)
 
 after : {A : Type 0} (o : Option A) (f : A → Option Event) → ((a : A) → Plain (f a)) → Plain (o >>= f)
-after None f each = tt
-after (Some a) f each = each a
+after o f each = grind arith
 
 or_fault : (o : Option Event) → Plain o → PlainResult (ok_or o BadField)
-or_fault None plain = tt
-or_fault (Some e) plain = plain
+or_fault o plain = grind arith
 
 either : (b : Bool) (first second : Result Event EventFault) → PlainResult first → PlainResult second → PlainResult (cond b first second)
-either true first second one other = one
-either false first second one other = other
+either b first second one other = grind arith
 
 nothing_or : (b : Bool) (o : Option Event) → Plain o → Plain (cond b None o)
-nothing_or true o plain = tt
-nothing_or false o plain = plain
+nothing_or b o plain = grind arith
 
 plain_kind : (kind : List ℕ) (d : Data) → PlainResult (event_of_kind 1 kind d)
 plain_kind kind d =
@@ -66,8 +62,7 @@ plain_kind kind d =
     (or_fault (marker_event d) (after (text_member "name" d) _ (λ name. after (result_ok (labelled name)) _ (λ label. refl)))) tt))))))
 
 plain_read : (kind : Result (List ℕ) EventFault) (d : Data) → PlainResult (kind >>=r λ k. event_of_kind 1 k d)
-plain_read (Ok kind) d = plain_kind kind d
-plain_read (Err fault) d = tt
+plain_read kind d = grind (arith, plain_kind)
 
 plain_numbered : (number : ℕ) (d : Data) → PlainResult (event_numbered 1 number d)
 plain_numbered number d = kept (event_of 1 d) (plain_read (ok_or (text_member "kind" d) BadField) d)

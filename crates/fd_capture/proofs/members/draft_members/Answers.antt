@@ -1,5 +1,4 @@
 use Rattle.std.proofs.Common.{◌≡◌, Some, true, false, bytes_eq, codes, refl, ap, ◌∙◌, arith, rules}
-use Rattle.json.specs.Json.{read_key}
 use Rattle.serde_json.specs.Data.{no_members, put}
 use Rattle.serde_json.specs.Find.{get_member}
 use Rattle.serde_json.specs.View.{members_view}
@@ -15,16 +14,10 @@ members-init c =
     (no_members, object-begins c.args.depth c.args.reader.now, λ name small. ap (get_member name) empty, refl, refl)
 
 pub returns-in_err-name-clause-refused : goal.returns-in_err-name-clause-refused
-returns-in_err-name-clause-refused c refused =
-    let l = c.members in
-    object-no_key c.args.depth c.args.reader.now l.reader l.invariant.0 l.invariant.1 c.in_err-name.ensures.value
+returns-in_err-name-clause-refused c refused = object-no_key _ _ _ _ c.members.invariant.1 c.in_err-name.ensures.value
 
 pub returns-in_err-vertices-clause-refused : goal.returns-in_err-vertices-clause-refused
-returns-in_err-vertices-clause-refused c refused =
-    let l = c.members in
-    let k = c.in-Some.name.now in
-    let key : read_key l.reader ≡ Some (Some k, c.next_key.new.self) = grind arith in
-    object-refused c.args.depth c.args.reader.now l.reader c.next_key.new.self l.invariant.0 k l.invariant.1 key
+returns-in_err-vertices-clause-refused c refused = object-refused _ _ _ c.next_key.new.self _ c.in-Some.name.now c.members.invariant.1 (grind arith)
     (c.in_err-vertices.ensures.refused (grind arith))
 
 pub members-preserved-then-eq : goal.members-preserved-then-eq
@@ -32,12 +25,11 @@ members-preserved-then-eq c =
     let l = c.members in
     let found = l.invariant.0 in
     let k = c.in-Some.name.now in
-    let key : read_key l.reader ≡ Some (Some k, c.next_key.new.self) = grind arith in
     let read = c.in_ok-vertices.ensures.ok in
     let is : bytes_eq k (codes "vertices") ≡ true = search rules in
     let name = same_name k (codes "vertices") is in (
       put k read.0 found,
-      object-member c.args.depth c.args.reader.now l.reader c.next_key.new.self c.vertices.new.reader found k read.0 l.invariant.1 key read.1
+      object-member c.args.depth c.args.reader.now l.reader c.next_key.new.self c.vertices.new.reader found k read.0 l.invariant.1 (grind arith) read.1
           c.in_ok-vertices.ensures.shorter,
       clips-other (members_view l.members.entries) found k read.0 (ap is_small name) l.invariant.2,
       ap Some read.2 ∙ made-after (vertices_of c.args.version) (codes "vertices") k read.0 found true is,
@@ -45,11 +37,7 @@ members-preserved-then-eq c =
     )
 
 pub returns-in_err-indices-clause-refused : goal.returns-in_err-indices-clause-refused
-returns-in_err-indices-clause-refused c refused =
-    let l = c.members in
-    let k = c.in-Some.name.now in
-    let key : read_key l.reader ≡ Some (Some k, c.next_key.new.self) = grind arith in
-    object-refused c.args.depth c.args.reader.now l.reader c.next_key.new.self l.invariant.0 k l.invariant.1 key
+returns-in_err-indices-clause-refused c refused = object-refused _ _ _ c.next_key.new.self _ c.in-Some.name.now c.members.invariant.1 (grind arith)
     (c.in_err-indices.ensures.refused (grind arith))
 
 pub members-preserved-then-eq-2 : goal.members-preserved-then-eq-2
@@ -57,12 +45,11 @@ members-preserved-then-eq-2 c =
     let l = c.members in
     let found = l.invariant.0 in
     let k = c.in-Some.name.now in
-    let key : read_key l.reader ≡ Some (Some k, c.next_key.new.self) = grind arith in
     let read = c.in_ok-indices.ensures.ok in
     let is : bytes_eq k (codes "indices") ≡ true = search rules in
     let name = same_name k (codes "indices") is in (
       put k read.0 found,
-      object-member c.args.depth c.args.reader.now l.reader c.next_key.new.self c.indices.new.reader found k read.0 l.invariant.1 key read.1
+      object-member c.args.depth c.args.reader.now l.reader c.next_key.new.self c.indices.new.reader found k read.0 l.invariant.1 (grind arith) read.1
           c.in_ok-indices.ensures.shorter,
       clips-other (members_view l.members.entries) found k read.0 (ap is_small name) l.invariant.2,
       l.invariant.3 ∙ made-after (vertices_of c.args.version) (codes "vertices") k read.0 found false (ap (λ n. bytes_eq n (codes "vertices")) name),
@@ -75,12 +62,11 @@ members-preserved-in_ok-put c =
     let l = c.members in
     let found = l.invariant.0 in
     let k = c.in-Some.name.now in
-    let key : read_key l.reader ≡ Some (Some k, c.next_key.new.self) = grind arith in
     let read = c.in_ok-put.ensures.ok in
     let no_vertices : bytes_eq k (codes "vertices") ≡ false = search rules in
     let no_indices : bytes_eq k (codes "indices") ≡ false = search rules in (
       put k read.0 found,
-      object-member c.args.depth c.args.reader.now l.reader c.next_key.new.self c.put.new.reader found k read.0 l.invariant.1 key read.1
+      object-member c.args.depth c.args.reader.now l.reader c.next_key.new.self c.put.new.reader found k read.0 l.invariant.1 (grind arith) read.1
           c.in_ok-put.ensures.shorter,
       rw read.2 (clips-put (members_view l.members.entries) found k read.0 l.invariant.2),
       l.invariant.3 ∙ made-after (vertices_of c.args.version) (codes "vertices") k read.0 found false no_vertices,
@@ -88,24 +74,20 @@ members-preserved-in_ok-put c =
     )
 
 pub returns-in_err-put-clause-refused : goal.returns-in_err-put-clause-refused
-returns-in_err-put-clause-refused c refused =
-    let l = c.members in
-    let k = c.in-Some.name.now in
-    let key : read_key l.reader ≡ Some (Some k, c.next_key.new.self) = grind arith in
-    object-refused c.args.depth c.args.reader.now l.reader c.next_key.new.self l.invariant.0 k l.invariant.1 key (c.in_err-put.ensures.refused (grind arith))
+returns-in_err-put-clause-refused c refused = object-refused _ _ _ c.next_key.new.self _ c.in-Some.name.now c.members.invariant.1 (grind arith)
+    (c.in_err-put.ensures.refused (grind arith))
 
 pub members-preserved : goal.members-preserved
 members-preserved c =
     let l = c.members in
     let found = l.invariant.0 in
     let k = c.in-Some.name.now in
-    let key : read_key l.reader ≡ Some (Some k, c.next_key.new.self) = grind arith in
     let read = c.in_ok-pass.ensures.value in
     let no_vertices : bytes_eq k (codes "vertices") ≡ false = search rules in
     let no_indices : bytes_eq k (codes "indices") ≡ false = search rules in
     let large : is_small k ≡ false = search rules in (
       put k read.0 found,
-      object-member c.args.depth c.args.reader.now l.reader c.next_key.new.self c.pass.new.reader found k read.0 l.invariant.1 key read.1
+      object-member c.args.depth c.args.reader.now l.reader c.next_key.new.self c.pass.new.reader found k read.0 l.invariant.1 (grind arith) read.1
           c.in_ok-pass.ensures.shorter,
       clips-other (members_view l.members.entries) found k read.0 large l.invariant.2,
       l.invariant.3 ∙ made-after (vertices_of c.args.version) (codes "vertices") k read.0 found false no_vertices,
@@ -113,11 +95,8 @@ members-preserved c =
     )
 
 pub returns-in_err-pass-clause-refused : goal.returns-in_err-pass-clause-refused
-returns-in_err-pass-clause-refused c refused =
-    let l = c.members in
-    let k = c.in-Some.name.now in
-    let key : read_key l.reader ≡ Some (Some k, c.next_key.new.self) = grind arith in
-    object-refused c.args.depth c.args.reader.now l.reader c.next_key.new.self l.invariant.0 k l.invariant.1 key c.in_err-pass.ensures.value
+returns-in_err-pass-clause-refused c refused = object-refused _ _ _ c.next_key.new.self _ c.in-Some.name.now c.members.invariant.1 (grind arith)
+    c.in_err-pass.ensures.value
 
 pub returns-clause-ok : goal.returns-clause-ok
 returns-clause-ok c =

@@ -4,12 +4,8 @@ use Rattle.serde_json.specs.View.{view}
 use Rattle.fd_capture.specs.Fault.{Gives}
 use Rattle.fd_capture.specs.Field.{number_member}
 use Rattle.fd_capture.specs.Head.{table_from, IsReadIn}
-use Rattle.fd_capture.proofs.Tables.{table-read, version-kept, in_its_version}
+use Rattle.fd_capture.proofs.Tables.{table-read, version-kept}
 use Rattle.fd_capture.proofs.table.table.Goals as goal
-
-pub table_from-requires : goal.table_from-requires
-table_from-requires c = in_its_version c.args.version (number_member "version" 1 2 (view c.args.head.members)) c.args.head.events c.requires.version
-    c.requires.events
 
 pub returns : goal.returns
 returns c found has =

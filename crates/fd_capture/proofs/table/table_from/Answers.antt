@@ -1,4 +1,4 @@
-use Rattle.std.proofs.Common.{◌≡◌, ◌≤◌, length, Ok, sym, ◌∙◌, rules}
+use Rattle.std.proofs.Common.{◌≡◌, Ok, sym, ◌∙◌, rules}
 use Rattle.serde_json.specs.View.{view}
 use Rattle.fd_capture.specs.Field.{number_member}
 use Rattle.fd_capture.specs.declared.fault.CaptureFault.TheVariants.{NotCapture, Version}
@@ -23,5 +23,4 @@ returns-in_err-start c =
     let are = are_of (view c.args.capture.now) c.args.events c.in_ok-events.events (number_member "version" 1 2 (view c.args.capture.now))
     c.in_ok-version.version c.in_ok-events-2.events c.requires (sym c.listed.ensures ∙ listed)
     (sym c.version.ensures.value ∙ version) is in
-    let few : length c.in_ok-events-2.events.items ≤ 1000000 = are.1 in
-    search (rules, few)
+    search (rules)
