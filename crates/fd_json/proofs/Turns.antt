@@ -1,14 +1,12 @@
 -- The grammar of JSON and the reading of its data, one turn of a loop at a time.
-use Rattle.std.proofs.Common.{◌≡◌, ℕ, zero, suc, ◌-◌, ◌<◌, ◌≤◌, List, [], ◌∷◌, length, Option, Some, None, ◌⊎◌, inl, inr, option_map, option_and_then}
+use Rattle.std.proofs.Common.{◌≡◌, ℕ, zero, suc, ◌-◌, ◌<◌, ◌≤◌, List, length, Option, Some, None, ◌⊎◌, inl, inr, option_map, option_and_then}
 use Rattle.std.proofs.Common.{refl, ap, ◌∙◌, arith}
 use Rattle.json.specs.Token.{Token}
-use Rattle.json.specs.Lex.{tokens}
 use Rattle.json.specs.Json as json
 use Rattle.json.specs.Json.{Json, Parse, parse_map, value, after_end_array, read_key, items, members, if_last}
 use Rattle.json.proofs.Grammar.{items_end, items_more, items_fail, members_end, members_no_key, members_more, members_fail}
 use Rattle.serde_json.specs.Data.{Data, array, object, no_items, item, Members, no_members, put}
-use Rattle.serde_json.specs.Read.{of_json, of_items, of_members, converted, read, max_depth}
-use Rattle.fd_json.specs.Taken.{taken}
+use Rattle.serde_json.specs.Read.{of_json, of_items, of_members, converted}
 
 -- ---- what was converted
 
@@ -144,24 +142,3 @@ module _ (p : Parse Json) (found : Members) where
   members_over n ts r enough closed = ap (converted (λ ms. of_members ms found)) (members_end p n ts r enough closed)
 
 -- ---- a whole text
-
--- it is a value if its tokens are one and nothing is left
-pub whole_read : (text : List ℕ) (d : Data) → taken max_depth (tokens text) ≡ Some (d, []) → read text ≡ Some d
-whole_read text d is =
-    let first = converts (value max_depth (tokens text)) d [] is in
-    ap (λ o. option_and_then of_json (option_and_then (λ p. if_last p.0 p.1) o)) first.1 ∙ first.2
-
-pub whole_and_more : (text : List ℕ) (d : Data) (t : Token) (ts : List Token) → taken max_depth (tokens text) ≡ Some (d, t ∷ ts) → read text ≡ None
-whole_and_more text d t ts is = ap (λ o. option_and_then of_json (option_and_then (λ p. if_last p.0 p.1) o))
-    (converts (value max_depth (tokens text)) d (t ∷ ts) is).1
-
-pub whole_refused : (text : List ℕ) → taken max_depth (tokens text) ≡ None → read text ≡ None
-whole_refused text is = refused (fails (value max_depth (tokens text)) is)
-  where
-    last : (j : Json) (r : List Token) → of_json j ≡ None → option_and_then of_json (if_last j r) ≡ None
-    last j [] none = none
-    last j (t ∷ ts) none = refl
-
-    refused : Fails (value max_depth (tokens text)) → read text ≡ None
-    refused (inl none) = ap (λ o. option_and_then of_json (option_and_then (λ p. if_last p.0 p.1) o)) none
-    refused (inr found) = ap (λ o. option_and_then of_json (option_and_then (λ p. if_last p.0 p.1) o)) found.2 ∙ last found.0 found.1 found.3
