@@ -63,8 +63,7 @@ fails (Some p) is = made (of_json p.0) refl is
 with_item : (j : Json) (d : Data) (o : Option (json.Items × List Token)) → of_json j ≡ Some d → converted of_items (parse_map (json.item j) o)
     ≡ parse_map (item d) (converted of_items o)
 with_item j d None is = refl
-with_item j d (Some p) is = ap (λ x. option_map (λ b. (b, p.1)) (option_and_then (λ e. option_map (item e) (of_items p.0)) x)) is
-    ∙ paired (item d) p.1 (of_items p.0)
+with_item j d (Some p) is = cc (is, paired (item d) p.1 (of_items p.0))
 
 with_no_item : (j : Json) (o : Option (json.Items × List Token)) → of_json j ≡ None → converted of_items (parse_map (json.item j) o) ≡ None
 with_no_item j None is = refl
@@ -118,8 +117,7 @@ module _ (p : Parse Json) (found : Members) where
       → converted (λ ms. of_members ms found) (members p n ts) ≡ converted (λ ms. of_members ms (put k d found)) (members p (n - 1) r)
   member_read n k ts s r d turns key is =
       let first = converts (p s) d r is in
-      ap (converted (λ ms. of_members ms found)) (members_more p n k ts s r first.0 turns key first.1)
-      ∙ with_member k first.0 d found (members p (n - 1) r) first.2
+      cc (members_more p n k ts s r first.0 turns key first.1, with_member k first.0 d found (members p (n - 1) r) first.2)
 
   -- one whose value is refused
   pub member_refused : (n : ℕ) (k : List ℕ) (ts s : List Token) → read_key ts ≡ Some (Some k, s) → converted of_json (p s) ≡ None

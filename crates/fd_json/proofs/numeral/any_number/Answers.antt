@@ -19,5 +19,5 @@ returns-else-not-is_empty c =
       | else-not-is_empty-via-then-not-is_empty+else-bytes-eq45 w ↦ search rules
       | else-not-is_empty-via-else-not-is_empty w ↦ no_sign c.args.text.now (grind arith)
     ] in
-    let scanned : c.scan-else-not-is_empty.result ≡ scan c.args.text.now = c.scan-else-not-is_empty.ensures.parts ∙ ap scan c.as_bytes-bytes.ensures.value in
+    let scanned : c.scan-else-not-is_empty.result ≡ scan c.args.text.now = cc in
     c.signed-else-not-is_empty.ensures ∙ ap (number_from false) scanned ∙ sym (number_of-plain c.args.text.now sign)

@@ -1,6 +1,5 @@
-use Rattle.std.proofs.Common.{rules, arith, ◌≡◌, ◌==◌, ◌<◌, ℕ, List, drop, true, false, ap, subst, ◌∙◌}
+use Rattle.std.proofs.Common.{rules, arith, ◌≡◌, ◌==◌, ◌<◌, drop, true, false, ap, ◌∙◌}
 use Rattle.std.specs.Prelude.{slice_index}
-use Rattle.std.specs.Str.Parse.{IsNumeral, digits_value}
 use Rattle.fast_float.specs.Text.{minus}
 use Rattle.fd_json.proofs.Signs.{number_of-minus, number_of-plain, no_sign, rest}
 use Rattle.fd_json.proofs.Plain.{number-digits, number-minus_digits, as_signed, as_negative}
@@ -13,8 +12,7 @@ returns-else-size-eq0-clause-value c =
     let n = c.in_ok-size.size in
     let small = c.in_ok-size.ensures.small in
     let some : 0 < n = grind (arith, c.if-size-eq0.false) in
-    let read = subst (λ (s : List ℕ). IsNumeral 10 s × (n ≡ digits_value 10 s)) (rest c.as_bytes-bytes.result.now
-    ∙ ap (drop 1) c.as_bytes-bytes.ensures.value) c.in_ok-size.ensures.value in
+    let read = rw (rest c.as_bytes-bytes.result.now ∙ ap (drop 1) c.as_bytes-bytes.ensures.value) at c.in_ok-size.ensures.value in
     number_of-minus c.args.text.now sign ∙ number-minus_digits (drop 1 c.args.text.now) n read.0 read.1 small some ∙ as_negative n small some
 
 pub returns-in_ok-size-2-clause-value : goal.returns-in_ok-size-2-clause-value
@@ -25,5 +23,5 @@ returns-in_ok-size-2-clause-value c =
     ] in
     let n = c.in_ok-size-2.size in
     let small = c.in_ok-size-2.ensures.small in
-    let read = subst (λ (s : List ℕ). IsNumeral 10 s × (n ≡ digits_value 10 s)) c.as_bytes-bytes.ensures.value c.in_ok-size-2.ensures.value in
+    let read = rw c.as_bytes-bytes.ensures.value at c.in_ok-size-2.ensures.value in
     number_of-plain c.args.text.now sign ∙ number-digits c.args.text.now n read.0 read.1 small ∙ as_signed n small

@@ -1,4 +1,4 @@
-use Rattle.std.proofs.Common.{◌≡◌, ℕ, ℤ, List, [], ◌∷◌, Option, Some, None, false, option_map, option_and_then, sym, ap, ◌∙◌, arith}
+use Rattle.std.proofs.Common.{◌≡◌, ℕ, ℤ, List, [], ◌∷◌, Option, Some, None, false, option_map, ap, ◌∙◌, arith}
 use Rattle.std.specs.Prelude.{Result, Ok, Err, MatchResult}
 use Rattle.json.specs.Token.{Token}
 use Rattle.json.specs.Reads.{token_of}
@@ -36,8 +36,6 @@ returns-in_ok-pass_rest-clause-value c =
     let read = c.in_ok-pass_rest.ensures.value in
     let other : begins_number (token_of c.in_ok-first.first) ≡ false = grind arith in (
       read.0,
-      ap (taken c.args.depth) first
-          ∙ read.1,
-      sym (ap (option_and_then as_i64) (no_number c.args.depth (token_of c.in_ok-first.first) c.next.new.self c.pass_rest.new.reader read.0 other
-          read.1)),
+      cc,
+      cc (no_number c.args.depth (token_of c.in_ok-first.first) c.next.new.self c.pass_rest.new.reader read.0 other read.1),
     )
