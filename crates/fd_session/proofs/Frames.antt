@@ -1,11 +1,11 @@
 -- How the owners of a frame stand, and what the moves of all leave of them.
-use Rattle.std.proofs.Common.{◌≡◌, ℕ, ◌+◌, ◌-◌, ◌*◌, ◌/◌, ◌<◌, ◌≤◌, Bool, true, false, IsTrue, List, [], ◌∷◌, ◌++◌, length, map, take, drop, get_or}
+use Rattle.std.proofs.Common.{◌≡◌, ℕ, ◌+◌, ◌-◌, ◌*◌, ◌/◌, ◌<◌, ◌≤◌, Bool, true, false, IsTrue, List, [], ◌∷◌, ◌++◌, length, map, take, drop, set, get_or}
 use Rattle.std.proofs.Common.{refl, sym, ap, ◌∙◌, subst, arith, inl, inr, All}
 use Rattle.std.specs.Prelude.{None}
 use Rattle.std.specs.List.{AllZip}
 use Rattle.std.proofs.Math.Seq.{take-append_seam}
 use Rattle.std.proofs.lemmas.Bool.{cases_lt}
-use Rattle.std.proofs.lemmas.List.{length-map, get_or-map, map_push, take_more}
+use Rattle.std.proofs.lemmas.List.{length-map, get_or-map, map_push, take_more_set}
 use Rattle.std.proofs.lemmas.List.FromFn.{length-map-range_with_len, get_or-map-range_with_len, map-range_with_len_more}
 use Rattle.std.proofs.lemmas.List.Elements.{All-head, All-tail, All-cons, All-nil, All-get_or, All-push, All-map}
 use Rattle.fd_tile.specs.declared.place.Place.{Place}
@@ -221,12 +221,11 @@ left_down f table low old mid new from gone =
     record { places = all.places ∙ from.places; each = all.each }
 
 -- one owner more stands no lower
-pub all_more : (owners : List Shown) (i : ℕ) (o : Shown) (was low : ℕ) → i < length owners → o ≡ get_or owners i o → low ≤ was → low ≤ position o.history
-    → All (λ (p : Shown). was ≤ position p.history) (take i owners) → All (λ (p : Shown). low ≤ position p.history) (take (i + 1) owners)
-all_more owners i o was low below is less here all =
+pub all_more : (owners : List Shown) (i : ℕ) (o : Shown) (was low : ℕ) → i < length owners → low ≤ was → low ≤ position o.history
+    → All (λ (p : Shown). was ≤ position p.history) (take i owners) → All (λ (p : Shown). low ≤ position p.history) (take (i + 1) (set owners i o))
+all_more owners i o was low below less here all =
     let P : Shown → Type 0 = λ p. low ≤ position p.history in
-    subst (All P) (sym (take_more owners i o below))
-    (All-push P (take i owners) (get_or owners i o) (λ n d within. omega (arith, less, all n d within)) (subst P is here))
+    subst (All P) (sym (take_more_set owners i o below)) (All-push P (take i owners) o (λ n d within. omega (arith, less, all n d within)) here)
 
 -- ---- an owner for each tile
 

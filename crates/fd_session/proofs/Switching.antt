@@ -66,6 +66,17 @@ unswitched_is table switch number on of was = ap (λ (m : ℕ). with_flag (with_
 
 -- ---- what is drawn by it
 
+-- where two tables give a place one history
+stands_by : (old new : Table) (k : ℕ) (o : Shown) → size_of old ≡ size_of new → drawn_history old o.place k ≡ drawn_history new o.place k
+    → Stands false old k o → Stands false new k o
+stands_by old new k o sized same at = record {
+  history = at.history ∙ same;
+  inside = record {
+    right = omega (arith, at.inside.right, ap (λ (s : TargetSize). s.width) sized);
+    bottom = omega (arith, at.inside.bottom, ap (λ (s : TargetSize). s.height) sized);
+  };
+}
+
 module _ (table : Table) (number : ℕ) (on : Bool) where
   abbrev switched : Table
   switched = with_flag table number on
@@ -81,30 +92,14 @@ module _ (table : Table) (number : ℕ) (on : Bool) where
   history_before place k below = history_same switched table place k (λ j x y before under held. same_before j x y before (omega (arith, under, below))) k
       (omega arith)
 
-  inside_with : (place : Place) → IsInside place switched → IsInside place table
-  inside_with place inside =
-      let size = size_with table number on in
-      record {
-        right = omega (arith, inside.right, ap (λ (s : TargetSize). s.width) size);
-        bottom = omega (arith, inside.bottom, ap (λ (s : TargetSize). s.height) size);
-      }
-
   -- one that stands before the event
   pub stood_before : (k : ℕ) (o : Shown) → k < number → Stands false switched k o → Stands false table k o
-  stood_before k o below at = record { history = at.history ∙ history_before o.place k below; inside = inside_with o.place at.inside }
+  stood_before k o below = stands_by switched table k o (size_with table number on) (history_before o.place k below)
 
   pub all_before : (k : ℕ) (owners : List Shown) → k < number → All (Stands false table k) owners → All (Stands false switched k) owners
   all_before k owners below at n d within =
       let o = get_or owners n d in
-      let stands = at n d within in
-      let size = size_with table number on in
-      record {
-        history = stands.history ∙ sym (history_before o.place k below);
-        inside = record {
-          right = omega (arith, stands.inside.right, ap (λ (s : TargetSize). s.width) size);
-          bottom = omega (arith, stands.inside.bottom, ap (λ (s : TargetSize). s.height) size);
-        };
-      }
+      stands_by table switched k o (sym (size_with table number on)) (sym (history_before o.place k below)) (at n d within)
 
 -- ---- what a switch leaves of the owners, before anything is drawn anew
 module _ (table : Table) (switch : Switch) where
@@ -115,10 +110,8 @@ module _ (table : Table) (switch : Switch) where
     place = refl;
     stands = record {
       at = switch.position;
-      stands = record {
-        history = stood.history ∙ spared switch.position (omega arith);
-        inside = inside_with table switch.number switch.was_on o.place stood.inside;
-      };
+      stands = stands_by (unswitched table switch) table switch.position o (size_with table switch.number switch.was_on)
+          (spared switch.position (omega arith)) stood;
       above = omega (arith, reached);
       together = λ t. absurd (cc);
     };

@@ -1,7 +1,6 @@
 //! Moves of all owners of a frame from one position to another.
-ghost use Rattle.std.specs.Prelude.{◌≡◌, ℕ, ◌<◌, ◌≤◌, Bool, length, map, All, IfOk};
+ghost use Rattle.std.specs.Prelude.{◌≡◌, ℕ, ◌<◌, ◌≤◌, Bool, length, map, IfOk};
 ghost use Rattle.std.specs.Result.{result_unwrap_or};
-ghost use Rattle.fd_owner.specs.History.{position};
 ghost use Rattle.fd_crew.specs.Lanes.{opening_position};
 ghost use Rattle.fd_session.specs.Held.{HoldsAll, Stands, StandsFrom, as_kept};
 ghost use Rattle.fd_session.specs.Moves.{MayGo, Comes};
@@ -24,19 +23,6 @@ pub(crate) fn common_position(owners: &[Owner]) -> u32
         Some(owner) => owner.position(),
         None => 0,
     }
-}
-
-/// The lowest position at which one of the owners stands, or this one where none stands lower.
-pub(crate) fn lowest_position(owners: &[Owner], most: u32) -> u32
-    ensures all { All (λ owner. result ≤ position owner.history) owners.now }
-    ensures high { result ≤ most }
-    ensures low { (low : ℕ) → low ≤ most → All (λ owner. low ≤ position owner.history) owners.now → low ≤ result }
-{
-    let mut lowest = most;
-    for owner in owners {
-        lowest = lowest.min(owner.position());
-    }
-    lowest
 }
 
 /// The tiles of a table's target, and an owner of each at position 0. A tile takes its memory when an event first draws on it.

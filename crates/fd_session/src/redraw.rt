@@ -1,14 +1,13 @@
 //! A switch of an event that the owners of a frame have gone through. Tiles that the event can't reach are not drawn anew.
 ghost use Rattle.std.specs.Prelude.{◌≡◌, ◌+◌, ◌≤◌, Some, false, not, length, All};
-ghost use Rattle.std.specs.List.{AllZip};
 ghost use Rattle.fd_events.specs.Table.{with_flag, flag_at};
 ghost use Rattle.fd_crew.specs.Lanes.{opening_position};
-ghost use Rattle.fd_session.specs.Held.{Stands, IsLeft};
+ghost use Rattle.fd_session.specs.Held.{Stands, StandsFrom, IsLeft};
 ghost use Rattle.fd_session.specs.Redraw.{IsTakenBefore};
 ghost use Rattle.fd_session.specs.Switch.{HoldsSwitched, unswitched};
 
 use crate::estimate::Area;
-use crate::moves::{Drive, Way, common_position, go_forward, lowest_position};
+use crate::moves::{Drive, Way, common_position, go_forward};
 use crate::switch::Switch;
 use fd_crew::Gate;
 use fd_device::Untold;
@@ -29,16 +28,21 @@ fn take_before(owner: &mut Owner, table: &EventTable, switch: &Switch)
     owner.back_to(switch.number - 1);
 }
 
-/// Does so with all owners.
-fn take_all_before(owners: &mut [Owner], table: &EventTable, switch: &Switch)
+/// Does so with all owners, and gives the lowest position at which one of them stands then.
+fn take_all_before(owners: &mut [Owner], table: &EventTable, switch: &Switch) -> u32
     requires number { (1 ≤ switch.now.number) × (switch.now.number ≤ switch.now.position) }
     requires reach { HoldsSwitched table.now switch.now }
     requires stood { All (Stands false (unswitched table.now switch.now) switch.now.position) owners.old }
-    ensures { AllZip (IsTakenBefore table.now switch.now) owners.old owners.new }
+    ensures low { switch.now.number ≤ result + 1 }
+    ensures high { result ≤ switch.now.position }
+    ensures left { IsLeft (StandsFrom false table.now result) owners.old owners.new }
 {
+    let mut lowest = switch.position;
     for owner in owners.iter_mut() {
         take_before(owner, table, switch);
+        lowest = lowest.min(owner.position());
     }
+    lowest
 }
 
 /// Switches an event that the owners have gone through, and draws anew what it can reach, in the end all up to one position. Gives that position.
@@ -63,9 +67,8 @@ pub(crate) fn go_again<R: Threads + Sync, G: Gate>(
 {
     let position = common_position(owners);
     let switch = Switch::make(table, number, on, position);
-    take_all_before(owners, table, &switch);
     let way = Way {
-        from: lowest_position(owners, position),
+        from: take_all_before(owners, table, &switch),
         to: position,
         area: Area::round(table, switch.reach),
     };

@@ -2,8 +2,7 @@ use Rattle.std.proofs.Common.{ℕ, ◌-◌, ◌∙◌, All, sym, ap, subst, arit
 use Rattle.fd_events.specs.Table.{Table}
 use Rattle.fd_session.specs.Held.{Stands}
 use Rattle.fd_session.specs.Switch.{unswitched}
-use Rattle.fd_session.proofs.Switching.{all_taken, unswitched_is, events_with}
-use Rattle.fd_session.proofs.Frames.{from_lowest, no_lower}
+use Rattle.fd_session.proofs.Switching.{unswitched_is, events_with}
 use Rattle.fd_session.proofs.redraw.go_again.Goals as goal
 
 pub take_all_before-requires-clause-stood : goal.take_all_before-requires-clause-stood
@@ -17,12 +16,9 @@ take_all_before-requires-clause-stood g c =
 
 pub go_forward-requires-after_bounds : goal.go_forward-requires-after_bounds
 go_forward-requires-after_bounds g c κs outlives =
-    let table = c.make-switch.new.table in
-    let owners = c.take_all_before.new.owners in
-    let taken = all_taken table c.make-switch.result c.args.owners.now owners c.take_all_before.ensures in
     rw c.requires.whole (record {
-      stand = from_lowest table (c.make-switch.result.number - 1) c.lowest_position.result owners taken.each c.lowest_position.ensures.all;
-      ahead = c.lowest_position.ensures.high;
+      stand = c.take_all_before.ensures.left.each;
+      ahead = omega (arith, c.take_all_before.ensures.high, c.make-switch.ensures.position);
       within = omega (
         arith,
         c.requires.reached,
@@ -35,16 +31,9 @@ go_forward-requires-after_bounds g c κs outlives =
 
 pub returns-clause-low : goal.returns-clause-low
 returns-clause-low g c =
-    let table = c.make-switch.new.table in
-    let owners = c.take_all_before.new.owners in
-    let before : ℕ = c.make-switch.result.number - 1 in
-    let taken = all_taken table c.make-switch.result c.args.owners.now owners c.take_all_before.ensures in
-    let from = c.lowest_position.ensures.low before (omega (arith, c.make-switch.ensures.number, c.requires.number, c.common_position-position.ensures))
-    (λ n d below. no_lower false table before (get_or owners n d) (taken.each n d below)) in
-    omega (arith, from, c.make-switch.ensures.number, c.unwrap_or.ensures, c.go_forward.ensures.comes.ahead)
+    omega (arith, c.take_all_before.ensures.low, c.make-switch.ensures.number, c.unwrap_or.ensures, c.go_forward.ensures.comes.ahead)
 
 pub returns-clause-left : goal.returns-clause-left
 returns-clause-left g c =
-    let taken = all_taken c.make-switch.new.table c.make-switch.result c.args.owners.now c.take_all_before.new.owners c.take_all_before.ensures in
     let left = rw (c.requires.whole, ← c.unwrap_or.ensures, c.make-switch.ensures.table) at c.go_forward.ensures.comes.left in
-    record { places = left.places ∙ taken.places; each = left.each }
+    record { places = left.places ∙ c.take_all_before.ensures.left.places; each = left.each }
