@@ -123,8 +123,7 @@ further : (f : Bool) (table : Table) (low to : ℕ) (o p : Shown) (from : Stands
 further f table low to o p from le gone =
     stands_from f table to (as_kept f p)
     (stands_at f table to o.place (as_kept f p) gone.place
-    (ap (λ (q : Place). kept f q p.history) gone.place ∙ ap (kept f o.place) (gone.history ∙ ap (extend_to table o.place to) from.stands.history)
-    ∙ kept_further table o.place from.at to f le) from.stands.inside)
+    (cc (gone.place, gone.history, from.stands.history, kept_further table o.place from.at to f le)) from.stands.inside)
 
 no_further : (table : Table) (place : Place) (to : ℕ) (h : History) → to ≤ position h → extend_to table place to h ≡ h
 no_further table place to h le = let none : to - position h ≡ 0 = omega (arith, le) in ap (λ (n : ℕ). extend_by table place n h) none
@@ -186,8 +185,7 @@ places_settled f [] = refl
 places_settled f (o ∷ owners) = ap (λ (l : List Place). o.place ∷ l) (places_settled f owners)
 
 all_settled : (f : Bool) (P : Shown → Type 0) (old mid new : List Shown) → new ≡ map (as_kept f) mid → IsLeft (λ p. P (as_kept f p)) old mid → IsLeft P old new
-all_settled f P old mid new is left =
-    subst (IsLeft P old) (sym is) (record { places = places_settled f mid ∙ left.places; each = All-map P (as_kept f) mid left.each })
+all_settled f P old mid new is left = rw is (record { places = places_settled f mid ∙ left.places; each = All-map P (as_kept f) mid left.each })
 
 -- how a run of the crew ends
 module _ (f : Bool) (table : Table) (from to : ℕ) (old mid new : List Shown) (stand : All (StandsFrom f table from) old) (is : new ≡ map (as_kept f) mid) where
@@ -239,9 +237,7 @@ pub one_more : (f : Bool) (table : Table) (size : TargetSize) (count : ℕ) (own
 one_more f table size count owners place tile o sized places each is within paints made =
     let placed : o.place ≡ place = ap (λ (s : Shown). s.place) made ∙ ap (λ (t : TileImage). t.place) paints in
     let opened : List (List Pixel) → History = λ rows. record { opening = rows; frames = [] } in (
-      map_push (λ (s : Shown). s.place) owners o ∙ ap (λ (l : List Place). l ++ o.place ∷ []) places
-          ∙ ap (λ (p : Place). first_places size count ++ p ∷ []) (placed ∙ is)
-          ∙ sym (map-range_with_len_more (place_of size) 0 count count (omega arith)),
+      cc (map_push (λ (s : Shown). s.place) owners o, places, placed, is, map-range_with_len_more (place_of size) 0 count count (omega arith)),
       All-push (Stands f table 0) owners o each (stands_at f table 0 place o placed
           (ap (λ (s : Shown). s.history) made ∙ ap (λ (t : TileImage). opened (pixels_of t)) paints ∙ ap opened (pixels_painted place (λ _ _. fresh_pixel))
           ∙ sym (kept_fresh f place) ∙ ap (kept f place) (sym (extend_none table place (fresh_history place))))
@@ -250,14 +246,10 @@ one_more f table size count owners place tile o sized places each is within pain
     )
 
 pub count_placed : (size : TargetSize) (owners : List Shown) → places_of owners ≡ first_places size (tile_count size) → length owners ≡ tile_count size
-count_placed size owners places = sym (length-map owners (λ (o : Shown). o.place)) ∙ ap length places
-    ∙ length-map-range_with_len (place_of size) 0 (tile_count size)
+count_placed size owners places = cc (length-map owners (λ (o : Shown). o.place), places, length-map-range_with_len (place_of size) 0 (tile_count size))
 
 some_tiles : (a b : ℕ) → 1 ≤ a → 1 ≤ b → 0 < (a + 31) / 32 * ((b + 31) / 32)
-some_tiles a b wide high =
-    let across : 1 ≤ (a + 31) / 32 = omega arith in
-    let down : 1 ≤ (b + 31) / 32 = omega arith in
-    grind arith
+some_tiles a b wide high = let down : 1 ≤ (b + 31) / 32 = omega arith in grind arith
 
 -- where all stand is where the first stands
 opening_at : (f : Bool) (table : Table) (k : ℕ) (owners : List Shown) → 0 < length owners → All (Stands f table k) owners → opening_position owners ≡ k
@@ -284,13 +276,12 @@ module _ (f : Bool) (table : Table) (size : TargetSize) (valid : IsTable table) 
 
   -- owners that were lent, and given back at a position
   pub held_back : (old lent new : List Shown) (n k : ℕ) → lent ≡ old → n ≡ length old → places_of old ≡ first_places size (tile_count size)
-      → k ≤ length table.events → IsLeft (Stands f table k) lent new
+      → IsLeft (Stands f table k) lent new → k ≤ length table.events
       → HoldsAll f table size (take n (new ++ drop (length new) old)) × (opening_position (take n (new ++ drop (length new) old)) ≡ k)
-  held_back old lent new n k is all places within left =
+  held_back old lent new n k is all places left within =
       let now : places_of new ≡ first_places size (tile_count size) = left.places ∙ ap places_of is ∙ places in
       let long : n ≡ length new = omega (arith, all, count_placed size old places, count_placed size new now) in
-      let given : take n (new ++ drop (length new) old) ≡ new = ap (λ (m : ℕ). take m (new ++ drop (length new) old)) long
-      ∙ take-append_seam new (drop (length new) old) in
+      let given : take n (new ++ drop (length new) old) ≡ new = cc (long, take-append_seam new (drop (length new) old)) in
       subst (λ (l : List Shown). HoldsAll f table size l × (opening_position l ≡ k)) (sym given) (held_at new k now left.each within)
 
 -- the owner of tile n

@@ -84,9 +84,7 @@ module _ (table : Table) (number : ℕ) (was : Bool) where
       elim (cases_lt k n) [
         | inl below ↦ let here : n ≡ suc k = omega (arith, below, within) in subst (λ (j : ℕ). state_at old j ≡ state_at table j) here is
         | inr above ↦
-            ap (λ (event : Option Event). state_after_event event (state_at old k))
-            (active_other table number was k (λ e. absurd (omega (arith, e, later, above))))
-            ∙ ap (state_after_event (active_event table (suc k))) (state_same n k later is above)
+            cc (active_other table number was k (λ e. absurd (omega (arith, e, later, above))), state_same n k later is above)
       ]
 
   -- up to a position, from another one on which the states are the same
@@ -109,7 +107,7 @@ module _ (table : Table) (number : ℕ) (was : Bool) where
   followed_by event n state box joined later is wider same so_far =
       let here : active_event table (suc n) ≡ event = subst (λ (m : ℕ). active_event table m ≡ event) (add-one n) is in
       let there : active_event old (suc n) ≡ event = active_other table number was n (λ e. absurd (omega (arith, e, later))) ∙ here in
-      subst (λ (m : ℕ). IsFollowed table number was m (state_after_event event state) joined) (sym (add-one n)) (record {
+      rw (add-one n) (record {
         follows = ap (state_after_event event) so_far.follows ∙ ap (λ (e : Option Event). state_after_event e (state_at old n)) (sym there);
         changed = changed_more joined old table n (λ k x y before below right bottom out. so_far.changed k x y before below right bottom (wider x y out))
             (λ x y before right bottom out. rw (there, here) (same (state_at old n) (state_at table n) x y before right bottom out));

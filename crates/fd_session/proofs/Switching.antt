@@ -9,7 +9,7 @@ use Rattle.fd_tile.specs.Grid.{TargetSize}
 use Rattle.fd_events.specs.Table.{Table, IsTable, with_flag, flag_at, active_event, state_at}
 use Rattle.fd_events.proofs.States.{slice_get-set_other, state_of-set}
 use Rattle.fd_owner.specs.History.{drawn_history}
-use Rattle.fd_owner.specs.Shown.{Shown, IsInside, gone_back_to}
+use Rattle.fd_owner.specs.Shown.{Shown, gone_back_to}
 use Rattle.fd_session.specs.Held.{Stands, StandsFrom, size_of, IsLeft}
 use Rattle.fd_session.specs.Redraw.{IsTakenBefore}
 use Rattle.fd_session.specs.Switch.{IsSameAt, IsSpared, unswitched}
@@ -61,8 +61,7 @@ flag_back table (suc n) first second is = ap (λ flags. record table { flags = f
 -- by the table as it is after the switch, the one before it
 pub unswitched_is : (table : Table) (switch : Switch) (number : ℕ) (on : Bool) → switch.number ≡ number → flag_at table number ≡ Some switch.was_on
     → unswitched (with_flag table number on) switch ≡ table
-unswitched_is table switch number on of was = ap (λ (m : ℕ). with_flag (with_flag table number on) m switch.was_on) of
-    ∙ flag_back table number on switch.was_on was
+unswitched_is table switch number on of was = cc (of, flag_back table number on switch.was_on was)
 
 -- ---- what is drawn by it
 

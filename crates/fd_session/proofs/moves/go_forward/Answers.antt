@@ -13,6 +13,5 @@ returns-clause-comes g c =
     rw (← c.unwrap_or.ensures) (record {
       ahead = rw c.unwrap_or.ensures gone.ahead;
       within = rw c.unwrap_or.ensures gone.within;
-      left = left_down c.args.drive.now.forgets c.args.table.now c.unwrap_or.result c.args.owners.now c.go_on-run.new.owners c.run_back.new.lanes
-          (rw c.unwrap_or.ensures gone.left) c.run_back.ensures.moved;
+      left = left_down _ _ c.unwrap_or.result _ _ _ (rw c.unwrap_or.ensures gone.left) c.run_back.ensures.moved;
     })

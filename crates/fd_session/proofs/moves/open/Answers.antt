@@ -7,9 +7,8 @@ use Rattle.fd_session.proofs.moves.open.Goals as goal
 pub loop-number-preserved : goal.loop-number-preserved
 loop-number-preserved c =
     let loop = c.loop-number in
-    let more = λ (forgets : Bool). one_more forgets c.args.table.now c.unwrap-grid.result loop.number loop.owners.items c.place.result c.blank-tile.result
-    c.of.result (search rules) loop.invariant.places (loop.invariant.stand forgets)
-    c.place.ensures.place c.place.ensures.inside c.blank-tile.ensures c.of.ensures in
+    let more = λ (forgets : Bool). one_more forgets c.args.table.now c.unwrap-grid.result _ _ _ _ _ (search rules) loop.invariant.places
+    (loop.invariant.stand forgets) c.place.ensures.place c.place.ensures.inside c.blank-tile.ensures c.of.ensures in
     rw c.in_ok-push.ensures.items (record { places = (more true).0; stand = λ forgets. (more forgets).1 })
 
 pub returns : goal.returns

@@ -1,18 +1,13 @@
-use Rattle.std.proofs.Common.{ℕ, ◌-◌, ◌∙◌, All, sym, ap, subst, arith, length, get_or, false}
+use Rattle.std.proofs.Common.{◌∙◌, ap, arith, length}
 use Rattle.fd_events.specs.Table.{Table}
-use Rattle.fd_session.specs.Held.{Stands}
-use Rattle.fd_session.specs.Switch.{unswitched}
 use Rattle.fd_session.proofs.Switching.{unswitched_is, events_with}
 use Rattle.fd_session.proofs.redraw.go_again.Goals as goal
 
 pub take_all_before-requires-clause-stood : goal.take_all_before-requires-clause-stood
 take_all_before-requires-clause-stood g c =
     let switch = c.make-switch.result in
-    let same = ap (λ (t : Table). unswitched t switch) c.make-switch.ensures.table
-    ∙ unswitched_is c.args.table.now switch c.args.number c.args.on c.make-switch.ensures.number c.make-switch.ensures.was_on in
-    subst (λ (t : Table). All (Stands false t switch.position) c.args.owners.now) (sym same)
-    (subst (λ (k : ℕ). All (Stands false c.args.table.now k) c.args.owners.now) (sym (c.make-switch.ensures.position ∙ c.common_position-position.ensures))
-    c.requires.stand)
+    let same = unswitched_is c.args.table.now switch c.args.number c.args.on c.make-switch.ensures.number c.make-switch.ensures.was_on in
+    rw (c.make-switch.ensures.table, same, c.make-switch.ensures.position, c.common_position-position.ensures) c.requires.stand
 
 pub go_forward-requires-after_bounds : goal.go_forward-requires-after_bounds
 go_forward-requires-after_bounds g c κs outlives =

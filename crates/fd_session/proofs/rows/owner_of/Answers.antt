@@ -1,4 +1,4 @@
-use Rattle.std.proofs.Common.{arith, ap, subst, sym}
+use Rattle.std.proofs.Common.{arith, ap}
 use Rattle.fd_tile.specs.declared.place.Place.{Place}
 use Rattle.fd_tile.specs.Place.{Holds}
 use Rattle.fd_session.specs.Held.{Stands}
@@ -15,11 +15,10 @@ returns c =
     let owner = c.index.result.now in
     let items = c.args.owners.now.items in
     let placed = owner_placed c.args.grid.now items c.requires.places c.tile_of.result owner c.tile_of.ensures.below c.index.ensures in
-    let holds : Holds owner.place c.args.x c.args.y = subst (λ (p : Place). Holds p c.args.x c.args.y) (sym placed) c.tile_of.ensures.holds in
+    let holds : Holds owner.place c.args.x c.args.y = rw placed c.tile_of.ensures.holds in
     record {
       holds = holds;
       within = omega (arith, ap (λ (p : Place). p.left) placed, ap (λ (p : Place). p.width) placed, holds.from_left, holds.to_right);
       narrow = omega (arith, ap (λ (p : Place). p.width) placed);
-      stands = λ forgets table k. owner_at c.args.grid.now items c.requires.places c.tile_of.result owner c.tile_of.ensures.below c.index.ensures
-          (Stands forgets table k);
+      stands = λ forgets table k. owner_at _ items c.requires.places _ owner c.tile_of.ensures.below c.index.ensures (Stands forgets table k);
     }

@@ -1,10 +1,7 @@
-use Rattle.std.proofs.Common.{◌≡◌, ◌+◌, ◌-◌, Option, Some, None, true, false, refl, sym, ap, ◌∙◌, subst, arith}
-use Rattle.std.specs.Prelude.{IfSome}
-use Rattle.fd_events.specs.declared.event.Event.{Event}
-use Rattle.fd_events.specs.declared.pipeline.Pipeline.{Pipeline}
+use Rattle.std.proofs.Common.{◌≡◌, ◌+◌, ◌-◌, Some, None, true, false, refl, ◌∙◌, arith}
 use Rattle.fd_events.specs.Reach.{HoldsWritten}
-use Rattle.fd_events.specs.Table.{flag_at, state_at}
-use Rattle.fd_session.proofs.Spared.{IsFollowed, changed_here, followed_by, followed, outside, active_is}
+use Rattle.fd_events.specs.Table.{flag_at}
+use Rattle.fd_session.proofs.Spared.{changed_here, followed_by, followed, outside, active_is}
 use Rattle.fd_session.proofs.switch.changed_reach.Goals as goal
 
 pub loop-at-init : goal.loop-at-init
@@ -20,13 +17,12 @@ loop-at-preserved-then-is_on c =
     let loop = c.loop-at in
     let event = c.event-event.result.now in
     let on : flag_at table (loop.at + 1) ≡ Some true = cc in
-    let written : HoldsWritten c.reach.result table.width table.height event =
-    subst (λ (e : Option Event). IfSome e (HoldsWritten c.reach.result table.width table.height)) c.event-event.ensures c.reach.ensures.written in
+    let written : HoldsWritten c.reach.result table.width table.height event = rw c.event-event.ensures at c.reach.ensures.written in
     record {
       from = omega (arith, loop.invariant.from);
       to = omega (arith, c.loop-at-test.true);
       followed = λ was is.
-          subst (λ (s : Pipeline). IsFollowed table c.args.number was (loop.at + 1) s c.join-reach.result) (sym c.state_past-state.ensures)
+          rw c.state_past-state.ensures
           (followed_by table c.args.number was (Some event) loop.at loop.state loop.reach c.join-reach.result loop.invariant.from
           (active_is table (loop.at + 1) true on ∙ c.event-event.ensures)
           (λ x y out. (outside c.join-reach.result loop.reach c.reach_by_state.result x y c.join-reach.ensures.both out).0)
@@ -51,5 +47,5 @@ returns-else-not-is_same c = λ was is.
     let table = c.args.table.now in
     let loop = c.loop-at in
     let back : loop.at + 1 - 1 ≡ loop.at = omega arith in
-    followed table c.args.number was loop.at c.args.to loop.state loop.reach loop.invariant.from
-    (c.is_same.ensures c.if-not-is_same.false ∙ c.state_before.ensures ∙ ap (state_at table) back) (loop.invariant.followed was is)
+    followed table _ was loop.at c.args.to loop.state _ loop.invariant.from (cc (c.is_same.ensures c.if-not-is_same.false, c.state_before.ensures, back))
+    (loop.invariant.followed was is)

@@ -1,29 +1,29 @@
-use Rattle.std.proofs.Common.{◌≤◌, refl, ap, subst, sym, arith, false, All, get_or}
+use Rattle.std.proofs.Common.{◌≡◌, ◌≤◌, ℕ, List, refl, ap, arith, false, All}
+use Rattle.fd_tile.specs.Grid.{TargetSize}
+use Rattle.fd_events.specs.Table.{Table}
+use Rattle.fd_owner.specs.Shown.{Shown}
 use Rattle.fd_crew.specs.Lanes.{opening_position}
 use Rattle.fd_session.specs.Machine.{State}
-use Rattle.fd_session.specs.Held.{StandsFrom}
+use Rattle.fd_session.specs.Held.{StandsFrom, HoldsAll}
 use Rattle.fd_session.proofs.Frames.{no_lower, all_above, left_down, held_back}
 use Rattle.fd_session.proofs.session.Session.back_to.Goals as goal
 
+-- what was lent of the owners stands no lower
+lent_from : (table : Table) (size : TargetSize) (to : ℕ) (old lent : List Shown) → lent ≡ old → HoldsAll false table size old → to ≤ opening_position old
+    → All (StandsFrom false table to) lent
+lent_from table size to old lent is held within = rw is (all_above table (opening_position old) to old within held.stand)
+
 pub run_back-requires-after_bounds : goal.run_back-requires-after_bounds
 run_back-requires-after_bounds c κs k d below =
-    let inside = c.self.inside in
-    let within : c.args.to ≤ opening_position inside.owners.items = omega (arith, c.requires, ap (λ (s : State). s.position) c.self.view_is) in
-    let stands = subst (All (StandsFrom false inside.table c.args.to)) (sym c.deref_mut.ensures.value)
-    (all_above inside.table (opening_position inside.owners.items) c.args.to inside.owners.items within c.self.invariant.0.stand) in
-    no_lower false inside.table c.args.to (get_or c.deref_mut.result.now k d) (stands k d below)
+    no_lower false _ c.args.to _ (lent_from _ _ c.args.to _ _ c.deref_mut.ensures.value c.self.invariant.0
+    (omega (arith, c.requires, ap (λ (s : State). s.position) c.self.view_is)) k d below)
 
 pub invariant_of-self : goal.invariant_of-self
 invariant_of-self c =
-    let inside = c.self.inside in
     let held = c.self.invariant.0 in
-    let within : c.args.to ≤ opening_position inside.owners.items = omega (arith, c.requires, ap (λ (s : State). s.position) c.self.view_is) in
-    let stands = subst (All (StandsFrom false inside.table c.args.to)) (sym c.deref_mut.ensures.value)
-    (all_above inside.table (opening_position inside.owners.items) c.args.to inside.owners.items within held.stand) in
-    let left = left_down false inside.table c.args.to c.deref_mut.result.now c.deref_mut.result.now c.run_back.new.lanes
-    (record { places = refl; each = stands }) c.run_back.ensures.moved in (
-      (held_back false inside.table inside.grid held.valid held.sized inside.owners.items c.deref_mut.result.now c.run_back.new.lanes inside.owners.len
-          c.args.to c.deref_mut.ensures.value inside.owners.ok.0 held.places (omega (arith, within, held.reached)) left).0,
-      c.self.invariant.1,
-      c.self.invariant.2,
-    )
+    let within : c.args.to ≤ opening_position c.self.inside.owners.items = omega (arith, c.requires, ap (λ (s : State). s.position) c.self.view_is) in
+    let left = left_down false _ c.args.to _ _ _ (record { places = refl; each = lent_from _ _ c.args.to _ _ c.deref_mut.ensures.value held within })
+    c.run_back.ensures.moved in
+    let there = held_back false _ _ held.valid held.sized _ _ _ _ _ c.deref_mut.ensures.value c.self.inside.owners.ok.0 held.places left
+    (omega (arith, within, held.reached)) in
+    (there.0, c.self.invariant.1, c.self.invariant.2)

@@ -1,7 +1,6 @@
 use Rattle.std.proofs.Common.{◌≡◌, subst, length, map, false}
 use Rattle.std.specs.List.{range_with_len}
 use Rattle.fd_events.specs.Image.{colour_at}
-use Rattle.fd_crew.specs.Lanes.{opening_position}
 use Rattle.fd_session.specs.Machine.{State}
 use Rattle.fd_session.proofs.session.SessionShows.row_from.Goals as goal
 
@@ -9,4 +8,4 @@ pub returns-clause-colours : goal.returns-clause-colours
 returns-clause-colours c =
     let row = c.row_from.result.now in
     subst (λ (s : State). row ≡ map (λ column. colour_at s.table s.position column c.args.y) (range_with_len c.args.x (length row))) c.self.view_is
-    (c.row_from.ensures.colours false c.self.inside.table (opening_position c.self.inside.owners.items) c.self.invariant.0.stand)
+    (c.row_from.ensures.colours false _ _ c.self.invariant.0.stand)
