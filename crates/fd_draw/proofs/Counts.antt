@@ -1,7 +1,7 @@
 -- How many pixels and spans of a place are written.
-use Rattle.std.proofs.Common.{◌≡◌, ℕ, zero, suc, ◌+◌, ◌-◌, ◌*◌, ◌<◌, ◌≤◌, ◌⊎◌, inl, inr, Bool, true, false, cond, eqb, ◌&&◌, refl, ap, ◌∙◌, arith, Option, max}
+use Rattle.std.proofs.Common.{◌≡◌, ℕ, zero, suc, ◌+◌, ◌-◌, ◌*◌, ◌<◌, ◌≤◌, ◌⊎◌, inl, inr, Bool, true, false, cond, ◌&&◌, refl, ap, ◌∙◌, arith, Option, max}
 use Rattle.std.specs.Prelude.{Some, None, min}
-use Rattle.std.proofs.lemmas.Bool.{cases_lt, eq-eqb, ne_eqb}
+use Rattle.std.proofs.lemmas.Bool.{eq-eqb}
 use Rattle.std.proofs.lemmas.Bool.Decides.{nat_tests}
 use Rattle.fd_cover.specs.declared.bounds.Bounds.{Bounds}
 use Rattle.fd_cover.specs.Bounds.{is_within}
@@ -23,59 +23,34 @@ total_same f g a (suc n) same =
     omega (arith, here, rest)
 
 pub total_constant : (c a n : ℕ) → total (λ _. c) a n ≡ n * c
-total_constant c a zero =
-    let none : total (λ _. c) a 0 ≡ 0 = refl in
-    omega (arith, none)
-total_constant c a (suc n) =
-    let rest : total (λ _. c) (a + 1) n ≡ n * c = total_constant c (a + 1) n in
-    grind (arith, rest)
+total_constant c a zero = grind arith
+total_constant c a (suc n) = let rest = total_constant c (a + 1) n in grind arith
 
 pub total_nothing : (f : ℕ → ℕ) (a n : ℕ) → ((k : ℕ) → a ≤ k → k < a + n → f k ≡ 0) → total f a n ≡ 0
 total_nothing f a n none = total_same f (λ _. 0) a n none ∙ total_constant 0 a n ∙ omega arith
 
 pub total_split : (f : ℕ → ℕ) (a n m : ℕ) → total f a (n + m) ≡ total f a n + total f (a + n) m
-total_split f a zero m =
-    let place : total f a m ≡ total f (a + 0) m = ap (λ b. total f b m) {x = a} {y = a + 0} (omega arith) in
-    let none : total f a 0 ≡ 0 = refl in
-    let whole : total f a (0 + m) ≡ total f a m = ap (λ k. total f a k) {x = 0 + m} {y = m} (omega arith) in
-    omega (arith, whole, place, none)
+total_split f a zero m = grind arith
 total_split f a (suc n) m =
-    let rest : total f (a + 1) (n + m) ≡ total f (a + 1) n + total f (a + 1 + n) m = total_split f (a + 1) n m in
-    let place : total f (a + 1 + n) m ≡ total f (a + suc n) m = ap (λ b. total f b m) {x = a + 1 + n} {y = a + suc n} (omega arith) in
+    let rest = total_split f (a + 1) n m in
     let step : total f a (suc n + m) ≡ f a + total f (a + 1) (n + m) = ap (λ k. total f a k) {x = suc n + m} {y = suc (n + m)} (omega arith) in
-    omega (arith, rest, place, step)
+    grind arith
 
 -- a sum may leave out what adds nothing at both ends
-pub total_cut : (f : ℕ → ℕ) (a n b m : ℕ) → a ≤ b → b + m ≤ a + n
-    → ((k : ℕ) → a ≤ k → k < a + n → (k < b) ⊎ (b + m ≤ k) → f k ≡ 0) → total f a n ≡ total f b m
-total_cut f a n b m low high none =
-    let parts : total f a n ≡ total f a ((b - a) + (m + (a + n - (b + m)))) = ap (λ k. total f a k) {x = n} {y = (b - a) + (m + (a + n - (b + m)))}
-    (omega arith) in
-    let first = total_split f a (b - a) (m + (a + n - (b + m))) in
-    let place : total f (a + (b - a)) (m + (a + n - (b + m))) ≡ total f b (m + (a + n - (b + m))) = ap (λ k. total f k (m + (a + n - (b + m))))
-    {x = a + (b - a)} {y = b} (omega arith) in
-    let second = total_split f b m (a + n - (b + m)) in
-    let before : total f a (b - a) ≡ 0 = total_nothing f a (b - a) (λ k from to. none k from (omega arith) (inl (omega arith))) in
-    let after : total f (b + m) (a + n - (b + m)) ≡ 0 = total_nothing f (b + m) (a + n - (b + m))
-    (λ k from to. none k (omega arith) (omega arith) (inr from)) in
-    omega (arith, parts, first, place, second, before, after)
+pub total_cut : (f : ℕ → ℕ) (a n b c : ℕ) → a ≤ b → b ≤ c → c ≤ a + n
+    → ((k : ℕ) → a ≤ k → k < a + n → (k < b) ⊎ (c ≤ k) → f k ≡ 0) → total f a n ≡ total f b (c - b)
+total_cut f a n b c low order high none =
+    let parts : n ≡ (b - a) + ((c - b) + (a + n - c)) = omega arith in
+    let first = total_split f a (b - a) ((c - b) + (a + n - c)) in
+    let second = total_split f b (c - b) (a + n - c) in
+    let before = total_nothing f a (b - a) (λ k from to. none k from (omega arith) (inl (omega arith))) in
+    let after = total_nothing f c (a + n - c) (λ k from to. none k (omega arith) (omega arith) (inr from)) in
+    grind arith
 
 pub total_more : (f : ℕ → ℕ) (y bottom : ℕ) → y < bottom → total f y (bottom - y) ≡ f y + total f (y + 1) (bottom - (y + 1))
 total_more f y bottom below = ap (λ n. total f y n) {x = bottom - y} {y = suc (bottom - (y + 1))} (omega arith)
 
-pub total_none : (f : ℕ → ℕ) (y bottom : ℕ) → bottom ≤ y → total f y (bottom - y) ≡ 0
-total_none f y bottom past = ap (λ n. total f y n) {x = bottom - y} {y = 0} (omega arith)
-
 -- ---- the pixels of a row
-
-pub in_span-inside : (l r x : ℕ) → l ≤ x → x < r → in_span (Some (l, r)) x ≡ true
-in_span-inside l r x low high = grind (arith, nat_tests)
-
-pub in_span-before : (l r x : ℕ) → x < l → in_span (Some (l, r)) x ≡ false
-in_span-before l r x low = grind (arith, nat_tests)
-
-pub in_span-after : (l r x : ℕ) → r ≤ x → in_span (Some (l, r)) x ≡ false
-in_span-after l r x high = grind (arith, nat_tests)
 
 total_span : (f : ℕ → Bool) (l r a n : ℕ) → ((x : ℕ) → a ≤ x → x < a + n → f x ≡ in_span (Some (l, r)) x)
     → total (λ x. cond (f x) 1 0) a n ≡ min r (a + n) - max l a
@@ -84,15 +59,7 @@ total_span f l r a (suc n) same =
     let rest : total (λ x. cond (f x) 1 0) (a + 1) n ≡ min r (a + 1 + n) - max l (a + 1) =
     total_span f l r (a + 1) n (λ x low high. same x (omega arith) (omega arith)) in
     let here : f a ≡ in_span (Some (l, r)) a = same a (omega arith) (omega arith) in
-    total_span_step f l r a n here rest (cases_lt a l) (cases_lt a r)
-  where
-    total_span_step : (f : ℕ → Bool) (l r a n : ℕ) → f a ≡ in_span (Some (l, r)) a
-        → total (λ x. cond (f x) 1 0) (a + 1) n ≡ min r (a + 1 + n) - max l (a + 1)
-        → (a < l) ⊎ (l ≤ a) → (a < r) ⊎ (r ≤ a)
-        → cond (f a) 1 0 + total (λ x. cond (f x) 1 0) (a + 1) n ≡ min r (a + suc n) - max l a
-    total_span_step f l r a n here rest (inl low) high = rw (here, in_span-before l r a low) (omega arith)
-    total_span_step f l r a n here rest (inr low) (inl high) = rw (here, in_span-inside l r a low high) (omega arith)
-    total_span_step f l r a n here rest (inr low) (inr high) = rw (here, in_span-after l r a high) (omega arith)
+    grind (arith, nat_tests)
 
 no_pixel : (written : ℕ → ℕ → Bool) (y left width : ℕ) → ((x : ℕ) → left ≤ x → x < left + width → written x y ≡ false)
     → total (λ x. cond (written x y) 1 0) left width ≡ 0
@@ -114,11 +81,7 @@ written_in_row-le written p y = total_le (λ x. written x y) p.left p.width
   where
     total_le : (f : ℕ → Bool) (a n : ℕ) → total (λ x. cond (f x) 1 0) a n ≤ n
     total_le f a zero = omega arith
-    total_le f a (suc n) = step (f a) (total (λ x. cond (f x) 1 0) (a + 1) n) n (total_le f (a + 1) n)
-      where
-        step : (b : Bool) (m n : ℕ) → m ≤ n → cond b 1 0 + m ≤ suc n
-        step true m n h = omega arith
-        step false m n h = omega arith
+    total_le f a (suc n) = let rest = total_le f (a + 1) n in grind arith
 
 -- ---- a box in a place
 
@@ -132,9 +95,7 @@ and_true a b is = rw is refl
 pub box_span : (covered : ℕ → ℕ → Bool) (box : Bounds) (y : ℕ) (span : Option (ℕ × ℕ)) → box.left ≤ box.right
     → IsRowSpan (λ x. covered x y) box.left box.right span
     → IsRowSpan (λ x. covered x y) (place_of_box box).left ((place_of_box box).left + (place_of_box box).width) span
-box_span covered box y span order is =
-    let right : box.left + (box.right - box.left) ≡ box.right = omega arith in
-    rw right is
+box_span covered box y span order is = grind arith
 
 -- no pixel is written in rows outside the box
 module _ (written covered : ℕ → ℕ → Bool) (p : Place) (box : Bounds) (inside : LiesIn box p) (is : IsWrittenIn written covered p box) where
@@ -144,54 +105,35 @@ module _ (written covered : ℕ → ℕ → Bool) (p : Place) (box : Bounds) (in
       (λ x low high. is x y (record { from_left = low; to_right = high; from_top = from; to_bottom = to })
       ∙ and_false (is_within box x y) (covered x y) (outside_row box x y out))
 
-  pub row_spans-outside : (y : ℕ) → p.top ≤ y → y < p.top + p.height → (y < box.top) ⊎ (box.bottom ≤ y) → row_spans written p y ≡ 0
-  row_spans-outside y from to out = omega (arith, written_in_row-outside y from to out)
-
   -- in the others, those that are covered in it
   written_in_row-inside : (y : ℕ) → box.top ≤ y → y < box.bottom → written_in_row written p y ≡ written_in_row covered (place_of_box box) y
   written_in_row-inside y from to =
       let held : (x : ℕ) → p.left ≤ x → x < p.left + p.width → Holds p x y =
       λ x low high. record { from_left = low; to_right = high; from_top = omega (arith, inside.from_top); to_bottom = omega (arith, inside.to_bottom) } in
-      total_cut (λ x. cond (written x y) 1 0) p.left p.width box.left (box.right - box.left) inside.from_left (omega (arith, inside.columns, inside.to_right))
-      (λ x low high out.
-      ap (λ b. cond b 1 0) (is x y (held x low high) ∙ and_false (is_within box x y) (covered x y) (outside_column box x y (beside x out))))
+      total_cut (λ x. cond (written x y) 1 0) p.left p.width box.left box.right inside.from_left inside.columns inside.to_right
+      (λ x low high out. ap (λ b. cond b 1 0) (is x y (held x low high) ∙ and_false (is_within box x y) (covered x y) (outside_column box x y out)))
       ∙ total_same (λ x. cond (written x y) 1 0) (λ x. cond (covered x y) 1 0) box.left (box.right - box.left)
-      (λ x low high.
-      ap (λ b. cond b 1 0)
+      (λ x low high. ap (λ b. cond b 1 0)
       (is x y (held x (omega (arith, inside.from_left)) (omega (arith, inside.to_right)))
       ∙ and_true (is_within box x y) (covered x y) (within_from box x y low (omega (arith, inside.columns)) from to)))
-    where
-      beside : (x : ℕ) → (x < box.left) ⊎ (box.left + (box.right - box.left) ≤ x) → (x < box.left) ⊎ (box.right ≤ x)
-      beside x (inl low) = inl low
-      beside x (inr high) = inr (omega (arith, inside.columns))
-
-  under : (y : ℕ) → (y < box.top) ⊎ (box.top + (box.bottom - box.top) ≤ y) → (y < box.top) ⊎ (box.bottom ≤ y)
-  under y (inl low) = inl low
-  under y (inr high) = inr (omega (arith, inside.rows))
 
   -- the rows of the box are enough
+  rows_cut : (f : ℕ → ℕ) → ((y : ℕ) → p.top ≤ y → y < p.top + p.height → (y < box.top) ⊎ (box.bottom ≤ y) → f y ≡ 0)
+      → total f p.top p.height ≡ total f box.top (box.bottom - box.top)
+  rows_cut f none = total_cut f p.top p.height box.top box.bottom inside.from_top inside.rows inside.to_bottom none
+
   pub pixels_in-rows : pixels_in written p ≡ total (written_in_row written p) box.top (box.bottom - box.top)
-  pixels_in-rows =
-      total_cut (written_in_row written p) p.top p.height box.top (box.bottom - box.top) inside.from_top (omega (arith, inside.rows, inside.to_bottom))
-      (λ y from to out. written_in_row-outside y from to (under y out))
+  pixels_in-rows = rows_cut (written_in_row written p) written_in_row-outside
 
   pub spans_in-rows : spans_in written p ≡ total (row_spans written p) box.top (box.bottom - box.top)
-  spans_in-rows =
-      total_cut (row_spans written p) p.top p.height box.top (box.bottom - box.top) inside.from_top (omega (arith, inside.rows, inside.to_bottom))
-      (λ y from to out. row_spans-outside y from to (under y out))
+  spans_in-rows = rows_cut (row_spans written p) (λ y from to out. omega (arith, written_in_row-outside y from to out))
 
   -- and what is covered in it
   pub pixels_in-box : pixels_in written p ≡ pixels_in covered (place_of_box box)
-  pixels_in-box =
-      pixels_in-rows
-      ∙ total_same (written_in_row written p) (written_in_row covered (place_of_box box)) box.top (box.bottom - box.top)
-      (λ y from to. written_in_row-inside y from (omega (arith, inside.rows)))
+  pixels_in-box = grind (arith, pixels_in-rows, total_same, written_in_row-inside)
 
   pub spans_in-box : spans_in written p ≡ spans_in covered (place_of_box box)
-  spans_in-box =
-      spans_in-rows
-      ∙ total_same (row_spans written p) (row_spans covered (place_of_box box)) box.top (box.bottom - box.top)
-      (λ y from to. ap (λ n. min 1 n) (written_in_row-inside y from (omega (arith, inside.rows))))
+  spans_in-box = grind (arith, spans_in-rows, total_same, written_in_row-inside)
 
 -- nothing is written
 module _ (written : ℕ → ℕ → Bool) (p : Place) (none : (x y : ℕ) → Holds p x y → written x y ≡ false) where
@@ -207,20 +149,15 @@ module _ (written : ℕ → ℕ → Bool) (p : Place) (none : (x y : ℕ) → Ho
 -- one row is written
 module _ (written : ℕ → ℕ → Bool) (p : Place) (y : ℕ) (crossed : HasRow p y) where
   other_row : (k : ℕ) → (k < y) ⊎ (y + 1 ≤ k) → written_in_row (in_row written y) p k ≡ 0
-  other_row k out = no_pixel (in_row written y) k p.left p.width (λ x low high. and_false (eqb k y) (written x k) (ne_eqb k y (apart out)))
-    where
-      apart : (k < y) ⊎ (y + 1 ≤ k) → k ≡ y → ⊥
-      apart (inl low) same = absurd (omega arith)
-      apart (inr high) same = absurd (omega arith)
+  other_row k out = no_pixel (in_row written y) k p.left p.width (λ x low high. grind (arith, nat_tests))
 
   this_row : written_in_row (in_row written y) p y ≡ written_in_row written p y
-  this_row = total_same (λ x. cond (in_row written y x y) 1 0) (λ x. cond (written x y) 1 0) p.left p.width
-      (λ x low high. ap (λ b. cond b 1 0) (and_true (eqb y y) (written x y) (eq-eqb y y refl)))
+  this_row = total_same _ _ p.left p.width (λ x low high. rw (eq-eqb y y refl) refl)
 
   one_row : (f : ℕ → ℕ) → ((k : ℕ) → (k < y) ⊎ (y + 1 ≤ k) → f k ≡ 0) → total f p.top p.height ≡ f y
   one_row f none =
-      let alone : total f y 1 ≡ f y + 0 = refl in
-      total_cut f p.top p.height y 1 crossed.from_top (omega (arith, crossed.to_bottom)) (λ k from to out. none k out) ∙ omega (arith, alone)
+      let one : y + 1 - y ≡ suc 0 = omega arith in
+      total_cut f p.top p.height y (y + 1) crossed.from_top (omega arith) (omega (arith, crossed.to_bottom)) (λ k _ _ out. none k out) ∙ rw one (omega arith)
 
   pub pixels_in-row : pixels_in (in_row written y) p ≡ written_in_row written p y
   pixels_in-row = one_row (written_in_row (in_row written y) p) other_row ∙ this_row

@@ -1,5 +1,5 @@
 -- A box of a tile, row by row: what is painted so far, and the room that is left.
-use Rattle.std.proofs.Common.{◌≡◌, ℕ, ◌+◌, ◌-◌, ◌<◌, ◌≤◌, Bool, true, false, cond, List, Some, refl, sym, ap, ◌∙◌, subst, arith}
+use Rattle.std.proofs.Common.{◌≡◌, ℕ, ◌+◌, ◌-◌, ◌<◌, ◌≤◌, Bool, true, false, cond, List, Some, sym, ap, ◌∙◌, subst, arith}
 use Rattle.fd_cover.specs.declared.bounds.Bounds.{Bounds}
 use Rattle.fd_tile.specs.declared.place.Place.{Place}
 use Rattle.fd_tile.specs.Place.{HasRow}
@@ -7,11 +7,10 @@ use Rattle.fd_tile.specs.Tile.{Pixel, TileImage, IsTileImage}
 use Rattle.fd_undo.specs.Undo.{Undo}
 use Rattle.fd_draw.specs.Area.{LiesIn, IsWrittenIn}
 use Rattle.fd_draw.specs.Demand.{total, written_in_row, row_spans, pixels_in, region_spans}
-use Rattle.fd_draw.specs.Paints.{Paints}
 use Rattle.fd_draw.specs.Span.{IsRowSpan}
-use Rattle.fd_draw.specs.Writing.{HasRoom, WritesRegion, after_where, kept_where, columns_between, in_row}
-use Rattle.fd_draw.proofs.Counts.{total_more, total_none, pixels_in-rows, spans_in-rows, pixels_in-row, spans_in-row, written_in_row-span}
-use Rattle.fd_draw.proofs.Painting.{above, Paints-first, Paints-row, Paints-last}
+use Rattle.fd_draw.specs.Writing.{HasRoom, WritesRegion, columns_between, in_row}
+use Rattle.fd_draw.proofs.Counts.{total_more, pixels_in-rows, spans_in-rows, pixels_in-row, spans_in-row, written_in_row-span}
+use Rattle.fd_draw.proofs.Painting.{above, PaintsIn, Paints-first, Paints-row}
 use Rattle.fd_draw.proofs.PixelTests.{row_count, Paints-row_done}
 
 -- the spans of a row, where each pixel may be one of its own
@@ -26,24 +25,25 @@ region_spans-row false written p y crossed = spans_in-row written p y crossed
 -- the rows above this one are done, and the room for the others is left
 pub record AreRowsDone (tested : Bool) (written : ℕ → ℕ → Bool) (paint : ℕ → ℕ → Pixel → Pixel) (keep : ℕ → ℕ → Pixel → List Pixel) (bottom row : ℕ)
     (t : TileImage) (u : Undo) (t' : TileImage) (u' : Undo) : Type 0 where
-  pub painted : Paints (after_where (above written row) paint) (kept_where (above written row) keep) t u t' u'
+  pub painted : PaintsIn (above written row) paint keep t u t' u'
   pub spans : u.spans_left + total (row_spans_of tested written t.place) row (bottom - row) ≤ u'.spans_left + region_spans tested written t.place
   pub pixels : u.pixels_left + total (written_in_row written t.place) row (bottom - row) ≤ u'.pixels_left + pixels_in written t.place
 
-module _ (tested : Bool) (written covered : ℕ → ℕ → Bool) (paint : ℕ → ℕ → Pixel → Pixel) (keep : ℕ → ℕ → Pixel → List Pixel) (t : TileImage) (u : Undo)
-    (box : Bounds) (inside : LiesIn box t.place) (is : IsWrittenIn written covered t.place box) where
-  region_spans-rows : (b : Bool) → region_spans b written t.place ≡ total (row_spans_of b written t.place) box.top (box.bottom - box.top)
-  region_spans-rows true = pixels_in-rows written covered t.place box inside is
-  region_spans-rows false = spans_in-rows written covered t.place box inside is
+region_spans-rows : (tested : Bool) (written covered : ℕ → ℕ → Bool) {p : Place} {box : Bounds} → LiesIn box p → IsWrittenIn written covered p box
+    → region_spans tested written p ≡ total (row_spans_of tested written p) box.top (box.bottom - box.top)
+region_spans-rows true written covered inside is = pixels_in-rows written covered _ _ inside is
+region_spans-rows false written covered inside is = spans_in-rows written covered _ _ inside is
 
+module _ {tested : Bool} {written : ℕ → ℕ → Bool} (covered : ℕ → ℕ → Bool) {paint : ℕ → ℕ → Pixel → Pixel} {keep : ℕ → ℕ → Pixel → List Pixel}
+    {t : TileImage} {u : Undo} {box : Bounds} (inside : LiesIn box t.place) (is : IsWrittenIn written covered t.place box) where
   pub rows_first : IsTileImage t → u.frame_left ≡ false → AreRowsDone tested written paint keep box.bottom box.top t u t u
   rows_first filled begun = record {
-    painted = Paints-first written paint keep covered t box is u filled begun;
-    spans = omega (arith, region_spans-rows tested);
+    painted = Paints-first written covered paint keep t box is filled begun;
+    spans = omega (arith, region_spans-rows tested written covered inside is);
     pixels = omega (arith, pixels_in-rows written covered t.place box inside is);
   }
 
-  module _ (row : ℕ) (from : box.top ≤ row) (to : row < box.bottom) (t' : TileImage) (u' : Undo)
+  module _ {row : ℕ} (from : box.top ≤ row) (to : row < box.bottom) {t' : TileImage} {u' : Undo}
       (done : AreRowsDone tested written paint keep box.bottom row t u t' u') where
     pub row_crossed : HasRow t.place row
     row_crossed = record { from_top = omega (arith, inside.from_top); to_bottom = omega (arith, inside.to_bottom) }
@@ -65,34 +65,30 @@ module _ (tested : Bool) (written covered : ℕ → ℕ → Bool) (paint : ℕ �
           pixels = omega (arith, more_pixels, done.pixels, room.pixels);
         })
 
-    pub rows_next : (t'' : TileImage) (u'' : Undo) → WritesRegion (region_spans tested (in_row written row) t'.place) (pixels_in (in_row written row) t'.place)
+    pub rows_next : {t'' : TileImage} {u'' : Undo} → WritesRegion (region_spans tested (in_row written row) t'.place) (pixels_in (in_row written row) t'.place)
         (in_row written row) paint keep t' u' t'' u''
         → AreRowsDone tested written paint keep box.bottom (row + 1) t u t'' u''
-    rows_next t'' u'' writes = record {
-      painted = Paints-row written paint keep row t t' t'' u u' u'' done.painted writes.painted;
+    rows_next writes = record {
+      painted = Paints-row written paint keep row done.painted writes.painted;
       spans = omega (arith, more_spans, ap (λ (q : Place). region_spans tested (in_row written row) q) done.painted.placed, done.spans, writes.spans);
       pixels = omega (arith, more_pixels, ap (λ (q : Place). pixels_in (in_row written row) q) done.painted.placed, done.pixels, writes.pixels);
     }
 
-  pub rows_last : (row : ℕ) (t' : TileImage) (u' : Undo) → box.bottom ≤ row → AreRowsDone tested written paint keep box.bottom row t u t' u'
+  pub rows_last : {row : ℕ} {t' : TileImage} {u' : Undo} → box.bottom ≤ row → AreRowsDone tested written paint keep box.bottom row t u t' u'
       → WritesRegion (region_spans tested written t.place) (pixels_in written t.place) written paint keep t u t' u'
-  rows_last row t' u' last done = record {
-    painted = Paints-last written paint keep covered t box is row t' u u' last done.painted;
-    spans = omega (arith, total_none (row_spans_of tested written t.place) row box.bottom last, done.spans);
-    pixels = omega (arith, total_none (written_in_row written t.place) row box.bottom last, done.pixels);
-  }
+  rows_last last done = grind arith
 
 -- a row in which one span is written
-module _ (tested : Bool) (written : ℕ → ℕ → Bool) (t : TileImage) (u : Undo) (y first last : ℕ) (crossed : HasRow t.place y)
-    (span : IsRowSpan (λ x. written x y) t.place.left (t.place.left + t.place.width) (Some (first, last))) where
-  span_pixels : pixels_in (in_row written y) t.place ≡ last - first
-  span_pixels = row_count written t.place y first last crossed span
+module _ (tested : Bool) (written : ℕ → ℕ → Bool) {p : Place} {y first last : ℕ} (crossed : HasRow p y)
+    (span : IsRowSpan (λ x. written x y) p.left (p.left + p.width) (Some (first, last))) where
+  span_pixels : pixels_in (in_row written y) p ≡ last - first
+  span_pixels = row_count written crossed span
 
-  span_spans : (b : Bool) → region_spans b (in_row written y) t.place ≡ cond b (last - first) 1
+  span_spans : (b : Bool) → region_spans b (in_row written y) p ≡ cond b (last - first) 1
   span_spans true = span_pixels
-  span_spans false = spans_in-row written t.place y crossed ∙ omega (arith, written_in_row-span written t.place y first last span, span.bounds.1)
+  span_spans false = spans_in-row written p y crossed ∙ omega (arith, written_in_row-span written p y first last span, span.bounds.1)
 
-  pub span_room : HasRoom (region_spans tested (in_row written y) t.place) (pixels_in (in_row written y) t.place) u
+  pub span_room : {u : Undo} → HasRoom (region_spans tested (in_row written y) p) (pixels_in (in_row written y) p) u
       → HasRoom (cond tested (last - first) 1) (last - first) u
   span_room room = record {
     begun = room.begun;
@@ -100,11 +96,12 @@ module _ (tested : Bool) (written : ℕ → ℕ → Bool) (t : TileImage) (u : U
     pixels = omega (arith, span_pixels, room.pixels);
   }
 
-  pub span_done : (paint : ℕ → ℕ → Pixel → Pixel) (keep : ℕ → ℕ → Pixel → List Pixel) (t' : TileImage) (u' : Undo)
+  pub span_done : {paint : ℕ → ℕ → Pixel → Pixel} {keep : ℕ → ℕ → Pixel → List Pixel} {t t' : TileImage} {u u' : Undo}
+      → t.place ≡ p
       → WritesRegion (cond tested (last - first) 1) (last - first) (in_row (columns_between first last) y) paint keep t u t' u'
-      → WritesRegion (region_spans tested (in_row written y) t.place) (pixels_in (in_row written y) t.place) (in_row written y) paint keep t u t' u'
-  span_done paint keep t' u' writes = record {
-    painted = Paints-row_done written t.place y first last crossed span paint keep t t' u u' refl writes.painted;
+      → WritesRegion (region_spans tested (in_row written y) p) (pixels_in (in_row written y) p) (in_row written y) paint keep t u t' u'
+  span_done placed writes = record {
+    painted = Paints-row_done written crossed span _ _ placed writes.painted;
     spans = omega (arith, span_spans tested, writes.spans);
     pixels = omega (arith, span_pixels, writes.pixels);
   }

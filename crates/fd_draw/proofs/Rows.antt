@@ -1,5 +1,5 @@
 -- Rows that are changed pixel by pixel.
-use Rattle.std.proofs.Common.{◌≡◌, ℕ, ◌+◌, ◌-◌, ◌<◌, ◌≤◌, List, [], ◌∷◌, ◌++◌, length, take, drop, get_or, map, refl, ap, ◌∙◌, arith, length-append}
+use Rattle.std.proofs.Common.{◌≡◌, ℕ, ◌+◌, ◌<◌, ◌≤◌, List, [], ◌∷◌, ◌++◌, length, take, get_or, map, refl, ap, ◌∙◌, arith, length-append}
 use Rattle.std.proofs.Common.{length-drop}
 use Rattle.std.specs.List.{enumerate_from, range_with_len}
 use Rattle.std.proofs.lemmas.List.{length-map, get_or-map, length-take, get_or-take, get_or-drop, get_or_append_left, get_or-append_right}
@@ -17,7 +17,7 @@ use Rattle.fd_draw.specs.Written.{colour_blended}
 use Rattle.fd_draw.specs.Row.{changed_row}
 
 pub length-changed_row : (change : ℕ → Colour → Colour) (x : ℕ) (row : List Colour) → length (changed_row change x row) ≡ length row
-length-changed_row change x row = length-map (enumerate_from x row) (λ p. change p.0 p.1) ∙ length-enumerate_from x row
+length-changed_row change x row = simp (length-map, length-enumerate_from)
 
 -- the colour at a place in a changed row
 pub get_or-changed_row : (change : ℕ → Colour → Colour) (x : ℕ) (row : List Colour) (i : ℕ) (d : Colour) → i < length row
@@ -48,23 +48,13 @@ module _ {X : Type 0} (a k : ℕ) (xs ys : List X) (inside : a + k ≤ length xs
 
   pub length-put_mid : length (put_mid a k xs ys) ≡ length xs
   length-put_mid =
-      length-append (take a xs) (ys ++ post_of a k xs)
-      ∙ omega (arith, head_size, length-append ys (post_of a k xs), length-drop k (drop a xs), length-drop a xs)
+      simp (length-append, length-drop) (omega (arith, head_size))
 
   pub before_part : (i : ℕ) (d : X) → i < a → get_or (put_mid a k xs ys) i d ≡ get_or xs i d
   before_part i d low = get_or_append_left (take a xs) (ys ++ post_of a k xs) d i (omega (arith, head_size)) ∙ get_or-take a xs i d low
 
   pub in_part : (i : ℕ) (d : X) → i < k → get_or (put_mid a k xs ys) (a + i) d ≡ get_or ys i d
-  in_part i d low =
-      let past : a + i - a ≡ i = omega arith in
-      get_or-append_right (take a xs) (ys ++ post_of a k xs) a (a + i) d head_size (omega arith)
-      ∙ rw past (get_or_append_left ys (post_of a k xs) d i (omega arith))
+  in_part i d low = grind (arith, get_or-append_right, head_size, get_or_append_left)
 
   pub past_part : (i : ℕ) (d : X) → a + k ≤ i → get_or (put_mid a k xs ys) i d ≡ get_or xs i d
-  past_part i d high =
-      let place : a + (k + (i - a - k)) ≡ i = omega arith in
-      get_or-append_right (take a xs) (ys ++ post_of a k xs) a i d head_size (omega arith)
-      ∙ get_or-append_right ys (post_of a k xs) k (i - a) d size (omega arith)
-      ∙ get_or-drop k (drop a xs) (i - a - k) d
-      ∙ get_or-drop a xs (k + (i - a - k)) d
-      ∙ ap (λ j. get_or xs j d) place
+  past_part i d high = grind (arith, get_or-append_right, head_size, get_or-drop)

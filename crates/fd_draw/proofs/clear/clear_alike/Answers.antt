@@ -1,8 +1,7 @@
-use Rattle.std.proofs.Common.{◌≡◌, ◌∙◌, List, [], ◌∷◌, ◌++◌, ap}
+use Rattle.std.proofs.Common.{◌≡◌, ◌∙◌, List, [], ◌∷◌, ◌++◌, ap, arith}
 use Rattle.fd_tile.specs.Tile.{Pixel, TileImage}
 use Rattle.fd_undo.specs.Frame.{KeptPixel, alike}
 use Rattle.fd_undo.specs.Undo.{without_room}
-use Rattle.fd_draw.specs.declared.clear.Clear.TheVariants.{Colours, Depths}
 use Rattle.fd_draw.proofs.Alike.{Paints-alike}
 use Rattle.fd_draw.proofs.clear.clear_alike.Goals as goal
 use Rattle.fd_draw.proofs.clear.clear_alike.Goals.{in-Clear, in-DepthClear}
@@ -16,7 +15,4 @@ returns-clause-drawn c = λ _ state.
     ≡ without_room (c.args.undo.now.frames ++ alike c.args.tile.now.place (c.in-Some-Some.colour, c.in-Some-Some.depth) ∷ []) =
     c.in_ok-push_alike.ensures.ok ∙ ap (λ p. without_room (frames ++ alike p q ∷ [])) c.place.ensures.value in
     let painted = Paints-alike t c.in-Some-Some.colour c.in-Some-Some.depth frames c.place.ensures.filled c.in-Some-Some.ensures c.in-Some-Some.ensures' in
-    rw (c.fill.ensures, stack) (elim c.match-event.branch [
-      | in-Clear w ↦ rw (w.in-Clear.is, w.clear-is) (painted (Colours w.in-Clear.colour))
-      | in-DepthClear w ↦ rw (w.in-DepthClear.is, w.clear-is) (painted (Depths w.in-DepthClear.depth))
-    ])
+    grind arith

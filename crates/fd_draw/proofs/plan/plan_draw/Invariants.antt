@@ -1,9 +1,8 @@
-use Rattle.std.proofs.Common.{◌≡◌, ◌<◌, ◌≤◌, ◌+◌, ◌*◌, ◌-◌, drop, length, min}
+use Rattle.std.proofs.Common.{◌≡◌, ◌≤◌, ◌+◌, ◌*◌, ◌-◌, drop, length}
 use Rattle.std.specs.List.{sum_by}
-use Rattle.arrayvec.specs.ArrayVec.{array_vec_len}
 use Rattle.fd_events.specs.Draw.{triangles_of}
 use Rattle.fd_draw.specs.Demand.{triangle_pixels, triangle_spans}
-use Rattle.fd_draw.specs.Plan.{ArePlanned}
+use Rattle.fd_draw.proofs.Triangles.{IsPlannedTo}
 use Rattle.fd_draw.proofs.plan.plan_draw.Given as goal
 
 -- what was counted and what the triangles that are left write is what all write; where there is room, all that were found are kept
@@ -16,10 +15,7 @@ invariant-loop-triangle l = record {
   within : l.triangle ≤ length (triangles_of l.draw);
   few_spans : l.plan.demand.spans ≤ 1024 * l.triangle;
   few_pixels : l.plan.demand.pixels ≤ 1024 * l.triangle;
-  planned : ArePlanned l.draw l.state l.fn.place 0 l.plan.planned.items (min l.plan.rest l.triangle);
-  last : l.plan.rest ≤ length (triangles_of l.draw);
-  room : array_vec_len l.plan.planned < 8 → l.plan.rest ≡ length (triangles_of l.draw);
-  few : array_vec_len l.plan.planned ≤ 8;
+  kept : IsPlannedTo l.draw l.state l.fn.place l.plan l.triangle;
 }
 
 abbrev pub decreases-loop-triangle : goal.decreases-loop-triangle
