@@ -1,19 +1,19 @@
 -- An owner that forgets what its events overwrote, and how its history goes on.
-use Rattle.std.proofs.Common.{◌≡◌, ℕ, zero, suc, List, [], ◌∷◌, length, refl, sym, ap, ◌∙◌, subst, arith, inl}
+use Rattle.std.proofs.Common.{◌≡◌, ℕ, zero, suc, List, [], ◌∷◌, refl, ◌∙◌, arith, inl}
 use Rattle.std.specs.Prelude.{map, All}
 use Rattle.std.proofs.lemmas.List.{length-map}
 use Rattle.std.proofs.lemmas.List.Elements.{All-nil, All-cons}
 use Rattle.fd_tile.specs.declared.place.Place.{Place}
-use Rattle.fd_tile.specs.Place.{Holds, over_place}
-use Rattle.fd_tile.specs.Tile.{Pixel, TileImage, pixel_in, pixels_of}
+use Rattle.fd_tile.specs.Place.{Holds}
+use Rattle.fd_tile.specs.Tile.{Pixel, TileImage, pixels_of}
 use Rattle.fd_undo.specs.Frame.{all_restored, KeptPixel, IsAlike}
 use Rattle.fd_undo.specs.Undo.{Undo}
 use Rattle.fd_undo.proofs.Restored.{Inside}
 use Rattle.fd_events.specs.Table.{Table}
-use Rattle.fd_owner.specs.History.{Frame, History, position, last_or, last_image, pixel_past, extend_by, frame_without_kept, without_past}
+use Rattle.fd_owner.specs.History.{Frame, History, position, last_or, last_image, extend_by, frame_without_kept, without_past}
 use Rattle.fd_owner.specs.Owner.{frames_seen, history_of, IsOwner}
 use Rattle.fd_owner.proofs.Histories.{position_extend_by, last_extend}
-use Rattle.fd_owner.proofs.Pictures.{opened, last-frames_seen}
+use Rattle.fd_owner.proofs.Pictures.{last-frames_seen}
 
 -- ---- empty frames
 
@@ -27,16 +27,10 @@ all_restored-emptied (f ∷ frames) t = all_restored-emptied frames t
 frames_seen-emptied : (t : TileImage) (frames : List (List KeptPixel)) → frames_seen t (emptied frames) ≡ map (λ _. frame_without_kept t.place (pixels_of t))
     (frames_seen t frames)
 frames_seen-emptied t [] = refl
-frames_seen-emptied t (f ∷ frames) =
-    ap (λ (u : TileImage). frame_without_kept t.place (pixels_of u) ∷ frames_seen t (emptied frames)) (all_restored-emptied frames t)
-    ∙ ap (λ (fs : List Frame). frame_without_kept t.place (pixels_of t) ∷ fs) (frames_seen-emptied t frames)
+frames_seen-emptied t (f ∷ frames) = rw (all_restored-emptied frames t, frames_seen-emptied t frames) refl
 
 pub history_of-emptied : (t : TileImage) (u u' : Undo) → u'.frames ≡ emptied u.frames → history_of t u' ≡ without_past t.place (history_of t u)
-history_of-emptied t u u' is =
-    ap (λ fs. opened (pixels_of (all_restored fs t)) (frames_seen t fs)) is
-    ∙ ap (λ (v : TileImage). opened (pixels_of v) (frames_seen t (emptied u.frames))) (all_restored-emptied u.frames t)
-    ∙ ap (opened (pixels_of t)) (frames_seen-emptied t u.frames)
-    ∙ ap (λ (rows : List (List Pixel)). opened rows (map (λ _. frame_without_kept t.place rows) (frames_seen t u.frames))) (sym (last-frames_seen t u.frames))
+history_of-emptied t u u' is = rw (is, all_restored-emptied u.frames t, frames_seen-emptied t u.frames, last-frames_seen t u.frames) refl
 
 inside-emptied : (p : Place) (frames : List (List KeptPixel)) → All (λ frame. Inside p frame) (emptied frames)
 inside-emptied p [] = All-nil (λ frame. Inside p frame)
@@ -48,9 +42,9 @@ alike-emptied p (f ∷ frames) = All-cons (λ frame. IsAlike p frame) [] (emptie
 
 pub IsOwner-emptied : (t : TileImage) (u u' : Undo) → u'.frames ≡ emptied u.frames → IsOwner t u → IsOwner t u'
 IsOwner-emptied t u u' is owner = record {
-  inside = subst (λ fs. All (λ frame. Inside t.place frame) fs) (sym is) (inside-emptied t.place u.frames);
-  alike = λ _. subst (λ fs. All (λ frame. IsAlike t.place frame) fs) (sym is) (alike-emptied t.place u.frames);
-  fits = omega (arith, ap length is, length-map u.frames (λ (f : List KeptPixel). let none : List KeptPixel = [] in none), owner.fits);
+  inside = rw is (inside-emptied t.place u.frames);
+  alike = λ _. rw is (alike-emptied t.place u.frames);
+  fits = rw is (simp length-map owner.fits);
 }
 
 -- ---- a history without its past
@@ -73,8 +67,4 @@ last_extend_by table place (suc count) h g at same =
     let h' : History = extend_by table place count h in
     let g' : History = extend_by table place count g in
     let at' : position h' ≡ position g' = omega (arith, position_extend_by table place count h, position_extend_by table place count g, at) in
-    last_extend table place h'
-    ∙ ap (λ (k : ℕ). over_place place (λ x y. pixel_past table k x y (pixel_in place (last_image h') x y))) at'
-    ∙ ap (λ (rows : List (List Pixel)). over_place place (λ x y. pixel_past table (position g') x y (pixel_in place rows x y)))
-    (last_extend_by table place count h g at same)
-    ∙ sym (last_extend table place g')
+    last_extend table place h' ∙ rw (at', last_extend_by table place count h g at same, last_extend table place g') refl

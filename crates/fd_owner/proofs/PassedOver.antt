@@ -1,14 +1,13 @@
 -- Events whose reach misses a place write nothing there.
-use Rattle.std.proofs.Common.{◌≡◌, ℕ, suc, ◌+◌, ◌<◌, ◌≤◌, false, not, ◌&&◌, List, Option, Some, None, refl, ap, arith}
+use Rattle.std.proofs.Common.{◌≡◌, ℕ, suc, ◌+◌, ◌<◌, ◌≤◌, false, List, length, Option, Some, None, refl, arith}
 use Rattle.std.specs.Prelude.{IsTrue, IfSome}
 use Rattle.fd_cover.specs.Bounds.{is_within}
 use Rattle.fd_cover.specs.declared.bounds.Bounds.{Bounds}
-use Rattle.fd_cover.specs.Verdict.{is_culled, holds}
 use Rattle.fd_cover.proofs.BoundsLemmas.{uncovered_outside}
 use Rattle.fd_tile.specs.declared.place.Place.{Place}
 use Rattle.fd_tile.specs.Place.{Holds, IsTilePlace}
 use Rattle.fd_events.specs.declared.event.Event.{Event}
-use Rattle.fd_events.specs.declared.event.Event.TheVariants.{Clear, DepthClear, Draw, SetRaster, SetScissor, SetBlend, SetFactor, SetDepth, Marker}
+use Rattle.fd_events.specs.declared.event.Event.TheVariants.{Clear, DepthClear, Draw}
 use Rattle.fd_events.specs.declared.pipeline.Pipeline.{Pipeline}
 use Rattle.fd_events.specs.Bounds.{bounds_of_triangles}
 use Rattle.fd_events.specs.Draw.{Triangle, triangles_of}
@@ -20,7 +19,8 @@ use Rattle.fd_events.proofs.ReachLemmas.{outside_clipped, in_whole}
 use Rattle.fd_draw.specs.Area.{box_of_place}
 use Rattle.fd_draw.specs.Demand.{event_spans, event_pixels}
 use Rattle.fd_draw.proofs.Areas.{within_from}
-use Rattle.fd_draw.proofs.Triangles.{IsUndrawn, no_pixels, no_spans}
+use Rattle.fd_draw.specs.Plan.{AreUnreached}
+use Rattle.fd_draw.proofs.Triangles.{no_pixels, no_spans}
 use Rattle.fd_owner.specs.Untouched.{AreUntouched, Misses}
 use Rattle.fd_owner.specs.Shown.{IsInside}
 use Rattle.fd_owner.specs.Step.{spans_of, pixels_written}
@@ -52,26 +52,20 @@ module _ (place : Place) (width height : ℕ) (placed : IsTilePlace place) (righ
       let outside = misses place.left place.top held in
       cc (inside, outside)
 
-  undrawn : (ts : List Triangle) (s : Pipeline) → Misses (clipped_box width height (bounds_of_triangles ts)) place → IsUndrawn ts s place
-  undrawn ts s misses i t at x y held =
+  unreached : (ts : List Triangle) (s : Pipeline) → Misses (clipped_box width height (bounds_of_triangles ts)) place → AreUnreached ts s place 0 (length ts)
+  unreached ts s misses i t from to at x y held =
       let on = in_target x y held in
       let outside = outside_clipped (bounds_of_triangles ts) width height x y on.0 on.1 (misses x y held) in
-      ap (λ covered. covered && (not (is_culled s.raster t.corners) && not (s.raster.scissor && not (holds s.scissor x y))))
-      (uncovered_outside t.corners (bounds_of_triangles ts) x y (bounds_of_triangles-holds ts i t at) outside)
+      rw (uncovered_outside t.corners (bounds_of_triangles ts) x y (bounds_of_triangles-holds ts i t at) outside) refl
 
   event_demands-none : (event : Event) (s : Pipeline) → Misses (reach_of width height event) place → (event_spans event s place ≡ 0)
       × (event_pixels event s place ≡ 0)
   event_demands-none (Clear colour) s misses = absurd (not_whole misses)
   event_demands-none (DepthClear depth) s misses = absurd (not_whole misses)
   event_demands-none (Draw draw) s misses =
-      let nowhere = undrawn (triangles_of draw) s misses in
+      let nowhere = unreached (triangles_of draw) s misses in
       (no_spans (triangles_of draw) s place nowhere, no_pixels (triangles_of draw) s place nowhere)
-  event_demands-none (SetRaster raster) s misses = (refl, refl)
-  event_demands-none (SetScissor rect) s misses = (refl, refl)
-  event_demands-none (SetBlend blend) s misses = (refl, refl)
-  event_demands-none (SetFactor factor) s misses = (refl, refl)
-  event_demands-none (SetDepth depth) s misses = (refl, refl)
-  event_demands-none (Marker label) s misses = (refl, refl)
+  event_demands-none other s misses = (refl, refl)
 
   -- the event may be missing, and is far from the place's box
   demands-none : (window : Bounds) → window ≡ box_of_place place → (event : Option Event) (s : Pipeline)

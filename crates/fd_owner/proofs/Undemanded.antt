@@ -1,6 +1,6 @@
 -- An event that demands no pixel of a place draws nothing there.
-use Rattle.std.proofs.Common.{◌≡◌, ℕ, zero, suc, ◌+◌, ◌<◌, ◌≤◌, ◌⊎◌, inl, inr, Bool, true, false, cond, List, [], ◌∷◌, Option, Some, None}
-use Rattle.std.proofs.Common.{refl, sym, ap, arith}
+use Rattle.std.proofs.Common.{◌≡◌, ℕ, zero, suc, ◌+◌, ◌<◌, ◌≤◌, inl, inr, Bool, true, false, cond, List, [], ◌∷◌, Option, Some, None}
+use Rattle.std.proofs.Common.{refl, sym, ap, arith, length, slice_get}
 use Rattle.std.specs.List.{sum_by}
 use Rattle.std.proofs.lemmas.Bool.{cases_lt}
 use Rattle.std.proofs.lemmas.List.Sums.{sum_by-cons}
@@ -9,7 +9,7 @@ use Rattle.fd_tile.specs.Place.{Holds}
 use Rattle.fd_tile.specs.Tile.{Pixel, TileImage, IsTileImage}
 use Rattle.fd_undo.specs.Undo.{Undo}
 use Rattle.fd_events.specs.declared.event.Event.{Event}
-use Rattle.fd_events.specs.declared.event.Event.TheVariants.{Clear, DepthClear, Draw, SetRaster, SetScissor, SetBlend, SetFactor, SetDepth, Marker}
+use Rattle.fd_events.specs.declared.event.Event.TheVariants.{Clear, DepthClear, Draw}
 use Rattle.fd_events.specs.declared.pipeline.Pipeline.{Pipeline}
 use Rattle.fd_events.specs.Draw.{Triangle, triangles_of}
 use Rattle.fd_events.specs.Image.{pixel_after, kept_by, pixel_after_event, kept_by_event}
@@ -17,35 +17,29 @@ use Rattle.fd_events.specs.Table.{Table, active_event, state_at}
 use Rattle.fd_draw.specs.Demand.{is_reached, total, written_in_row, pixels_in, triangle_pixels, event_pixels}
 use Rattle.fd_draw.specs.Paints.{Paints}
 use Rattle.fd_draw.proofs.Painting.{Paints-same, Paints-nothing}
-use Rattle.fd_draw.proofs.Triangles.{IsUndrawn, pixel_after_triangles-undrawn, kept_by_triangles-undrawn}
+use Rattle.fd_draw.specs.Plan.{AreUnreached, IsUnreached}
+use Rattle.fd_draw.proofs.Triangles.{pixel_after_triangles-unreached, kept_by_triangles-unreached}
 use Rattle.fd_owner.specs.History.{pixel_past, kept_past}
 use Rattle.fd_owner.specs.Step.{pixels_written, pixels_past}
 
 -- numbers that add up to nothing are each nothing
 each_nothing : (f : ℕ → ℕ) (a n k : ℕ) → total f a n ≡ 0 → a ≤ k → k < a + n → f k ≡ 0
 each_nothing f a zero k none low high = absurd (omega (arith, low, high))
-each_nothing f a (suc n) k none low high =
-    by_place (cases_lt a k) (λ past. each_nothing f (a + 1) n k (omega (arith, none)) (omega (arith, past)) (omega (arith, high)))
-  where
-    by_place : (a < k) ⊎ (k ≤ a) → (a < k → f k ≡ 0) → f k ≡ 0
-    by_place (inl past) later = later past
-    by_place (inr upto) later =
-        let same : f k ≡ f a = ap f {x = k} {y = a} (omega (arith, low, upto)) in
-        omega (arith, none, same)
-
-not_counted : (b : Bool) (n : ℕ) → n ≡ cond b 1 0 → n ≡ 0 → b ≡ false
-not_counted true n is none = absurd (omega (arith, is, none))
-not_counted false n is none = refl
+each_nothing f a (suc n) k none low high = elim (cases_lt a k) [
+  | inl past ↦ each_nothing f (a + 1) n k (omega arith) (omega arith) (omega arith)
+  | inr upto ↦ let same : k ≡ a = omega arith in rw same (omega arith)
+]
 
 -- where no pixel is counted none is written
 uncounted : (written : ℕ → ℕ → Bool) (p : Place) (x y : ℕ) → pixels_in written p ≡ 0 → Holds p x y → written x y ≡ false
 uncounted written p x y none held =
-    let row : written_in_row written p y ≡ 0 = each_nothing (written_in_row written p) p.top p.height y none held.from_top held.to_bottom in
-    not_counted (written x y) (cond (written x y) 1 0) refl
-    (each_nothing (λ column. cond (written column y) 1 0) p.left p.width x row held.from_left held.to_right)
+    let row = each_nothing (written_in_row written p) p.top p.height y none held.from_top held.to_bottom in
+    let pixel = each_nothing (λ column. cond (written column y) 1 0) p.left p.width x row held.from_left held.to_right in
+    grind arith
 
 -- triangles that demand no pixel are not drawn
-undemanded : (ts : List Triangle) (s : Pipeline) (p : Place) → sum_by (triangle_pixels s p) ts ≡ 0 → IsUndrawn ts s p
+undemanded : (ts : List Triangle) (s : Pipeline) (p : Place) → sum_by (triangle_pixels s p) ts ≡ 0
+    → (i : ℕ) (t : Triangle) → slice_get ts i ≡ Some t → IsUnreached t s p
 undemanded [] s p none i t at x y held = cc
 undemanded (first ∷ ts) s p none zero t at x y held =
     let parts = sum_by-cons (triangle_pixels s p) first ts in
@@ -66,17 +60,11 @@ module _ (s : Pipeline) (p : Place) (x y : ℕ) (before : Pixel) (held : Holds p
   by_event (Clear colour) none = absurd (written_anyhow none)
   by_event (DepthClear depth) none = absurd (written_anyhow none)
   by_event (Draw draw) none =
-      let nowhere = undemanded (triangles_of draw) s p none in (
-        pixel_after_triangles-undrawn (triangles_of draw) draw.interp s p x y before nowhere held,
-        kept_by_triangles-undrawn (triangles_of draw) draw.interp s
-            p x y before nowhere held,
+      let nowhere : AreUnreached (triangles_of draw) s p 0 (length (triangles_of draw)) = λ i t from to at. undemanded (triangles_of draw) s p none i t at in (
+        pixel_after_triangles-unreached (triangles_of draw) draw.interp s p nowhere x y before held,
+        kept_by_triangles-unreached (triangles_of draw) draw.interp s p nowhere x y before held,
       )
-  by_event (SetRaster raster) none = (refl, refl)
-  by_event (SetScissor rect) none = (refl, refl)
-  by_event (SetBlend blend) none = (refl, refl)
-  by_event (SetFactor factor) none = (refl, refl)
-  by_event (SetDepth depth) none = (refl, refl)
-  by_event (Marker label) none = (refl, refl)
+  by_event other none = (refl, refl)
 
   by_any : (event : Option Event) → pixels_written event s p ≡ 0 → (pixel_after_event event s x y before ≡ before) × (kept_by_event event s x y before ≡ [])
   by_any None none = (refl, refl)
@@ -86,7 +74,7 @@ module _ (s : Pipeline) (p : Place) (x y : ℕ) (before : Pixel) (held : Holds p
 pub Paints-undemanded : (table : Table) (k : ℕ) (t : TileImage) (u : Undo) → IsTileImage t → u.frame_left ≡ false → pixels_past table k t.place ≡ 0
     → Paints (pixel_past table k) (kept_past table k) t u t u
 Paints-undemanded table k t u filled begun none =
-    Paints-same (λ x y c. c) (pixel_past table k) (λ x y c. []) (kept_past table k) t t u u
-    (λ x y c held. sym (by_any (state_at table k) t.place x y c held (active_event table (suc k)) none).0)
-    (λ x y c held. sym (by_any (state_at table k) t.place x y c held (active_event table (suc k)) none).1)
-    (Paints-nothing t u filled begun)
+    Paints-same
+    (λ x y held. sym (by_any (state_at table k) t.place x y _ held (active_event table (suc k)) none).0)
+    (λ x y held. sym (by_any (state_at table k) t.place x y _ held (active_event table (suc k)) none).1)
+    (Paints-nothing filled begun)

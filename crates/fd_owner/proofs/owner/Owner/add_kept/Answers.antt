@@ -1,6 +1,4 @@
-use Rattle.std.proofs.Common.{◌≡◌, ◌≤◌, ◌++◌, List, length, take, sym, ap, subst, arith}
-use Rattle.std.specs.Prelude.{OnOk}
-use Rattle.fd_tile.specs.Tile.{Pixel}
+use Rattle.std.proofs.Common.{◌≤◌, length, ap, arith}
 use Rattle.fd_owner.specs.Shown.{Shown}
 use Rattle.fd_owner.proofs.Pictures.{position_seen}
 use Rattle.fd_owner.proofs.Records.{pixels_kept-history_of}
@@ -11,6 +9,4 @@ returns c =
     let t = c.self.inside.tile in
     let u = c.self.inside.undo in
     let last : c.args.event ≤ length u.frames = omega (arith, c.requires.last, position_seen t u _ (ap (λ (s : Shown). s.history) c.self.view_is)) in
-    rw (← c.self.view_is)
-    (subst (λ (l : List Pixel). OnOk c.add_kept.result (c.add_kept.new.kept.items ≡ c.args.kept.now.items ++ take c.args.count l))
-    (sym (pixels_kept-history_of t u c.args.event c.args.x c.args.y c.self.invariant.0 c.requires.first last)) c.add_kept.ensures)
+    rw (← c.self.view_is, pixels_kept-history_of t u c.args.event c.args.x c.args.y c.self.invariant.0 c.requires.first last) c.add_kept.ensures

@@ -1,11 +1,9 @@
-use Rattle.std.proofs.Common.{◌≡◌, ◌≤◌, ◌∙◌, ap, sym, length, take, drop, arith}
-use Rattle.fd_tile.specs.declared.place.Place.{Place}
+use Rattle.std.proofs.Common.{◌≡◌, ◌≤◌, ◌∙◌, ap, length, take, drop, arith}
 use Rattle.fd_tile.specs.Tile.{TileImage}
 use Rattle.fd_undo.specs.Undo.{Undo}
 use Rattle.fd_undo.proofs.Backs.{all_restored-made}
-use Rattle.fd_owner.specs.History.{History, first_frames}
-use Rattle.fd_owner.specs.Owner.{history_of}
-use Rattle.fd_owner.specs.Shown.{Shown, gone_back_to}
+use Rattle.fd_owner.specs.History.{History}
+use Rattle.fd_owner.specs.Shown.{Shown}
 use Rattle.fd_owner.proofs.Pictures.{length-frames_seen, OpensFresh-kept}
 use Rattle.fd_owner.proofs.GoneBack.{history_of-back, placed, IsOwner-back, IsOwner-renewed, OpensFresh-renewed, history_of-renewed}
 use Rattle.fd_owner.proofs.owner.Owner.back_to.Goals as goal
@@ -42,19 +40,16 @@ returns c =
     let t' = c.undo_to.new.tile in
     let u = c.self.inside.undo in
     let u' = c.undo_to.new.self in
-    let S : Place → History → Shown = λ p h. record { place = p; history = h; refusals = c.self.inside.refusals; refused_at = c.self.inside.refused_at } in
-    rw (← c.self.view_is)
-    (ap (λ p. S p (history_of t' u')) (placed t t' u u' c.args.to (few d) c.undo_to.ensures.tile (left d))
-    ∙ ap (λ h. S t.place h) (history_of-back t t' u u' c.args.to (few d) c.undo_to.ensures.tile (left d)))
+    rw (← c.self.view_is) (cc (
+      placed t t' u u' c.args.to (few d) c.undo_to.ensures.tile (left d),
+      history_of-back t t' u u' c.args.to (few d) c.undo_to.ensures.tile (left d),
+    ))
 
 -- ---- at once to the start
 pub invariant_of-self : goal.invariant_of-self
 invariant_of-self c =
     let t = c.self.inside.tile in
-    let u = c.self.inside.undo in (
-      IsOwner-renewed t c.renew.new.self u c.clear.new.self c.renew.ensures c.clear.ensures,
-      OpensFresh-renewed t c.renew.new.self u c.clear.new.self c.renew.ensures c.clear.ensures c.self.inside.opens_fresh,
-    )
+    grind (arith, IsOwner-renewed, OpensFresh-renewed)
 
 pub returns-then-self : goal.returns-then-self
 returns-then-self c =
@@ -62,8 +57,7 @@ returns-then-self c =
     let t' = c.renew.new.self in
     let u = c.self.inside.undo in
     let u' = c.clear.new.self in
-    let S : Place → History → Shown = λ p h. record { place = p; history = h; refusals = c.self.inside.refusals; refused_at = c.self.inside.refused_at } in
-    ap (λ p. S p (history_of t' u')) (ap (λ (v : TileImage). v.place) c.renew.ensures)
-    ∙ ap (λ h. S t.place h) (history_of-renewed t t' u u' c.renew.ensures c.clear.ensures (λ _. c.self.invariant.1 c.if-self.true))
-    ∙ ap (λ n. S t.place (first_frames n (history_of t u))) (sym c.if-to-eq0.true)
-    ∙ ap (λ (s : Shown). gone_back_to c.args.to s) c.self.view_is
+    let place = ap (λ (v : TileImage). v.place) c.renew.ensures in
+    let history = history_of-renewed t t' u u' c.renew.ensures c.clear.ensures (λ _. c.self.invariant.1 c.if-self.true) in
+    let to : c.args.to ≡ 0 = c.if-to-eq0.true in
+    rw (← c.self.view_is, to) (cc (place, history))

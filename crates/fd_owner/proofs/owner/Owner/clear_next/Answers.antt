@@ -1,9 +1,8 @@
-use Rattle.std.proofs.Common.{◌≡◌, ◌+◌, ◌^◌, ◌<◌, ℕ, Bool, true, false, Ok, Err, Result, Some, [], ◌∷◌, ◌++◌, length, refl, sym, ap, subst, ◌∙◌, arith}
+use Rattle.std.proofs.Common.{◌≡◌, ◌+◌, ◌^◌, ◌<◌, ℕ, Bool, true, false, Ok, Err, Result, [], ◌∷◌, ◌++◌, length, refl, sym, ap, ◌∙◌, arith}
 use Rattle.fd_owner.specs.declared.owner.Refused.{Refused}
-use Rattle.fd_tile.specs.declared.place.Place.{Place}
 use Rattle.fd_tile.specs.Tile.{TileImage}
 use Rattle.fd_undo.specs.Undo.{Undo, without_room}
-use Rattle.fd_events.specs.Table.{Table, event_at, flag_at, state_at}
+use Rattle.fd_events.specs.Table.{Table, event_at, state_at}
 use Rattle.fd_draw.specs.Paints.{Paints}
 use Rattle.fd_owner.specs.History.{History, position, extend, pixel_past, kept_past}
 use Rattle.fd_owner.specs.Owner.{history_of, IsOwner, OpensFresh}
@@ -37,7 +36,7 @@ painted c drawn =
     let t : TileImage = c.self.inside.tile in
     let u : Undo = c.self.inside.undo in
     Paints-past table (k c) c.event.result.now (state_at table (k c)) t c.clear_alike.new.tile (without_room (u.frames ++ [] ∷ [])) c.clear_alike.new.undo
-    (ap (event_at table) (sym c.requires.next) ∙ c.event.ensures) (subst (λ n. flag_at table n ≡ Some true) c.requires.next c.requires.on) refl
+    (ap (event_at table) (sym c.requires.next) ∙ c.event.ensures) (rw c.requires.next at c.requires.on) refl
     (c.clear_alike.ensures.drawn (c.in-Ok.is ∙ ap Ok drawn) (state_at table (k c)))
 
 history : (c : In-Ok) → c.in-Ok.drawn ≡ true
@@ -66,16 +65,11 @@ invariant_of-self c =
     ))
     (λ none.
     let same = c.clear_alike.ensures.not (c.in-Ok.is ∙ ap Ok none) in
-    subst (λ v. IsOwner v u' × OpensFresh fresh v u') (sym same.0) (subst (λ v. IsOwner t v × OpensFresh fresh t v) (sym same.1) c.self.invariant))
+    rw (same.0, same.1) c.self.invariant)
 
 pub returns-in-Ok-clause-drawn : goal.returns-in-Ok-clause-drawn
 unfolding told
 returns-in-Ok-clause-drawn c = λ is.
     let d = (goal.at-returns-in-Ok-clause-drawn c).In-Ok in
-    let t : TileImage = c.self.inside.tile in
-    let u : Undo = c.self.inside.undo in
-    let S : Place → History → Shown = λ p h. record { place = p; history = h; refusals = c.self.inside.refusals; refused_at = c.self.inside.refused_at } in
     let drawn : c.in-Ok.drawn ≡ true = ap told is in
-    rw (← c.self.view_is)
-    (ap (λ (p : Place). S p (history_of c.clear_alike.new.tile c.clear_alike.new.undo)) (painted d drawn).placed
-    ∙ ap (λ (h : History). S t.place h) (history d drawn))
+    rw (← c.self.view_is) (cc ((painted d drawn).placed, history d drawn))

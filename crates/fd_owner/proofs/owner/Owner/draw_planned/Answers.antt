@@ -1,4 +1,4 @@
-use Rattle.std.proofs.Common.{◌≡◌, ◌+◌, ◌^◌, ◌<◌, ◌∙◌, [], ◌∷◌, ◌++◌, refl, ap, sym, subst, arith, inl, length}
+use Rattle.std.proofs.Common.{◌≡◌, ◌+◌, ◌^◌, ◌<◌, ◌∙◌, [], ◌∷◌, ◌++◌, refl, ap, arith, inl, length}
 use Rattle.fd_tile.specs.declared.place.Place.{Place}
 use Rattle.fd_tile.specs.Tile.{TileImage, IsTileImage}
 use Rattle.fd_undo.specs.Frame.{top}
@@ -6,7 +6,7 @@ use Rattle.fd_undo.specs.Undo.{Undo}
 use Rattle.fd_undo.proofs.FrameLemmas.{top-push}
 use Rattle.fd_owner.specs.History.{History, extend, pixel_past, kept_past}
 use Rattle.fd_draw.specs.Paints.{Paints}
-use Rattle.fd_owner.specs.Shown.{Shown, refused}
+use Rattle.fd_owner.specs.Shown.{Shown}
 use Rattle.fd_owner.specs.Owner.{history_of, IsOwner}
 use Rattle.fd_owner.proofs.Pictures.{position_seen, history_of-made, IsOwner-made, OpensFresh-kept}
 use Rattle.fd_owner.proofs.Forward.{history_of-step, IsOwner-step}
@@ -19,8 +19,7 @@ here c = c.position-position.ensures ∙ position_seen c.self.inside.tile c.self
 
 filled : (c : After-make_room) → IsTileImage c.make_room.new.tile
 filled c =
-    let is = c.place-place.ensures.filled in
-    subst (λ v. IsTileImage v) (sym c.make_room.ensures.same) (record { colours = is.colours; depths = is.depths })
+    let is = c.place-place.ensures.filled in rw c.make_room.ensures.same (record { colours = is.colours; depths = is.depths })
 
 -- the tile that has room is an owner's as it was
 owner : (c : After-make_room) → (u : Undo) → u.frames ≡ c.self.inside.undo.frames → IsOwner c.make_room.new.tile u
@@ -51,22 +50,14 @@ pub returns-then-is_err-clause-refused : goal.returns-then-is_err-clause-refused
 returns-then-is_err-clause-refused c =
     let t = c.self.inside.tile in
     let S : Place → History → Shown = λ p h. record { place = p; history = h; refusals = c.self.inside.refusals; refused_at = c.self.inside.refused_at } in
-    c.refuse.ensures
-    ∙ ap refused (ap (λ p. S p (history_of c.make_room.new.tile c.make_room.new.undo)) (ap (λ (v : TileImage). v.place) c.make_room.ensures.same)
-    ∙ ap (λ h. S t.place h)
-    (history_of-made t c.make_room.new.tile c.self.inside.undo c.make_room.new.undo c.make_room.ensures.same c.make_room.ensures.frames)
-    ∙ c.self.view_is)
+    grind (arith, history_of-made)
 
 pub invariant_of-self : goal.invariant_of-self
 invariant_of-self c =
     let d = (goal.at-invariant_of-self c).After-make_room in
     let t = c.self.inside.tile in
     let u = c.self.inside.undo in
-    let e = c.make_room.ensures in (
-      owner d c.make_room.new.undo e.frames,
-      OpensFresh-kept c.self.inside.opens_fresh t c.make_room.new.tile u c.make_room.new.undo
-          (ap (λ (h : History). h.opening) (history_of-made t c.make_room.new.tile u c.make_room.new.undo e.same e.frames)) (stays d) c.self.invariant.1,
-    )
+    grind (arith, owner, OpensFresh-kept, history_of-made, stays)
 
 -- ---- drawn
 pub invariant_of-self-2 : goal.invariant_of-self-2
@@ -87,8 +78,6 @@ invariant_of-self-2 c =
 pub returns-clause-ok : goal.returns-clause-ok
 returns-clause-ok c =
     let at = goal.at-returns-clause-ok c in
-    let S : Place → History → Shown = λ p h. record { place = p; history = h; refusals = c.self.inside.refusals; refused_at = c.self.inside.refused_at } in
-    rw (← c.self.view_is)
-    (ap (λ (p : Place). S p (history_of c.draw_past.new.tile c.draw_past.new.undo)) (c.draw_past.ensures.painted.placed ∙ stays at.After-make_room)
-    ∙ ap (λ (h : History). S c.self.inside.tile.place h)
-    (history at.After-make_room c.begin.new.self c.draw_past.new.tile c.draw_past.new.undo (begun at.After-begin) c.draw_past.ensures.painted))
+    let placed = c.draw_past.ensures.painted.placed ∙ stays at.After-make_room in
+    let told = history at.After-make_room c.begin.new.self c.draw_past.new.tile c.draw_past.new.undo (begun at.After-begin) c.draw_past.ensures.painted in
+    rw (← c.self.view_is) (cc (placed, told))

@@ -1,7 +1,5 @@
 use Rattle.std.proofs.Common.{ap}
 use Rattle.std.proofs.lemmas.Bool.{false≢true}
-use Rattle.fd_owner.specs.History.{History}
-use Rattle.fd_owner.specs.Shown.{Shown}
 use Rattle.fd_owner.proofs.Forgets.{history_of-emptied, IsOwner-emptied}
 use Rattle.fd_owner.proofs.owner.Owner.forget.Goals as goal
 
@@ -13,6 +11,4 @@ invariant_of-self c = (
 
 pub returns : goal.returns
 returns c =
-    let t = c.self.inside.tile in
-    let S : History → Shown = λ h. record { place = t.place; history = h; refusals = c.self.inside.refusals; refused_at = c.self.inside.refused_at } in
-    rw (← c.self.view_is) (ap S (history_of-emptied t c.self.inside.undo c.forget.new.self (ap (λ u. u.frames) c.forget.ensures)))
+    rw (← c.self.view_is) (cc (history_of-emptied c.self.inside.tile c.self.inside.undo c.forget.new.self (ap (λ u. u.frames) c.forget.ensures)))

@@ -1,11 +1,7 @@
-use Rattle.std.proofs.Common.{◌≤◌, ◌-◌, ◌∙◌, [], replicate, refl, length, sym, ap, subst, arith}
-use Rattle.fd_tile.specs.Tile.{pixels_of}
-use Rattle.fd_undo.specs.Undo.{Undo, without_room}
-use Rattle.fd_undo.specs.Frame.{all_restored}
-use Rattle.fd_owner.specs.History.{History, position}
-use Rattle.fd_owner.specs.Owner.{history_of, IsOwner}
+use Rattle.std.proofs.Common.{◌≤◌, ◌-◌, ◌∙◌, [], replicate, refl, length, ap, arith}
+use Rattle.fd_owner.specs.History.{position}
+use Rattle.fd_owner.specs.Owner.{history_of}
 use Rattle.fd_owner.specs.Shown.{Shown}
-use Rattle.fd_owner.specs.Untouched.{AreUntouched}
 use Rattle.fd_owner.proofs.Pictures.{length-frames_seen, OpensFresh-kept}
 use Rattle.fd_undo.proofs.Backs.{all_restored-append, all_restored-empty}
 use Rattle.fd_owner.proofs.Histories.{position_extend_to}
@@ -20,27 +16,20 @@ pub invariant_of-self : goal.invariant_of-self
 invariant_of-self c =
     let t = c.self.inside.tile in
     let u = c.self.inside.undo in
-    let owner = c.self.invariant.0 in
-    let old : IsOwner t (without_room u.frames) = record { inside = owner.inside; alike = owner.alike; fits = owner.fits } in
     let on : position (history_of t u) ≤ c.args.to = omega (arith, c.requires.on, ap (λ (s : Shown). position s.history) c.self.view_is) in
-    let far = subst (λ (s : Shown). AreUntouched c.args.table.now (position s.history) c.args.to s.place) (sym c.self.view_is) c.requires.far in
+    let far = rw (← c.self.view_is) at c.requires.far in
     let n = c.args.to - length u.frames in (
-      subst (λ (v : Undo). IsOwner t v) (sym c.pass_to.ensures)
-          (gone_on c.args.table.now t c.place-place.ensures.filled u.frames old c.args.to on c.ranges.to.fits far).0,
+      rw c.pass_to.ensures (gone_on c.args.table.now t c.place-place.ensures.filled u c.self.invariant.0 c.args.to on c.ranges.to.fits far).0,
       OpensFresh-kept c.self.inside.opens_fresh t t u c.pass_to.new.self
-          (ap (λ (v : Undo). pixels_of (all_restored v.frames t)) c.pass_to.ensures ∙ ap pixels_of (all_restored-append u.frames (replicate n []) t
-          ∙ ap (all_restored u.frames) (all_restored-empty n t))) refl c.self.invariant.1,
+          (rw (c.pass_to.ensures, all_restored-append u.frames (replicate n []) t, all_restored-empty n t) refl) refl c.self.invariant.1,
     )
 
 pub returns : goal.returns
 returns c =
     let t = c.self.inside.tile in
     let u = c.self.inside.undo in
-    let S : History → Shown = λ h. record { place = t.place; history = h; refusals = c.self.inside.refusals; refused_at = c.self.inside.refused_at } in
-    let owner = c.self.invariant.0 in
-    let old : IsOwner t (without_room u.frames) = record { inside = owner.inside; alike = owner.alike; fits = owner.fits } in
     let on : position (history_of t u) ≤ c.args.to = omega (arith, c.requires.on, ap (λ (s : Shown). position s.history) c.self.view_is) in
-    let far = subst (λ (s : Shown). AreUntouched c.args.table.now (position s.history) c.args.to s.place) (sym c.self.view_is) c.requires.far in
+    let far = rw (← c.self.view_is) at c.requires.far in
     let passed = ap (history_of t) c.pass_to.ensures
-    ∙ (gone_on c.args.table.now t c.place-place.ensures.filled u.frames old c.args.to on c.ranges.to.fits far).1 in
-    rw (← c.self.view_is) (record { moved = ap S passed; at = ap position passed ∙ position_extend_to c.args.table.now t.place c.args.to (history_of t u) on })
+    ∙ (gone_on c.args.table.now t c.place-place.ensures.filled u c.self.invariant.0 c.args.to on c.ranges.to.fits far).1 in
+    rw (← c.self.view_is) (record { moved = cc passed; at = ap position passed ∙ position_extend_to c.args.table.now t.place c.args.to (history_of t u) on })
