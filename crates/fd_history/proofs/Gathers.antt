@@ -1,5 +1,5 @@
 -- What is gathered of a pixel from the triangles of a draw.
-use Rattle.std.proofs.Common.{◌≡◌, ◌≢◌, ℕ, zero, suc, ◌+◌, ◌<◌, Bool, true, false, not, IsTrue, List, [], ◌∷◌, ◌++◌, length, drop, slice_get, Option, Some}
+use Rattle.std.proofs.Common.{◌≡◌, ◌≢◌, ℕ, zero, suc, ◌+◌, ◌<◌, Bool, false, not, IsTrue, List, [], ◌∷◌, length, drop, slice_get, Option, Some}
 use Rattle.std.proofs.Common.{None, IfSome, option_map, refl, sym, ap, ◌∙◌, arith, append_assoc, append-nil, if◌then◌else◌, ◌≤◌}
 use Rattle.fd_cover.specs.declared.shading.Interp.{Interp}
 use Rattle.fd_cover.specs.declared.triangle.Tri.{Tri}
@@ -22,8 +22,7 @@ use Rattle.fd_history.specs.History.{is_missed, entry_of_triangle, entries_of_tr
 use Rattle.fd_history.specs.Gathered.{Gathering, gone_on, depth_after_triangle, gathered_of_triangle, gathered_of_triangles, past_triangle, past_triangles}
 
 passes_test : (test : Bool) (verdict : Verdict) → (if not test then Missed else verdict) ≢ Missed → IsTrue test
-passes_test true verdict hit = refl
-passes_test false verdict hit = absurd (hit refl)
+passes_test test verdict hit = grind arith
 
 -- a triangle that is not missed covers the pixel
 pub covered_unless_missed : (t : Tri) (depths : List ℕ) (raster : Raster) (rect : Rect) (depth : Depth) (stored x y : ℕ)
@@ -49,8 +48,7 @@ pub next_triangle : (event number i : ℕ) (ts : List Triangle) (interp : Interp
     → IfSome (slice_get ts i) (λ t. new ≡ past_triangle event number t interp s old)
     → past_triangles event (number + 1) (drop (i + 1) ts) interp s new ≡ past_triangles event number (drop i ts) interp s old
 next_triangle event number i [] interp s old new within is = absurd (omega arith)
-next_triangle event number zero (t ∷ ts) interp s old new within is =
-    ap (past_triangles event (number + 1) ts interp s) is ∙ first_triangle event number t ts interp s old
+next_triangle event number zero (t ∷ ts) interp s old new within is = grind (arith, first_triangle)
 next_triangle event number (suc i) (t ∷ ts) interp s old new within is =
     let next : suc i + 1 ≡ suc (i + 1) = omega arith in
     rw next (next_triangle event number i ts interp s old new (omega arith) is)
@@ -71,10 +69,7 @@ outside : (found : Option Triangle) (corners : Tri) (box : Bounds) (event number
     → option_map (λ (t : Triangle). t.corners) found ≡ Some corners → HoldsCovered box corners → is_within box g.x g.y ≡ false
     → IfSome found (λ t. g ≡ past_triangle event number t interp s g)
 outside None corners box event number interp s g is holds out = cc
-outside (Some t) corners box event number interp s g is holds out =
-    let same : t.corners ≡ corners = cc in
-    let around : HoldsCovered box t.corners = rw same holds in
-    past_missed event number t interp s g (missed_outside t.corners t.depths s.raster s.scissor s.depth g.depth box g.x g.y around out)
+outside (Some t) corners box event number interp s g is holds out = grind (arith, past_missed, missed_outside)
 
 -- a triangle whose box doesn't hold the pixel
 pub outside_triangle : (ts : List Triangle) (i : ℕ) (corners : Tri) (box : Bounds) (event number : ℕ) (interp : Interp) (s : Pipeline) (g : Gathering)
@@ -83,7 +78,7 @@ pub outside_triangle : (ts : List Triangle) (i : ℕ) (corners : Tri) (box : Bou
 outside_triangle ts i corners box event number interp s g is holds out = outside (slice_get ts i) corners box event number interp s g is holds out
 
 missed_enters : (v : Verdict) (e : Entry) → v ≡ Missed → (if is_missed v then [] else e ∷ []) ≡ []
-missed_enters v e missed = ap (λ (w : Verdict). if is_missed w then [] else e ∷ []) missed
+missed_enters v e missed = rw missed refl
 
 -- triangles whose common box doesn't hold the pixel
 pub outside_triangles : (ts : List Triangle) (box : Bounds) (event number : ℕ) (interp : Interp) (s : Pipeline) (x y : ℕ) (before : Pixel)
@@ -91,10 +86,9 @@ pub outside_triangles : (ts : List Triangle) (box : Bounds) (event number : ℕ)
 outside_triangles [] box event number interp s x y before holds out = refl
 outside_triangles (t ∷ ts) box event number interp s x y before holds out =
     let after = pixel_after_triangle t interp s x y before in
-    ap (λ es. es ++ entries_of_triangles event (number + 1) ts interp s x y after)
-    (missed_enters (verdict_of t s x y before.1) (entry_of_triangle event number t interp s x y before)
-    (missed_outside t.corners t.depths s.raster s.scissor s.depth before.1 box x y (holds 0 t refl) out))
-    ∙ outside_triangles ts box event (number + 1) interp s x y after (λ i u at. holds (suc i) u at) out
+    let missed = missed_outside t.corners t.depths s.raster s.scissor s.depth before.1 box x y (holds 0 t refl) out in
+    let rest = outside_triangles ts box event (number + 1) interp s x y after (λ i u at. holds (suc i) u at) out in
+    cc (missed_enters (verdict_of t s x y before.1) (entry_of_triangle event number t interp s x y before) missed, rest)
 
 -- ---- triangles that cover nothing of a window with the pixel
 missed_uncovered : (t : Triangle) (s : Pipeline) (x y stored : ℕ) → covers t.corners x y ≡ false → verdict_of t s x y stored ≡ Missed
@@ -105,8 +99,7 @@ module _ (ts : List Triangle) (window : Bounds) (event : ℕ) (interp : Interp) 
   missed_at : (i : ℕ) → (found : Option Triangle) → slice_get ts i ≡ found → CoverNone window ts i (i + 1)
       → IfSome found (λ t. g ≡ past_triangle event i t interp s g)
   missed_at i None is none = tt
-  missed_at i (Some t) is none = past_missed event i t interp s g
-      (missed_uncovered t s g.x g.y g.depth (none i t (omega arith) (omega arith) is g.x g.y within))
+  missed_at i (Some t) is none = grind (arith, past_missed, missed_uncovered)
 
   -- they lead nowhere
   pub passed_over : (i count : ℕ) → i + count ≤ length ts → CoverNone window ts i (i + count)

@@ -1,24 +1,23 @@
 -- Gathered entries that get their colours are the history's.
-use Rattle.std.proofs.Common.{◌≡◌, ◌≢◌, ℕ, zero, suc, ◌+◌, ◌<◌, Bool, true, false, List, [], ◌∷◌, ◌++◌, length, drop, Option, Some, None, refl, sym, ap, ◌∙◌}
-use Rattle.std.proofs.Common.{arith, if◌then◌else◌, map, filter, length-append, append-nil, ◌-◌, ◌≤◌}
-use Rattle.std.specs.Prelude.{unwrap_or}
+use Rattle.std.proofs.Common.{◌≡◌, ◌≢◌, ℕ, zero, suc, ◌+◌, ◌<◌, Bool, true, false, List, [], ◌∷◌, ◌++◌, length, drop, Option, Some, refl, sym, ap, ◌∙◌}
+use Rattle.std.proofs.Common.{arith, if◌then◌else◌, map, length-append, append-nil, ◌-◌, ◌≤◌}
 use Rattle.std.proofs.Common.{take}
 use Rattle.std.proofs.lemmas.List.{map-append, drop_all, take_all}
 use Rattle.std.proofs.lemmas.Bool.{true≢false}
 use Rattle.fd_blend.specs.Channel.{fresh}
 use Rattle.fd_cover.specs.declared.shading.Interp.{Interp}
 use Rattle.fd_cover.specs.declared.verdict.Verdict.{Verdict}
-use Rattle.fd_cover.specs.declared.verdict.Verdict.TheVariants.{Missed, Culled, Scissored, DepthFailed, Drawn}
+use Rattle.fd_cover.specs.declared.verdict.Verdict.TheVariants.{Missed, Drawn}
 use Rattle.fd_events.specs.declared.event.Event.{Event}
-use Rattle.fd_events.specs.declared.event.Event.TheVariants.{Clear, SetRaster, SetScissor, SetBlend, SetFactor, SetDepth, DepthClear, Draw, Marker}
+use Rattle.fd_events.specs.declared.event.Event.TheVariants.{Draw}
 use Rattle.fd_events.specs.declared.pipeline.Pipeline.{Pipeline}
 use Rattle.fd_events.specs.Draw.{Triangle, triangles_of}
-use Rattle.fd_events.specs.Image.{Pixel, fresh_pixel, verdict_of, pixel_drawn, pixel_after_triangle, pixel_after_triangles, pixel_after_event, pixel_at}
-use Rattle.fd_events.specs.Image.{stored_at, source_of, depth_of, is_drawn, is_drawn_by, kept_after}
+use Rattle.fd_events.specs.Image.{Pixel, fresh_pixel, verdict_of, pixel_after_triangle, pixel_after_triangles, pixel_after_event, pixel_at}
+use Rattle.fd_events.specs.Image.{stored_at, source_of, depth_of, is_drawn_by, kept_after}
 use Rattle.fd_events.specs.Table.{Table, active_event, state_at, event_at, flag_at}
 use Rattle.fd_history.specs.declared.entry.Entry.{Entry}
 use Rattle.fd_history.specs.History.{entry_of, is_missed, entries_of_triangle, entries_of_triangles, entries_of_event, history_at}
-use Rattle.fd_history.specs.Gathered.{Gathering, gone_on, depth_after_triangle, depth_after_triangles, depth_after_event, gathered_of_triangle}
+use Rattle.fd_history.specs.Gathered.{Gathering, depth_after_triangle, depth_after_triangles, depth_after_event}
 use Rattle.fd_history.specs.Gathered.{gathered_of_triangles, gathered_of, gathered_of_event, past_number, EntersNothing}
 use Rattle.fd_history.specs.Settled.{gathered_at, overwritten, overwritten_past, drawn_count, first, behind, entry_between, settled}
 use Rattle.fd_history.specs.Chain.{Leads, drawn_over}
@@ -27,13 +26,9 @@ use Rattle.fd_history.proofs.Gathers.{gone_nowhere}
 use Rattle.fd_history.proofs.Keeping.{drawn_over-append, kept_is_drawn_over}
 
 -- ---- depths, whatever the colours
-part_of_one : (b : Bool) (p q : Pixel) → (if b then p else q).1 ≡ (if b then p.1 else q.1)
-part_of_one true p q = refl
-part_of_one false p q = refl
-
 depth_triangle : (t : Triangle) (interp : Interp) (s : Pipeline) (x y : ℕ) (before : Pixel)
     → (pixel_after_triangle t interp s x y before).1 ≡ depth_after_triangle t s x y before.1
-depth_triangle t interp s x y before = part_of_one (is_drawn t s x y before.1) (pixel_drawn t interp s x y before) before
+depth_triangle t interp s x y before = grind arith
 
 depth_triangles : (ts : List Triangle) (interp : Interp) (s : Pipeline) (x y : ℕ) (before : Pixel)
     → (pixel_after_triangles ts interp s x y before).1 ≡ depth_after_triangles ts s x y before.1
@@ -43,16 +38,8 @@ depth_triangles (t ∷ ts) interp s x y before =
 
 pub depth_event : (event : Option Event) (s : Pipeline) (x y : ℕ) (before : Pixel)
     → (pixel_after_event event s x y before).1 ≡ depth_after_event event s x y before.1
-depth_event None s x y before = refl
-depth_event (Some (Clear colour)) s x y before = refl
-depth_event (Some (DepthClear depth)) s x y before = refl
 depth_event (Some (Draw draw)) s x y before = depth_triangles (triangles_of draw) draw.interp s x y before
-depth_event (Some (SetRaster raster)) s x y before = refl
-depth_event (Some (SetScissor rect)) s x y before = refl
-depth_event (Some (SetBlend blend)) s x y before = refl
-depth_event (Some (SetFactor colour)) s x y before = refl
-depth_event (Some (SetDepth depth)) s x y before = refl
-depth_event (Some (Marker label)) s x y before = refl
+depth_event other s x y before = refl
 
 -- ---- entries without their colours
 abbrev blank : Entry → Entry
@@ -62,12 +49,7 @@ blank_one : (v : Verdict) (event number : ℕ) (source before after : Pixel) (la
     → map blank (if is_missed v then [] else entry_of event (Some number) v source before after ∷ [])
     ≡ (if is_missed v then [] else entry_of event (Some number) v source (source.0, before.1) (source.0, last) ∷ [])
 blank_one Missed event number source before after last is = refl
-blank_one Culled event number source before after last is = ap (λ d. entry_of event (Some number) Culled source (source.0, before.1) (source.0, d) ∷ []) is
-blank_one Scissored event number source before after last is =
-    ap (λ d. entry_of event (Some number) Scissored source (source.0, before.1) (source.0, d) ∷ []) is
-blank_one DepthFailed event number source before after last is =
-    ap (λ d. entry_of event (Some number) DepthFailed source (source.0, before.1) (source.0, d) ∷ []) is
-blank_one Drawn event number source before after last is = ap (λ d. entry_of event (Some number) Drawn source (source.0, before.1) (source.0, d) ∷ []) is
+blank_one other event number source before after last is = rw is refl
 
 blank_triangles : (event number : ℕ) (ts : List Triangle) (interp : Interp) (s : Pipeline) (x y : ℕ) (before : Pixel)
     → map blank (entries_of_triangles event number ts interp s x y before) ≡ gathered_of_triangles event number ts interp s x y before.1
@@ -75,32 +57,23 @@ blank_triangles event number [] interp s x y before = refl
 blank_triangles event number (t ∷ ts) interp s x y before =
     let after = pixel_after_triangle t interp s x y before in
     let depth = depth_triangle t interp s x y before in
+    let rest = blank_triangles event (number + 1) ts interp s x y after in
     map-append blank (entries_of_triangle event number t interp s x y before) (entries_of_triangles event (number + 1) ts interp s x y after)
     ∙ ap (λ es. es ++ map blank (entries_of_triangles event (number + 1) ts interp s x y after))
     (blank_one (verdict_of t s x y before.1) event number (source_of t interp x y, depth_of t x y) before after (depth_after_triangle t s x y before.1) depth)
-    ∙ ap (λ es. gathered_of_triangle event number t interp s x y before.1 ++ es)
-    (blank_triangles event (number + 1) ts interp s x y after ∙ ap (gathered_of_triangles event (number + 1) ts interp s x y) depth)
+    ∙ rw (rest, depth) refl
 
 blank_event : (number : ℕ) (event : Option Event) (s : Pipeline) (x y : ℕ) (before : Pixel)
     → map blank (entries_of_event number event s x y before) ≡ gathered_of_event number event s x y before.1
-blank_event number None s x y before = refl
-blank_event number (Some (Clear colour)) s x y before = refl
-blank_event number (Some (DepthClear depth)) s x y before = refl
 blank_event number (Some (Draw draw)) s x y before = blank_triangles number 0 (triangles_of draw) draw.interp s x y before
-blank_event number (Some (SetRaster raster)) s x y before = refl
-blank_event number (Some (SetScissor rect)) s x y before = refl
-blank_event number (Some (SetBlend blend)) s x y before = refl
-blank_event number (Some (SetFactor colour)) s x y before = refl
-blank_event number (Some (SetDepth depth)) s x y before = refl
-blank_event number (Some (Marker label)) s x y before = refl
+blank_event number other s x y before = refl
 
 blank_history : (t : Table) (k x y : ℕ) → map blank (history_at t k x y) ≡ gathered_at t k x y
 blank_history t zero x y = refl
 blank_history t (suc k) x y =
     let more = entries_of_event (suc k) (active_event t (suc k)) (state_at t k) x y (pixel_at t k x y) in
-    map-append blank (history_at t k x y) more
-    ∙ ap (λ es. es ++ map blank more) (blank_history t k x y)
-    ∙ ap (λ es. gathered_at t k x y ++ es) (blank_event (suc k) (active_event t (suc k)) (state_at t k) x y (pixel_at t k x y))
+    let events = blank_event (suc k) (active_event t (suc k)) (state_at t k) x y (pixel_at t k x y) in
+    cc (map-append blank (history_at t k x y) more, blank_history t k x y, events)
 
 -- what no entry enters is not gathered, and nothing is kept of it
 gathers_nothing : (number : ℕ) (event : Option Event) (s : Pipeline) (x y : ℕ) (before : Pixel) → entries_of_event number event s x y before ≡ []
@@ -121,31 +94,21 @@ keeps_nothing t k x y none = kept_is_drawn_over t k x y ∙ ap drawn_over none
 -- ---- what a pixel went through
 drawn_over-cons : (e : Entry) (es : List Entry) → drawn_over
     (e ∷ es) ≡ (if is_drawn_by e.verdict then (e.before, e.depth_before) ∷ drawn_over es else drawn_over es)
-drawn_over-cons e es = by_test (is_drawn_by e.verdict)
-  where
-    by_test : (b : Bool) → map (λ (entry : Entry). (entry.before, entry.depth_before))
-        (if b then e ∷ filter (λ entry. is_drawn_by entry.verdict) es else filter (λ entry. is_drawn_by entry.verdict) es)
-        ≡ (if b then (e.before, e.depth_before) ∷ drawn_over es else drawn_over es)
-    by_test true = refl
-    by_test false = refl
+drawn_over-cons e es = grind arith
 
 pub drawn_over-history : (t : Table) (k x y : ℕ) → drawn_over (history_at t k x y) ≡ overwritten t k x y
 drawn_over-history t zero x y = refl
 drawn_over-history t (suc k) x y =
     let more = entries_of_event (suc k) (active_event t (suc k)) (state_at t k) x y (pixel_at t k x y) in
-    drawn_over-append (history_at t k x y) more
-    ∙ ap (λ cs. cs ++ drawn_over more) (drawn_over-history t k x y)
-    ∙ ap (λ cs. overwritten t k x y ++ cs) (sym (kept_is_drawn_over t k x y))
+    cc (drawn_over-append (history_at t k x y) more, drawn_over-history t k x y, kept_is_drawn_over t k x y)
 
 -- behind an entry are those that the entries after it overwrote
 behind_one : (b : Bool) (c : Pixel) (cs : List Pixel) (last : Pixel) → behind b ((if b then c ∷ cs else cs) ++ last ∷ []) ≡ cs ++ last ∷ []
-behind_one true c cs last = refl
-behind_one false c cs last = refl
+behind_one b c cs last = grind arith
 
 first_one : (b : Bool) (c a : Pixel) (cs : List Pixel) (last : Pixel) → (b ≡ false → first (cs ++ last ∷ []) ≡ c)
     → first ((if b then c ∷ cs else cs) ++ last ∷ []) ≡ c
-first_one true c a cs last rest = refl
-first_one false c a cs last rest = rest refl
+first_one b c a cs last rest = grind arith
 
 not_drawn : (v : Verdict) → is_drawn_by v ≡ false → v ≢ Drawn
 not_drawn v undrawn = λ drawn. absurd (true≢false (sym (ap is_drawn_by drawn) ∙ undrawn))
@@ -164,34 +127,24 @@ settles a last [] leads = refl
 settles a last (e ∷ es) leads =
     let pixels = drawn_over (e ∷ es) ++ last ∷ [] in
     let left : behind (is_drawn_by e.verdict) pixels ≡ drawn_over es ++ last ∷ [] =
-    ap (λ cs. behind (is_drawn_by e.verdict) (cs ++ last ∷ [])) (drawn_over-cons e es)
-    ∙ behind_one (is_drawn_by e.verdict) (e.before, e.depth_before) (drawn_over es) last in
+    rw (drawn_over-cons e es) (behind_one (is_drawn_by e.verdict) (e.before, e.depth_before) (drawn_over es) last) in
     let before : first pixels ≡ (e.before, e.depth_before) = leads_first a last (e ∷ es) leads ∙ sym leads.0 in
-    let after : first (behind (is_drawn_by e.verdict) pixels) ≡ (e.after, e.depth_after) = ap first left
-    ∙ leads_first (e.after, e.depth_after) last es leads.2 in
-    ap (λ (p : Pixel). entry_between e p.0 (first (behind (is_drawn_by e.verdict) pixels)).0 ∷ settled (map blank es) (behind (is_drawn_by e.verdict) pixels))
-    before
-    ∙ ap (λ (p : Pixel). entry_between e e.before p.0 ∷ settled (map blank es) (behind (is_drawn_by e.verdict) pixels)) after
-    ∙ ap (λ cs. e ∷ settled (map blank es) cs) left
-    ∙ ap (λ fs. e ∷ fs) (settles (e.after, e.depth_after) last es leads.2)
+    let after = leads_first (e.after, e.depth_after) last es leads.2 in
+    rw (before, left, after, settles (e.after, e.depth_after) last es leads.2) refl
 
 pub history_settles : (t : Table) (k x y : ℕ) → settled (gathered_at t k x y) (overwritten t k x y ++ pixel_at t k x y ∷ []) ≡ history_at t k x y
 history_settles t k x y =
-    ap (λ es. settled es (overwritten t k x y ++ pixel_at t k x y ∷ [])) (sym (blank_history t k x y))
-    ∙ ap (λ cs. settled (map blank (history_at t k x y)) (cs ++ pixel_at t k x y ∷ [])) (sym (drawn_over-history t k x y))
-    ∙ settles fresh_pixel (pixel_at t k x y) (history_at t k x y) (history_leads t k x y)
+    rw (← blank_history t k x y, ← drawn_over-history t k x y)
+    (settles fresh_pixel (pixel_at t k x y) (history_at t k x y) (history_leads t k x y))
 
 -- ---- there are enough of them
 count_one : (b : Bool) (c : Pixel) (cs : List Pixel) → length (if b then c ∷ cs else cs) ≡ (if b then 1 else 0) + length cs
-count_one true c cs = omega arith
-count_one false c cs = omega arith
+count_one b c cs = grind arith
 
 drawn_count-blank : (es : List Entry) → drawn_count (map blank es) ≡ length (drawn_over es)
 drawn_count-blank [] = refl
 drawn_count-blank (e ∷ es) =
-    ap (λ n. (if is_drawn_by e.verdict then 1 else 0) + n) (drawn_count-blank es)
-    ∙ sym (count_one (is_drawn_by e.verdict) (e.before, e.depth_before) (drawn_over es))
-    ∙ ap length (sym (drawn_over-cons e es))
+    rw (drawn_count-blank es, drawn_over-cons e es) (sym (count_one (is_drawn_by e.verdict) (e.before, e.depth_before) (drawn_over es)))
 
 pub enough : (t : Table) (k x y : ℕ) (last : Pixel) → drawn_count (gathered_at t k x y) < length (overwritten t k x y ++ last ∷ [])
 enough t k x y last =
@@ -201,31 +154,27 @@ enough t k x y last =
 
 -- ---- an event that enters nothing
 active_is : (t : Table) (number : ℕ) (event : Event) → event_at t number ≡ Some event → flag_at t number ≡ Some true → active_event t number ≡ Some event
-active_is t number event found on =
-    ap (λ f. if unwrap_or f false then event_at t number else None) on ∙ found
+active_is t number event found on = rw on found
 
 module _ (t : Table) (number x y : ℕ) (event : Event) (least : 1 ≤ number) (found : event_at t number ≡ Some event) (on : flag_at t number ≡ Some true)
     (nothing : EntersNothing event x y) where
   no_entries : (s : Pipeline) (before : Pixel) → entries_of_event number (active_event t number) s x y before ≡ []
-  no_entries s before = ap (λ e. entries_of_event number e s x y before) (active_is t number event found on) ∙ nothing number s before
+  no_entries s before = rw (active_is t number event found on) (nothing number s before)
 
   pub passes_by : (g : Gathering) → g.x ≡ x → g.y ≡ y → g ≡ past_number number (active_event t number) (state_at t (number - 1)) g
   passes_by g column row =
       let s = state_at t (number - 1) in
       let before : Pixel = (fresh, g.depth) in
       let none : entries_of_event number (active_event t number) s g.x g.y before ≡ [] = rw (column, row) (no_entries s before) in
-      sym (gone_nowhere g)
-      ∙ ap (λ d. gone_on g d []) (sym (keeps_depth number (active_event t number) s g.x g.y before none))
-      ∙ ap (gone_on g (depth_after_event (active_event t number) s g.x g.y g.depth))
-      (sym (gathers_nothing number (active_event t number) s g.x g.y before none))
+      rw (keeps_depth number (active_event t number) s g.x g.y before none, gathers_nothing number (active_event t number) s g.x g.y before none)
+      (sym (gone_nowhere g))
 
   pub overwrites_nothing : (pixels : List Pixel) → pixels ≡ overwritten_past t (number - 1) x y pixels
   overwrites_nothing pixels =
       let again : suc (number - 1) ≡ number = omega (arith, least) in
-      sym (append-nil pixels)
-      ∙ ap (λ cs. pixels ++ cs) (sym (keeps_nothing t (number - 1) x y
-      (ap (λ n. entries_of_event n (active_event t n) (state_at t (number - 1)) x y (pixel_at t (number - 1) x y)) again
-      ∙ no_entries (state_at t (number - 1)) (pixel_at t (number - 1) x y))))
+      let none = ap (λ n. entries_of_event n (active_event t n) (state_at t (number - 1)) x y (pixel_at t (number - 1) x y)) again
+      ∙ no_entries (state_at t (number - 1)) (pixel_at t (number - 1) x y) in
+      rw (keeps_nothing t (number - 1) x y none) (sym (append-nil pixels))
 
 -- ---- the entries that were lent to be settled
 length-settled : (es : List Entry) (pixels : List Pixel) → length (settled es pixels) ≡ length es
@@ -236,17 +185,14 @@ pub given_back : (n : ℕ) (old new : List Entry) (pixels : List Pixel) → n �
     → take n (new ++ drop (length new) old) ≡ settled old pixels
 given_back n old new pixels all is =
     let same : length new ≡ length old = ap length is ∙ length-settled old pixels in
-    ap (λ l. take n (new ++ l)) (drop_all (length new) old (omega (arith, same)))
-    ∙ ap (take n) (append-nil new) ∙ take_all n new (omega (arith, same, all)) ∙ is
+    rw (drop_all (length new) old (omega (arith, same)), append-nil new) (take_all n new (omega (arith, same, all)) ∙ is)
 
 -- as many entries of an event were drawn as pixels are kept of it
 pub count_kept : (t : Table) (k x y : ℕ) → drawn_count (gathered_of_event (suc k) (active_event t (suc k)) (state_at t k) x y (stored_at t k x y)) ≡ length
     (kept_after t k x y)
 count_kept t k x y =
     let entries = entries_of_event (suc k) (active_event t (suc k)) (state_at t k) x y (pixel_at t k x y) in
-    ap drawn_count (sym (blank_event (suc k) (active_event t (suc k)) (state_at t k) x y (pixel_at t k x y)))
-    ∙ drawn_count-blank entries
-    ∙ ap length (sym (kept_is_drawn_over t k x y))
+    rw (← blank_event (suc k) (active_event t (suc k)) (state_at t k) x y (pixel_at t k x y), kept_is_drawn_over t k x y) (drawn_count-blank entries)
 
 pub count_event : (t : Table) (number x y : ℕ) (event : Event) → 1 ≤ number → event_at t number ≡ Some event → flag_at t number ≡ Some true
     → drawn_count (gathered_of number event (state_at t (number - 1)) x y (stored_at t (number - 1) x y)) ≡ length (kept_after t (number - 1) x y)
@@ -261,29 +207,12 @@ abbrev pub gathering_at : Table → ℕ → ℕ → ℕ → Gathering
 gathering_at t k x y = record { x = x; y = y; depth = stored_at t k x y; entries = gathered_at t k x y }
 
 one_event : (t : Table) (k x y : ℕ) → past_number (suc k) (active_event t (suc k)) (state_at t k) (gathering_at t k x y) ≡ gathering_at t (suc k) x y
-one_event t k x y =
-    ap (λ d. record { x = x; y = y; depth = d; entries = gathered_at t (suc k) x y })
-    (sym (depth_event (active_event t (suc k)) (state_at t k) x y (pixel_at t k x y)))
+one_event t k x y = grind (arith, depth_event)
 
 pub next_event : (t : Table) (k number x y : ℕ) (old new : Gathering) → number ≡ k + 1 → old ≡ gathering_at t k x y
     → new ≡ past_number number (active_event t number) (state_at t (number - 1)) old → new ≡ gathering_at t (k + 1) x y
-next_event t k number x y old new at begins is =
-    let again : number ≡ suc k = omega (arith, at) in
-    let before : number - 1 ≡ k = omega (arith, at) in
-    let next : suc k ≡ k + 1 = omega arith in
-    is
-    ∙ ap (past_number number (active_event t number) (state_at t (number - 1))) begins
-    ∙ ap (λ n. past_number number (active_event t number) (state_at t n) (gathering_at t k x y)) before
-    ∙ ap (λ n. past_number n (active_event t n) (state_at t k) (gathering_at t k x y)) again
-    ∙ one_event t k x y
-    ∙ ap (λ n. gathering_at t n x y) next
+next_event t k number x y old new at begins is = grind (arith, one_event)
 
 pub next_kept : (t : Table) (k number x y : ℕ) (old new : List Pixel) → number ≡ k + 1 → old ≡ overwritten t k x y
     → new ≡ overwritten_past t (number - 1) x y old → new ≡ overwritten t (k + 1) x y
-next_kept t k number x y old new at begins is =
-    let before : number - 1 ≡ k = omega (arith, at) in
-    let next : suc k ≡ k + 1 = omega arith in
-    is
-    ∙ ap (overwritten_past t (number - 1) x y) begins
-    ∙ ap (λ n. overwritten_past t n x y (overwritten t k x y)) before
-    ∙ ap (λ n. overwritten t n x y) next
+next_kept t k number x y old new at begins is = grind arith

@@ -39,11 +39,9 @@ settle-requires c =
     let t = c.args.table.now in
     let at : c.loop-passed.passed ≡ k = omega (arith, c.loop-passed-test.false, c.position-passed-end.ensures, c.loop-passed.auto.passed-end) in
     let entries : c.deref_mut.result.now ≡ gathered_at t k c.args.x c.args.y =
-    c.deref_mut.ensures.value ∙ ap (λ (g : Gathering). g.entries) (c.gather-2.view_is ∙ c.loop-passed.invariant.gathered)
-    ∙ ap (λ n. gathered_at t n c.args.x c.args.y) at in
+    c.deref_mut.ensures.value ∙ ap (λ (g : Gathering). g.entries) (c.gather-2.view_is ∙ c.loop-passed.invariant.gathered) ∙ rw at refl in
     let pixels : c.deref.result.now ≡ overwritten t k c.args.x c.args.y ++ (c.pixel.result, c.depth.result) ∷ [] =
-    c.deref.ensures.value ∙ c.in_ok-push.ensures.items
-    ∙ ap (λ l. l ++ (c.pixel.result, c.depth.result) ∷ []) (c.loop-passed.invariant.kept ∙ ap (λ n. overwritten t n c.args.x c.args.y) at) in
+    c.deref.ensures.value ∙ c.in_ok-push.ensures.items ∙ rw (c.loop-passed.invariant.kept, at) refl in
     rw (entries, pixels) (enough t k c.args.x c.args.y (c.pixel.result, c.depth.result))
 
 pub returns-clause-exact : goal.returns-clause-exact
@@ -55,19 +53,15 @@ returns-clause-exact c =
     let y = c.args.y in
     let at : c.loop-passed.passed ≡ k = omega (arith, c.loop-passed-test.false, c.position-passed-end.ensures, c.loop-passed.auto.passed-end) in
     let gathered : c.gather-2.inside.entries.items ≡ gathered_at t k x y =
-    ap (λ (g : Gathering). g.entries) (c.gather-2.view_is ∙ c.loop-passed.invariant.gathered) ∙ ap (λ n. gathered_at t n x y) at in
+    ap (λ (g : Gathering). g.entries) (c.gather-2.view_is ∙ c.loop-passed.invariant.gathered) ∙ rw at refl in
     let image : pixel_in owner.place (last_image owner.history) x y ≡ pixel_at t k x y =
     ap (λ (h : History). pixel_in owner.place (last_image h) x y) c.requires.follows ∙ pixel_drawn t owner.place k x y c.requires.pixel in
     let shown : (c.pixel.result, c.depth.result) ≡ pixel_at t k x y =
     ap (λ a. (a, c.depth.result)) (c.pixel.ensures ∙ ap (λ (p : Pixel). p.0) image)
     ∙ ap (λ a. ((pixel_at t k x y).0, a)) (c.depth.ensures ∙ ap (λ (p : Pixel). p.1) image) in
     let pixels : c.deref.result.now ≡ overwritten t k x y ++ pixel_at t k x y ∷ [] =
-    c.deref.ensures.value ∙ c.in_ok-push.ensures.items
-    ∙ ap (λ l. l ++ (c.pixel.result, c.depth.result) ∷ []) (c.loop-passed.invariant.kept ∙ ap (λ n. overwritten t n x y) at)
-    ∙ ap (λ p. overwritten t k x y ++ p ∷ []) shown in
+    c.deref.ensures.value ∙ c.in_ok-push.ensures.items ∙ rw (c.loop-passed.invariant.kept, at, shown) refl in
     let is : c.settle.new.entries ≡ settled c.gather-2.inside.entries.items c.deref.result.now =
-    c.settle.ensures ∙ ap (λ es. settled es c.deref.result.now) c.deref_mut.ensures.value in
+    c.settle.ensures ∙ rw c.deref_mut.ensures.value refl in
     given_back c.gather-2.inside.entries.len c.gather-2.inside.entries.items c.settle.new.entries c.deref.result.now c.gather-2.inside.entries.ok.0 is
-    ∙ ap (λ es. settled es c.deref.result.now) gathered
-    ∙ ap (settled (gathered_at t k x y)) pixels
-    ∙ history_settles t k x y
+    ∙ rw (gathered, pixels) (history_settles t k x y)

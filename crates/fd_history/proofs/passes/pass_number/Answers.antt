@@ -1,12 +1,10 @@
-use Rattle.std.proofs.Common.{◌≡◌, ◌+◌, ◌-◌, ◌∙◌, ◌++◌, true, Some, List, sym, ap, subst, arith, length, take, drop, length-append}
+use Rattle.std.proofs.Common.{◌≡◌, ◌+◌, ◌-◌, ◌∙◌, ◌++◌, true, Some, sym, ap, arith, length, take, drop, length-append}
 use Rattle.std.proofs.lemmas.List.{drop_at, take_all}
-use Rattle.std.specs.Prelude.{OnOk}
-use Rattle.fd_events.specs.Image.{Pixel, kept_after}
-use Rattle.fd_events.specs.Table.{flag_at, state_at}
-use Rattle.fd_owner.specs.History.{position, pixels_kept, drawn_history}
+use Rattle.fd_events.specs.Image.{kept_after}
+use Rattle.fd_events.specs.Table.{flag_at}
+use Rattle.fd_owner.specs.History.{position, pixels_kept}
 use Rattle.fd_owner.proofs.Drawn.{kept_drawn}
 use Rattle.fd_history.specs.Gathered.{Gathering, gathered_of}
-use Rattle.fd_history.specs.Settled.{drawn_count}
 use Rattle.fd_history.proofs.Settles.{passes_by, overwrites_nothing, count_event}
 use Rattle.fd_history.proofs.passes.pass_number.Goals as goal
 
@@ -35,12 +33,7 @@ returns-clause-kept c =
     let same : c.gather-2.inside.x ≡ x = ap (λ (g : Gathering). g.x) (c.gather-2.view_is ∙ c.in_ok-pass.ensures.exact) in
     let row : c.gather-2.inside.y ≡ y = ap (λ (g : Gathering). g.y) (c.gather-2.view_is ∙ c.in_ok-pass.ensures.exact) in
     let number : c.args.number - 1 + 1 ≡ c.args.number = omega (arith, c.requires.first) in
-    let kept : pixels_kept owner.place owner.history c.args.number c.gather-2.inside.x c.gather-2.inside.y ≡ kept_after table (c.args.number - 1) x y =
-    ap (λ a. pixels_kept owner.place owner.history c.args.number a c.gather-2.inside.y) same
-    ∙ ap (λ a. pixels_kept owner.place owner.history c.args.number x a) row
-    ∙ ap (λ h. pixels_kept owner.place h c.args.number x y) c.requires.follows
-    ∙ ap (λ n. pixels_kept owner.place (drawn_history table owner.place k) n x y) (sym number)
-    ∙ kept_drawn owner.place x y c.requires.pixel table k (c.args.number - 1) (omega (arith, c.requires.first, c.requires.last)) in
+    let kept = rw number at (kept_drawn owner.place x y c.requires.pixel table k (c.args.number - 1) (omega (arith, c.requires.first, c.requires.last))) in
     let event = c.event-event.result.now in
     let on : flag_at table c.args.number ≡ Some true = c.is_on.ensures ∙ ap (λ b. Some b) c.if-not-is_on.false in
     let before = c.args.gather.now.entries in
@@ -51,16 +44,12 @@ returns-clause-kept c =
     let start : c.len-before.result ≡ length before =
     omega (arith, c.len-before.ensures, c.gather.inside.entries.ok.0, ap (λ (g : Gathering). length g.entries) c.gather.view_is) in
     let part : take (length c.deref.result.now - c.len-before.result) (drop c.len-before.result c.deref.result.now) ≡ more =
-    ap (λ l. take (length l - c.len-before.result) (drop c.len-before.result l)) entries
-    ∙ ap (take (length (before ++ more) - c.len-before.result)) (drop_at before more c.len-before.result (omega (arith, start)))
-    ∙ take_all (length (before ++ more) - c.len-before.result) more (omega (arith, start, length-append before more)) in
+    rw (entries, drop_at before more c.len-before.result (omega (arith, start)))
+    (take_all (length (before ++ more) - c.len-before.result) more (omega (arith, start, length-append before more))) in
     let drawn : c.count_drawn-drawn.result ≡ length (kept_after table (c.args.number - 1) x y) =
-    c.count_drawn-drawn.ensures ∙ ap drawn_count part
-    ∙ ap (λ s. drawn_count (gathered_of c.args.number event s x y depth)) c.state_before.ensures
-    ∙ ap (λ d. drawn_count (gathered_of c.args.number event (state_at table (c.args.number - 1)) x y d)) c.requires.depth
-    ∙ count_event table c.args.number x y event c.requires.first c.event-event.ensures on in
+    c.count_drawn-drawn.ensures ∙ rw (part, c.state_before.ensures, c.requires.depth)
+    (count_event table c.args.number x y event c.requires.first c.event-event.ensures on) in
     let all : take c.count_drawn-drawn.result (pixels_kept owner.place owner.history c.args.number c.gather-2.inside.x c.gather-2.inside.y) ≡ kept_after table
     (c.args.number - 1) x y =
-    ap (take c.count_drawn-drawn.result) kept
-    ∙ take_all c.count_drawn-drawn.result (kept_after table (c.args.number - 1) x y) (omega (arith, drawn)) in
-    subst (λ (l : List Pixel). OnOk c.add_kept.result (c.add_kept.new.kept.items ≡ c.args.kept.now.items ++ l)) all c.add_kept.ensures
+    rw (same, row, c.requires.follows, kept) (take_all c.count_drawn-drawn.result (kept_after table (c.args.number - 1) x y) (omega (arith, drawn))) in
+    rw all at c.add_kept.ensures
