@@ -7,7 +7,7 @@ use Rattle.std.proofs.lemmas.List.{length-replicate, get_or-replicate, replicate
 use Rattle.fd_undo.specs.Frame.{KeptPixel, top, older}
 use Rattle.fd_undo.specs.Undo.{recorded_in}
 use Rattle.fd_undo.specs.Block.{KeptFrame, Filled, no_frame, newest, others, found, first_number, Rise}
-use Rattle.fd_undo.specs.Stack.{frames_from, all_stored, HaveFrames, IsUndoStack}
+use Rattle.fd_undo.specs.Stack.{frames_from, stored_in, all_stored, HaveFrames, IsUndoStack}
 use Rattle.fd_undo.proofs.FrameLemmas.{others-newest, older-push, top-push, older-top, recorded_in-push, recorded_in-cons}
 use Rattle.fd_undo.proofs.BlockLemmas.{this_number, other_number}
 
@@ -271,10 +271,12 @@ pub record IsTop (stored : List KeptFrame) (count recorded : ℕ) (frames : List
   pub rise : Rise 0 stored (count - 1 + 1)
   pub shown : frames_from 0 stored (count - 1 + 1) ≡ frames
   pub recorded_is : recorded ≡ recorded_in (older frames) + length (top frames)
+  pub countable : recorded < 2 ^ 64
 
 pub is_top : (stored : List KeptFrame) (count recorded : ℕ) (frames : List (List KeptPixel)) → Rise 0 stored count
-    → recorded ≡ recorded_in (frames_from 0 stored count) → frames_from 0 stored count ≡ frames → 0 < length frames → IsTop stored count recorded frames
-is_top stored count recorded frames is counted shown some =
+    → recorded ≡ recorded_in (frames_from 0 stored count) → frames_from 0 stored count ≡ frames → 0 < length frames → recorded < 2 ^ 64
+    → IsTop stored count recorded frames
+is_top stored count recorded frames is counted shown some countable =
     let counts : 0 < count = omega (arith, length-frames 0 stored count is, ap length shown, some) in
     let again : count - 1 + 1 ≡ count = omega (arith, counts) in
     record {
@@ -282,7 +284,46 @@ is_top stored count recorded frames is counted shown some =
       rise = subst (λ n. Rise 0 stored n) (sym again) is;
       shown = ap (λ n. frames_from 0 stored n) again ∙ shown;
       recorded_is = counted ∙ ap recorded_in shown ∙ recorded-top frames some;
+      countable = countable;
     }
+
+-- ---- the top frame goes: it is the newest one of the last block, or not stored
+module _ {before : List KeptFrame} {count recorded : ℕ} {frames : List (List KeptPixel)} (full : List Filled) (last : Filled)
+    (t : IsTop before count recorded frames) (have : HaveFrames full) (same : all_stored full last ≡ before) where
+  module _ (yes : (0 < length last.frames) × ((newest last.frames).number ≡ count - 1)) where
+    stored : TopStored (stored_in full) last.frames (count - 1 + 1)
+    stored = top_stored (stored_in full) last.frames (count - 1 + 1) yes.0 (omega (arith, yes.1)) (subst (λ l. Rise 0 l (count - 1 + 1)) (sym same) t.rise)
+
+    pub top_kept : (newest last.frames).kept ≡ top frames
+    top_kept = cc (stored.top_is, t.shown)
+
+    pub top_fits : length (newest last.frames).kept ≤ recorded
+    top_fits = omega (arith, t.recorded_is, ap length top_kept)
+
+    module _ (now : List Filled) (left : Filled) (there : HaveFrames now) (is : all_stored now left ≡ stored_in full ++ others last.frames) where
+      pub older_left : frames_from 0 (all_stored now left) (count - 1) ≡ older frames
+      older_left = cc (stored.older_are, t.shown)
+
+      pub top_gone : (pixels : ℕ) → pixels ≡ length (newest last.frames).kept → IsUndoStack now left (count - 1) (recorded - pixels) false 0 0
+      top_gone pixels counted =
+          closed now left (count - 1) (recorded - pixels) there
+          (subst (λ l. Rise 0 l (count - 1)) (sym is) (subst (Rise 0 (stored_in full ++ others last.frames)) yes.1 stored.rise_low))
+          (omega (arith, counted, t.recorded_is, ap length top_kept, ap recorded_in older_left)) (omega (arith, t.countable))
+
+  module _ (not : Rise 0 before (count - 1)) where
+    missing : frames ≡ frames_from 0 (all_stored full last) (count - 1) ++ [] ∷ []
+    missing = cc (t.shown, frames-next before (count - 1) not)
+
+    pub top_empty : top frames ≡ []
+    top_empty = ap top missing ∙ top-push (frames_from 0 (all_stored full last) (count - 1)) []
+
+    pub older_same : frames_from 0 (all_stored full last) (count - 1) ≡ older frames
+    older_same = sym (ap older missing ∙ older-push (frames_from 0 (all_stored full last) (count - 1)) [])
+
+    pub top_missed : IsUndoStack full last (count - 1) recorded false 0 0
+    top_missed =
+        closed full last (count - 1) recorded have (subst (λ l. Rise 0 l (count - 1)) (sym same) not)
+        (omega (arith, t.recorded_is, ap length top_empty, ap recorded_in older_same)) t.countable
 
 -- what is left where frames that keep nothing are dropped
 pub dropped : (low frames : List KeptFrame) (count to after left : ℕ) → Rise 0 (low ++ frames) count → to ≤ count

@@ -240,11 +240,17 @@ impl Block {
         ensures there { IfSome result (λ parts. kept_in_parts parts ≡ found number self.now.frames) }
         ensures absent { result ≡ None → found number self.now.frames ≡ [] }
     {
-        if self.is_newest(number) {
-            return Some(self.parts_at(self.marks.len() - 1));
-        }
         let place = place_of(self.marks.as_slice(), number)?;
         Some(self.parts_at(place))
+    }
+
+    /// The same of the newest frame.
+    pub(crate) fn newest_parts(&self) -> Parts<'_>
+        requires { 0 < length self.now.frames }
+        ensures whole { AreParts result }
+        ensures there { kept_in_parts result ≡ (newest self.now.frames).kept }
+    {
+        self.parts_at(self.marks.len() - 1)
     }
 
     /// The same of the frame at a place.

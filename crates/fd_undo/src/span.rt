@@ -161,9 +161,16 @@ impl Span {
     pub(crate) fn with_row(&self, row: &Span) -> Option<Span>
         ensures { IfSome result (λ grown. IsGrown self.now row.now grown) }
     {
+        if self.x != row.x {
+            return None;
+        }
         let plain = unmarked(self.marked_len);
+        // of a span of one row the packed length is that of the row
+        if plain <= LONGEST && self.marked_len != row.marked_len {
+            return None;
+        }
         let (len, rows) = (len_of(plain), rows_of_len(plain));
-        if self.x != row.x || row.len() != len as usize || len < 1 || len > 32 || rows > 31 {
+        if row.len() != len as usize || len < 1 || len > 32 || rows > 31 {
             return None;
         }
         if self.bottom() != row.y() || self.one_colour() != row.one_colour() {

@@ -1,4 +1,4 @@
-use Rattle.std.proofs.Common.{◌≡◌, ◌∙◌, sym, subst, length, ap, arith}
+use Rattle.std.proofs.Common.{◌≡◌, sym, subst, length, ap, arith}
 use Rattle.fd_undo.specs.declared.block.Mark.{Mark}
 use Rattle.fd_undo.specs.declared.parts.Cut.{Cut}
 use Rattle.fd_undo.specs.Rows.{rows_of}

@@ -1,35 +1,11 @@
-use Rattle.std.proofs.Common.{◌≡◌, ◌≢◌, ◌-◌, ◌<◌, ◌∙◌, refl, sym, subst, List, ℕ, length, get_or, ap, arith}
+use Rattle.std.proofs.Common.{◌≡◌, ◌≢◌, ◌<◌, ◌∙◌, refl, sym, subst, List, ℕ, length, get_or, ap, arith}
 use Rattle.fd_undo.specs.declared.block.Mark.{Mark}
 use Rattle.fd_undo.specs.Rows.{rows_of}
 use Rattle.fd_undo.specs.Block.{KeptFrame, Filled, marked, no_frame, number_at, Rise, NumbersRise, found}
 use Rattle.fd_undo.proofs.BlockLemmas.{marks-rise, found-place, found-none, marked-at, length-marked}
 use Rattle.fd_undo.proofs.block.Block.parts_of.Goals as goal
-use Rattle.fd_undo.proofs.block.Block.parts_of.Goals.{After-len, After-as_slice, In_ok-place}
+use Rattle.fd_undo.proofs.block.Block.parts_of.Goals.{After-as_slice, In_ok-place}
 
--- ---- the newest frame
-last_is : (c : After-len) → c.len.result ≡ length c.args.self.now.frames
-last_is c =
-    omega (
-      arith,
-      c.len.ensures,
-      length-marked c.self.inside.marks.items (rows_of c.self.inside.rows) (length c.self.inside.rows.spans),
-      ap (λ (h : Filled). length h.frames) c.self.view_is,
-    )
-
-pub parts_at-requires : goal.parts_at-requires
-parts_at-requires c = omega (arith, last_is (goal.at-parts_at-requires c).After-len, (c.is_newest.ensures.yes c.if-is_newest.true).0)
-
-pub returns-then-is_newest-clause-there : goal.returns-then-is_newest-clause-there
-returns-then-is_newest-clause-there c =
-    let frames = c.args.self.now.frames in
-    let yes = c.is_newest.ensures.yes c.if-is_newest.true in
-    cc (
-      last_is (goal.at-returns-then-is_newest-clause-there c).After-len,
-      found-place frames 0 c.requires.0 (length frames - 1) c.requires.1
-          (omega (arith, yes.0)),
-    )
-
--- ---- another one
 rise : (c : After-as_slice) → Rise 0 (marked c.self.inside.marks.items (rows_of c.self.inside.rows) (length c.self.inside.rows.spans)) c.requires.0
 rise c = subst (λ l. Rise 0 l c.requires.0) (sym (ap (λ (h : Filled). h.frames) c.self.view_is)) c.requires.1
 
@@ -65,11 +41,11 @@ framed c =
       ap (λ (h : Filled). length h.frames) c.self.view_is,
     )
 
-pub parts_at-requires-2 : goal.parts_at-requires-2
-parts_at-requires-2 c = framed (goal.at-parts_at-requires-2 c).In_ok-place
+pub parts_at-requires : goal.parts_at-requires
+parts_at-requires c = framed (goal.at-parts_at-requires c).In_ok-place
 
 pub returns-clause-there : goal.returns-clause-there
 returns-clause-there c =
     let d = (goal.at-returns-clause-there c).In_ok-place in
     let frames = c.args.self.now.frames in
-    c.parts_at-2.ensures.there ∙ sym (found-place frames 0 c.requires.0 c.in_ok-place.place c.requires.1 (framed d)) ∙ ap (λ n. found n frames) (place d).1
+    c.parts_at.ensures.there ∙ sym (found-place frames 0 c.requires.0 c.in_ok-place.place c.requires.1 (framed d)) ∙ ap (λ n. found n frames) (place d).1
