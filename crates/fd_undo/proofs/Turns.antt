@@ -1,5 +1,6 @@
 -- One turn of a walk over spans that looks for a pixel.
-use Rattle.std.proofs.Common.{◌≡◌, ℕ, ◌+◌, ◌-◌, ◌<◌, ◌≤◌, ◌∙◌, true, false, List, ◌∷◌, ◌++◌, length, get_or, drop, sym, ap, arith, length-drop}
+use Rattle.std.proofs.Common.{◌≡◌, ℕ, suc, ◌+◌, ◌-◌, ◌<◌, ◌≤◌, ◌∙◌, true, false, List, ◌∷◌, ◌++◌, [], length, get_or, take, drop, ap, sym, arith, Some, length-drop, append_assoc}
+use Rattle.std.specs.Prelude.{slice_get}
 use Rattle.std.proofs.lemmas.List.{drop_more, drop-drop}
 use Rattle.fd_blend.specs.declared.channel.Colour.{Colour}
 use Rattle.fd_tile.specs.Tile.{Pixel, fresh_pixel}
@@ -15,50 +16,51 @@ use Rattle.fd_undo.specs.declared.parts.Parts.{Parts}
 abbrev pub kept_from : Parts → ℕ → ℕ → ℕ → ℕ → ℕ → List Pixel
 kept_from p i first deep x y = kept_at (joined (rows_in (drop i p.spans.now) (drop first p.colours.now) (drop deep p.depths.now))) x y
 
-module _ (p : Parts) (i first deep x y : ℕ) (s : Span) (within : i < length p.spans.now) (read : s ≡ get_or p.spans.now i s)
-    (fits : first + colour_count (drop i p.spans.now) ≤ length p.colours.now)
-    (deep_fits : deep + depth_count (drop i p.spans.now) ≤ length p.depths.now) where
-  parts : drop i p.spans.now ≡ s ∷ drop (i + 1) p.spans.now
-  parts = drop_more p.spans.now i s within ∙ ap (λ (t : Span). t ∷ drop (i + 1) p.spans.now) (sym read)
+-- the values of those spans stand there
+pub record StandsAt (p : Parts) (i first deep : ℕ) : Type 0 where
+  pub fits : first + colour_count (drop i p.spans.now) ≤ length p.colours.now
+  pub deep_fits : deep + depth_count (drop i p.spans.now) ≤ length p.depths.now
 
-  pub next_fits : first + listed_colours s + colour_count (drop (i + 1) p.spans.now) ≤ length p.colours.now
-  next_fits = omega (arith, fits, ap colour_count parts, colours-cons s (drop (i + 1) p.spans.now))
-
-  pub next_deep_fits : deep + listed_depths s + depth_count (drop (i + 1) p.spans.now) ≤ length p.depths.now
-  next_deep_fits = omega (arith, deep_fits, ap depth_count parts, depths-cons s (drop (i + 1) p.spans.now))
-
-  abbrev cs : List Colour
-  cs = drop first p.colours.now
-
-  abbrev ds : List ℕ
-  ds = drop deep p.depths.now
-
-  coloured : listed_colours s ≤ length (drop first p.colours.now)
-  coloured = omega (arith, next_fits, length-drop first p.colours.now)
-
-  deepened : listed_depths s ≤ length (drop deep p.depths.now)
-  deepened = omega (arith, next_deep_fits, length-drop deep p.depths.now)
-
-  -- the span's own, and what follows
-  both : kept_from p i first deep x y ≡ kept_at (span_pixels s cs ds) x y ++ kept_from p (i + 1) (first + listed_colours s) (deep + listed_depths s) x y
-  both =
-      let rest : List Span = drop (i + 1) p.spans.now in
-      let own : List Pixel = kept_at (span_pixels s cs ds) x y in
-      ap (λ l. kept_at (joined (rows_in l cs ds)) x y) parts
-      ∙ kept_at-append (span_pixels s cs ds) (joined (rows_in rest (drop (listed_colours s) cs) (drop (listed_depths s) ds))) x y
-      ∙ ap (λ l. own ++ kept_at (joined (rows_in rest l (drop (listed_depths s) ds))) x y) (drop-drop (listed_colours s) first p.colours.now)
-      ∙ ap (λ l. own ++ kept_at (joined (rows_in rest (drop (first + listed_colours s) p.colours.now) l)) x y) (drop-drop (listed_depths s) deep p.depths.now)
-
-  abbrev later : List Pixel
-  later = kept_from p (i + 1) (first + listed_colours s) (deep + listed_depths s) x y
-
-  pub turn-held : span_holds s x y ≡ true → kept_from p i first deep x y
+-- after span i, which has n colours and m depths
+pub record Turn (p : Parts) (i first deep n m x y : ℕ) (s : Span) : Type 0 where
+  pub stands : StandsAt p (i + 1) (first + n) (deep + m)
+  pub held : span_holds s x y ≡ true → kept_from p i first deep x y
       ≡ get_or (pixels_of_row s (drop first p.colours.now) (drop deep p.depths.now) (y - s.y)) (x - s.x) fresh_pixel
-      ∷ kept_from p (i + 1) (first + listed_colours s) (deep + listed_depths s) x y
-  turn-held held =
-      both ∙ ap (λ l. l ++ later) (kept_at-held s (pixels_of_row s cs ds) x y (length-pixels_of_row s cs ds coloured deepened) held)
+      ∷ kept_from p (i + 1) (first + n) (deep + m) x y
+  pub not_held : span_holds s x y ≡ false → kept_from p i first deep x y ≡ kept_from p (i + 1) (first + n) (deep + m) x y
 
-  pub turn-not_held : span_holds s x y ≡ false → kept_from p i first deep x y
-      ≡ kept_from p (i + 1) (first + listed_colours s) (deep + listed_depths s) x y
-  turn-not_held not =
-      both ∙ ap (λ l. l ++ later) (kept_at-not_held s (pixels_of_row s cs ds) x y (length-pixels_of_row s cs ds coloured deepened) not)
+pub turn : (p : Parts) (i first deep n m x y : ℕ) (s : Span) → i < length p.spans.now → s ≡ get_or p.spans.now i s → StandsAt p i first deep
+    → n ≡ listed_colours s → m ≡ listed_depths s → Turn p i first deep n m x y s
+turn p i first deep n m x y s within read at counted deep_counted =
+    let cs : List Colour = drop first p.colours.now in
+    let ds : List ℕ = drop deep p.depths.now in
+    let rest : List Span = drop (i + 1) p.spans.now in
+    let parts : drop i p.spans.now ≡ s ∷ drop (i + 1) p.spans.now = cc (drop_more p.spans.now i s within) in
+    let fits : first + listed_colours s + colour_count (drop (i + 1) p.spans.now) ≤ length p.colours.now =
+    omega (arith, at.fits, ap colour_count parts, colours-cons s rest) in
+    let deep_fits : deep + listed_depths s + depth_count (drop (i + 1) p.spans.now) ≤ length p.depths.now =
+    omega (arith, at.deep_fits, ap depth_count parts, depths-cons s rest) in
+    let long = length-pixels_of_row s cs ds (omega (arith, fits, length-drop first p.colours.now)) (omega (arith, deep_fits, length-drop deep p.depths.now)) in
+    let both : kept_from p i first deep x y ≡ kept_at (span_pixels s cs ds) x y ++ kept_from p (i + 1) (first + n) (deep + m) x y =
+    cc (
+      kept_at-append (span_pixels s cs ds) (joined (rows_in rest (drop (listed_colours s) cs) (drop (listed_depths s) ds))) x y,
+      drop-drop (listed_colours s) first p.colours.now,
+      drop-drop (listed_depths s) deep p.depths.now,
+    ) in
+    record {
+      stands = record { fits = omega (arith, fits, counted); deep_fits = omega (arith, deep_fits, deep_counted) };
+      held = λ is. both ∙ ap (λ l. l ++ kept_from p (i + 1) (first + n) (deep + m) x y) (kept_at-held s (pixels_of_row s cs ds) x y long is);
+      not_held = λ not. both ∙ ap (λ l. l ++ kept_from p (i + 1) (first + n) (deep + m) x y) (kept_at-not_held s (pixels_of_row s cs ds) x y long not);
+    }
+
+-- the first of them, and those behind it
+pub first_kept : (ps qs : List Pixel) (q : Pixel) (n : ℕ) → ps ≡ q ∷ qs → n ≡ 0 → slice_get ps n ≡ Some q
+first_kept ps qs q n is none = ap (slice_get ps) none ∙ ap (λ l. slice_get l 0) is
+
+pub next_kept : (ps qs : List Pixel) (q : Pixel) (n : ℕ) → ps ≡ q ∷ qs → 0 < n → slice_get ps n ≡ slice_get qs (n - 1)
+next_kept ps qs q n is some = ap (slice_get ps) {x = n} {y = suc (n - 1)} (omega (arith, some)) ∙ ap (λ l. slice_get l (suc (n - 1))) is
+
+pub more_kept : (kept ps qs : List Pixel) (q : Pixel) (n : ℕ) → ps ≡ q ∷ qs → 0 < n → (kept ++ q ∷ []) ++ take (n - 1) qs ≡ kept ++ take n ps
+more_kept kept ps qs q n is some =
+    append_assoc kept (q ∷ []) (take (n - 1) qs) ∙ ap (λ k. kept ++ take k (q ∷ qs)) {x = suc (n - 1)} {y = n} (omega (arith, some))
+    ∙ ap (λ l. kept ++ take n l) (sym is)
