@@ -1,7 +1,7 @@
 -- Frames that keep a whole place, which was alike.
-use Rattle.std.proofs.Common.{◌≡◌, ℕ, zero, suc, ◌+◌, ◌-◌, ◌*◌, ◌<◌, ◌≤◌, Option, Some, None, List, [], ◌∷◌, length, get_or, replicate, refl, sym, ap}
+use Rattle.std.proofs.Common.{◌≡◌, ℕ, zero, suc, ◌+◌, ◌*◌, ◌<◌, ◌≤◌, Some, None, List, [], ◌∷◌, length, replicate, refl, sym, ap}
 use Rattle.std.proofs.Common.{◌∙◌, subst, arith, inl, inr}
-use Rattle.std.specs.Prelude.{slice_get, unwrap_or}
+use Rattle.std.specs.Prelude.{slice_get}
 use Rattle.std.specs.List.{zip}
 use Rattle.std.proofs.lemmas.List.{length-replicate, get_or-replicate}
 use Rattle.std.proofs.lemmas.List.Elements.{All-nil, All-append}
@@ -9,8 +9,8 @@ use Rattle.fd_blend.specs.declared.channel.Colour.{Colour}
 use Rattle.fd_blend.specs.Channel.{fresh}
 use Rattle.fd_tile.specs.declared.place.Place.{Place}
 use Rattle.fd_tile.specs.Place.{Holds, IsTilePlace}
-use Rattle.fd_tile.specs.Tile.{Pixel, TileImage, IsTileImage, FillsPlace, IsFlat, fresh_pixel, flat_over, value_in, pixel_of, with_colours, with_depths}
-use Rattle.fd_tile.proofs.Pixels.{HasRow-from_Holds, rows_ext, row_in-flat}
+use Rattle.fd_tile.specs.Tile.{Pixel, TileImage, IsTileImage, FillsPlace, IsFlat, flat_over, value_in, pixel_of, with_colours, with_depths}
+use Rattle.fd_tile.proofs.Pixels.{rows_ext, row_in-flat}
 use Rattle.fd_tile.proofs.Cut.{FillsPlace-flat}
 use Rattle.fd_tile.proofs.Rows.{IsFlat-replicate}
 use Rattle.fd_undo.specs.Frame.{KeptPixel, kept_at, kept_row, kept_rows, restored, alike, IsAlike, KeepsAll}
@@ -26,9 +26,7 @@ zip-replicate (suc n) x y = ap (λ l. (x, y) ∷ l) (zip-replicate n x y)
 -- the same value at each pixel
 pub value_in-same : {X : Type 0} (p : Place) (rows : List (List X)) (v other : X) (x y : ℕ) → FillsPlace p rows → IsFlat p rows v → Holds p x y
     → value_in p rows x y other ≡ v
-value_in-same p rows v other x y filled flat held =
-    ap (λ r. get_or r (x - p.left) other) (row_in-flat p rows y filled (HasRow-from_Holds p x y held) v flat)
-    ∙ get_or-replicate p.width (x - p.left) v other (omega (arith, held.from_left, held.to_right))
+value_in-same p rows v other x y filled flat held = grind (arith, row_in-flat, get_or-replicate)
 
 pub value_in-flat : {X : Type 0} (p : Place) (v other : X) (x y : ℕ) → IsTilePlace p → Holds p x y → value_in p (flat_over p v) x y other ≡ v
 value_in-flat p v other x y placed held =
@@ -51,11 +49,7 @@ module _ (p : Place) (q : Pixel) where
   Inside-alike = Inside-rows p.height (omega arith)
 
   pub kept_at-alike : (x y : ℕ) → Holds p x y → kept_at (alike p q) x y ≡ q ∷ []
-  kept_at-alike x y held =
-      let wide : length (replicate p.width q) ≡ p.width = length-replicate p.width q in
-      kept_at-rows_inside p.left p.top p.height x y (λ _. replicate p.width q) held.from_top held.to_bottom
-      ∙ kept_at-inside p.left y x (replicate p.width q) held.from_left (omega (arith, held.to_right, wide))
-      ∙ ap (λ c. c ∷ []) (get_or-replicate p.width (x - p.left) q fresh_pixel (omega (arith, held.from_left, held.to_right)))
+  kept_at-alike x y held = grind (arith, length-replicate, kept_at-rows_inside, kept_at-inside, get_or-replicate)
 
 -- ---- such a frame put back
 of_parts : (t : TileImage) (rows : List (List Colour)) (depths : List (List ℕ)) (r : TileImage) → r.place ≡ t.place → r.rows ≡ rows → r.depths ≡ depths
@@ -70,13 +64,10 @@ of_parts t rows depths r place colours deep made =
 image_ext : (r s : TileImage) → r.place ≡ s.place → r.made ≡ s.made → IsTileImage r → IsTileImage s
     → ((x y : ℕ) → Holds s.place x y → pixel_of r x y ≡ pixel_of s x y) → r ≡ s
 image_ext r s place made filled full same =
-    let p : Place = s.place in
-    of_parts s s.rows s.depths r place
-    (rows_ext p r.rows s.rows fresh (subst (λ q. FillsPlace q r.rows) place filled.colours) full.colours
-    (λ x y held. ap (λ q. value_in q r.rows x y fresh) (sym place) ∙ ap (λ (c : Pixel). c.0) (same x y held)))
-    (rows_ext p r.depths s.depths 65535 (subst (λ q. FillsPlace q r.depths) place filled.depths) full.depths
-    (λ x y held. ap (λ q. value_in q r.depths x y 65535) (sym place) ∙ ap (λ (c : Pixel). c.1) (same x y held)))
-    made
+    let p : Place = s.place in cc (of_parts s s.rows s.depths r place (rows_ext p r.rows s.rows fresh (subst (λ q. FillsPlace q r.rows) place
+    filled.colours) full.colours (λ x y held. ap (λ q. value_in q r.rows x y fresh) (sym place) ∙ ap (λ (c : Pixel). c.0) (same x y held))) (rows_ext p
+    r.depths s.depths 65535 (subst (λ q. FillsPlace q r.depths) place filled.depths) full.depths (λ x y held. ap (λ q. value_in q r.depths x y 65535) (sym
+    place) ∙ ap (λ (c : Pixel). c.1) (same x y held))) made)
 
 -- what a frame gives that keeps each pixel rests on no pixel of the tile
 pub restored-whole : (ks : List KeptPixel) (t s : TileImage) → s.place ≡ t.place → s.made ≡ t.made → IsTileImage t → IsTileImage s → Inside t.place ks
@@ -105,20 +96,15 @@ restored-levelled ks t s depth filled is inside all =
 
 pub restored-alike : (t : TileImage) (q : Pixel) → IsTileImage t → restored (alike t.place q) t ≡ with_depths (with_colours t q.0) q.1
 restored-alike t q filled =
-    let p : Place = t.place in
-    let r : TileImage = restored (alike t.place q) t in
-    let placed : IsTilePlace t.place = filled.colours.placed in
-    let all : IsTileImage (restored (alike t.place q) t) = IsTileImage-restored (alike p q) t filled (Inside-alike p q) in
-    let here : (restored (alike t.place q) t).place ≡ t.place = restored-place (alike p q) t in
-    let one : (x y : ℕ) → Holds t.place x y → pixel_of (restored (alike t.place q) t) x y ≡ q =
-    λ x y held. pixel_of-restored (alike p q) t x y filled (Inside-alike p q) held
-    ∙ ap (λ l. first_or l (pixel_of t x y)) (kept_at-alike p q x y held) in
-    of_parts t (flat_over p q.0) (flat_over p q.1) r here
-    (rows_ext p r.rows (flat_over p q.0) fresh (subst (λ s. FillsPlace s r.rows) here all.colours) (FillsPlace-flat p q.0 placed)
-    (λ x y held. ap (λ s. value_in s r.rows x y fresh) (sym here) ∙ ap (λ (c : Pixel). c.0) (one x y held) ∙ sym (value_in-flat p q.0 fresh x y placed held)))
-    (rows_ext p r.depths (flat_over p q.1) 65535 (subst (λ s. FillsPlace s r.depths) here all.depths) (FillsPlace-flat p q.1 placed)
-    (λ x y held. ap (λ s. value_in s r.depths x y 65535) (sym here) ∙ ap (λ (c : Pixel). c.1) (one x y held) ∙ sym (value_in-flat p q.1 65535 x y placed held)))
-    (restored-made (alike p q) t)
+    let p : Place = t.place in let r : TileImage = restored (alike t.place q) t in let placed : IsTilePlace t.place = filled.colours.placed in let all :
+    IsTileImage (restored (alike t.place q) t) = IsTileImage-restored (alike p q) t filled (Inside-alike p q) in let here : (restored (alike t.place q)
+    t).place ≡ t.place = restored-place (alike p q) t in let one : (x y : ℕ) → Holds t.place x y → pixel_of (restored (alike t.place q) t) x y ≡ q = λ x y
+    held. pixel_of-restored (alike p q) t x y filled (Inside-alike p q) held ∙ ap (λ l. first_or l (pixel_of t x y)) (kept_at-alike p q x y held) in cc
+    (of_parts t (flat_over p q.0) (flat_over p q.1) r here (rows_ext p r.rows (flat_over p q.0) fresh (subst (λ s. FillsPlace s r.rows) here all.colours)
+    (FillsPlace-flat p q.0 placed) (λ x y held. ap (λ s. value_in s r.rows x y fresh) (sym here) ∙ ap (λ (c : Pixel). c.0) (one x y held) ∙ sym
+    (value_in-flat p q.0 fresh x y placed held))) (rows_ext p r.depths (flat_over p q.1) 65535 (subst (λ s. FillsPlace s r.depths) here all.depths)
+    (FillsPlace-flat p q.1 placed) (λ x y held. ap (λ s. value_in s r.depths x y 65535) (sym here) ∙ ap (λ (c : Pixel). c.1) (one x y held) ∙ sym
+    (value_in-flat p q.1 65535 x y placed held))) (restored-made (alike p q) t))
 
 -- ---- the first pixel tells what such a frame keeps
 pub corner : (p : Place) → IsTilePlace p → Holds p p.left p.top
@@ -129,16 +115,9 @@ first_of p q placed = ap (λ l. slice_get l 0) (kept_at-alike p q p.left p.top (
 
 pub none_kept : (p : Place) (frame : List KeptPixel) → IsTilePlace p → IsAlike p frame → slice_get (kept_at frame p.left p.top) 0 ≡ None → frame ≡ []
 none_kept p frame placed (inl empty) none = empty
-none_kept p frame placed (inr (q, all)) none =
-    let some : slice_get (kept_at frame p.left p.top) 0 ≡ Some q = ap (λ l. slice_get (kept_at l p.left p.top) 0) all ∙ first_of p q placed in
-    absurd (cc)
+none_kept p frame placed (inr (q, all)) none = grind (arith, first_of)
 
 pub all_kept : (p : Place) (frame : List KeptPixel) (c : Pixel) → IsTilePlace p → IsAlike p frame → slice_get (kept_at frame p.left p.top) 0 ≡ Some c
     → frame ≡ alike p c
-all_kept p frame c placed (inl empty) is =
-    let none : slice_get (kept_at frame p.left p.top) 0 ≡ None = ap (λ l. slice_get (kept_at l p.left p.top) 0) empty in
-    absurd (cc)
-all_kept p frame c placed (inr (q, all)) is =
-    let some : slice_get (kept_at frame p.left p.top) 0 ≡ Some q = ap (λ l. slice_get (kept_at l p.left p.top) 0) all ∙ first_of p q placed in
-    let same : Some q ≡ Some c = sym some ∙ is in
-    all ∙ ap (λ (o : Option Pixel). alike p (unwrap_or o c)) same
+all_kept p frame c placed (inl empty) is = grind (arith)
+all_kept p frame c placed (inr (q, all)) is = grind (arith, first_of)

@@ -1,4 +1,5 @@
 -- Frames that are put back from the top down, or dropped where an older one rests on no pixel.
+use Rattle.std.proofs.lemmas.Grind.{common_steps}
 use Rattle.std.proofs.Common.{◌≡◌, ℕ, zero, suc, ◌+◌, ◌-◌, ◌<◌, ◌≤◌, ◌∙◌, List, [], ◌∷◌, ◌++◌, length, get_or, take, drop, replicate, refl, sym}
 use Rattle.std.proofs.Common.{subst, ap, arith}
 use Rattle.std.proofs.Common.{inl, inr, ◌⊎◌}
@@ -46,10 +47,7 @@ IsTileImage-all_restored (f ∷ frames) t filled inside =
 -- the frames from one on, of which the top one is put back first
 top_first : (frames : List (List KeptPixel)) (to : ℕ) (t : TileImage) → to < length frames
     → all_restored (drop to frames) t ≡ all_restored (drop to (older frames)) (restored (top frames) t)
-top_first frames to t above =
-    ap (λ l. all_restored (drop to l) t) (older-top frames (omega (arith, above)))
-    ∙ ap (λ l. all_restored l t) (drop-append-le to (older frames) (top frames ∷ []) (omega (arith, above, length-take (length frames - 1) frames)))
-    ∙ all_restored-append (drop to (older frames)) (top frames ∷ []) t
+top_first frames to t above = grind (arith, common_steps, older-top, drop-append-le, length-take, all_restored-append)
 
 -- ---- what is left on the way back to a position: the first frames, and a tile of which they give what all give
 pub record IsBack (to : ℕ) (frames : List (List KeptPixel)) (t : TileImage) (left : List (List KeptPixel)) (s : TileImage) : Type 0 where
@@ -127,9 +125,7 @@ back-dropped to frames left t front few (inl size) filled inside =
 
 -- the top of the first frames
 pub top-front : (frames : List (List KeptPixel)) (n : ℕ) → n < length frames → top (take (n + 1) frames) ≡ get_or frames n []
-top-front frames n within =
-    ap (λ k. get_or (take (n + 1) frames) k []) {x = length (take (n + 1) frames) - 1} {y = n} (omega (arith, length-take (n + 1) frames, within))
-    ∙ get_or-take (n + 1) frames n [] (omega arith)
+top-front frames n within = grind (arith, length-take, get_or-take)
 
 -- the frame under a number that keeps a whole place
 pub whole_frame : (read full : List Filled) (last : Filled) (count n : ℕ) (frames : List (List KeptPixel)) (p : Place) → read ≡ full

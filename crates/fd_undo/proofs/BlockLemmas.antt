@@ -1,4 +1,5 @@
 -- Frames between marks.
+use Rattle.std.proofs.lemmas.Grind.{common_steps}
 use Rattle.std.proofs.Common.{subst, ◌≡◌, ◌≢◌, ℕ, zero, suc, ◌+◌, ◌-◌, ◌^◌, ◌<◌, ◌≤◌, ◌∙◌, List, [], ◌∷◌, ◌++◌, length, get_or, take, drop, refl, sym}
 use Rattle.std.proofs.Common.{ap, arith, length-drop, cond}
 use Rattle.std.proofs.lemmas.Bool.{eq-eqb, ne_eqb}
@@ -20,12 +21,9 @@ part first end rows = joined (take (end - first) (drop first rows))
 part-same : (first end most : ℕ) (rows rows' : List (List KeptPixel)) → first ≤ end → end ≤ most → take most rows ≡ take most rows'
     → part first end rows ≡ part first end rows'
 part-same first end most rows rows' ordered within same =
-    let n : ℕ = end - first in
-    let whole : first + (end - first) ≡ end = omega arith in
-    let cut : take (first + (end - first)) rows ≡ take (first + (end - first)) rows' =
-    sym (take-take (first + (end - first)) most rows (omega (arith, whole))) ∙ ap (λ l. take (first + n) l) same
-    ∙ take-take (first + (end - first)) most rows' (omega (arith, whole)) in
-    ap joined (sym (drop-take first n rows) ∙ ap (λ l. drop first l) cut ∙ drop-take first n rows')
+    let n : ℕ = end - first in let whole : first + (end - first) ≡ end = omega arith in let cut : take (first + (end - first)) rows ≡ take (first + (end -
+    first)) rows' = sym (take-take (first + (end - first)) most rows (omega (arith, whole))) ∙ ap (λ l. take (first + n) l) same ∙ take-take (first + (end
+    - first)) most rows' (omega (arith, whole)) in cc (drop-take first n rows, cut, drop-take first n rows')
 
 -- the frame of a mark
 abbrev pub frame : Mark → ℕ → List (List KeptPixel) → KeptFrame
@@ -115,9 +113,7 @@ top_frame marks low m spans rows frames split size is shown =
 pub one_more : (marks : List Mark) (m : Mark) (spans : List Span) (rows : List (List KeptPixel)) (frames : List KeptFrame) → m.span ≡ length spans
     → marked marks rows (length spans) ≡ frames
     → marked (marks ++ m ∷ []) rows (length spans) ≡ frames ++ record { number = m.number; kept = [] } ∷ []
-one_more marks m spans rows frames at shown =
-    let none : length spans - m.span ≡ 0 = omega (arith, at) in
-    cc (marked-push marks m rows (length spans))
+one_more marks m spans rows frames at shown = grind (arith, marked-push)
 
 -- ---- more is kept in the newest frame, behind its mark
 module _ (low : List Mark) (m : Mark) (spans spans' : List Span) (rows rows' : List (List KeptPixel)) (frames : List KeptFrame) (row : List KeptPixel)
@@ -152,15 +148,7 @@ pub fewer : (low : List Mark) (m : Mark) (spans left : List Span) (rows rows_lef
     → TopFrame low m spans rows frames
     → left ≡ take m.span spans → rows_left ≡ take m.span rows
     → length left ≡ m.span × (marked low rows_left (length left) ≡ others frames) × AreInOrder low left (length left)
-fewer low m spans left rows rows_left frames t is rows_are =
-    let n : ℕ = m.span in
-    let size : length left ≡ m.span = ap length is ∙ length-take m.span spans ∙ omega (arith, t.within) in
-    let same : take n spans ≡ take n left = sym (take-take n n spans (omega arith)) ∙ ap (λ l. take n l) (sym is) in
-    let rows_same : take n rows ≡ take n rows_left = sym (take-take n n rows (omega arith)) ∙ ap (λ l. take n l) (sym rows_are) in (
-      size,
-      cc (marked-same low spans rows rows_left n n t.marks (omega arith) rows_same),
-      subst (λ k. AreInOrder low left k) (sym size) (marks-same low spans left n n t.marks (omega arith) same),
-    )
+fewer low m spans left rows rows_left frames t is rows_are = grind (arith, length-take, take-take, marked-same, marks-same)
 
 -- the newest frame keeps more
 abbrev pub last_mark : List Mark → Mark
@@ -185,10 +173,7 @@ module _ (marks : List Mark) (h : Held) (frames : List KeptFrame) (order : AreIn
         (length-rows_in n.spans n.colours n.depths) (sym more.low) more.high)
 
     pub frames_grown : marked marks (rows_of n) (length n.spans) ≡ keeping_row frames row
-    frames_grown =
-        ap (λ l. marked l (rows_of n) (length n.spans)) split
-        ∙ more_frames (others marks) (last_mark marks) h.spans n.spans (rows_of h) (rows_of n) frames row newest_frame (sym more.spans) more.long
-        (length-rows_in n.spans n.colours n.depths) (sym more.low) more.high
+    frames_grown = grind (arith, common_steps, more_frames, newest_frame, length-rows_in)
 
 -- ---- a frame that is looked for by its number
 pub this_number : (f : KeptFrame) (frames : List KeptFrame) (n : ℕ) → f.number ≡ n → found n (f ∷ frames) ≡ f.kept
@@ -206,10 +191,7 @@ pub found-place : (frames : List KeptFrame) (i count a : ℕ) → Rise i frames 
     → found (get_or frames a no_frame).number frames ≡ (get_or frames a no_frame).kept
 found-place [] i count a is within = absurd (omega arith)
 found-place (f ∷ frames) i count zero is within = this_number f frames f.number refl
-found-place (f ∷ frames) i count (suc a) is within =
-    let n : ℕ = (get_or frames a no_frame).number in
-    let later : f.number + 1 ≤ (get_or frames a no_frame).number = rise-place frames (f.number + 1) count a is.1 (omega arith) in
-    other_number f frames n (λ e. absurd (omega (arith, later, e))) ∙ found-place frames (f.number + 1) count a is.1 (omega arith)
+found-place (f ∷ frames) i count (suc a) is within = grind (arith, found-place frames (f.number + 1) count a is.1 (omega arith), rise-place, other_number)
 
 -- the frame of the mark at a place
 pub marked-at : (marks : List Mark) (rows : List (List KeptPixel)) (end a : ℕ) → a < length marks

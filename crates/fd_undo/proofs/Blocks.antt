@@ -1,5 +1,7 @@
 -- A block that is looked for by the number of a frame.
-use Rattle.std.proofs.Common.{subst, ◌≡◌, ℕ, zero, suc, ◌+◌, ◌<◌, ◌≤◌, ◌∙◌, List, [], ◌∷◌, ◌++◌, length, get_or, take, drop, refl, inl, inr, ◌⊎◌, ◌≢◌}
+use Rattle.std.proofs.lemmas.Bool.Decides.{nat_tests}
+use Rattle.std.proofs.lemmas.Grind.{common_steps}
+use Rattle.std.proofs.Common.{subst, ◌≡◌, ℕ, zero, suc, ◌+◌, ◌<◌, ◌≤◌, ◌∙◌, List, [], ◌∷◌, ◌++◌, length, get_or, take, drop, refl, ◌≢◌}
 use Rattle.std.proofs.Common.{sym, ap, arith, append_assoc, length-drop}
 use Rattle.std.proofs.lemmas.List.{take-append-drop, drop_more, get_or-drop}
 use Rattle.std.proofs.lemmas.List.Concat.{flat_map-append}
@@ -7,8 +9,7 @@ use Rattle.std.proofs.lemmas.List.Elements.{All-drop}
 use Rattle.std.specs.List.Sorted.{IsNonDecreasingBy}
 use Rattle.fd_undo.specs.Block.{KeptFrame, Filled, found, first_number, Rise}
 use Rattle.fd_undo.specs.Stack.{stored_in, HaveFrames}
-use Rattle.std.proofs.lemmas.Bool.{cases_eq}
-use Rattle.fd_undo.proofs.BlockLemmas.{this_number, other_number}
+use Rattle.fd_undo.proofs.BlockLemmas.{other_number}
 use Rattle.fd_undo.proofs.StackLemmas.{rise-front, rise-back, found-low, found-behind, found-middle, found-before}
 
 -- ---- the numbers of the blocks' oldest frames rise
@@ -58,22 +59,15 @@ first-of (b ∷ full) last n d have before after some = here b.frames (have 0 d 
 -- ---- a frame that some blocks have, between others
 found-here : (frames high : List KeptFrame) (n : ℕ) → 0 < length (found n frames) → found n (frames ++ high) ≡ found n frames
 found-here [] high n some = absurd (omega arith)
-found-here (f ∷ frames) high n some = by_number (cases_eq f.number n) (λ rest. found-here frames high n rest)
-  where
-    by_number : (f.number ≡ n) ⊎ (f.number ≢ n) → (0 < length (found n frames) → found n (frames ++ high) ≡ found n frames)
-        → found n (f ∷ (frames ++ high)) ≡ found n (f ∷ frames)
-    by_number (inl same) rest = this_number f (frames ++ high) n same ∙ sym (this_number f frames n same)
-    by_number (inr other) rest =
-        other_number f (frames ++ high) n other ∙ rest (omega (arith, some, ap length (other_number f frames n other))) ∙ sym (other_number f frames n other)
+found-here (f ∷ frames) high n some = grind (arith, nat_tests, found-here frames high n)
 
 pub found-after : (i : ℕ) (low frames : List KeptFrame) (count n : ℕ) → Rise i (low ++ frames) count → 0 < length (found n frames)
     → found n (low ++ frames) ≡ found n frames
 found-after i [] frames count n is some = refl
 found-after i (t ∷ low) frames count n is some =
-    let rest : found n (low ++ frames) ≡ found n frames = found-after (t.number + 1) low frames count n is.1 some in
-    let other : t.number ≢ n = λ same.
-    absurd (omega (arith, some, ap length rest, ap length (found-low (t.number + 1) (low ++ frames) count n is.1 (omega (arith, same))))) in
-    other_number t (low ++ frames) n other ∙ rest
+    let rest : found n (low ++ frames) ≡ found n frames = found-after (t.number + 1) low frames count n is.1 some in let other : t.number ≢ n = λ same.
+    absurd (omega (arith, some, ap length rest, ap length (found-low (t.number + 1) (low ++ frames) count n is.1 (omega (arith, same))))) in cc
+    (other_number t (low ++ frames) n other, rest)
 
 -- ---- the block at a place
 module _ (full : List Filled) (last : List KeptFrame) (count : ℕ) (have : HaveFrames full) (is : Rise 0 (stored_in full ++ last) count) (p : ℕ) (d : Filled)
@@ -96,16 +90,10 @@ module _ (full : List Filled) (last : List KeptFrame) (count : ℕ) (have : Have
   parted = subst (λ l. Rise 0 l count) three is
 
   pub block_rise : Rise 0 (get_or full p d).frames count
-  block_rise =
-      rise-front 0 (get_or full p d).frames (stored_in (drop (p + 1) full) ++ last) count
-      (rise-back 0 (stored_in (take p full)) ((get_or full p d).frames ++ (stored_in (drop (p + 1) full) ++ last)) count parted)
+  block_rise = grind (arith, rise-front, rise-back, parted)
 
   pub kept_in_block : (n : ℕ) → 0 < length (found n (get_or full p d).frames) → found n (get_or full p d).frames ≡ found n (stored_in full ++ last)
-  kept_in_block n some =
-      let here : found n ((get_or full p d).frames ++ (stored_in (drop (p + 1) full) ++ last)) ≡ found n (get_or full p d).frames =
-      found-here (get_or full p d).frames behind n some in
-      sym (ap (λ l. found n l) three
-      ∙ found-after 0 (stored_in (take p full)) ((get_or full p d).frames ++ behind) count n parted (omega (arith, some, ap length here)) ∙ here)
+  kept_in_block n some = grind (arith, found-here, three, found-after, parted)
 
   pub in_block : (n : ℕ) → first_number (get_or full p d).frames ≤ n → (p + 1 < length full → n < first_number (get_or full (p + 1) d).frames)
       → (0 < length last → n < first_number last)
@@ -129,6 +117,4 @@ in_last full last count n is some from = sym (found-behind 0 (stored_in full) la
 pub in_none : (full : List Filled) (last : List KeptFrame) (count n : ℕ) (d : Filled) → HaveFrames full → Rise 0 (stored_in full ++ last) count
     → (0 < length full → n < first_number (get_or full 0 d).frames)
     → (0 < length last → n < first_number last) → found n last ≡ found n (stored_in full ++ last)
-in_none full last count n d have is before after =
-    found-before last count n (rise-back 0 (stored_in full) last count is) after
-    ∙ sym (found-before (stored_in full ++ last) count n is (first-of full last n d have before after))
+in_none full last count n d have is before after = grind (arith, common_steps, found-before, rise-back, first-of)

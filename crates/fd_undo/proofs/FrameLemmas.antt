@@ -1,5 +1,5 @@
 -- The newest of a list, and the pixels of frames.
-use Rattle.std.proofs.Common.{◌≡◌, ℕ, zero, suc, ◌+◌, ◌-◌, ◌*◌, ◌<◌, ◌≤◌, List, [], ◌∷◌, ◌++◌, length, get_or, take, refl, sym, ap, ◌∙◌, arith, length-append}
+use Rattle.std.proofs.Common.{◌≡◌, ℕ, zero, suc, ◌+◌, ◌-◌, ◌*◌, ◌<◌, List, [], ◌∷◌, ◌++◌, length, get_or, take, refl, sym, ap, ◌∙◌, arith, length-append}
 use Rattle.std.proofs.Common.{append_assoc}
 use Rattle.std.proofs.Math.Nat.{zero-mul, suc-mul}
 use Rattle.std.proofs.lemmas.List.{take_at, get_or_push, take_all, length_push, take_more, take-take, length-take, append-nil}
@@ -35,9 +35,7 @@ abbrev pub IsFront : {X : Type 0} → List X → List X → Type 0
 IsFront xs front = front ≡ take (length front) xs
 
 pub front-front : {X : Type 0} (xs ys zs : List X) → IsFront xs ys → IsFront ys zs → IsFront xs zs
-front-front xs ys zs first second =
-    let short : length zs ≤ length ys = omega (arith, ap length second, length-take (length zs) ys) in
-    second ∙ ap (take (length zs)) first ∙ take-take (length zs) (length ys) xs short
+front-front xs ys zs first second = grind (arith, length-take, take-take)
 
 pub front-older : {X : Type 0} (xs : List (List X)) → IsFront xs (older xs)
 front-older xs = ap (λ n. take n xs) {x = length xs - 1} {y = length (older xs)} (omega (arith, length-take (length xs - 1) xs))
@@ -81,8 +79,4 @@ kept_rows-one x y n pixels one = ap (λ k. kept_rows x y k pixels) one ∙ ap (�
 pub kept_rows-top : (x y n : ℕ) (pixels : ℕ → List Pixel)
     → kept_rows x y (suc n) pixels ≡ kept_row x y (pixels 0) ++ kept_rows x (y + 1) n (λ row. pixels (suc row))
 kept_rows-top x y zero pixels = kept_rows-one x y 1 pixels refl ∙ sym (append-nil (kept_row x y (pixels 0)))
-kept_rows-top x y (suc n) pixels =
-    ap (λ l. l ++ kept_row x (y + suc n) (pixels (suc n))) (kept_rows-top x y n pixels)
-    ∙ append_assoc (kept_row x y (pixels 0)) (kept_rows x (y + 1) n (λ row. pixels (suc row))) (kept_row x (y + suc n) (pixels (suc n)))
-    ∙ ap (λ z. kept_row x y (pixels 0) ++ (kept_rows x (y + 1) n (λ row. pixels (suc row)) ++ kept_row x z (pixels (suc n)))) {x = y + suc n} {y = y + 1 + n}
-    (omega arith)
+kept_rows-top x y (suc n) pixels = grind (arith, kept_rows-top x y n pixels, append_assoc)

@@ -8,13 +8,12 @@ use Rattle.std.proofs.Math.Nat.{one-mul}
 use Rattle.std.proofs.lemmas.List.{take-append-le, drop-append-le, drop_at, take-take, take_all, take-append-drop, length-take, get_or-drop, get_or_append_left}
 use Rattle.fd_blend.specs.declared.channel.Colour.{Colour}
 use Rattle.fd_blend.specs.Channel.{fresh}
-use Rattle.fd_tile.specs.Tile.{Pixel}
 use Rattle.fd_undo.specs.Span.{Span, IsRowOf}
-use Rattle.fd_undo.specs.Frame.{KeptPixel, kept_row, kept_rows}
+use Rattle.fd_undo.specs.Frame.{KeptPixel, kept_row}
 use Rattle.fd_undo.specs.Block.{others}
 use Rattle.fd_undo.specs.Rows.{Held, IsHeld, KeepsMore, GrowsBy, colour_count, depth_count, listed_colours, colours_in, colours_from, depths_listed}
 use Rattle.fd_undo.specs.Rows.{listed_depths, values_in}
-use Rattle.fd_undo.specs.Rows.{depths_in, depths_from, pixels_of_row, span_pixels, rows_in, rows_of, joined, no_span}
+use Rattle.fd_undo.specs.Rows.{depths_in, depths_from, span_pixels, rows_in, rows_of, joined, no_span}
 use Rattle.fd_undo.proofs.FrameLemmas.{others-newest}
 use Rattle.fd_undo.proofs.SpanLemmas.{span_pixels-more}
 use Rattle.fd_undo.proofs.RowLemmas.{Taken, taken, rows_in-push, length-rows_in, joined-push, colours-push, depths-push}
@@ -115,37 +114,37 @@ module _ (h n : Held) (first : ℕ) (row grown : Span) (old : List Colour) (deep
       cc (one-mul row.len)
 
   coloured : colours_in last (colours_from last last.rows (colours ++ new)) ≡ old
-  coloured =
-      colours_next last.one_colour last.len last.rows colours old new t.long size new_is (λ one.
-      let one_row : row.one_colour ≡ true = is.grows.coloured ∙ one in
-      let listed : listed_colours last ≡ 1 = ap (λ b. if b then 1 else last.rows * last.len) one in
-      ap (λ k. replicate k (get_or colours 0 fresh)) size ∙ ap (replicate (length old)) (get_or-drop start h.colours 0 fresh
-      ∙ ap (λ k. get_or h.colours k fresh) {x = start + 0} {y = length h.colours - 1} (omega (arith, listed)) ∙ is.same one_row)
-      ∙ sym (values.coloured one_row).1)
+  coloured = grind (arith, colours_next, t, new_is, get_or-drop)
 
   deepened : depths_in last (depths_from last last.rows (depths ++ deeper)) ≡ deep
-  deepened =
-      depths_next last.same_depth last.len last.rows depths deep deeper t.deep_long (size ∙ sym values.equal) deeper_is
-      (rw is.grows.deep at values.deep)
+  deepened = grind (arith, depths_next, t, deeper_is)
 
   more : span_pixels grown (colours ++ new) (depths ++ deeper) ≡ span_pixels last colours depths ++ kept_row row.x row.y (zip old deep)
   more =
-      let pixels : ℕ → List Pixel = pixels_of_row last (colours ++ new) (depths ++ deeper) in
-      ap (λ s. span_pixels s (colours ++ new) (depths ++ deeper)) is.grows.is
-      ∙ ap (λ k. kept_rows last.x last.y k pixels) {x = last.rows + 1} {y = suc last.rows} (omega arith)
-      ∙ ap (λ l. l ++ kept_row last.x (last.y + last.rows) (pixels last.rows))
-      (span_pixels-more last colours depths (omega (arith, t.long)) (omega (arith, t.deep_long)) new deeper)
-      ∙ ap (λ k. span_pixels last colours depths ++ kept_row last.x k (pixels last.rows)) (sym is.grows.y)
-      ∙ ap (λ k. span_pixels last colours depths ++ kept_row k row.y (pixels last.rows)) (sym is.grows.x)
-      ∙ ap (λ l. span_pixels last colours depths ++ kept_row row.x row.y (zip l (depths_in last (depths_from last last.rows (depths ++ deeper))))) coloured
-      ∙ ap (λ l. span_pixels last colours depths ++ kept_row row.x row.y (zip old l)) deepened
+      let e0 : last.rows + 1 ≡ suc last.rows = omega arith in cc (
+        is.grows.is,
+        span_pixels-more last colours depths (omega (arith, t.long)) (omega (
+          arith,
+          t.deep_long,
+        )) new deeper,
+        is.grows.y,
+        is.grows.x,
+        coloured,
+        deepened,
+      )
 
   rows_now : rows_of n ≡ before ++ (span_pixels last colours depths ++ kept_row row.x row.y (zip old deep)) ∷ []
   rows_now =
-      ap (λ l. rows_in l n.colours n.depths) spans_are ∙ ap (λ l. rows_in (low ++ grown ∷ []) l n.depths) (colours_are ∙ parted start h.colours new)
-      ∙ ap (λ l. rows_in (low ++ grown ∷ []) (take start h.colours ++ (colours ++ new)) l) (depths_are ∙ parted deep_start h.depths deeper)
-      ∙ rows_in-push low (take start h.colours) (colours ++ new) (take deep_start h.depths) (depths ++ deeper) grown t.held.colours_counted
-      t.held.depths_counted ∙ ap (λ ks. before ++ ks ∷ []) more
+      cc (
+        spans_are,
+        colours_are,
+        parted start h.colours new,
+        depths_are,
+        parted deep_start h.depths deeper,
+        rows_in-push low (take start h.colours)
+            (colours ++ new) (take deep_start h.depths) (depths ++ deeper) grown t.held.colours_counted t.held.depths_counted,
+        more,
+      )
 
   fits : first ≤ length before
   fits = omega (arith, length-rows_in low (take start h.colours) (take deep_start h.depths), length-take (length h.spans - 1) h.spans, is.some)

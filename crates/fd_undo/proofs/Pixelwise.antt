@@ -1,10 +1,9 @@
 -- Frames that are put back, pixel by pixel.
-use Rattle.std.proofs.Common.{◌≡◌, ◌≢◌, ℕ, ◌-◌, ◌<◌, Bool, true, false, cond, eqb, List, [], ◌∷◌, length, get_or, refl, sym, ap, ◌∙◌, subst, arith}
+use Rattle.std.proofs.Common.{◌≡◌, ℕ, ◌-◌, Bool, true, false, cond, eqb, List, [], ◌∷◌, refl, sym, ◌∙◌, subst, arith}
 use Rattle.std.specs.Prelude.{◌&&◌, slice_set}
 use Rattle.std.proofs.lemmas.Bool.{eqb-true, eqb-false}
 use Rattle.std.proofs.lemmas.List.{get_or-set_same, get_or-set_other, length-set}
 use Rattle.std.proofs.lemmas.List.Elements.{All-head, All-tail}
-use Rattle.fd_blend.specs.Channel.{fresh}
 use Rattle.fd_tile.specs.declared.place.Place.{Place}
 use Rattle.fd_tile.specs.Place.{Holds, HasRow}
 use Rattle.fd_tile.specs.Tile.{Pixel, TileImage, IsTileImage, FillsPlace, row_in, with_row_in, value_in, pixel_of, with_pixel}
@@ -35,29 +34,10 @@ with_value p rows a b v = with_row_in p rows b (slice_set (row_in p rows b) (a -
 value_in-with_value : {X : Type 0} (p : Place) (rows : List (List X)) (a b : ℕ) (v other : X) (x y : ℕ) (across down : Bool) → eqb a x ≡ across → eqb b y ≡ down
     → FillsPlace p rows → Holds p a b → Holds p x y
     → value_in p (with_value p rows a b v) x y other ≡ cond (across && down) v (value_in p rows x y other)
-value_in-with_value p rows a b v other x y true true ex ey filled at held =
-    let column : a ≡ x = eqb-true a x ex in
-    let row : b ≡ y = eqb-true b y ey in
-    let crossed : HasRow p b = HasRow-from_Holds p a b at in
-    let within : a - p.left < length (row_in p rows b) = omega arith in
-    ap (λ z. get_or (row_in p (with_value p rows a b v) z) (x - p.left) other) (sym row)
-    ∙ ap (λ z. get_or (row_in p (with_value p rows a b v) b) (z - p.left) other) (sym column)
-    ∙ ap (λ r. get_or r (a - p.left) other) (row_in-same p rows b filled crossed _)
-    ∙ get_or-set_same (row_in p rows b) (a - p.left) v other within
-value_in-with_value p rows a b v other x y false true ex ey filled at held =
-    let row : b ≡ y = eqb-true b y ey in
-    let crossed : HasRow p b = HasRow-from_Holds p a b at in
-    let apart : x - p.left ≢ a - p.left = λ e. eqb-false a x ex (omega (arith, at.from_left, held.from_left)) in
-    ap (λ z. get_or (row_in p (with_value p rows a b v) z) (x - p.left) other) (sym row)
-    ∙ ap (λ r. get_or r (x - p.left) other) (row_in-same p rows b filled crossed _)
-    ∙ get_or-set_other (row_in p rows b) (a - p.left) (x - p.left) v other apart
-    ∙ ap (λ z. get_or (row_in p rows z) (x - p.left) other) row
-value_in-with_value p rows a b v other x y true false ex ey filled at held =
-    ap (λ r. get_or r (x - p.left) other)
-    (row_in-other p rows b filled (HasRow-from_Holds p a b at) _ y held.from_top (λ e. eqb-false b y ey (sym e)))
-value_in-with_value p rows a b v other x y false false ex ey filled at held =
-    ap (λ r. get_or r (x - p.left) other)
-    (row_in-other p rows b filled (HasRow-from_Holds p a b at) _ y held.from_top (λ e. eqb-false b y ey (sym e)))
+value_in-with_value p rows a b v other x y true true ex ey filled at held = grind (arith, eqb-true, row_in-same, get_or-set_same)
+value_in-with_value p rows a b v other x y false true ex ey filled at held = grind (arith, eqb-true, eqb-false, row_in-same, get_or-set_other)
+value_in-with_value p rows a b v other x y true false ex ey filled at held = grind (arith, row_in-other, eqb-false)
+value_in-with_value p rows a b v other x y false false ex ey filled at held = grind (arith, row_in-other, eqb-false)
 
 pair_cond : (b : Bool) (p q : Pixel) → (cond b p.0 q.0, cond b p.1 q.1) ≡ cond b p q
 pair_cond true p q = refl
@@ -65,13 +45,7 @@ pair_cond false p q = refl
 
 pixel_of-with_pixel : (t : TileImage) (k : KeptPixel) (x y : ℕ) → IsTileImage t → Holds t.place k.x k.y → Holds t.place x y
     → pixel_of (with_pixel t k.x k.y k.pixel) x y ≡ cond (eqb k.x x && eqb k.y y) k.pixel (pixel_of t x y)
-pixel_of-with_pixel t k x y filled at held =
-    cc (
-      value_in-with_value t.place t.rows k.x k.y k.pixel.0 fresh x y (eqb k.x x) (eqb k.y y) refl refl filled.colours at held,
-      value_in-with_value t.place t.depths k.x k.y k.pixel.1 65535 x y (eqb k.x x) (eqb k.y y) refl refl filled.depths at held,
-      pair_cond
-          (eqb k.x x && eqb k.y y) k.pixel (pixel_of t x y),
-    )
+pixel_of-with_pixel t k x y filled at held = grind (arith, value_in-with_value, eqb, pair_cond)
 
 -- ---- a frame put back
 pub IsTileImage-restored : (ks : List KeptPixel) (t : TileImage) → IsTileImage t → Inside t.place ks → IsTileImage (restored ks t)
@@ -90,9 +64,11 @@ pub pixel_of-restored : (ks : List KeptPixel) (t : TileImage) (x y : ℕ) → Is
     → pixel_of (restored ks t) x y ≡ first_or (kept_at ks x y) (pixel_of t x y)
 pixel_of-restored [] t x y filled inside held = refl
 pixel_of-restored (k ∷ ks) t x y filled inside held =
-    let rest : Inside t.place ks = All-tail (λ (q : KeptPixel). Holds t.place q.x q.y) k ks inside in
-    let at : Holds t.place k.x k.y = All-head (λ (q : KeptPixel). Holds t.place q.x q.y) k ks inside in
-    pixel_of-with_pixel (restored ks t) k x y (IsTileImage-restored ks t filled rest)
-    (subst (λ p. Holds p k.x k.y) (sym (restored-place ks t)) at) (subst (λ p. Holds p x y) (sym (restored-place ks t)) held)
-    ∙ ap (λ c. cond (eqb k.x x && eqb k.y y) k.pixel c) (pixel_of-restored ks t x y filled rest held)
-    ∙ sym (first_or-cond (eqb k.x x && eqb k.y y) k.pixel (pixel_of t x y) (kept_at ks x y))
+    let rest : Inside t.place ks = All-tail (λ (q : KeptPixel). Holds t.place q.x q.y) k ks inside in let at : Holds t.place k.x k.y = All-head (λ (q :
+    KeptPixel). Holds t.place q.x q.y) k ks inside in cc (
+      pixel_of-with_pixel (restored ks t) k x y (IsTileImage-restored ks t filled rest) (subst (λ p.
+          Holds p k.x k.y) (sym (restored-place ks t)) at) (subst (λ p. Holds p x y) (sym (restored-place ks t)) held),
+      pixel_of-restored ks t x y filled rest
+          held,
+      first_or-cond (eqb k.x x && eqb k.y y) k.pixel (pixel_of t x y) (kept_at ks x y),
+    )

@@ -80,13 +80,15 @@ pasted_is : {X : Type 0} (d : X) (j : ℕ) (cs row : List X) → j + length cs �
 unfolding pasted
 pasted_is d j [] row fits = sym (take-append-drop j row) ∙ ap (λ k. take j row ++ drop k row) {x = j} {y = j + 0} (omega arith)
 pasted_is d j (c ∷ cs) row fits =
-    let here : j < length row = omega arith in
-    let long : length (take j row) ≡ j = omega (arith, length-take j row) in
-    let next : pasted (j + 1) cs row ≡ take (j + 1) row ++ (cs ++ drop (j + 1 + length cs) row) = pasted_is d (j + 1) cs row (omega arith) in
-    ap (λ l. slice_set l j c) (next ∙ ap (λ l. l ++ (cs ++ drop (j + 1 + length cs) row)) (take_more row j d here)
-    ∙ append_assoc (take j row) (get_or row j d ∷ []) (cs ++ drop (j + 1 + length cs) row))
-    ∙ set_at (take j row) (get_or row j d) (cs ++ drop (j + 1 + length cs) row) c j long
-    ∙ ap (λ k. take j row ++ (c ∷ (cs ++ drop k row))) {x = j + 1 + length cs} {y = j + suc (length cs)} (omega arith)
+    let here : j < length row = omega arith in let long : length (take j row) ≡ j = omega (arith, length-take j row) in let next : pasted (j + 1) cs row ≡
+    take (j + 1) row ++ (cs ++ drop (j + 1 + length cs) row) = pasted_is d (j + 1) cs row (omega arith) in let e0 : j + 1 + length cs ≡ j + suc (length
+    cs) = omega arith in cc (
+      next,
+      take_more row j d here,
+      append_assoc (take j row) (get_or row j d ∷ []) (cs ++ drop (j + 1 + length cs) row),
+      set_at
+          (take j row) (get_or row j d) (cs ++ drop (j + 1 + length cs) row) c j long,
+    )
 
 -- one value more in a row that was written
 row_step : {X : Type 0} (p : Place) (rows : List (List X)) (y : ℕ) → FillsPlace p rows → HasRow p y → (rest : List X) (j : ℕ) (x : X)
@@ -104,20 +106,11 @@ restored-kept_row : (t : TileImage) (x y : ℕ) (old : List Colour) (deep : List
     ≡ of_rows t (with_row_in t.place t.rows y (pasted (x - t.place.left) old (row_of t y))) (with_row_in t.place t.depths y
     (pasted (x - t.place.left) deep (depth_row_of t y)))
 unfolding pasted
-restored-kept_row t x y [] [] equal filled crossed low =
-    ap (λ rows. of_rows t rows t.depths) (sym (with_row_in-as_it_is t.place t.rows y))
-    ∙ ap (λ depths. of_rows t (with_row_in t.place t.rows y (row_of t y)) depths) (sym (with_row_in-as_it_is t.place t.depths y))
+restored-kept_row t x y [] [] equal filled crossed low = grind (arith, with_row_in-as_it_is)
 restored-kept_row t x y [] (d ∷ ds) equal filled crossed low = absurd (omega arith)
 restored-kept_row t x y (c ∷ cs) [] equal filled crossed low = absurd (omega arith)
 restored-kept_row t x y (c ∷ cs) (d ∷ ds) equal filled crossed low =
-    let p : Place = t.place in
-    let j : ℕ = x - t.place.left in
-    let next : x + 1 - t.place.left ≡ x - t.place.left + 1 = omega arith in
-    let colours : List Colour = pasted (x - t.place.left + 1) cs (row_of t y) in
-    let depths : List ℕ = pasted (x - t.place.left + 1) ds (depth_row_of t y) in
-    let rest : restored (kept_row (x + 1) y (zip cs ds)) t ≡ of_rows t (with_row_in t.place t.rows y colours) (with_row_in t.place t.depths y depths) =
-    cc (restored-kept_row t (x + 1) y cs ds (omega arith) filled crossed (omega arith)) in
-    cc (row_step p t.rows y filled.colours crossed colours j c, row_step p t.depths y filled.depths crossed depths j d)
+    grind (arith, restored-kept_row t (x + 1) y cs ds (omega arith) filled crossed (omega arith), pasted, row_step)
 
 -- a part of a row that is written over the row as it was read
 part_left : {X : Type 0} (p : Place) (rows : List (List X)) (y x j n : ℕ) (old row now : List X) (other : X) → FillsPlace p rows → HasRow p y
@@ -126,11 +119,7 @@ part_left : {X : Type 0} (p : Place) (rows : List (List X)) (y x j n : ℕ) (old
     → with_row_in p rows y (refill (length (row_in p rows y)) (row_in p rows y) (put_mid j n row now))
     ≡ with_row_in p rows y (pasted (x - p.left) old (row_in p rows y))
 part_left p rows y x j n old row now other filled crossed low within at count read after =
-    let wide : length (row_in p rows y) ≡ p.width = length-row_in p rows y filled crossed in
-    let fits : x - p.left + length old ≤ length (row_in p rows y) = omega arith in
-    let is : put_mid j n row now ≡ pasted (x - p.left) old (row_in p rows y) =
-    cc (drop-drop (length old) (x - p.left) (row_in p rows y), pasted_is other (x - p.left) old (row_in p rows y) fits) in
-    cc (left_row_is p rows y filled crossed (pasted (x - p.left) old (row_in p rows y)) (length-pasted (x - p.left) old (row_in p rows y) ∙ wide))
+    grind (arith, length-row_in, pasted, drop-drop, pasted_is, left_row_is, length-pasted)
 
 -- what the code writes: the parts of the two rows from column x on, over the lent rows
 pub put_back_row_is : (t : TileImage) (x y j n : ℕ) (old row now : List Colour) (deep deep_row deep_now : List ℕ) → length deep ≡ length old → IsTileImage t
@@ -152,13 +141,7 @@ put_back_row_is t x y j n old row now deep deep_row deep_now equal filled inside
 
 -- where one value stands everywhere, writing it again changes nothing
 pasted-alike : {X : Type 0} (d : X) (j n w : ℕ) → j + n ≤ w → pasted j (replicate n d) (replicate w d) ≡ replicate w d
-pasted-alike d j n w fits =
-    let long : length (replicate n d) ≡ n = length-replicate n d in
-    pasted_is d j (replicate n d) (replicate w d) (omega (arith, fits, long, length-replicate w d))
-    ∙ ap (λ l. l ++ (replicate n d ++ drop (j + length (replicate n d)) (replicate w d))) (take-replicate j w d (omega (arith, fits)))
-    ∙ ap (λ k. replicate j d ++ (replicate n d ++ drop k (replicate w d))) {x = j + length (replicate n d)} {y = j + n} (omega (arith, long))
-    ∙ ap (λ l. replicate j d ++ (replicate n d ++ l)) (drop-replicate (j + n) w d) ∙ ap (λ l. replicate j d ++ l) (replicate-append-replicate n (w - (j + n)) d)
-    ∙ replicate-append-replicate j (n + (w - (j + n))) d ∙ ap (λ k. replicate k d) {x = j + (n + (w - (j + n)))} {y = w} (omega (arith, fits))
+pasted-alike d j n w fits = grind (arith, length-replicate, pasted_is, take-replicate, drop-replicate, replicate-append-replicate)
 
 -- the same where all pixels of the tile have the one depth of the row's part: the colours alone are written
 pub put_back_row_alike : (t : TileImage) (x y j n depth : ℕ) (old row now : List Colour) (deep : List ℕ) → deep ≡ replicate (length old) depth

@@ -2,7 +2,7 @@
 use Rattle.std.proofs.Common.{◌≡◌, ℕ, zero, suc, ◌+◌, ◌-◌, ◌*◌, ◌≤◌, ◌∙◌, List, [], ◌∷◌, ◌++◌, length, take, drop, refl, sym, ap, arith}
 use Rattle.std.proofs.Common.{length-drop, length-append, append_assoc}
 use Rattle.std.proofs.lemmas.List.{drop-append-le, take-append-drop, length-take, take-take, drop-take, drop-drop, append-nil, take_all}
-use Rattle.std.proofs.lemmas.List.Sums.{sum_by_push, sum_by-cons}
+use Rattle.std.proofs.lemmas.List.Sums.{sum_by_push, sum_by-cons, sum_by-take-drop}
 use Rattle.fd_blend.specs.declared.channel.Colour.{Colour}
 use Rattle.fd_undo.specs.Span.{Span}
 use Rattle.fd_undo.specs.Frame.{KeptPixel}
@@ -83,14 +83,10 @@ rows_in-take (s ∷ spans) cs ds (suc k) = ap (λ l. span_pixels s cs ds ∷ l) 
 
 -- so many spans have no more values than all
 pub colours-take : (spans : List Span) (k : ℕ) → colour_count (take k spans) + colour_count (drop k spans) ≡ colour_count spans
-colours-take spans zero = omega arith
-colours-take [] (suc k) = refl
-colours-take (s ∷ spans) (suc k) = omega (arith, colours-cons s (take k spans), colours-cons s spans, colours-take spans k)
+colours-take spans k = sum_by-take-drop (λ (r : Span). listed_colours r) spans k
 
 pub depths-take : (spans : List Span) (k : ℕ) → depth_count (take k spans) + depth_count (drop k spans) ≡ depth_count spans
-depths-take spans zero = omega arith
-depths-take [] (suc k) = refl
-depths-take (s ∷ spans) (suc k) = omega (arith, depths-cons s (take k spans), depths-cons s spans, depths-take spans k)
+depths-take spans k = sum_by-take-drop (λ (r : Span). listed_depths r) spans k
 
 -- ---- the last span apart, whose values stand from `start` and `deep_start` on
 pub record Taken (spans low : List Span) (s : Span) (cs : List Colour) (ds : List ℕ) (start deep_start : ℕ) : Type 0 where
@@ -159,10 +155,12 @@ length-joined (s ∷ spans) cs ds fits deep_fits =
 -- the same of those from span k on
 pub pixels-from : (h : Held) (k : ℕ) → IsHeld h.spans h.colours h.depths → length (joined (drop k (rows_of h))) ≡ pixel_count (drop k h.spans)
 pixels-from h k held =
-    ap (λ l. length (joined l)) (sym (rows_in-drop h.spans h.colours h.depths k))
-    ∙ length-joined (drop k h.spans) (drop (colour_count (take k h.spans)) h.colours) (drop (depth_count (take k h.spans)) h.depths)
-    (omega (arith, held.colours_counted, colours-take h.spans k, length-drop (colour_count (take k h.spans)) h.colours))
-    (omega (arith, held.depths_counted, depths-take h.spans k, length-drop (depth_count (take k h.spans)) h.depths))
+    cc (
+      rows_in-drop h.spans h.colours h.depths k,
+      length-joined (drop k h.spans) (drop (colour_count (take k h.spans)) h.colours) (drop (depth_count
+          (take k h.spans)) h.depths) (omega (arith, held.colours_counted, colours-take h.spans k, length-drop (colour_count (take k h.spans)) h.colours))
+          (omega (arith, held.depths_counted, depths-take h.spans k, length-drop (depth_count (take k h.spans)) h.depths)),
+    )
 
 -- the first k spans with their own values
 module _ (spans : List Span) (cs : List Colour) (ds : List ℕ) (k : ℕ) (held : IsHeld spans cs ds) where
@@ -195,9 +193,7 @@ module _ (spans : List Span) (cs : List Colour) (ds : List ℕ) (first end : Cut
   between = take (end.span - first.span) (drop first.span spans)
 
   between_is : drop first.span (take end.span spans) ≡ take (end.span - first.span) (drop first.span spans)
-  between_is =
-      ap (λ n. drop first.span (take n spans)) {x = end.span} {y = first.span + (end.span - first.span)} (omega (arith, ordered))
-      ∙ drop-take first.span (end.span - first.span) spans
+  between_is = let e0 : end.span ≡ first.span + (end.span - first.span) = omega (arith, ordered) in cc (drop-take first.span (end.span - first.span) spans)
 
   pub colours_between : (first.colour + colour_count (take (end.span - first.span) (drop first.span spans)) ≡ end.colour) × (end.colour ≤ length cs)
   colours_between = (
@@ -243,12 +239,11 @@ module _ (spans : List Span) (cs : List Colour) (ds : List ℕ) (first end : Cut
   pub rows_between : rows_in between (take (end.colour - first.colour) (drop first.colour cs)) (take (end.depth - first.depth) (drop first.depth ds))
       ≡ take (end.span - first.span) (drop first.span (rows_in spans cs ds))
   rows_between =
-      let n : ℕ = end.span - first.span in
-      ap (λ k. rows_in between (take k (drop first.colour cs)) (take (end.depth - first.depth) (drop first.depth ds)))
-      {x = end.colour - first.colour} {y = colour_count between} (omega (arith, colours_between.0))
-      ∙ ap (λ k. rows_in between (take (colour_count between) (drop first.colour cs)) (take k (drop first.depth ds)))
-      {x = end.depth - first.depth} {y = depth_count between} (omega (arith, depths_between.0))
-      ∙ rows_in-cut (drop first.span spans) (drop first.colour cs) (drop first.depth ds) n tails_held
-      ∙ ap (λ k. take n (rows_in (drop first.span spans) (drop k cs) (drop first.depth ds))) low.colour
-      ∙ ap (λ k. take n (rows_in (drop first.span spans) (drop (colour_count (take first.span spans)) cs) (drop k ds))) low.depth
-      ∙ ap (λ l. take n l) (rows_in-drop spans cs ds first.span)
+      let n : ℕ = end.span - first.span in let e0 : end.colour - first.colour ≡ colour_count between = omega (arith, colours_between.0) in let e1 :
+      end.depth - first.depth ≡ depth_count between = omega (arith, depths_between.0) in cc (
+        rows_in-cut (drop first.span spans) (drop first.colour cs)
+            (drop first.depth ds) n tails_held,
+        low.colour,
+        low.depth,
+        rows_in-drop spans cs ds first.span,
+      )

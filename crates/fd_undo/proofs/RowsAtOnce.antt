@@ -88,10 +88,7 @@ abbrev rows_of : ℕ → ℕ → List Colour → ℕ → List Pixel
 rows_of w depth cs row = zip (take w (drop (row * w) cs)) (replicate w depth)
 
 rows_below : (w depth x y n : ℕ) (cs : List Colour) → kept_rows x y n (λ row. rows_of w depth cs (suc row)) ≡ kept_rows x y n (rows_of w depth (drop w cs))
-rows_below w depth x y n cs =
-    kept_rows-same x y n (λ row. rows_of w depth cs (suc row)) (rows_of w depth (drop w cs)) (λ row above.
-    ap (λ k. zip (take w (drop k cs)) (replicate w depth)) {x = suc row * w} {y = w + row * w} (omega (arith, suc-mul row w))
-    ∙ ap (λ l. zip (take w l) (replicate w depth)) (sym (drop-drop (row * w) w cs)))
+rows_below w depth x y n cs = grind (arith, kept_rows-same, suc-mul, drop-drop)
 
 rows_restored : (t : TileImage) (depth x y n : ℕ) (cs : List Colour) → IsTileImage t → IsFlat t.place t.depths depth → length cs ≡ n * t.place.width
     → t.place.top ≤ y → y + n ≤ t.place.top + t.place.height
@@ -99,29 +96,29 @@ rows_restored : (t : TileImage) (depth x y n : ℕ) (cs : List Colour) → IsTil
     → restored (kept_rows x y n (rows_of t.place.width depth cs)) t ≡ with_rows_from t y (cut_rows t.place.width n cs)
 rows_restored t depth x y zero cs filled flat size low high inside = refl
 rows_restored t depth x y (suc n) cs filled flat size low high inside =
-    let w : ℕ = t.place.width in
-    let old : List Colour = take t.place.width cs in
-    let more : suc n * t.place.width ≡ n * t.place.width + t.place.width = suc-mul n t.place.width in
-    let old_long : length (take t.place.width cs) ≡ t.place.width = length-take-le t.place.width cs (omega (arith, more, size)) in
-    let rest_long : length (drop t.place.width cs) ≡ n * t.place.width = omega (arith, length-drop t.place.width cs, more, size) in
-    let one : List KeptPixel = kept_row x y (zip old (replicate (length old) depth)) in
-    let others : List KeptPixel = kept_rows x (y + 1) n (rows_of w depth (drop w cs)) in
-    let parts : kept_rows x y (suc n) (rows_of t.place.width depth cs) ≡ one ++ others =
-    cc (kept_rows-top x y n (rows_of w depth cs), zero-mul w, rows_below w depth x (y + 1) n cs) in
-    let both : Inside t.place (one ++ others) = subst (λ ks. Inside t.place ks) parts inside in
-    let u : TileImage = with_rows_from t (y + 1) (cut_rows w n (drop w cs)) in
-    let below : restored others t ≡ u =
-    rows_restored t depth x (y + 1) n (drop w cs) filled flat rest_long (omega arith) (omega arith) (Inside-back t.place one others both) in
-    let kept : (u.place ≡ t.place) × (u.depths ≡ t.depths) = with_rows_from-kept t (y + 1) (cut_rows w n (drop w cs)) in
-    let filled_u : IsTileImage u =
-    IsTileImage-with_rows_from t (y + 1) (cut_rows w n (drop w cs)) filled (omega arith)
-    (omega (arith, length-cut_rows t.place.width n (drop t.place.width cs)))
-    (cut_rows-wide w n (drop w cs) (omega (arith, rest_long))) in
-    ap (λ l. restored l t) parts
-    ∙ restored-append one others t
-    ∙ ap (restored one) below
-    ∙ one_row u x y depth old filled_u (subst (λ p. IsFlat p u.depths depth) (sym kept.0) (subst (λ d. IsFlat t.place d depth) (sym kept.1) flat))
-    (old_long ∙ ap (λ (p : Place). p.width) (sym kept.0)) (subst (λ p. Inside p one) (sym kept.0) (Inside-front t.place one others both))
+    let w : ℕ = t.place.width in let old : List Colour = take t.place.width cs in let more : suc n * t.place.width ≡ n * t.place.width + t.place.width =
+    suc-mul n t.place.width in let old_long : length (take t.place.width cs) ≡ t.place.width = length-take-le t.place.width cs (omega (arith, more, size))
+    in let rest_long : length (drop t.place.width cs) ≡ n * t.place.width = omega (arith, length-drop t.place.width cs, more, size) in let one : List
+    KeptPixel = kept_row x y (zip old (replicate (length old) depth)) in let others : List KeptPixel = kept_rows x (y + 1) n (rows_of w depth (drop w cs))
+    in let parts : kept_rows x y (suc n) (rows_of t.place.width depth cs) ≡ one ++ others = cc (
+      kept_rows-top x y n (rows_of w depth cs),
+      zero-mul w,
+      rows_below w depth x (y + 1) n cs,
+    ) in let both : Inside t.place (one ++ others) = subst (λ ks. Inside t.place ks) parts inside in let u : TileImage =
+    with_rows_from t (y + 1) (cut_rows w n (drop w cs)) in let below : restored others t ≡ u = rows_restored t depth x (y + 1) n (drop w cs) filled flat
+    rest_long (omega arith) (omega arith) (Inside-back t.place one others both) in let kept : (u.place ≡ t.place) × (u.depths ≡ t.depths) =
+    with_rows_from-kept t (y + 1) (cut_rows w n (drop w cs)) in let filled_u : IsTileImage u = IsTileImage-with_rows_from t (y + 1) (cut_rows w n (drop w
+    cs)) filled (omega arith) (omega (arith, length-cut_rows t.place.width n (drop t.place.width cs))) (cut_rows-wide w n (drop w cs) (omega (
+      arith,
+      rest_long,
+    ))) in cc (
+      parts,
+      restored-append one others t,
+      below,
+      one_row u x y depth old filled_u (subst (λ p. IsFlat p u.depths depth) (sym kept.0)
+          (subst (λ d. IsFlat t.place d depth) (sym kept.1) flat)) (old_long ∙ ap (λ (p : Place). p.width) (sym kept.0)) (subst (λ p. Inside p one) (sym kept.0)
+          (Inside-front t.place one others both)),
+    )
 
 -- ---- a span of whole rows, as deep as all pixels of the tile
 module _ (t : TileImage) (s : Span) (cs : List Colour) (ds : List ℕ) (filled : IsTileImage t) (is : AreWholeRows t s) (counted : length cs ≡ listed_colours s)

@@ -82,15 +82,7 @@ module _ (s : Span) (cs : List Colour) (ds : List ℕ) (fits : listed_colours s 
   depths_fit row above = omega (arith, deep_fits, depths_behind s row above, length-drop (depths_above s row) ds)
 
   pub span_pixels-more : (new : List Colour) (deep : List ℕ) → span_pixels s (cs ++ new) (ds ++ deep) ≡ span_pixels s cs ds
-  span_pixels-more new deep =
-      kept_rows-same s.x s.y s.rows (pixels_of_row s (cs ++ new) (ds ++ deep)) (pixels_of_row s cs ds) (λ row above.
-      cc (
-        drop-append-le (colours_above s row) cs new (omega (arith, fits, colours_behind s row above)),
-        colours_more s.one_colour s.len
-            (colours_from s row cs) new (colours_fit row above),
-        drop-append-le (depths_above s row) ds deep (omega (arith, deep_fits, depths_behind s row above)),
-        depths_more s.same_depth s.len (depths_from s row ds) deep (depths_fit row above),
-      ))
+  span_pixels-more new deep = grind (arith, kept_rows-same, drop-append-le, colours_behind, colours_more, colours_fit, depths_behind, depths_more, depths_fit)
 
 -- ---- what is listed of a row gives all of it
 colours_all : (one : Bool) (n rows : ℕ) (cs : List Colour) → (one ≡ true → (0 < length cs) × (cs ≡ replicate (length cs) (get_or cs 0 fresh))) → n ≡ length cs
@@ -107,12 +99,7 @@ depths_all None n rows ds alike size row = all_listed n rows ds size row
 
 pub span_pixels-row : (s : Span) (cs : List Colour) (ds : List ℕ) → IsRowOf cs ds s
     → span_pixels s (take (listed_colours s) cs) (take (listed_depths s) ds) ≡ kept_row s.x s.y (zip cs ds)
-span_pixels-row s cs ds is =
-    cc (
-      kept_rows-one s.x s.y s.rows (pixels_of_row s (take (listed_colours s) cs) (take (listed_depths s) ds)) is.one,
-      colours_all s.one_colour s.len s.rows cs is.coloured is.len is.one,
-      depths_all s.same_depth s.len s.rows ds is.deep (is.len ∙ sym is.equal) is.one,
-    )
+span_pixels-row s cs ds is = grind (arith, kept_rows-one, colours_all, depths_all)
 
 -- ---- a span's pixels lie in a place
 module _ (s : Span) (colours : List Colour) (depths : List ℕ) (fits : row_colours s ≤ length colours) (deep_fits : row_depths s ≤ length depths) where

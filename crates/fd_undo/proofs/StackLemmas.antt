@@ -1,15 +1,17 @@
 -- Frames by number, some of which are stored.
+use Rattle.std.proofs.lemmas.Bool.Decides.{nat_tests}
+use Rattle.std.proofs.lemmas.Grind.{common_steps}
 use Rattle.std.proofs.Common.{subst, ◌≡◌, ◌≢◌, ℕ, zero, suc, ◌+◌, ◌-◌, ◌^◌, ◌<◌, ◌≤◌, ◌∙◌, false, List, [], ◌∷◌, ◌++◌, length, get_or, map, refl, sym}
 use Rattle.std.proofs.Common.{ap, arith, inl, inr, ◌⊎◌, length-append, append_assoc}
 use Rattle.std.specs.Prelude.{replicate, max}
-use Rattle.std.proofs.lemmas.Bool.{cases_lt, cases_eq, false≢true}
-use Rattle.std.proofs.lemmas.List.{length-replicate, get_or-replicate, replicate-append-replicate, get_or_append_left, get_or-append_right, get_or_past}
+use Rattle.std.proofs.lemmas.Bool.{cases_lt, false≢true}
+use Rattle.std.proofs.lemmas.List.{length-replicate, get_or-replicate, replicate-append-replicate, get_or-append_right, get_or_past}
 use Rattle.fd_undo.specs.Frame.{KeptPixel, top, older}
 use Rattle.fd_undo.specs.Undo.{recorded_in}
 use Rattle.fd_undo.specs.Block.{KeptFrame, Filled, no_frame, newest, others, found, first_number, Rise}
 use Rattle.fd_undo.specs.Stack.{frames_from, stored_in, all_stored, HaveFrames, IsUndoStack}
 use Rattle.fd_undo.proofs.FrameLemmas.{others-newest, older-push, top-push, older-top, recorded_in-push, recorded_in-cons}
-use Rattle.fd_undo.proofs.BlockLemmas.{this_number, other_number}
+use Rattle.fd_undo.proofs.BlockLemmas.{other_number}
 
 -- ---- the numbers
 pub rise-push : (i : ℕ) (stored : List KeptFrame) (f : KeptFrame) (count : ℕ) → Rise i stored f.number → f.number + 1 ≤ count → Rise i (stored ++ f ∷ []) count
@@ -61,24 +63,16 @@ length-frames i (t ∷ stored) count is =
 -- more frames that are not stored
 pub frames-grow : (i : ℕ) (stored : List KeptFrame) (count more : ℕ) → Rise i stored count → count ≤ more
     → frames_from i stored more ≡ frames_from i stored count ++ replicate (more - count) []
-frames-grow i [] count more is fits =
-    ap (λ n. replicate n []) {x = more - i} {y = count - i + (more - count)} (omega (arith, is, fits))
-    ∙ sym (replicate-append-replicate (count - i) (more - count) [])
-frames-grow i (t ∷ stored) count more is fits =
-    ap (λ l. replicate (t.number - i) [] ++ t.kept ∷ l) (frames-grow (t.number + 1) stored count more is.1 fits)
-    ∙ sym (append_assoc (replicate (t.number - i) []) (t.kept ∷ frames_from (t.number + 1) stored count) (replicate (more - count) []))
+frames-grow i [] count more is fits = grind (arith, replicate-append-replicate)
+frames-grow i (t ∷ stored) count more is fits = grind (arith, frames-grow (t.number + 1) stored count more is.1 fits, append_assoc)
 
 pub frames-next : (stored : List KeptFrame) (count : ℕ) → Rise 0 stored count → frames_from 0 stored (count + 1) ≡ frames_from 0 stored count ++ [] ∷ []
-frames-next stored count is =
-    frames-grow 0 stored count (count + 1) is (omega arith)
-    ∙ ap (λ n. frames_from 0 stored count ++ replicate n []) {x = count + 1 - count} {y = 1} (omega arith)
+frames-next stored count is = let e0 : count + 1 - count ≡ 1 = omega arith in cc (frames-grow 0 stored count (count + 1) is (omega arith))
 
 frames-push : (i : ℕ) (stored : List KeptFrame) (f : KeptFrame) (count : ℕ)
     → frames_from i (stored ++ f ∷ []) count ≡ frames_from i stored f.number ++ f.kept ∷ replicate (count - (f.number + 1)) []
 frames-push i [] f count = refl
-frames-push i (t ∷ stored) f count =
-    ap (λ l. replicate (t.number - i) [] ++ t.kept ∷ l) (frames-push (t.number + 1) stored f count)
-    ∙ sym (append_assoc (replicate (t.number - i) []) (t.kept ∷ frames_from (t.number + 1) stored f.number) (f.kept ∷ replicate (count - (f.number + 1)) []))
+frames-push i (t ∷ stored) f count = grind (arith, frames-push (t.number + 1) stored f count, append_assoc)
 
 exact : (stored : List KeptFrame) (f : KeptFrame) (count : ℕ) → f.number + 1 ≡ count
     → frames_from 0 (stored ++ f ∷ []) count ≡ frames_from 0 stored f.number ++ f.kept ∷ []
@@ -89,8 +83,7 @@ exact stored f count at =
 pub frames-emptied : (frames : List (List KeptPixel)) (count : ℕ) → length frames ≡ count → frames_from 0 [] count ≡ map (λ _. []) frames
 frames-emptied [] count size = cc
 frames-emptied (f ∷ frames) count size =
-    ap (λ n. replicate n []) {x = count - 0} {y = suc (count - 1 - 0)} (omega (arith, size))
-    ∙ ap (λ l. [] ∷ l) (frames-emptied frames (count - 1) (omega (arith, size)))
+    let e0 : count - 0 ≡ suc (count - 1 - 0) = omega (arith, size) in cc (frames-emptied frames (count - 1) (omega (arith, size)))
 
 -- ---- one more frame that is stored
 pub frame_stored : (low frames : List KeptFrame) (f : KeptFrame) → frames_from 0 (low ++ (frames ++ f ∷ [])) (f.number + 1)
@@ -140,35 +133,18 @@ module _ (low frames : List KeptFrame) (count : ℕ) (row : List KeptPixel) (at 
 
   pub more_recorded : 0 < length (frames_from 0 (low ++ frames) count)
       → recorded_in (frames_from 0 (low ++ (others frames ++ more ∷ [])) count) ≡ recorded_in (frames_from 0 (low ++ frames) count) + length row
-  more_recorded some =
-      let gs : List (List KeptPixel) = frames_from 0 (low ++ frames) count in
-      omega (
-        arith,
-        ap recorded_in more_stored,
-        ap recorded_in (older-top gs some),
-        recorded_in-push (older gs) (top gs ++ row),
-        recorded_in-push (older gs) (top gs),
-        length-append (top gs) row,
-      )
+  more_recorded some = grind (arith, common_steps, more_stored, older-top, recorded_in-push, length-append)
 
 -- ---- the youngest frame is not stored
 pub missed : (low frames : List KeptFrame) (number : ℕ) → (0 < length frames → (newest frames).number ≢ number) → (length frames ≡ 0 → low ++ frames ≡ [])
     → Rise 0 (low ++ frames) (number + 1) → Rise 0 (low ++ frames) number
 missed low [] number other none is = subst (λ l. Rise 0 l number) (sym (none refl)) (omega arith)
-missed low (t ∷ frames) number other none is =
-    let all : List KeptFrame = t ∷ frames in
-    let some : 0 < length all = omega arith in
-    let f : KeptFrame = newest all in
-    let split : low ++ all ≡ (low ++ others all) ++ f ∷ [] = split_all low all some in
-    let popped : Rise 0 (low ++ others all) f.number × (f.number + 1 ≤ number + 1) =
-    rise-pop 0 (low ++ others all) f (number + 1) (subst (λ l. Rise 0 l (number + 1)) split is) in
-    subst (λ l. Rise 0 l number) (sym split) (rise-push 0 (low ++ others all) f number popped.0 (omega (arith, popped.1, other some)))
+missed low (t ∷ frames) number other none is = grind (arith, split_all, rise-pop, rise-push)
 
 -- ---- a frame that is looked for by its number
 pub found-low : (i : ℕ) (stored : List KeptFrame) (count n : ℕ) → Rise i stored count → n < i → found n stored ≡ []
 found-low i [] count n is low = refl
-found-low i (t ∷ stored) count n is low =
-    other_number t stored n (λ e. absurd (omega (arith, e, is.0))) ∙ found-low (t.number + 1) stored count n is.1 (omega (arith, is.0))
+found-low i (t ∷ stored) count n is low = grind (arith, nat_tests, found-low (t.number + 1) stored count n is.1)
 
 pub found-frames : (i : ℕ) (stored : List KeptFrame) (count k : ℕ) → Rise i stored count → get_or (frames_from i stored count) k [] ≡ found (i + k) stored
 found-frames i [] count k is = nothing (cases_lt k (count - i))
@@ -177,45 +153,20 @@ found-frames i [] count k is = nothing (cases_lt k (count - i))
     nothing (inl within) = get_or-replicate (count - i) k [] [] within
     nothing (inr past) = get_or_past (replicate (count - i) []) k [] (omega (arith, past, length-none (count - i)))
 found-frames i (t ∷ stored) count k is =
-    by_place i t stored count k is (λ n. found-frames (t.number + 1) stored count n is.1) (cases_lt k (t.number - i)) (cases_lt (t.number - i) k)
+    at_place i t stored count k is (found-frames (t.number + 1) stored count (k - (t.number - i + 1)) is.1)
   where
-    by_place : (i : ℕ) (t : KeptFrame) (stored : List KeptFrame) (count k : ℕ) → Rise i (t ∷ stored) count
-        → ((n : ℕ) → get_or (frames_from (t.number + 1) stored count) n [] ≡ found (t.number + 1 + n) stored)
-        → (k < t.number - i) ⊎ (t.number - i ≤ k) → (t.number - i < k) ⊎ (k ≤ t.number - i)
+    at_place : (i : ℕ) (t : KeptFrame) (stored : List KeptFrame) (count k : ℕ) → Rise i (t ∷ stored) count
+        → get_or (frames_from (t.number + 1) stored count) (k - (t.number - i + 1)) [] ≡ found (t.number + 1 + (k - (t.number - i + 1))) stored
         → get_or (replicate (t.number - i) [] ++ t.kept ∷ frames_from (t.number + 1) stored count) k [] ≡ found (i + k) (t ∷ stored)
-    by_place i t stored count k is rest (inl before) _ =
-        get_or_append_left (replicate (t.number - i) []) (t.kept ∷ frames_from (t.number + 1) stored count) [] k
-        (omega (arith, before, length-none (t.number - i)))
-        ∙ get_or-replicate (t.number - i) k [] [] before
-        ∙ sym (other_number t stored (i + k) (λ e. absurd (omega (arith, e, before))) ∙ found-low (t.number + 1) stored count (i + k) is.1 (omega (
-          arith,
-          before,
-        )))
-    by_place i t stored count k is rest (inr from) (inr here) =
-        let same : k - (t.number - i) ≡ 0 = omega (arith, from, here) in
-        get_or-append_right (replicate (t.number - i) []) (t.kept ∷ frames_from (t.number + 1) stored count) (t.number - i) k []
-        (length-none (t.number - i)) from
-        ∙ ap (λ n. get_or (t.kept ∷ frames_from (t.number + 1) stored count) n []) same
-        ∙ sym (this_number t stored (i + k) (omega (arith, from, here, is.0)))
-    by_place i t stored count k is rest (inr from) (inl after) =
-        let next : k - (t.number - i) ≡ suc (k - (t.number - i + 1)) = omega (arith, after) in
-        get_or-append_right (replicate (t.number - i) []) (t.kept ∷ frames_from (t.number + 1) stored count) (t.number - i) k []
-        (length-none (t.number - i)) from
-        ∙ ap (λ n. get_or (t.kept ∷ frames_from (t.number + 1) stored count) n []) next
-        ∙ rest (k - (t.number - i + 1))
-        ∙ ap (λ n. found n stored) {x = t.number + 1 + (k - (t.number - i + 1))} {y = i + k} (omega (arith, after, is.0))
-        ∙ sym (other_number t stored (i + k) (λ e. absurd (omega (arith, e, after, is.0))))
+    at_place i t stored count k is rest =
+        grind (arith, nat_tests, common_steps, found-low (t.number + 1) stored count (i + k) is.1, length-replicate, get_or-append_right)
 
 -- frames behind those with the number, or before them
 pub found-front : (i : ℕ) (low high : List KeptFrame) (count n : ℕ) → Rise i (low ++ high) count → (0 < length high → n < first_number high)
     → found n (low ++ high) ≡ found n low
 found-front i [] [] count n is before = refl
 found-front i [] (f ∷ high) count n is before = found-low f.number (f ∷ high) count n (omega arith, is.1) (before (omega arith))
-found-front i (t ∷ low) high count n is before = by_number (found-front (t.number + 1) low high count n is.1 before) (cases_eq t.number n)
-  where
-    by_number : found n (low ++ high) ≡ found n low → (t.number ≡ n) ⊎ (t.number ≢ n) → found n (t ∷ (low ++ high)) ≡ found n (t ∷ low)
-    by_number rest (inl same) = this_number t (low ++ high) n same ∙ sym (this_number t low n same)
-    by_number rest (inr other) = other_number t (low ++ high) n other ∙ rest ∙ sym (other_number t low n other)
+found-front i (t ∷ low) high count n is before = cc (found-front (t.number + 1) low high count n is.1 before)
 
 first-later : (i : ℕ) (low high : List KeptFrame) (count : ℕ) → Rise i (low ++ high) count → 0 < length high → i ≤ first_number high
 first-later i [] [] count is some = absurd (omega arith)
@@ -225,9 +176,7 @@ first-later i (t ∷ low) high count is some = omega (arith, is.0, first-later (
 pub found-behind : (i : ℕ) (low high : List KeptFrame) (count n : ℕ) → Rise i (low ++ high) count → 0 < length high → first_number high ≤ n
     → found n (low ++ high) ≡ found n high
 found-behind i [] high count n is some from = refl
-found-behind i (t ∷ low) high count n is some from =
-    let later : t.number + 1 ≤ first_number high = first-later (t.number + 1) low high count is.1 some in
-    other_number t (low ++ high) n (λ e. absurd (omega (arith, e, later, from))) ∙ found-behind (t.number + 1) low high count n is.1 some from
+found-behind i (t ∷ low) high count n is some from = grind (arith, found-behind (t.number + 1) low high count n is.1 some from, first-later, other_number)
 
 -- the block in the middle has it
 pub found-middle : (a b c : List KeptFrame) (count n : ℕ) → Rise 0 (a ++ (b ++ c)) count → 0 < length b → first_number b ≤ n
@@ -321,9 +270,7 @@ module _ {before : List KeptFrame} {count recorded : ℕ} {frames : List (List K
     older_same = sym (ap older missing ∙ older-push (frames_from 0 (all_stored full last) (count - 1)) [])
 
     pub top_missed : IsUndoStack full last (count - 1) recorded false 0 0
-    top_missed =
-        closed full last (count - 1) recorded have (subst (λ l. Rise 0 l (count - 1)) (sym same) not)
-        (omega (arith, t.recorded_is, ap length top_empty, ap recorded_in older_same)) t.countable
+    top_missed = grind (arith, closed, top_empty, older_same)
 
 -- what is left where frames that keep nothing are dropped
 pub dropped : (low frames : List KeptFrame) (count to after left : ℕ) → Rise 0 (low ++ frames) count → to ≤ count
@@ -331,12 +278,4 @@ pub dropped : (low frames : List KeptFrame) (count to after left : ℕ) → Rise
     → (length frames ≡ 0 → after ≡ 0) → (length frames ≡ 0 → low ++ frames ≡ []) → left ≡ max to after → Rise 0 (low ++ frames) left × (left ≤ count)
 dropped low [] count to after left is fits some none empty most =
     (subst (λ l. Rise 0 l left) (sym (empty refl)) (omega arith), omega (arith, fits, none refl, most))
-dropped low (t ∷ frames) count to after left is fits some none empty most =
-    let all : List KeptFrame = t ∷ frames in
-    let there : 0 < length all = omega arith in
-    let split : low ++ all ≡ (low ++ others all) ++ newest all ∷ [] = split_all low all there in
-    let popped : Rise 0 (low ++ others all) (newest all).number × ((newest all).number + 1 ≤ count) =
-    rise-pop 0 (low ++ others all) (newest all) count (subst (λ l. Rise 0 l count) split is) in (
-      subst (λ l. Rise 0 l left) (sym split) (rise-push 0 (low ++ others all) (newest all) left popped.0 (omega (arith, some there, most))),
-      omega (arith, fits, some there, popped.1, most),
-    )
+dropped low (t ∷ frames) count to after left is fits some none empty most = grind (arith, split_all, rise-pop, rise-push)

@@ -7,7 +7,7 @@ use Rattle.fd_blend.specs.declared.channel.Colour.{Colour}
 use Rattle.fd_tile.specs.declared.place.Place.{Place}
 use Rattle.fd_undo.specs.Span.{Span}
 use Rattle.fd_undo.specs.Frame.{KeptPixel, kept_at, KeepsAll}
-use Rattle.fd_undo.specs.Rows.{no_span, span_holds, listed_colours, listed_depths, colour_count, depth_count, pixels_of_row, span_pixels}
+use Rattle.fd_undo.specs.Rows.{no_span, span_holds, listed_colours, listed_depths, colour_count, depth_count, span_pixels}
 use Rattle.fd_undo.specs.Rows.{rows_in, joined}
 use Rattle.fd_undo.specs.Block.{KeptFrame, found}
 use Rattle.fd_undo.specs.Whole.{HasWholeRow, AnyHasRow, HaveAllRows}
@@ -20,15 +20,7 @@ kept-by_span : (spans : List Span) (cs : List Colour) (ds : List ℕ) (i x y : �
     → i < length spans → span_holds (get_or spans i no_span) x y ≡ true → 0 < length (kept_at (joined (rows_in spans cs ds)) x y)
 kept-by_span [] cs ds i x y fits deep within held = absurd (omega arith)
 kept-by_span (s ∷ spans) cs ds zero x y fits deep within held =
-    let own : List KeptPixel = span_pixels s cs ds in
-    let later : List KeptPixel = joined (rows_in spans (drop (listed_colours s) cs) (drop (listed_depths s) ds)) in
-    omega (
-      arith,
-      ap length (kept_at-append own later x y),
-      length-append (kept_at own x y) (kept_at later x y),
-      ap length (kept_at-held s (pixels_of_row s cs ds) x y
-          (length-pixels_of_row s cs ds (omega (arith, fits, colours-cons s spans)) (omega (arith, deep, depths-cons s spans))) held),
-    )
+    grind (arith, kept_at-append, length-append, kept_at-held, length-pixels_of_row, colours-cons, depths-cons)
 kept-by_span (s ∷ spans) cs ds (suc i) x y fits deep within held =
     let own : List KeptPixel = span_pixels s cs ds in
     let later : List KeptPixel = joined (rows_in spans (drop (listed_colours s) cs) (drop (listed_depths s) ds)) in

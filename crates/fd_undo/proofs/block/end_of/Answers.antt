@@ -1,5 +1,4 @@
-use Rattle.std.proofs.Common.{◌≡◌, ◌+◌, ◌∙◌, sym, subst, suc, length, get_or, ap, arith}
-use Rattle.fd_undo.specs.declared.parts.Cut.{Cut}
+use Rattle.std.proofs.Common.{◌≡◌, sym, subst, suc, get_or, arith}
 use Rattle.fd_undo.specs.Block.{no_mark}
 use Rattle.fd_undo.specs.Parts.{IsCut, cut_of}
 use Rattle.fd_undo.proofs.BlockLemmas.{next-at, cut-at}
@@ -8,15 +7,10 @@ use Rattle.fd_undo.proofs.block.end_of.Goals.{After-cut}
 
 -- the next mark
 next_is : (c : After-cut) → c.cut.result ≡ cut_of (get_or c.args.marks.now (suc c.args.place) no_mark)
-next_is c =
-    c.cut.ensures ∙ ap cut_of c.mark_at.ensures
-    ∙ ap (λ n. cut_of (get_or c.args.marks.now n no_mark)) {x = c.args.place + 1} {y = suc c.args.place} (omega arith)
+next_is c = grind (arith)
 
 pub returns-then-place-marks-clause-span : goal.returns-then-place-marks-clause-span
-returns-then-place-marks-clause-span c =
-    let d = (goal.at-returns-then-place-marks-clause-span c).After-cut in
-    ap (λ (k : Cut). k.span) (next_is d)
-    ∙ sym (next-at c.args.marks.now (suc c.args.place) (length c.args.rows.now.spans) (omega (arith, c.if-place-marks.true)))
+returns-then-place-marks-clause-span c = grind (arith, next_is, next-at)
 
 pub returns-then-place-marks-clause-cut : goal.returns-then-place-marks-clause-cut
 returns-then-place-marks-clause-cut c =

@@ -1,6 +1,5 @@
-use Rattle.std.proofs.Common.{◌≡◌, ◌+◌, ◌≤◌, ◌++◌, length, take, drop}
+use Rattle.std.proofs.Common.{◌≡◌, ◌++◌, take}
 use Rattle.fd_undo.specs.Frame.{kept_at}
-use Rattle.fd_undo.specs.Rows.{colour_count, depth_count}
 use Rattle.fd_undo.specs.Parts.{kept_in_parts}
 use Rattle.fd_undo.proofs.Turns.{kept_from, StandsAt}
 use Rattle.fd_undo.proofs.kept.add_kept_in.Given as goal

@@ -1,7 +1,6 @@
-use Rattle.std.proofs.Common.{◌≡◌, ◌+◌, ◌≤◌, length, drop}
+use Rattle.std.proofs.Common.{◌≡◌}
 use Rattle.std.specs.Prelude.{slice_get}
 use Rattle.fd_undo.specs.Frame.{kept_at}
-use Rattle.fd_undo.specs.Rows.{colour_count, depth_count}
 use Rattle.fd_undo.specs.Parts.{kept_in_parts}
 use Rattle.fd_undo.proofs.Turns.{kept_from, StandsAt}
 use Rattle.fd_undo.proofs.kept.kept_in.Given as goal

@@ -1,6 +1,6 @@
 use Rattle.std.proofs.Common.{◌≡◌, ◌∙◌, sym, [], ap, None}
 use Rattle.std.specs.Prelude.{slice_get}
-use Rattle.fd_tile.specs.Tile.{Pixel, TileImage, with_depths}
+use Rattle.fd_tile.specs.Tile.{Pixel, TileImage}
 use Rattle.fd_undo.specs.Frame.{kept_at, restored, alike}
 use Rattle.fd_undo.specs.Parts.{kept_in_parts}
 use Rattle.fd_undo.proofs.Alike.{none_kept, all_kept, restored-alike}
@@ -20,10 +20,11 @@ returns-in_default c = sym (ap (λ l. restored l c.args.tile.now) (nothing (goal
 
 pub returns-in-Some : goal.returns-in-Some
 returns-in-Some c =
-    let d = (goal.at-returns-in-Some c).After-kept_in in
-    let t : TileImage = c.args.tile.now in
-    let q : Pixel = (c.in-Some.colour, c.in-Some.depth) in
-    let all : kept_in_parts c.args.parts ≡ alike c.args.tile.now.place (c.in-Some.colour, c.in-Some.depth) =
-    all_kept t.place (kept_in_parts c.args.parts) q c.place-place.ensures.filled.colours.placed c.requires.alike (sym (read d) ∙ c.in-Some.is) in
-    c.fill_depths.ensures ∙ ap (λ (u : TileImage). with_depths u c.in-Some.depth) c.fill_colours.ensures
-    ∙ sym (ap (λ l. restored l t) all ∙ restored-alike t (c.in-Some.colour, c.in-Some.depth) c.place-place.ensures.filled)
+    let d = (goal.at-returns-in-Some c).After-kept_in in let t : TileImage = c.args.tile.now in let q : Pixel = (c.in-Some.colour, c.in-Some.depth) in let
+    all : kept_in_parts c.args.parts ≡ alike c.args.tile.now.place (c.in-Some.colour, c.in-Some.depth) = all_kept t.place (kept_in_parts c.args.parts) q
+    c.place-place.ensures.filled.colours.placed c.requires.alike (sym (read d) ∙ c.in-Some.is) in cc (
+      c.fill_depths.ensures,
+      c.fill_colours.ensures,
+      all,
+      restored-alike t (c.in-Some.colour, c.in-Some.depth) c.place-place.ensures.filled,
+    )

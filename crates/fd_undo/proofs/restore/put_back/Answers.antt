@@ -1,5 +1,4 @@
-use Rattle.std.proofs.Common.{◌≡◌, ℕ, suc, ◌+◌, ◌-◌, ◌++◌, List, length, take, drop, sym, ap, ◌∙◌, subst, arith}
-use Rattle.fd_blend.specs.declared.channel.Colour.{Colour}
+use Rattle.std.proofs.Common.{◌≡◌, ℕ, ◌+◌, ◌-◌, ◌++◌, List, length, take, drop, sym, ap, ◌∙◌, subst, arith}
 use Rattle.fd_tile.specs.Tile.{Pixel, TileImage}
 use Rattle.fd_undo.specs.Frame.{KeptPixel, kept_row, kept_rows, restored}
 use Rattle.fd_undo.specs.Rows.{row_of_span, pixels_of_row}
@@ -11,41 +10,17 @@ use Rattle.fd_undo.proofs.restore.put_back.Goals as goal
 use Rattle.fd_undo.proofs.restore.put_back.Goals.{After-y-in-loop-row}
 
 pub returns-then-len-eq0 : goal.returns-then-len-eq0
-returns-then-len-eq0 c =
-    sym (ap (λ ks. restored ks c.args.tile.now)
-    (span_pixels-none c.args.span.now c.args.colours.now c.args.depths.now c.requires.counted c.requires.depths_counted
-    (omega (arith, c.len.ensures, c.if-len-eq0.true))))
+returns-then-len-eq0 c = grind (arith, span_pixels-none)
 
 -- ---- whole rows
 pub put_rows-requires-clause-from_top : goal.put_rows-requires-clause-from_top
-put_rows-requires-clause-from_top c =
-    let r = c.requires in
-    omega (
-      arith,
-      rows_from_top c.args.tile.now c.args.span.now c.args.colours.now c.args.depths.now c.are_whole_rows.ensures.filled
-          (c.are_whole_rows.ensures.whole c.if-are_whole_rows.true) r.counted r.depths_counted (omega (arith, c.rows.ensures.some, c.rows.ensures.value))
-          r.inside,
-      c.y.ensures,
-    )
+put_rows-requires-clause-from_top c = grind (arith, rows_from_top)
 
 pub put_rows-requires-clause-to_bottom : goal.put_rows-requires-clause-to_bottom
-put_rows-requires-clause-to_bottom c =
-    let r = c.requires in
-    omega (
-      arith,
-      rows_to_bottom c.args.tile.now c.args.span.now c.args.colours.now c.args.depths.now c.are_whole_rows.ensures.filled
-          (c.are_whole_rows.ensures.whole c.if-are_whole_rows.true) r.counted r.depths_counted (omega (arith, c.rows.ensures.some, c.rows.ensures.value))
-          r.inside,
-      c.y.ensures,
-      c.rows.ensures.value,
-    )
+put_rows-requires-clause-to_bottom c = grind (arith, rows_to_bottom)
 
 pub returns-then-are_whole_rows : goal.returns-then-are_whole_rows
-returns-then-are_whole_rows c =
-    let t = c.args.tile.now in
-    let r = c.requires in
-    cc (rows_written t c.args.span.now c.args.colours.now c.args.depths.now c.are_whole_rows.ensures.filled
-    (c.are_whole_rows.ensures.whole c.if-are_whole_rows.true) r.counted r.depths_counted (omega (arith, c.rows.ensures.some, c.rows.ensures.value)) r.inside)
+returns-then-are_whole_rows c = grind (arith, rows_written)
 
 -- ---- one row after the other: the last of those that are left
 abbrev pixels : (c : After-y-in-loop-row) → ℕ → List Pixel
@@ -55,19 +30,12 @@ row_is : (c : After-y-in-loop-row) → row_of_span c.args.span.now (c.y-in-loop-
     (take (length c.args.colours.now - c.colours_above.result) (drop c.colours_above.result c.args.colours.now))
     (take (length c.args.depths.now - c.depths_above.result) (drop c.depths_above.result c.args.depths.now))
     ≡ kept_row c.args.span.now.x (c.args.span.now.y + (c.loop-row.row - 1)) (pixels c (c.loop-row.row - 1))
-row_is c =
-    let s = c.args.span.now in
-    let n : ℕ = c.loop-row.row - 1 in
-    let R : ℕ → List Colour → List ℕ → List KeptPixel = λ y cs ds. row_of_span s (y + n) cs ds in
-    let deep : List ℕ = take (length c.args.depths.now - c.depths_above.result) (drop c.depths_above.result c.args.depths.now) in
-    cc (tail_is c.colours_above.result c.args.colours.now, tail_is c.depths_above.result c.args.depths.now)
+row_is c = grind (arith, tail_is)
 
 parts : (c : After-y-in-loop-row) → kept_rows c.args.span.now.x c.args.span.now.y c.loop-row.row (pixels c)
     ≡ kept_rows c.args.span.now.x c.args.span.now.y (c.loop-row.row - 1) (pixels c)
     ++ kept_row c.args.span.now.x (c.args.span.now.y + (c.loop-row.row - 1)) (pixels c (c.loop-row.row - 1))
-parts c =
-    ap (λ n. kept_rows c.args.span.now.x c.args.span.now.y n (pixels c)) {x = c.loop-row.row} {y = suc (c.loop-row.row - 1)}
-    (omega (arith, c.loop-row-test.true))
+parts c = grind (arith)
 
 inside : (c : After-y-in-loop-row) → Inside c.loop-row.tile.place (kept_row c.args.span.now.x (c.args.span.now.y + (c.loop-row.row - 1))
     (pixels c (c.loop-row.row - 1)))

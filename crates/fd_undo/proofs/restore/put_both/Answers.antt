@@ -1,10 +1,8 @@
-use Rattle.std.proofs.Common.{◌≡◌, ◌+◌, ◌-◌, ◌<◌, ◌≤◌, ◌∙◌, refl, ap, sym, subst, length, arith}
-use borrow.Rule.Slice.PartMut.{put_mid}
+use Rattle.std.proofs.Common.{◌≡◌, ◌+◌, ◌-◌, ◌≤◌, ◌∙◌, ap, sym, subst, length, arith}
 use Rattle.fd_tile.specs.declared.place.Place.{Place}
 use Rattle.fd_tile.specs.Place.{Holds, HasRow}
-use Rattle.fd_tile.specs.Tile.{TileImage, row_of, depth_row_of, with_row_left, with_depth_row_left}
+use Rattle.fd_tile.specs.Tile.{TileImage, depth_row_of}
 use Rattle.fd_tile.proofs.Pixels.{length-row_in, HasRow-from_Holds}
-use Rattle.fd_undo.specs.Rows.{colours_in, depths_in}
 use Rattle.fd_undo.proofs.SpanLemmas.{length-colours_in, row_deep, row_first, row_within}
 use Rattle.fd_undo.proofs.Restored.{put_back_row_is}
 use Rattle.fd_undo.proofs.restore.put_both.Goals as goal
@@ -53,24 +51,4 @@ slice_bounds-write_depths-end c =
     omega (arith, held at.After-len-len, within at.After-len-len, wide at.After-depth_row_mut-row (crossed at.After-len-len), start_is at.After-place)
 
 pub returns : goal.returns
-returns c =
-    let at = goal.at-returns c in
-    let s = c.args.span.now in
-    let tile = c.args.tile.now in
-    let old = colours_in c.args.span.now c.args.colours.now in
-    let k = c.args.span.now.x - c.args.tile.now.place.left in
-    let start = c.x.result - c.place.result.left in
-    let long : length (colours_in c.args.span.now c.args.colours.now) ≡ c.args.span.now.len =
-    length-colours_in c.args.span.now c.args.colours.now (omega arith) in
-    let some : 0 < length (colours_in c.args.span.now c.args.colours.now) = omega (arith, long, c.requires.some) in
-    let count : c.x.result - c.place.result.left + c.len-len.result - (c.x.result - c.place.result.left) ≡ c.args.span.now.len =
-    omega (arith, c.len-len.ensures) in
-    let row : TileImage = with_row_left tile c.args.y (put_mid k s.len (row_of tile c.args.y) old) in
-    ap (λ t. with_depth_row_left t c.args.y
-    (put_mid start (start + c.len-len.result - start) c.depth_row_mut-row.result.now c.write_depths.new.row)) c.put_colours.ensures.written
-    ∙ ap (λ n. with_depth_row_left row c.args.y (put_mid start n c.depth_row_mut-row.result.now c.write_depths.new.row)) count
-    ∙ ap (λ j. with_depth_row_left row c.args.y (put_mid j s.len c.depth_row_mut-row.result.now c.write_depths.new.row)) (start_is at.After-place)
-    ∙ put_back_row_is tile s.x c.args.y k s.len old (row_of tile c.args.y) old
-    (depths_in s c.args.depths.now) c.depth_row_mut-row.result.now c.write_depths.new.row
-    (row_deep s c.args.colours.now c.args.depths.now (omega arith) (omega arith)) c.place.ensures.filled c.requires.inside
-    some refl (sym long) refl refl (read at.After-depth_row_mut-row) c.write_depths.ensures
+returns c = grind (arith, length-colours_in, start_is, put_back_row_is, row_deep, read)

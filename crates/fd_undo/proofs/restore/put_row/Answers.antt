@@ -1,4 +1,4 @@
-use Rattle.std.proofs.Common.{◌∙◌, arith}
+use Rattle.std.proofs.Common.{arith}
 use Rattle.fd_undo.proofs.SpanLemmas.{row_first, row_within, put_back_flat}
 use Rattle.fd_undo.proofs.restore.put_row.Goals as goal
 
@@ -11,7 +11,4 @@ put_colours-requires-clause-within c =
     row_within c.args.span.now c.args.colours.now c.args.depths.now (omega arith) (omega arith) c.args.tile.now.place c.args.y c.requires.some c.requires.inside
 
 pub returns-then-is_flat : goal.returns-then-is_flat
-returns-then-is_flat c =
-    c.put_colours.ensures.written
-    ∙ put_back_flat c.args.tile.now c.args.span.now c.args.y c.args.colours.now c.args.depths.now c.requires.counted c.requires.some
-    (c.is_flat.ensures c.if-is_flat.true) c.put_colours.ensures.filled c.requires.inside
+returns-then-is_flat c = grind (arith, put_back_flat)

@@ -1,9 +1,9 @@
-use Rattle.std.proofs.Common.{rules, ◌≡◌, ℕ, ◌+◌, ◌-◌, ◌<◌, ◌≤◌, true, false, sym, subst, length, get_or, ap, arith}
+use Rattle.std.proofs.Common.{rules, ◌≡◌, ℕ, ◌<◌, ◌≤◌, true, false, length, get_or, ap, arith}
 use Rattle.std.proofs.Math.Dec.{leb}
 use Rattle.std.proofs.lemmas.Bool.{leb-true, leb-false}
 use Rattle.std.specs.List.Sorted.{IsPartitionPoint}
 use Rattle.std.proofs.lemmas.List.Sorted.{IsPartitionPoint-from_clause, IsPartitionedBy-leb}
-use Rattle.fd_undo.specs.Block.{Filled, first_number, Rise}
+use Rattle.fd_undo.specs.Block.{Filled, first_number}
 use Rattle.fd_undo.specs.Stack.{stored_in}
 use Rattle.fd_undo.proofs.StackLemmas.{rise-back}
 use Rattle.fd_undo.proofs.Blocks.{firsts-rise, block_rise, in_block, in_last, in_none}
@@ -22,10 +22,9 @@ point : (c : After-partition_point-after)
     → IsPartitionPoint (λ (b : Filled). leb (first_number b.frames) c.args.number ≡ true) (λ (b : Filled). leb (first_number b.frames) c.args.number ≡ false)
     c.args.full.now c.partition_point-after.result
 point c =
-    IsPartitionPoint-from_clause
-    (λ b. leb (first_number b.frames) c.args.number) c.args.full.now c.partition_point-after.result c.partition_point-after.ensures.partitioned
-    (IsPartitionedBy-leb (λ b. first_number b.frames) c.args.full.now c.args.number
-    (firsts-rise 0 c.args.full.now c.args.last.now.frames c.requires.rise.0 c.requires.have c.requires.rise.1)) (λ a r f called. search rules)
+    grind (arith, IsPartitionPoint-from_clause (λ b. leb (first_number b.frames) c.args.number) c.args.full.now c.partition_point-after.result
+    c.partition_point-after.ensures.partitioned (IsPartitionedBy-leb (λ b. first_number b.frames) c.args.full.now c.args.number (firsts-rise 0
+    c.args.full.now c.args.last.now.frames c.requires.rise.0 c.requires.have c.requires.rise.1)) (λ a r f called. search rules))
 
 some_after : (n : ℕ) → (n ≡ 0 → ⊥) → 0 < n
 some_after n not = omega (arith, not)
@@ -44,9 +43,7 @@ returns-then-first_number-number-clause-rise c =
     (c.requires.rise.0, rise-back 0 (stored_in c.args.full.now) c.args.last.now.frames c.requires.rise.0 c.requires.rise.1)
 
 pub returns-then-first_number-number-clause-found : goal.returns-then-first_number-number-clause-found
-returns-then-first_number-number-clause-found c =
-    in_last c.args.full.now c.args.last.now.frames c.requires.rise.0 c.args.number c.requires.rise.1 (c.is_empty.ensures.no c.if-not-is_empty.true)
-    (omega (arith, c.first_number.ensures, c.if-first_number-number.true))
+returns-then-first_number-number-clause-found c = grind (arith, in_last)
 
 pub returns-then-after-eq0-clause-rise : goal.returns-then-after-eq0-clause-rise
 returns-then-after-eq0-clause-rise c = (c.requires.rise.0, rise-back 0 (stored_in c.args.full.now) c.args.last.now.frames c.requires.rise.0 c.requires.rise.1)
@@ -58,21 +55,7 @@ returns-then-after-eq0-clause-found c =
     (λ some. above d 0 c.args.last.now (omega (arith, c.if-after-eq0.true)) some) (later d)
 
 pub returns-else-after-eq0-clause-rise : goal.returns-else-after-eq0-clause-rise
-returns-else-after-eq0-clause-rise c =
-    let n = c.requires.rise.0 in
-    let d : Filled = c.index-full-after.result in
-    let within : c.partition_point-after.result - 1 < length c.args.full.now = omega arith in (
-      n,
-      subst (λ (b : Filled). Rise 0 b.frames n) (sym c.index-full-after.is)
-          (block_rise c.args.full.now c.args.last.now.frames n c.requires.have c.requires.rise.1 (c.partition_point-after.result - 1) d within),
-    )
+returns-else-after-eq0-clause-rise c = grind (arith, block_rise)
 
 pub returns-else-after-eq0-clause-found : goal.returns-else-after-eq0-clause-found
-returns-else-after-eq0-clause-found c =
-    let e = (goal.at-returns-else-after-eq0-clause-found c).After-partition_point-after in
-    let p = c.partition_point-after.result - 1 in
-    let d : Filled = c.index-full-after.result in
-    let some : 0 < c.partition_point-after.result = some_after c.partition_point-after.result c.if-after-eq0.false in
-    let within : c.partition_point-after.result - 1 < length c.args.full.now = omega (arith, c.partition_point-after.ensures.bound, some) in
-    cc (in_block c.args.full.now c.args.last.now.frames c.requires.rise.0 c.requires.have c.requires.rise.1 p d within c.args.number (begun e p d
-    (omega (arith, some))) (λ more. above e (p + 1) d (omega (arith, some)) more) (later e))
+returns-else-after-eq0-clause-found c = grind (arith, some_after, in_block, begun, above, later)

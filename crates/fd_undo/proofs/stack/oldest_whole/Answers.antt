@@ -11,19 +11,10 @@ use Rattle.fd_undo.proofs.stack.oldest_whole.Goals.{After-block-item}
 
 -- which of the blocks is looked at
 within : (c : After-block-item) → c.saturating_sub.result + c.loop-block.block-index < length c.args.full.now
-within c =
-    omega (
-      arith,
-      c.loop-block-test.true,
-      ap length (tail_is c.saturating_sub.result c.args.full.now),
-      length-drop c.saturating_sub.result c.args.full.now,
-    )
+within c = grind (arith, tail_is, length-drop)
 
 block_is : (c : After-block-item) → c.block-item.result ≡ get_or c.args.full.now (c.saturating_sub.result + c.loop-block.block-index) c.block-item.result
-block_is c =
-    let b : Filled = c.block-item.result in
-    c.block-item.is ∙ ap (λ l. get_or l c.loop-block.block-index b) (tail_is c.saturating_sub.result c.args.full.now)
-    ∙ get_or-drop c.saturating_sub.result c.args.full.now c.loop-block.block-index b
+block_is c = grind (arith, tail_is, get_or-drop)
 
 pub first_whole-number-requires : goal.first_whole-number-requires
 first_whole-number-requires c =
@@ -59,6 +50,5 @@ first_whole-requires c = record {
 
 pub returns : goal.returns
 returns c =
-    keeps-found c.args.from c.args.place c.args.last.now.frames (all_stored c.args.full.now c.args.last.now) c.first_whole.result
-    (λ n some. sym (found-after 0 (stored_in c.args.full.now) c.args.last.now.frames c.requires.rise.0 n c.requires.rise.1 some))
-    c.first_whole.ensures
+    grind (arith, keeps-found c.args.from c.args.place c.args.last.now.frames (all_stored c.args.full.now c.args.last.now) c.first_whole.result (λ n some.
+    sym (found-after 0 (stored_in c.args.full.now) c.args.last.now.frames c.requires.rise.0 n c.requires.rise.1 some)) c.first_whole.ensures)

@@ -1,7 +1,6 @@
-use Rattle.std.proofs.Common.{◌≡◌, ◌∙◌, sym, subst, length, drop, take, ap, arith}
+use Rattle.std.proofs.Common.{◌≡◌, ◌∙◌, length, drop, take, ap, arith}
 use Rattle.fd_undo.specs.declared.parts.Cut.{Cut}
 use Rattle.fd_undo.specs.Rows.{Held, rows_of, joined}
-use Rattle.fd_undo.specs.Parts.{IsCut}
 use Rattle.fd_undo.specs.Block.{Filled, newest, marked, AreInOrder, others}
 use Rattle.fd_undo.proofs.RowLemmas.{length-rows_in}
 use Rattle.fd_undo.proofs.BlockLemmas.{TopFrame, top_frame, fewer}
@@ -17,9 +16,7 @@ top c =
     (length-rows_in h.spans h.colours h.depths) c.self.invariant (ap (λ (h : Filled). h.frames) c.self.view_is)
 
 pub drop_from-requires-clause-first : goal.drop_from-requires-clause-first
-drop_from-requires-clause-first c =
-    let t = top (goal.at-drop_from-requires-clause-first c).After-take_last-mark in
-    subst (λ k. IsCut k c.self.inside.rows.spans) (sym c.cut.ensures) (omega arith)
+drop_from-requires-clause-first c = grind (arith, top)
 
 -- what goes
 gone : (c : After-cut) → TopFrame c.take_last-mark.new.marks.items c.take_last-mark.result c.self.inside.rows.spans (rows_of c.self.inside.rows)
@@ -27,9 +24,7 @@ gone : (c : After-cut) → TopFrame c.take_last-mark.new.marks.items c.take_last
 gone c t = cc
 
 pub drop_from-requires-clause-countable : goal.drop_from-requires-clause-countable
-drop_from-requires-clause-countable c =
-    let at = goal.at-drop_from-requires-clause-countable c in
-    omega (arith, c.requires.countable, ap length (gone at.After-cut (top at.After-take_last-mark)))
+drop_from-requires-clause-countable c = grind (arith, gone, top)
 
 -- what is left where the spans from the mark on are gone
 left : (c : After-take_last-mark) → (g : Held) → g.spans ≡ take c.take_last-mark.result.span c.self.inside.rows.spans
@@ -50,7 +45,4 @@ pub returns-clause-pixels : goal.returns-clause-pixels
 returns-clause-pixels c = let at = goal.at-returns-clause-pixels c in c.drop_from.ensures.pixels ∙ ap length (gone at.After-cut (top at.After-take_last-mark))
 
 pub returns-clause-frames : goal.returns-clause-frames
-returns-clause-frames c =
-    (left (goal.at-returns-clause-frames c).After-take_last-mark c.drop_from.new.self
-    (c.drop_from.ensures.spans ∙ ap (λ (k : Cut). take k.span c.self.inside.rows.spans) c.cut.ensures)
-    (c.drop_from.ensures.rows ∙ ap (λ (k : Cut). take k.span (rows_of c.self.inside.rows)) c.cut.ensures)).0
+returns-clause-frames c = grind (arith, left)

@@ -1,4 +1,4 @@
-use Rattle.std.proofs.Common.{◌∙◌, List, ap, subst, arith}
+use Rattle.std.proofs.Common.{◌∙◌, List, ap, arith}
 use Rattle.std.specs.List.{zip}
 use Rattle.fd_undo.specs.declared.block.Mark.{Mark}
 use Rattle.fd_undo.specs.Frame.{KeptPixel, kept_row}
@@ -18,23 +18,10 @@ abbrev row : (c : After-keep) → List KeptPixel
 row c = kept_row c.args.x c.args.y (zip c.args.old.now c.args.depths.now)
 
 more : (c : After-keep) → KeepsMore (last_mark c.self.inside.marks.items).span c.self.inside.rows c.keep.new.self (row c)
-more c =
-    let h = c.self.inside.rows in
-    let n = c.keep.new.self in
-    let pixels = zip c.args.old.now c.args.depths.now in
-    let mark : Mark = last_mark c.self.inside.marks.items in
-    subst (λ y. KeepsMore mark.span h n (kept_row c.args.x y pixels)) c.of-row.ensures.row
-    (rw c.of-row.ensures.column at (subst (λ (m : Mark). KeepsMore m.span h n (kept_row c.of-row.result.x c.of-row.result.y pixels))
-    (c.newest_mark-first.ensures ∙ ap last_mark c.as_slice.ensures) c.keep.ensures.more))
+more c = grind (arith, last_mark)
 
 pub invariant_of-self : goal.invariant_of-self
-invariant_of-self c =
-    let d = (goal.at-invariant_of-self c).After-keep in
-    in_order_grown c.self.inside.marks.items c.self.inside.rows c.args.self.now.frames c.self.invariant (ap (λ (b : Filled). b.frames) c.self.view_is)
-    c.requires.begun c.keep.new.self (row d) (more d)
+invariant_of-self c = grind (arith, in_order_grown, more)
 
 pub returns-clause-frames : goal.returns-clause-frames
-returns-clause-frames c =
-    let d = (goal.at-returns-clause-frames c).After-keep in
-    frames_grown c.self.inside.marks.items c.self.inside.rows c.args.self.now.frames c.self.invariant (ap (λ (b : Filled). b.frames) c.self.view_is)
-    c.requires.begun c.keep.new.self (row d) (more d)
+returns-clause-frames c = grind (arith, frames_grown, more)

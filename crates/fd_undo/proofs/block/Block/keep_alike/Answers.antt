@@ -23,6 +23,5 @@ invariant_of-self c =
 
 pub returns : goal.returns
 returns c =
-    let d = (goal.at-returns c).After-keep_alike in
-    frames_grown c.self.inside.marks.items c.self.inside.rows c.args.self.now.frames c.self.invariant (ap (λ (b : Filled). b.frames) c.self.view_is)
-    c.requires.begun c.keep_alike.new.self (all d) (more d)
+    let d = (goal.at-returns c).After-keep_alike in cc (frames_grown c.self.inside.marks.items c.self.inside.rows c.args.self.now.frames c.self.invariant
+    (ap (λ (b : Filled). b.frames) c.self.view_is) c.requires.begun c.keep_alike.new.self (all d) (more d))

@@ -8,13 +8,7 @@ use Rattle.fd_undo.proofs.block.Block.parts_at.Goals as goal
 use Rattle.fd_undo.proofs.block.Block.parts_at.Goals.{After-as_slice-marks, After-cut}
 
 within : (c : After-as_slice-marks) → c.args.place < length c.self.inside.marks.items
-within c =
-    omega (
-      arith,
-      c.requires,
-      ap (λ (h : Filled). length h.frames) c.self.view_is,
-      length-marked c.self.inside.marks.items (rows_of c.self.inside.rows) (length c.self.inside.rows.spans),
-    )
+within c = grind (arith, length-marked)
 
 pub end_of-end-requires-clause-within : goal.end_of-end-requires-clause-within
 end_of-end-requires-clause-within c =

@@ -31,14 +31,10 @@ spans_are c = c.push_reserved.ensures.items ∙ ap (λ l. l ++ c.in-Some.grown �
 
 colours_are : (c : After-add-in-Some) → c.add.new.values.items
     ≡ c.args.self.now.colours ++ take (if c.args.row.one_colour then 0 else c.args.row.len) c.args.old.now
-colours_are c =
-    c.add.ensures.items ∙ ap (λ n. c.self.inside.colours.items ++ take n c.args.old.now) c.more_colours.ensures
-    ∙ ap (λ (g : Held). g.colours ++ take (if c.args.row.one_colour then 0 else c.args.row.len) c.args.old.now) c.self.view_is
+colours_are c = grind (arith)
 
 depths_are : (c : After-add-in-Some) → c.add-in-Some.new.values.items ≡ c.args.self.now.depths ++ take (listed_depths c.args.row) c.args.depths.now
-depths_are c =
-    c.add-in-Some.ensures.items ∙ ap (λ n. c.self.inside.depths.items ++ take n c.args.depths.now) c.listed_depths-deep.ensures
-    ∙ ap (λ (g : Held). g.depths ++ take (listed_depths c.args.row) c.args.depths.now) c.self.view_is
+depths_are c = grind (arith)
 
 pub invariant_of-self : goal.invariant_of-self
 invariant_of-self c =

@@ -1,6 +1,6 @@
-use Rattle.std.proofs.Common.{◌≡◌, ◌-◌, ◌∙◌, ap, subst, sym, take, drop, arith}
+use Rattle.std.proofs.Common.{◌≡◌, ◌-◌, subst, sym, take, drop, arith}
 use Rattle.fd_undo.specs.Parts.{IsCut}
-use Rattle.fd_undo.specs.Rows.{Held, IsHeld, rows_in, rows_of}
+use Rattle.fd_undo.specs.Rows.{Held, IsHeld}
 use Rattle.fd_undo.proofs.RowLemmas.{colours_between, depths_between, held_between, rows_between}
 use Rattle.fd_undo.proofs.rows.Rows.parts.Goals as goal
 use Rattle.fd_undo.proofs.rows.Rows.parts.Goals.{After-part, After-part-3}
@@ -45,14 +45,4 @@ returns-clause-whole c =
     (high at.After-part))))
 
 pub returns-clause-rows : goal.returns-clause-rows
-returns-clause-rows c =
-    let at = goal.at-returns-clause-rows c in
-    let e = at.After-part-3 in
-    let s = c.self.inside in
-    ap (λ l. rows_in l c.part-2.result.now c.part-3.result.now) (spans_are e)
-    ∙ ap (λ l. rows_in (take (c.args.end.span - c.args.first.span) (drop c.args.first.span s.spans.items)) l c.part-3.result.now) (colours_are e)
-    ∙ ap (λ l. rows_in (take (c.args.end.span - c.args.first.span) (drop c.args.first.span s.spans.items))
-    (take (c.args.end.colour - c.args.first.colour) (drop c.args.first.colour s.colours.items)) l) (depths_are e)
-    ∙ rows_between s.spans.items s.colours.items s.depths.items c.args.first c.args.end c.self.invariant c.requires.ordered (low at.After-part)
-    (high at.After-part)
-    ∙ ap (λ (h : Held). take (c.args.end.span - c.args.first.span) (drop c.args.first.span (rows_of h))) c.self.view_is
+returns-clause-rows c = grind (arith, spans_are, colours_are, depths_are, rows_between, low, high)

@@ -1,6 +1,5 @@
-use Rattle.std.proofs.Common.{◌≡◌, ◌≤◌, ◌-◌, ◌∙◌, ◌++◌, ap, sym, subst, [], length, arith}
+use Rattle.std.proofs.Common.{◌≡◌, ◌≤◌, ◌-◌, ◌++◌, sym, subst, [], length, arith}
 use Rattle.std.specs.Prelude.{replicate}
-use Rattle.fd_undo.specs.Undo.{Undo, recorded_in}
 use Rattle.fd_undo.specs.Block.{Rise}
 use Rattle.fd_undo.specs.Stack.{frames_from, stored_in, all_stored}
 use Rattle.fd_undo.proofs.StackLemmas.{closed, dropped, frames-grow, length-frames, recorded-more}
@@ -9,12 +8,7 @@ use Rattle.fd_undo.proofs.stack.UndoStack.drop_empty.Goals.{After-max-self-insid
 
 -- how many frames there are
 size : (c : After-max-self-inside) → length c.args.self.now.frames ≡ c.self.inside.count
-size c =
-    omega (
-      arith,
-      ap (λ (u : Undo). length u.frames) c.self.view_is,
-      length-frames 0 (all_stored c.self.inside.full.items c.self.inside.last) c.self.inside.count c.self.invariant.rise,
-    )
+size c = grind (arith, length-frames)
 
 -- the stored frames are all left
 left : (c : After-max-self-inside) → Rise 0 (all_stored c.refill.new.full.items c.refill.new.last) c.max-self-inside.result
@@ -31,24 +25,10 @@ grown c =
     cc (frames-grow 0 (all_stored c.refill.new.full.items c.refill.new.last) c.max-self-inside.result c.self.inside.count (left c).0 (left c).1)
 
 pub invariant_of-self : goal.invariant_of-self
-invariant_of-self c =
-    let d = (goal.at-invariant_of-self c).After-max-self-inside in
-    let n = c.max-self-inside.result in
-    closed c.refill.new.full.items c.refill.new.last n c.self.inside.recorded c.refill.ensures.have (left d).0
-    (c.self.invariant.counted ∙ ap recorded_in (grown d)
-    ∙ recorded-more (frames_from 0 (all_stored c.refill.new.full.items c.refill.new.last) n) (c.self.inside.count - n))
-    (omega (arith, c.self.invariant.countable))
+invariant_of-self c = grind (arith, closed, left, grown, recorded-more)
 
 pub returns-clause-left : goal.returns-clause-left
-returns-clause-left c =
-    let d = (goal.at-returns-clause-left c).After-max-self-inside in
-    omega (arith, length-frames 0 (all_stored c.refill.new.full.items c.refill.new.last) c.max-self-inside.result (left d).0, c.max-self-inside.ensures)
+returns-clause-left c = grind (arith, length-frames, left)
 
 pub returns-clause-dropped : goal.returns-clause-dropped
-returns-clause-dropped c =
-    let d = (goal.at-returns-clause-dropped c).After-max-self-inside in
-    let n = c.max-self-inside.result in
-    let all = frames_from 0 (all_stored c.refill.new.full.items c.refill.new.last) n in
-    sym (ap (λ (u : Undo). u.frames) c.self.view_is) ∙ grown d
-    ∙ ap (λ k. all ++ replicate k []) {x = c.self.inside.count - n} {y = length c.args.self.now.frames - length all}
-    (omega (arith, size d, length-frames 0 (all_stored c.refill.new.full.items c.refill.new.last) n (left d).0))
+returns-clause-dropped c = grind (arith, grown, length-frames, left)

@@ -11,14 +11,4 @@ fewer : (c : After-drop_top) → length c.drop_top.new.self.frames ≡ length c.
 fewer c = omega (arith, ap (λ (u : Undo). length u.frames) c.drop_top.ensures, length-take (length c.loop-self.self.frames - 1) c.loop-self.self.frames)
 
 pub loop-self-preserved : goal.loop-self-preserved
-loop-self-preserved c =
-    let before = c.loop-self.self.frames in
-    let between = c.drop_top.new.self.frames in
-    let now = c.drop_empty-in-loop-self.new.self.frames in
-    record {
-      closed = c.drop_empty-in-loop-self.ensures.no_room;
-      front = front-front c.args.self.now.frames before now c.loop-self.invariant.front
-          (front-front before between now (subst (λ l. IsFront before l) (sym (ap (λ (u : Undo). u.frames) c.drop_top.ensures)) (front-older before))
-          (front-append now (replicate (length between - length now) []) between c.drop_empty-in-loop-self.ensures.dropped));
-      least = c.drop_empty-in-loop-self.ensures.left;
-    }
+loop-self-preserved c = grind (arith, front-front, front-older, front-append)

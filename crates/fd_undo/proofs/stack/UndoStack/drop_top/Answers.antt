@@ -1,5 +1,5 @@
 use Rattle.std.proofs.Common.{ap, arith}
-use Rattle.fd_undo.specs.Undo.{Undo, without_room}
+use Rattle.fd_undo.specs.Undo.{Undo}
 use Rattle.fd_undo.specs.Stack.{all_stored}
 use Rattle.fd_undo.proofs.StackLemmas.{IsTop, is_top, top_fits, older_left, top_gone, older_same, top_missed}
 use Rattle.fd_undo.proofs.stack.UndoStack.drop_top.Goals as goal
@@ -48,11 +48,8 @@ invariant_of-self-else-is_stored c =
 
 pub returns-then-is_stored : goal.returns-then-is_stored
 returns-then-is_stored c =
-    ap without_room (older_left c.is_stored.new.full.items c.is_stored.new.last (known (goal.at-returns-then-is_stored c).After-self)
-    c.is_stored.ensures.have c.is_stored.ensures.same (c.is_stored.ensures.yes c.if-is_stored.true)
-    c.refill.new.full.items c.refill.new.last c.refill.ensures.have (cc))
+    cc (older_left c.is_stored.new.full.items c.is_stored.new.last (known (goal.at-returns-then-is_stored c).After-self) c.is_stored.ensures.have
+    c.is_stored.ensures.same (c.is_stored.ensures.yes c.if-is_stored.true) c.refill.new.full.items c.refill.new.last c.refill.ensures.have (cc))
 
 pub returns-else-is_stored : goal.returns-else-is_stored
-returns-else-is_stored c =
-    ap without_room (older_same c.is_stored.new.full.items c.is_stored.new.last (known (goal.at-returns-else-is_stored c).After-self)
-    c.is_stored.ensures.have c.is_stored.ensures.same (c.is_stored.ensures.no c.if-is_stored.false))
+returns-else-is_stored c = grind (arith, older_same, known)

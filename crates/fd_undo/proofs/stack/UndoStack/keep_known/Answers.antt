@@ -20,9 +20,7 @@ length-row : (c : After-keep) → length (row c) ≡ length c.args.old.now
 length-row c = length-kept_row c.args.x c.args.y (zip c.args.old.now c.args.depths.now) ∙ length-zip_equal c.args.old.now c.args.depths.now c.requires.equal
 
 there : (c : After-keep) → (0 < length c.self.inside.last.frames) × ((newest c.self.inside.last.frames).number + 1 ≡ c.self.inside.count)
-there c =
-    c.self.invariant.begun (cc)
-    (omega (arith, ap (λ (u : Undo). u.spans_left) c.self.view_is, c.requires.span))
+there c = grind (arith)
 
 stored : (c : After-keep) → TopStored (low c) c.self.inside.last.frames c.self.inside.count
 stored c = top_stored (low c) c.self.inside.last.frames c.self.inside.count (there c).0 (there c).1 c.self.invariant.rise

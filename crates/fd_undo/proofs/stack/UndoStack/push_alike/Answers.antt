@@ -1,7 +1,7 @@
-use Rattle.std.proofs.Common.{◌≡◌, ◌+◌, ◌*◌, ◌++◌, ◌∷◌, [], ◌∙◌, sym, subst, List, ap, arith}
+use Rattle.std.proofs.Common.{◌≡◌, ◌+◌, ◌++◌, ◌∷◌, [], ◌∙◌, sym, subst, List, ap, arith}
 use Rattle.fd_undo.specs.Frame.{KeptPixel, alike}
 use Rattle.fd_undo.specs.Block.{KeptFrame, Rise}
-use Rattle.fd_undo.specs.Undo.{Undo, recorded_in, without_room}
+use Rattle.fd_undo.specs.Undo.{Undo, without_room}
 use Rattle.fd_undo.specs.Stack.{frames_from, stored_in}
 use Rattle.fd_undo.proofs.Alike.{length-alike}
 use Rattle.fd_undo.proofs.FrameLemmas.{recorded_in-push}
@@ -20,11 +20,7 @@ frame c = record { number = c.self.inside.count; kept = kept c }
 
 -- the frames that were there, and this one
 frames_are : (c : After-push_place) → frames_from 0 (low c ++ c.push_place.new.last.frames) (c.self.inside.count + 1) ≡ c.args.self.now.frames ++ kept c ∷ []
-frames_are c =
-    ap (λ l. frames_from 0 (low c ++ l) (c.self.inside.count + 1)) c.push_place.ensures
-    ∙ frame_stored (low c) c.make_room.new.last.frames (frame c)
-    ∙ ap (λ l. frames_from 0 l c.self.inside.count ++ kept c ∷ []) c.make_room.ensures.same
-    ∙ ap (λ (u : Undo). u.frames ++ kept c ∷ []) c.self.view_is
+frames_are c = grind (arith, c.push_place.ensures, frame_stored (low c) c.make_room.new.last.frames (frame c), c.make_room.ensures.same, c.self.view_is)
 
 rise : (c : After-push_place) → Rise 0 (low c ++ c.push_place.new.last.frames) (c.self.inside.count + 1)
 rise c =
@@ -32,19 +28,7 @@ rise c =
     (frame_rises (low c) c.make_room.new.last.frames (frame c) (subst (λ l. Rise 0 l c.self.inside.count) (sym c.make_room.ensures.same) c.self.invariant.rise))
 
 pub invariant_of-self-2 : goal.invariant_of-self-2
-invariant_of-self-2 c =
-    let d = (goal.at-invariant_of-self-2 c).After-push_place in
-    let pixels = c.args.place.height * c.args.place.width in
-    closed c.make_room.new.full.items c.push_place.new.last (c.self.inside.count + 1) (c.self.inside.recorded + pixels) c.make_room.ensures.have (rise d)
-    (omega (
-      arith,
-      c.self.invariant.counted,
-      ap (λ (u : Undo). recorded_in u.frames) c.self.view_is,
-      ap recorded_in (frames_are d),
-      recorded_in-push c.args.self.now.frames (kept d),
-      length-alike c.args.place (c.args.colour, c.args.depth),
-    ))
-    (omega (arith, c.if-self-pixels.false))
+invariant_of-self-2 c = grind (arith, closed, rise, frames_are, recorded_in-push, length-alike)
 
 pub returns-clause-ok : goal.returns-clause-ok
 returns-clause-ok c = ap without_room (frames_are (goal.at-returns-clause-ok c).After-push_place)

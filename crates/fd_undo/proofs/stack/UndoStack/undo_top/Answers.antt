@@ -38,9 +38,8 @@ returns-then-is_stored-clause-tile c =
 
 pub returns-else-is_stored-clause-tile : goal.returns-else-is_stored-clause-tile
 returns-else-is_stored-clause-tile c =
-    sym (ap (λ ks. restored ks c.args.tile.now)
-    (top_empty c.is_stored.new.full.items c.is_stored.new.last (known (goal.at-returns-else-is_stored-clause-tile c).After-self)
-    c.is_stored.ensures.have c.is_stored.ensures.same (c.is_stored.ensures.no c.if-is_stored.false)))
+    grind (arith, top_empty c.is_stored.new.full.items c.is_stored.new.last (known (goal.at-returns-else-is_stored-clause-tile c).After-self)
+    c.is_stored.ensures.have c.is_stored.ensures.same (c.is_stored.ensures.no c.if-is_stored.false))
 
 pub drop_newest-requires-clause-countable : goal.drop_newest-requires-clause-countable
 drop_newest-requires-clause-countable c =
@@ -79,6 +78,4 @@ returns-then-is_stored-clause-frames c =
     c.refill.new.full.items c.refill.new.last c.refill.ensures.have (cc))
 
 pub returns-else-is_stored-clause-frames : goal.returns-else-is_stored-clause-frames
-returns-else-is_stored-clause-frames c =
-    ap without_room (older_same c.is_stored.new.full.items c.is_stored.new.last (known (goal.at-returns-else-is_stored-clause-frames c).After-self)
-    c.is_stored.ensures.have c.is_stored.ensures.same (c.is_stored.ensures.no c.if-is_stored.false))
+returns-else-is_stored-clause-frames c = grind (arith, older_same, known)
