@@ -19,8 +19,7 @@ use Rattle.fd_undo.specs.Frame.{KeptPixel, kept_at, kept_row, top, older}
 use Rattle.fd_undo.specs.Undo.{Undo, with_kept}
 use Rattle.fd_undo.proofs.KeptAt.{kept_at-append, kept_at-other_row, kept_at-before, kept_at-after, kept_at-inside}
 use Rattle.fd_undo.proofs.Restored.{kept_row-inside}
-use Rattle.fd_undo.proofs.FrameLemmas.{top-push, older-push}
-use Rattle.fd_undo.proofs.Zips.{length-zip_equal}
+use Rattle.fd_undo.proofs.FrameLemmas.{top-push, older-push, length-zip_equal}
 use Rattle.fd_draw.specs.Area.{LiesIn, IsWrittenIn}
 use Rattle.fd_draw.specs.Writing.{HasSpan, after_where, kept_where, keep_each, columns_between, in_row}
 use Rattle.fd_draw.specs.Paints.{Paints}

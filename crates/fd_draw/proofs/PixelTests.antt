@@ -32,7 +32,7 @@ use Rattle.fd_draw.specs.declared.clear.Clear.{Clear}
 use Rattle.fd_draw.specs.declared.clear.Clear.TheVariants.{Colours, Depths}
 use Rattle.fd_draw.specs.Written.{as_it_is, cleared, with_cleared, kept_by_triangle, pixel_blended}
 use Rattle.fd_tile.proofs.Cut.{FillsPlace-flat}
-use Rattle.fd_undo.proofs.Alike.{value_in-flat}
+use Rattle.fd_undo.proofs.Pixelwise.{value_in-flat}
 use Rattle.fd_draw.specs.declared.primitive.Primitive.{Primitive}
 use Rattle.fd_draw.specs.Primitive.{kept_of, painted_by}
 use Rattle.fd_draw.specs.Mask.{has_bit}

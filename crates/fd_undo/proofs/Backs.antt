@@ -1,11 +1,10 @@
 -- Frames that are put back from the top down, or dropped where an older one rests on no pixel.
 use Rattle.std.proofs.lemmas.Grind.{common_steps}
-use Rattle.std.proofs.Common.{◌≡◌, ℕ, zero, suc, ◌+◌, ◌-◌, ◌<◌, ◌≤◌, ◌∙◌, List, [], ◌∷◌, ◌++◌, length, get_or, take, drop, replicate, refl, sym}
-use Rattle.std.proofs.Common.{subst, ap, arith}
-use Rattle.std.proofs.Common.{inl, inr, ◌⊎◌}
+use Rattle.std.proofs.Common.{◌≡◌, ℕ, zero, suc, ◌+◌, ◌-◌, ◌<◌, ◌≤◌, ◌∙◌, List, [], ◌∷◌, ◌++◌, length, get_or, take, drop, replicate, refl, sym, subst, ap}
+use Rattle.std.proofs.Common.{arith, inl, inr, ◌⊎◌, length-drop}
 use Rattle.std.proofs.lemmas.Bool.{cases_lt}
 use Rattle.std.specs.Prelude.{All}
-use Rattle.std.proofs.lemmas.List.{drop-append-le, take_all, take-append-drop, length-take, get_or-take, get_or_past}
+use Rattle.std.proofs.lemmas.List.{drop-append-le, take_all, take-append-drop, length-take, get_or-take, get_or_past, get_or-drop}
 use Rattle.std.proofs.lemmas.List.Elements.{All-get_or, All-drop, All-take}
 use Rattle.fd_tile.specs.declared.place.Place.{Place}
 use Rattle.fd_tile.specs.Place.{IsTilePlace}
@@ -15,9 +14,10 @@ use Rattle.fd_undo.specs.Block.{KeptFrame, Filled, found, Rise}
 use Rattle.fd_undo.specs.Stack.{frames_from, all_stored}
 use Rattle.fd_undo.proofs.FrameLemmas.{IsFront, front-front, front-older, front-append, older-top}
 use Rattle.fd_undo.proofs.Restored.{Inside, restored-place, restored-made}
-use Rattle.fd_undo.proofs.Pixelwise.{IsTileImage-restored}
-use Rattle.fd_undo.proofs.Alike.{corner, restored-whole}
-use Rattle.fd_undo.proofs.StackLemmas.{found-frames}
+use Rattle.fd_undo.proofs.Pixelwise.{IsTileImage-restored, corner, restored-whole}
+use Rattle.fd_undo.proofs.StackLemmas.{found-frames, rise-back, block_rise, kept_in_block, found-after}
+use Rattle.fd_undo.proofs.RowLemmas.{tail_is}
+use Rattle.fd_undo.proofs.Turns.{keeps-found}
 
 -- ---- all of some frames put back
 pub all_restored-append : (frames more : List (List KeptPixel)) (t : TileImage) → all_restored (frames ++ more) t ≡ all_restored frames (all_restored more t)
@@ -40,9 +40,11 @@ IsTileImage-all_restored : (frames : List (List KeptPixel)) (t : TileImage) → 
     → IsTileImage (all_restored frames t)
 IsTileImage-all_restored [] t filled inside = filled
 IsTileImage-all_restored (f ∷ frames) t filled inside =
-    IsTileImage-restored f (all_restored frames t)
-    (IsTileImage-all_restored frames t filled (All-drop (λ frame. Inside t.place frame) 1 (f ∷ frames) inside))
-    (subst (λ p. Inside p f) (sym (all_restored-place frames t)) (inside 0 f (omega arith)))
+    grind (
+      arith,
+      IsTileImage-restored f (all_restored frames t) (IsTileImage-all_restored frames t filled (All-drop (λ frame. Inside t.place frame) 1 (f
+          ∷ frames) inside)) (subst (λ p. Inside p f) (sym (all_restored-place frames t)) (inside 0 f (omega arith))),
+    )
 
 -- the frames from one on, of which the top one is put back first
 top_first : (frames : List (List KeptPixel)) (to : ℕ) (t : TileImage) → to < length frames
@@ -142,3 +144,6 @@ whole_frame read full last count n frames p same rise shown placed whole =
     by_place : 0 < length (kept_at (get_or frames n []) p.left p.top) → (n < length frames) ⊎ (length frames ≤ n) → n < length frames
     by_place some (inl within) = within
     by_place some (inr past) = absurd (omega (arith, some, ap (λ ks. length (kept_at ks p.left p.top)) (get_or_past frames n [] past)))
+
+-- ---- what the goals of a function want, which names it in its attribute
+pub ruleset stack_oldest_whole_steps = (length-drop, get_or-drop, tail_is, rise-back, block_rise, kept_in_block, found-after, keeps-found)

@@ -1,8 +1,9 @@
--- Frames between marks.
+-- Frames between marks, and a mark that is looked for by its number.
 use Rattle.std.proofs.lemmas.Grind.{common_steps}
-use Rattle.std.proofs.Common.{subst, ◌≡◌, ◌≢◌, ℕ, zero, suc, ◌+◌, ◌-◌, ◌^◌, ◌<◌, ◌≤◌, ◌∙◌, List, [], ◌∷◌, ◌++◌, length, get_or, take, drop, refl, sym}
-use Rattle.std.proofs.Common.{ap, arith, length-drop, cond}
-use Rattle.std.proofs.lemmas.Bool.{eq-eqb, ne_eqb}
+use Rattle.std.proofs.Common.{subst, ◌≡◌, ◌≢◌, ℕ, zero, suc, ◌+◌, ◌-◌, ◌^◌, ◌<◌, ◌≤◌, ◌∙◌, List, [], ◌∷◌, ◌++◌, length, get_or, take, drop, refl, sym, ap}
+use Rattle.std.proofs.Common.{arith, length-drop, cond, Result, Ok, Err, None, IfSome, inl, inr, ◌⊎◌}
+use Rattle.std.proofs.lemmas.Bool.Decides.{nat_tests}
+use Rattle.std.proofs.lemmas.Bool.{eq-eqb, ne_eqb, cases_lt}
 use Rattle.std.proofs.lemmas.List.{length-take, take_all, take-take, drop-take}
 use Rattle.fd_undo.specs.declared.block.Mark.{Mark}
 use Rattle.fd_undo.specs.Span.{Span}
@@ -12,6 +13,12 @@ use Rattle.fd_undo.specs.Parts.{IsCut, cut_of}
 use Rattle.fd_undo.specs.Block.{KeptFrame, no_frame, newest, others, keeping_row, found, Rise, next, marked, AreInOrder, no_mark, number_at, NumbersRise}
 use Rattle.fd_undo.proofs.FrameLemmas.{others-push, newest-push, others-newest}
 use Rattle.fd_undo.proofs.RowLemmas.{length-rows_in}
+use Rattle.std.specs.Result.{result_ok}
+use Rattle.std.proofs.lemmas.Option.{none-some}
+use Rattle.std.specs.List.Sorted.{IsSearchInRange, IsBinarySearchResult, IsNonDecreasingBy}
+use Rattle.std.specs.Ordering.{nat_cmp, ordering_index}
+use Rattle.std.proofs.lemmas.Cmp.{ranked}
+use Rattle.std.proofs.lemmas.List.Sorted.{IsNonDecreasingBy-from_default}
 
 -- what a frame keeps: the rows from one up to another
 abbrev pub part : ℕ → ℕ → List (List KeptPixel) → List KeptPixel
@@ -83,6 +90,8 @@ marks-same (t ∷ marks) spans spans' end most is within same =
 pub length-marked : (marks : List Mark) (rows : List (List KeptPixel)) (end : ℕ) → length (marked marks rows end) ≡ length marks
 length-marked [] rows end = refl
 length-marked (t ∷ marks) rows end = ap (λ n. suc n) (length-marked marks rows end)
+
+pub ruleset mark_counts = (length-marked, nat_tests)
 
 -- ---- the newest frame and those before it, where the last mark was taken off
 pub record TopFrame (low : List Mark) (m : Mark) (spans : List Span) (rows : List (List KeptPixel)) (frames : List KeptFrame) : Type 0 where
@@ -233,3 +242,36 @@ next-at (m ∷ marks) (suc a) end within = next-at marks a end (omega arith)
 pub cut-at : (marks : List Mark) (spans : List Span) (a : ℕ) → AreInOrder marks spans (length spans) → a < length marks
     → IsCut (cut_of (get_or marks a no_mark)) spans
 cut-at marks spans a is within = omega (arith, mark-at marks spans (length spans) a is within)
+
+module _ (marks : List Mark) (rising : NumbersRise marks) (n : ℕ) where
+  comparisons_rise : IsNonDecreasingBy (λ m. ordering_index (nat_cmp m.number n)) marks
+  comparisons_rise = IsNonDecreasingBy-from_default (λ m. ordering_index (nat_cmp m.number n)) marks no_mark (λ a b le in_range.
+      let rise : number_at marks a ≤ number_at marks b = grind (arith, rising a b, λ (same : a ≡ b). ap (number_at marks) same) in
+      grind (arith, nat_tests))
+
+  pub searched : (r : Result ℕ ℕ) → IsSearchInRange r (length marks) → IsBinarySearchResult (λ m. nat_cmp m.number n) marks r
+      → record {
+        found : IfSome (result_ok r) (λ a. (a < length marks) × (number_at marks a ≡ n));
+        absent : result_ok r ≡ None →
+            (a : ℕ) → a < length marks → number_at marks a ≢ n;
+      }
+  searched (Ok a) in_range equal = record { found = (in_range, ranked _ n _ (sym (equal no_mark))); absent = λ none. absurd (none-some a (sym none)) }
+  searched (Err p) in_range parted = record {
+    found = tt;
+    absent = λ _ a within same. apart a within same (cases_lt a p);
+  }
+    where
+      apart : (a : ℕ) → a < length marks → number_at marks a ≡ n → (a < p) ⊎ (p ≤ a) → ⊥
+      apart a within same (inl before) =
+          let less : number_at marks a < n = ranked _ n _ (sym ((parted comparisons_rise).0 a no_mark (omega arith) before)) in
+          absurd (omega (arith, less))
+      apart a within same (inr after) =
+          let more : n < number_at marks a = ranked _ n _ (sym ((parted comparisons_rise).1 a no_mark after within)) in
+          absurd (omega (arith, more))
+
+-- ---- what the goals of a function want, which names it in its attribute
+pub ruleset block_begin_steps = (one_more, marks-push)
+
+pub ruleset block_parts_of_steps = (marks-rise, found-place, found-none, marked-at, length-marked)
+
+pub ruleset block_keep_steps = (newest_frame, in_order_grown, frames_grown)

@@ -1,4 +1,4 @@
--- The newest of a list, and the pixels of frames.
+-- The newest of a list, the pixels of frames, and colours beside their depths.
 use Rattle.std.proofs.Common.{◌≡◌, ℕ, zero, suc, ◌+◌, ◌-◌, ◌*◌, ◌<◌, List, [], ◌∷◌, ◌++◌, length, get_or, take, refl, sym, ap, ◌∙◌, arith, length-append}
 use Rattle.std.proofs.Common.{append_assoc}
 use Rattle.std.proofs.Math.Nat.{zero-mul, suc-mul}
@@ -8,6 +8,8 @@ use Rattle.fd_tile.specs.Tile.{Pixel}
 use Rattle.fd_undo.specs.Frame.{KeptPixel, kept_row, kept_rows, top, older}
 use Rattle.fd_undo.specs.Block.{others}
 use Rattle.fd_undo.specs.Undo.{recorded_in}
+use Rattle.std.specs.List.{zip}
+use Rattle.std.proofs.lemmas.Slice.Zip.{length-zip}
 
 -- ---- the newest of a list, and the others
 module _ {X : Type 0} (xs : List X) where
@@ -80,3 +82,9 @@ pub kept_rows-top : (x y n : ℕ) (pixels : ℕ → List Pixel)
     → kept_rows x y (suc n) pixels ≡ kept_row x y (pixels 0) ++ kept_rows x (y + 1) n (λ row. pixels (suc row))
 kept_rows-top x y zero pixels = kept_rows-one x y 1 pixels refl ∙ sym (append-nil (kept_row x y (pixels 0)))
 kept_rows-top x y (suc n) pixels = grind (arith, kept_rows-top x y n pixels, append_assoc)
+
+pub length-zip_equal : {A B : Type 0} (xs : List A) (ys : List B) → length ys ≡ length xs → length (zip xs ys) ≡ length xs
+length-zip_equal xs ys e = omega (arith, length-zip xs ys, e)
+
+-- ---- what the goals of a function want, which names it in its attribute
+pub ruleset stack_drop_to_steps = (length-take, front-front, front-older, front-append)

@@ -1,17 +1,11 @@
-pub mod Zips
 pub mod FrameLemmas
 pub mod KeptAt
 pub mod Restored
 pub mod Pixelwise
-pub mod Alike
 pub mod SpanLemmas
 pub mod RowLemmas
-pub mod Wholes
-pub mod Growing
 pub mod RowsAtOnce
 pub mod BlockLemmas
 pub mod StackLemmas
 pub mod Backs
-pub mod Blocks
 pub mod Turns
-pub mod Search

@@ -1,21 +1,23 @@
 -- Kept pixels that are written back.
-use Rattle.std.proofs.Common.{◌≡◌, ℕ, suc, ◌+◌, ◌-◌, ◌<◌, ◌≤◌, List, [], ◌∷◌, ◌++◌, length, get_or, take, drop, replicate, refl, sym, ap, ◌∙◌, subst}
-use Rattle.std.proofs.Common.{arith, append_assoc}
+use Rattle.std.proofs.lemmas.Bool.Decides.{nat_tests}
+use Rattle.std.proofs.lemmas.Grind.{common_steps}
+use Rattle.std.proofs.Common.{◌≡◌, ℕ, suc, ◌+◌, ◌-◌, ◌<◌, ◌≤◌, List, [], ◌∷◌, ◌++◌, length, get_or, take, drop, replicate, refl, sym, ap, ◌∙◌, subst, arith}
+use Rattle.std.proofs.Common.{append_assoc}
 use Rattle.std.specs.Prelude.{slice_set, All}
-use Rattle.std.proofs.lemmas.List.{take_more, take_at, drop_at, set_at, length-take, length-set, length-replicate, drop-drop, take-append-drop}
-use Rattle.std.proofs.lemmas.List.{take-replicate, drop-replicate, replicate-append-replicate}
-use Rattle.std.proofs.lemmas.List.Elements.{All-nil, All-cons, All-head, All-tail, All-take, All-drop}
+use Rattle.std.proofs.lemmas.List.{take_more, take_at, drop_at, set_at, length-take, length-set, length-replicate, drop-drop, take-append-drop, take-replicate}
+use Rattle.std.proofs.lemmas.List.{drop-replicate, replicate-append-replicate}
+use Rattle.std.proofs.lemmas.List.Elements.{All-nil, All-head, All-tail, All-take, All-drop}
 use borrow.Rule.Slice.PartMut.{put_mid}
 use Rattle.fd_blend.specs.declared.channel.Colour.{Colour}
 use Rattle.fd_tile.specs.declared.place.Place.{Place}
 use Rattle.fd_tile.specs.Place.{Holds, HasRow}
 use Rattle.fd_blend.specs.Channel.{fresh}
 use Rattle.std.specs.List.{zip, refill}
-use Rattle.fd_tile.specs.Tile.{Pixel, TileImage, FillsPlace, IsFlat, IsTileImage, row_in, with_row_in, row_of, depth_row_of, with_pixel}
-use Rattle.fd_tile.specs.Tile.{with_row_left, with_depth_row_left}
+use Rattle.fd_tile.specs.Tile.{Pixel, TileImage, FillsPlace, IsFlat, IsTileImage, row_in, with_row_in, row_of, depth_row_of, with_pixel, with_row_left}
+use Rattle.fd_tile.specs.Tile.{with_depth_row_left}
 use Rattle.fd_tile.proofs.Pixels.{length-row_in, left_row_is, row_in-flat, row_in-same, with_row_in-twice, with_row_in-as_it_is}
 use Rattle.fd_undo.specs.Frame.{KeptPixel, kept_row, restored}
-use Rattle.fd_undo.proofs.Zips.{length-zip_equal}
+use Rattle.fd_undo.proofs.FrameLemmas.{length-zip_equal}
 
 -- the pixels of a frame lie in the place
 abbrev pub Inside : Place → List KeptPixel → Type 0
@@ -58,9 +60,7 @@ kept_row-within p x y (c ∷ d ∷ cs) h some =
 
 pub kept_row-inside : (p : Place) (x y : ℕ) (old : List Pixel) → HasRow p y → p.left ≤ x → x + length old ≤ p.left + p.width → Inside p (kept_row x y old)
 kept_row-inside p x y [] crossed low high = All-nil (λ (k : KeptPixel). Holds p k.x k.y)
-kept_row-inside p x y (c ∷ cs) crossed low high =
-    All-cons (λ (k : KeptPixel). Holds p k.x k.y) (record { x = x; y = y; pixel = c }) (kept_row (x + 1) y cs) (omega arith)
-    (kept_row-inside p (x + 1) y cs crossed (omega arith) (omega arith))
+kept_row-inside p x y (c ∷ cs) crossed low high = grind (arith, nat_tests, common_steps, kept_row-inside p (x + 1) y cs crossed (omega arith) (omega arith))
 
 pub kept_row-first : (p : Place) (x y : ℕ) (old : List Pixel) → Inside p (kept_row x y old) → 0 < length old → Holds p x y
 kept_row-first p x y [] h some = absurd (omega arith)

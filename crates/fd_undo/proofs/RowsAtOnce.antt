@@ -1,6 +1,6 @@
 -- Rows of a span in a tile, and whole rows that are put back at once.
-use Rattle.std.proofs.Common.{◌≡◌, ℕ, zero, suc, ◌+◌, ◌-◌, ◌*◌, ◌<◌, ◌≤◌, ◌∙◌, ◌⊎◌, inl, inr, List, [], ◌∷◌, ◌++◌, length, get_or, take, drop}
-use Rattle.std.proofs.Common.{refl, sym, ap, subst, arith, length-drop, Option, Some, None}
+use Rattle.std.proofs.Common.{◌≡◌, ℕ, zero, suc, ◌+◌, ◌-◌, ◌*◌, ◌<◌, ◌≤◌, ◌∙◌, ◌⊎◌, inl, inr, List, [], ◌∷◌, ◌++◌, length, get_or, take, drop, refl, sym, ap}
+use Rattle.std.proofs.Common.{subst, arith, length-drop, Option, Some, None}
 use Rattle.std.specs.Prelude.{All, replicate, if◌then◌else◌, IsSomeAnd}
 use Rattle.std.specs.List.{zip}
 use Rattle.std.proofs.Math.Nat.{zero-mul, suc-mul}
@@ -19,8 +19,7 @@ use Rattle.fd_undo.specs.Span.{Span}
 use Rattle.fd_undo.specs.Frame.{KeptPixel, kept_row, kept_rows, restored}
 use Rattle.fd_undo.specs.Whole.{AreWholeRows}
 use Rattle.fd_undo.specs.Rows.{listed_colours, colours_in, listed_depths, values_in, depths_from, colours_from, pixels_of_row, span_pixels}
-use Rattle.fd_undo.proofs.Zips.{length-zip_equal}
-use Rattle.fd_undo.proofs.FrameLemmas.{kept_rows-same, kept_rows-top}
+use Rattle.fd_undo.proofs.FrameLemmas.{length-zip_equal, kept_rows-same, kept_rows-top}
 use Rattle.fd_undo.proofs.SpanLemmas.{length-pixels_of_row}
 use Rattle.fd_undo.proofs.Restored.{Inside, Inside-front, Inside-back, restored-append, kept_row-first, kept_row-within, put_back_row_alike}
 

@@ -1,11 +1,13 @@
 -- The values of one span, and what it keeps.
-use Rattle.std.proofs.Common.{Bool, true, false, ◌≡◌, ℕ, ◌+◌, ◌-◌, ◌*◌, ◌<◌, ◌≤◌, List, [], ◌∷◌, ◌++◌, length, get_or, take, drop, sym, ap, ◌∙◌, refl}
-use Rattle.std.proofs.Common.{arith, Option}
-use Rattle.std.proofs.Common.{Some, None, IfSome, length-drop}
+use Rattle.std.proofs.lemmas.Bool.Decides.{nat_tests}
+use Rattle.std.proofs.lemmas.Grind.{common_steps}
+use Rattle.std.proofs.Common.{Bool, true, false, ◌≡◌, ℕ, ◌+◌, ◌-◌, ◌*◌, ◌<◌, ◌≤◌, List, [], ◌∷◌, ◌++◌, length, get_or, take, drop, sym, ap, ◌∙◌, refl, arith}
+use Rattle.std.proofs.Common.{Option, Some, None, IfSome, length-drop}
 use Rattle.std.specs.Prelude.{replicate, if◌then◌else◌, IsSomeAnd}
 use Rattle.std.specs.List.{zip}
 use Rattle.std.proofs.Math.Nat.{mul-zero, zero-mul, one-mul, suc-mul, mul-le-mul_right}
 use Rattle.std.proofs.lemmas.List.{length-take, take-append-le, drop-append-le, length-replicate, get_or_append_left, get_or-take, take-take, take_all}
+use Rattle.std.proofs.lemmas.List.{drop-drop}
 use Rattle.fd_blend.specs.declared.channel.Colour.{Colour}
 use Rattle.fd_blend.specs.Channel.{fresh}
 use Rattle.fd_tile.specs.declared.place.Place.{Place}
@@ -16,9 +18,9 @@ use Rattle.fd_undo.specs.Span.{Span, IsRowOf}
 use Rattle.fd_undo.specs.Frame.{KeptPixel, kept_row, restored}
 use Rattle.fd_undo.specs.Rows.{row_colours, listed_colours, colours_in, colours_from, depths_listed, values_in, row_depths, listed_depths, depths_in}
 use Rattle.fd_undo.specs.Rows.{depths_from, row_of_span, pixels_of_row, span_pixels}
-use Rattle.fd_undo.proofs.Zips.{length-zip_equal}
-use Rattle.fd_undo.proofs.FrameLemmas.{length-kept_rows, kept_rows-one, kept_rows-same}
+use Rattle.fd_undo.proofs.FrameLemmas.{length-zip_equal, length-kept_rows, kept_rows-one, kept_rows-same}
 use Rattle.fd_undo.proofs.Restored.{Inside, kept_row-first, kept_row-within, put_back_row_alike}
+use Rattle.std.proofs.lemmas.Slice.Zip.{get_or-zip}
 
 -- ---- there is a value for each pixel
 all_listed : {V : Type 0} (n rows : ℕ) (values : List V) → n ≡ length values → rows ≡ 1 → take n (drop (0 * n) (take (rows * n) values)) ≡ values
@@ -68,11 +70,7 @@ colours_behind s row above = by_colour s.one_colour
     by_colour false = behind row s.rows s.len above
 
 pub depths_behind : (s : Span) (row : ℕ) → row < s.rows → depths_listed s.same_depth (row * s.len) + row_depths s ≤ listed_depths s
-depths_behind s row above = by_depth s.same_depth
-  where
-    by_depth : (o : Option ℕ) → depths_listed o (row * s.len) + depths_listed o s.len ≤ depths_listed o (s.rows * s.len)
-    by_depth (Some d) = omega arith
-    by_depth None = behind row s.rows s.len above
+depths_behind s row above = grind (arith, nat_tests, common_steps, behind)
 
 module _ (s : Span) (cs : List Colour) (ds : List ℕ) (fits : listed_colours s ≤ length cs) (deep_fits : listed_depths s ≤ length ds) where
   pub colours_fit : (row : ℕ) → row < s.rows → row_colours s ≤ length (colours_from s row cs)
@@ -129,17 +127,7 @@ module _ (s : Span) (cs : List Colour) (ds : List ℕ) (fits : listed_colours s 
 pub put_back_flat : (t : TileImage) (s : Span) (y : ℕ) (colours : List Colour) (depths : List ℕ) → row_colours s ≤ length colours → 0 < s.len
     → IsSomeAnd s.same_depth (λ depth. IsFlat t.place t.depths depth) → IsTileImage t → Inside t.place (row_of_span s y colours depths)
     → with_row_left t y (put_mid (s.x - t.place.left) s.len (row_of t y) (colours_in s colours)) ≡ restored (row_of_span s y colours depths) t
-put_back_flat t s y colours depths counted some deep filled inside = by_depth s.same_depth refl deep
-  where
-    by_depth : (o : Option ℕ) → s.same_depth ≡ o → IsSomeAnd o (λ depth. IsFlat t.place t.depths depth)
-        → with_row_left t y (put_mid (s.x - t.place.left) s.len (row_of t y) (colours_in s colours)) ≡ restored (row_of_span s y colours depths) t
-    by_depth None e none = absurd none
-    by_depth (Some depth) e flat =
-        let old : List Colour = colours_in s colours in
-        let size : length (colours_in s colours) ≡ s.len = length-colours_in s colours counted in
-        let alike : depths_in s depths ≡ replicate (length old) depth = ap (λ d. values_in d s.len depths) e ∙ ap (λ n. replicate n depth) (sym size) in
-        put_back_row_alike t s.x y (s.x - t.place.left) s.len depth old (row_of t y) old (depths_in s depths) alike filled flat inside
-        (omega arith) refl (sym size) refl refl
+put_back_flat t s y colours depths counted some deep filled inside = grind (arith, nat_tests, common_steps, length-colours_in, put_back_row_alike)
 
 -- a span of rows without pixels keeps nothing
 pub span_pixels-none : (s : Span) (colours : List Colour) (depths : List ℕ) → length colours ≡ listed_colours s → length depths ≡ listed_depths s → s.len ≡ 0
@@ -151,3 +139,6 @@ span_pixels-none s colours depths counted deep_counted none =
     none_of : (ks : List KeptPixel) → length ks ≡ 0 → ks ≡ []
     none_of [] size = refl
     none_of (k ∷ ks) size = absurd (omega (arith, size))
+
+-- ---- what the goals of a function want, which names it in its attribute
+pub ruleset kept_pixel_of_steps = (length-drop, drop-drop, get_or-zip, length-colours_in, length-depths_in, colours_fit, depths_fit)

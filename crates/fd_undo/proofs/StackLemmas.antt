@@ -1,17 +1,22 @@
--- Frames by number, some of which are stored.
+-- Frames by number, some of which are stored, and the block that has the frame of a number.
 use Rattle.std.proofs.lemmas.Bool.Decides.{nat_tests}
 use Rattle.std.proofs.lemmas.Grind.{common_steps}
-use Rattle.std.proofs.Common.{subst, ◌≡◌, ◌≢◌, ℕ, zero, suc, ◌+◌, ◌-◌, ◌^◌, ◌<◌, ◌≤◌, ◌∙◌, false, List, [], ◌∷◌, ◌++◌, length, get_or, map, refl, sym}
-use Rattle.std.proofs.Common.{ap, arith, inl, inr, ◌⊎◌, length-append, append_assoc}
+use Rattle.std.proofs.Common.{subst, ◌≡◌, ◌≢◌, ℕ, zero, suc, ◌+◌, ◌-◌, ◌^◌, ◌<◌, ◌≤◌, ◌∙◌, false, List, [], ◌∷◌, ◌++◌, length, get_or, map, refl, sym, ap}
+use Rattle.std.proofs.Common.{arith, inl, inr, ◌⊎◌, length-append, append_assoc, take, drop, length-drop}
 use Rattle.std.specs.Prelude.{replicate, max}
 use Rattle.std.proofs.lemmas.Bool.{cases_lt, false≢true}
-use Rattle.std.proofs.lemmas.List.{length-replicate, get_or-replicate, replicate-append-replicate, get_or-append_right, get_or_past}
+use Rattle.std.proofs.lemmas.List.{length-replicate, get_or-replicate, replicate-append-replicate, get_or-append_right, get_or_past, take-append-drop}
+use Rattle.std.proofs.lemmas.List.{drop_more, get_or-drop}
 use Rattle.fd_undo.specs.Frame.{KeptPixel, top, older}
 use Rattle.fd_undo.specs.Undo.{recorded_in}
 use Rattle.fd_undo.specs.Block.{KeptFrame, Filled, no_frame, newest, others, found, first_number, Rise}
 use Rattle.fd_undo.specs.Stack.{frames_from, stored_in, all_stored, HaveFrames, IsUndoStack}
-use Rattle.fd_undo.proofs.FrameLemmas.{others-newest, older-push, top-push, older-top, recorded_in-push, recorded_in-cons}
+use Rattle.fd_undo.proofs.FrameLemmas.{others-newest, older-push, top-push, older-top, recorded_in-push, recorded_in-cons, length-zip_equal, newest-push}
+use Rattle.fd_undo.proofs.FrameLemmas.{length-kept_row}
 use Rattle.fd_undo.proofs.BlockLemmas.{other_number}
+use Rattle.std.proofs.lemmas.List.Concat.{flat_map-append}
+use Rattle.std.proofs.lemmas.List.Elements.{All-drop}
+use Rattle.std.specs.List.Sorted.{IsNonDecreasingBy}
 
 -- ---- the numbers
 pub rise-push : (i : ℕ) (stored : List KeptFrame) (f : KeptFrame) (count : ℕ) → Rise i stored f.number → f.number + 1 ≤ count → Rise i (stored ++ f ∷ []) count
@@ -59,6 +64,8 @@ length-frames i (t ∷ stored) count is =
       length-none (t.number - i),
       length-append (replicate (t.number - i) []) (t.kept ∷ frames_from (t.number + 1) stored count),
     )
+
+pub ruleset frame_counts = (length-frames)
 
 -- more frames that are not stored
 pub frames-grow : (i : ℕ) (stored : List KeptFrame) (count more : ℕ) → Rise i stored count → count ≤ more
@@ -237,31 +244,41 @@ is_top stored count recorded frames is counted shown some countable =
     }
 
 -- ---- the top frame goes: it is the newest one of the last block, or not stored
-module _ {before : List KeptFrame} {count recorded : ℕ} {frames : List (List KeptPixel)} (full : List Filled) (last : Filled)
-    (t : IsTop before count recorded frames) (have : HaveFrames full) (same : all_stored full last ≡ before) where
+pub record IsReached (full : List Filled) (last : Filled) (count recorded : ℕ) (frames : List (List KeptPixel)) : Type 0 where
+  pub top_is : IsTop (all_stored full last) count recorded frames
+  pub have : HaveFrames full
+
+pub is_reached : {before : List KeptFrame} {count recorded : ℕ} {frames : List (List KeptPixel)} (full : List Filled) (last : Filled)
+    → IsTop before count recorded frames → HaveFrames full → all_stored full last ≡ before → IsReached full last count recorded frames
+is_reached {count = count} {recorded = recorded} {frames = frames} full last t have same = record {
+  top_is = subst (λ l. IsTop l count recorded frames) (sym same) t;
+  have = have;
+}
+
+module _ {full : List Filled} {last : Filled} {count recorded : ℕ} {frames : List (List KeptPixel)} (r : IsReached full last count recorded frames) where
   module _ (yes : (0 < length last.frames) × ((newest last.frames).number ≡ count - 1)) where
     stored : TopStored (stored_in full) last.frames (count - 1 + 1)
-    stored = top_stored (stored_in full) last.frames (count - 1 + 1) yes.0 (omega (arith, yes.1)) (subst (λ l. Rise 0 l (count - 1 + 1)) (sym same) t.rise)
+    stored = top_stored (stored_in full) last.frames (count - 1 + 1) yes.0 (omega (arith, yes.1)) r.top_is.rise
 
     pub top_kept : (newest last.frames).kept ≡ top frames
-    top_kept = cc (stored.top_is, t.shown)
+    top_kept = cc (stored.top_is, r.top_is.shown)
 
     pub top_fits : length (newest last.frames).kept ≤ recorded
-    top_fits = omega (arith, t.recorded_is, ap length top_kept)
+    top_fits = omega (arith, r.top_is.recorded_is, ap length top_kept)
 
     module _ (now : List Filled) (left : Filled) (there : HaveFrames now) (is : all_stored now left ≡ stored_in full ++ others last.frames) where
       pub older_left : frames_from 0 (all_stored now left) (count - 1) ≡ older frames
-      older_left = cc (stored.older_are, t.shown)
+      older_left = cc (stored.older_are, r.top_is.shown)
 
       pub top_gone : (pixels : ℕ) → pixels ≡ length (newest last.frames).kept → IsUndoStack now left (count - 1) (recorded - pixels) false 0 0
       top_gone pixels counted =
           closed now left (count - 1) (recorded - pixels) there
           (subst (λ l. Rise 0 l (count - 1)) (sym is) (subst (Rise 0 (stored_in full ++ others last.frames)) yes.1 stored.rise_low))
-          (omega (arith, counted, t.recorded_is, ap length top_kept, ap recorded_in older_left)) (omega (arith, t.countable))
+          (omega (arith, counted, r.top_is.recorded_is, ap length top_kept, ap recorded_in older_left)) (omega (arith, r.top_is.countable))
 
-  module _ (not : Rise 0 before (count - 1)) where
+  module _ (not : Rise 0 (all_stored full last) (count - 1)) where
     missing : frames ≡ frames_from 0 (all_stored full last) (count - 1) ++ [] ∷ []
-    missing = cc (t.shown, frames-next before (count - 1) not)
+    missing = cc (r.top_is.shown, frames-next (all_stored full last) (count - 1) not)
 
     pub top_empty : top frames ≡ []
     top_empty = ap top missing ∙ top-push (frames_from 0 (all_stored full last) (count - 1)) []
@@ -279,3 +296,129 @@ pub dropped : (low frames : List KeptFrame) (count to after left : ℕ) → Rise
 dropped low [] count to after left is fits some none empty most =
     (subst (λ l. Rise 0 l left) (sym (empty refl)) (omega arith), omega (arith, fits, none refl, most))
 dropped low (t ∷ frames) count to after left is fits some none empty most = grind (arith, split_all, rise-pop, rise-push)
+
+-- ---- the numbers of the blocks' oldest frames rise
+first-at : (i : ℕ) (full : List Filled) (last : List KeptFrame) (count j : ℕ) (d : Filled) → HaveFrames full → Rise i (stored_in full ++ last) count
+    → j < length full → i ≤ first_number (get_or full j d).frames
+first-at i [] last count j d have is within = absurd (omega arith)
+first-at i (b ∷ full) last count zero d have is within = here b.frames (have 0 d (omega arith)) is
+  where
+    here : (frames : List KeptFrame) → 0 < length frames → Rise i ((frames ++ stored_in full) ++ last) count → i ≤ first_number frames
+    here [] some rise = absurd (omega arith)
+    here (f ∷ frames) some rise = rise.0
+first-at i (b ∷ full) last count (suc j) d have is within =
+    first-at i full last count j d (λ k e h. have (suc k) e (omega (arith, h)))
+    (rise-back i b.frames (stored_in full ++ last) count (subst (λ l. Rise i l count) (append_assoc b.frames (stored_in full) last) is)) (omega arith)
+
+pub firsts-rise : (i : ℕ) (full : List Filled) (last : List KeptFrame) (count : ℕ) → HaveFrames full → Rise i (stored_in full ++ last) count
+    → IsNonDecreasingBy (λ (b : Filled). first_number b.frames) full
+firsts-rise i [] last count have is a b d le within = absurd (omega arith)
+firsts-rise i (t ∷ full) last count have is zero zero d le within = omega arith
+firsts-rise i (t ∷ full) last count have is (suc a) zero d le within = absurd (omega arith)
+firsts-rise i (t ∷ full) last count have is (suc a) (suc b) d le within =
+    grind (
+      arith,
+      firsts-rise i full last count (λ k e h. have (suc k) e (omega (arith, h))) (rise-back i t.frames (stored_in full ++ last) count (subst
+          (λ l. Rise i l count) (append_assoc t.frames (stored_in full) last) is)) a b d (omega arith) (omega arith),
+    )
+firsts-rise i (t ∷ full) last count have is zero (suc b) d le within = later t.frames (have 0 d (omega arith)) is
+  where
+    later : (frames : List KeptFrame) → 0 < length frames → Rise i ((frames ++ stored_in full) ++ last) count
+        → first_number frames ≤ first_number (get_or full b d).frames
+    later [] some rise = absurd (omega arith)
+    later (f ∷ frames) some rise =
+        let above = first-at (f.number + 1) full last count b d (λ k e h. have (suc k) e (omega (arith, h)))
+        (rise-back (f.number + 1) frames (stored_in full ++ last) count
+        (subst (λ l. Rise (f.number + 1) l count) (append_assoc frames (stored_in full) last) rise.1)) (omega arith) in
+        omega (arith, above)
+
+-- the oldest frame of some blocks and the last one
+first-of : (full : List Filled) (last : List KeptFrame) (n : ℕ) (d : Filled) → HaveFrames full
+    → (0 < length full → n < first_number (get_or full 0 d).frames) → (0 < length last → n < first_number last)
+    → 0 < length (stored_in full ++ last) → n < first_number (stored_in full ++ last)
+first-of [] last n d have before after some = after some
+first-of (b ∷ full) last n d have before after some = grind (arith, nat_tests, common_steps)
+
+-- ---- a frame that some blocks have, between others
+found-here : (frames high : List KeptFrame) (n : ℕ) → 0 < length (found n frames) → found n (frames ++ high) ≡ found n frames
+found-here [] high n some = absurd (omega arith)
+found-here (f ∷ frames) high n some = grind (arith, nat_tests, found-here frames high n)
+
+pub found-after : (i : ℕ) (low frames : List KeptFrame) (count n : ℕ) → Rise i (low ++ frames) count → 0 < length (found n frames)
+    → found n (low ++ frames) ≡ found n frames
+found-after i [] frames count n is some = refl
+found-after i (t ∷ low) frames count n is some =
+    let rest : found n (low ++ frames) ≡ found n frames = found-after (t.number + 1) low frames count n is.1 some in let other : t.number ≢ n = λ same.
+    absurd (omega (arith, some, ap length rest, ap length (found-low (t.number + 1) (low ++ frames) count n is.1 (omega (arith, same))))) in cc
+    (other_number t (low ++ frames) n other, rest)
+
+-- ---- the block at a place
+module _ (full : List Filled) (last : List KeptFrame) (count : ℕ) (have : HaveFrames full) (is : Rise 0 (stored_in full ++ last) count) (p : ℕ) (d : Filled)
+    (within : p < length full) where
+  abbrev behind : List KeptFrame
+  behind = stored_in (drop (p + 1) full) ++ last
+
+  three : stored_in full ++ last ≡ stored_in (take p full) ++ ((get_or full p d).frames ++ (stored_in (drop (p + 1) full) ++ last))
+  three =
+      cc (
+        take-append-drop p full,
+        drop_more full p d within,
+        flat_map-append (λ (b : Filled). b.frames) (take p full) (get_or full p d ∷ drop (p + 1) full),
+        append_assoc (stored_in (take p full)) ((get_or full p d).frames ++ stored_in (drop (p + 1) full)) last,
+        append_assoc (get_or full p d).frames
+            (stored_in (drop (p + 1) full)) last,
+      )
+
+  parted : Rise 0 (stored_in (take p full) ++ ((get_or full p d).frames ++ (stored_in (drop (p + 1) full) ++ last))) count
+  parted = subst (λ l. Rise 0 l count) three is
+
+  pub block_rise : Rise 0 (get_or full p d).frames count
+  block_rise = grind (arith, rise-front, rise-back, parted)
+
+  pub kept_in_block : (n : ℕ) → 0 < length (found n (get_or full p d).frames) → found n (get_or full p d).frames ≡ found n (stored_in full ++ last)
+  kept_in_block n some = grind (arith, found-here, three, found-after, parted)
+
+  pub in_block : (n : ℕ) → first_number (get_or full p d).frames ≤ n → (p + 1 < length full → n < first_number (get_or full (p + 1) d).frames)
+      → (0 < length last → n < first_number last)
+      → found n (get_or full p d).frames ≡ found n (stored_in full ++ last)
+  in_block n from next after =
+      sym (ap (found n) three
+      ∙ found-middle (stored_in (take p full)) (get_or full p d).frames (stored_in (drop (p + 1) full) ++ last) count n parted (have p d within) from
+      (first-of (drop (p + 1) full) last n d (All-drop (λ (b : Filled). 0 < length b.frames) (p + 1) full have) first after))
+    where
+      first : 0 < length (drop (p + 1) full) → n < first_number (get_or (drop (p + 1) full) 0 d).frames
+      first some =
+          subst (λ (b : Filled). n < first_number b.frames) (ap (λ k. get_or full k d) {x =
+          p + 1} {y = p + 1 + 0} (omega arith) ∙ sym (get_or-drop (p + 1) full 0 d))
+          (next (omega (arith, some, length-drop (p + 1) full)))
+
+-- ---- the last block, or none
+pub in_last : (full : List Filled) (last : List KeptFrame) (count n : ℕ) → Rise 0 (stored_in full ++ last) count → 0 < length last → first_number last ≤ n
+    → found n last ≡ found n (stored_in full ++ last)
+in_last full last count n is some from = sym (found-behind 0 (stored_in full) last count n is some from)
+
+pub in_none : (full : List Filled) (last : List KeptFrame) (count n : ℕ) (d : Filled) → HaveFrames full → Rise 0 (stored_in full ++ last) count
+    → (0 < length full → n < first_number (get_or full 0 d).frames)
+    → (0 < length last → n < first_number last) → found n last ≡ found n (stored_in full ++ last)
+in_none full last count n d have is before after = grind (arith, common_steps, found-before, rise-back, first-of)
+
+-- ---- what the goals of a function want, which names it in its attribute
+pub ruleset stack_forget_steps = (frames-emptied, length-frames)
+
+pub ruleset stack_keep_known_steps = (
+  length-append,
+  length-zip_equal,
+  newest-push,
+  length-kept_row,
+  top_stored,
+  more_stored,
+  more_rises,
+  more_recorded,
+  length-frames,
+)
+
+pub ruleset stack_parts_of_steps = (found-frames)
+
+pub ruleset stack_is_stored_steps = (missed)
+
+pub ruleset stack_block_of_steps = (rise-back, firsts-rise, block_rise, in_block, in_last, in_none)

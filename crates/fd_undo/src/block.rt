@@ -94,6 +94,7 @@ impl Block {
     }
 
     /// Whether it has no frame.
+    #[tactic(auto, using(crate::proofs::BlockLemmas::mark_counts))]
     pub(crate) fn is_empty(&self) -> bool
         ensures yes { result ≡ true → self.now.frames ≡ [] }
         ensures no { result ≡ false → 0 < length self.now.frames }
@@ -150,6 +151,7 @@ impl Block {
     }
 
     /// Begins a frame, which keeps nothing yet.
+    #[tactic(auto, using(crate::proofs::BlockLemmas::block_begin_steps))]
     pub(crate) fn begin(&mut self, number: usize)
         requires room { 0 < self.old.frames_left }
         requires small { number < 2 ^ 32 }
@@ -169,6 +171,7 @@ impl Block {
     }
 
     /// Keeps the colours and the depths of row y from column x on in the newest frame, where it may be known that all depths are this one.
+    #[tactic(auto, using(crate::proofs::BlockLemmas::block_keep_steps))]
     pub(crate) fn keep(
         &mut self,
         x: u32,
@@ -234,6 +237,7 @@ impl Block {
     }
 
     /// What the frame of this number keeps.
+    #[tactic(auto, using(crate::proofs::BlockLemmas::block_parts_of_steps))]
     pub(crate) fn parts_of(&self, number: usize) -> Option<Parts<'_>>
         requires { (count : ℕ) × Rise 0 self.now.frames count }
         ensures whole { IfSome result AreParts }
@@ -245,6 +249,7 @@ impl Block {
     }
 
     /// The same of the newest frame.
+    #[tactic(auto, using(crate::proofs::BlockLemmas::mark_counts))]
     pub(crate) fn newest_parts(&self) -> Parts<'_>
         requires { 0 < length self.now.frames }
         ensures whole { AreParts result }

@@ -146,6 +146,7 @@ impl Rows {
     }
 
     /// Drops the spans behind a place, unread, and says how many pixels they had.
+    #[tactic(auto, using(crate::proofs::RowLemmas::rows_drop_from_steps))]
     pub(crate) fn drop_from(&mut self, first: Cut) -> usize
         requires first { IsCut first self.old.spans }
         requires countable { length (joined (drop first.span (rows_of self.old))) < 2 ^ 64 }

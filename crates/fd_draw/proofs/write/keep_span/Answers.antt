@@ -1,7 +1,6 @@
 use Rattle.std.proofs.Common.{◌∙◌, sym, ap, length, arith}
 use Rattle.fd_tile.proofs.Pixels.{length-row_of, length-depth_row_of}
-use Rattle.fd_undo.proofs.FrameLemmas.{length-kept_row}
-use Rattle.fd_undo.proofs.Zips.{length-zip_equal}
+use Rattle.fd_undo.proofs.FrameLemmas.{length-kept_row, length-zip_equal}
 use Rattle.fd_draw.proofs.Painting.{part_len, Paints-kept}
 use Rattle.fd_draw.proofs.write.keep_span.Goals as goal
 

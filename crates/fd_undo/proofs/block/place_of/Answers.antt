@@ -1,6 +1,6 @@
 use Rattle.std.proofs.Common.{rules, ◌∙◌, sym}
 use Rattle.std.proofs.lemmas.List.Sorted.{answers_always}
-use Rattle.fd_undo.proofs.Search.{searched}
+use Rattle.fd_undo.proofs.BlockLemmas.{searched}
 use Rattle.fd_undo.proofs.block.place_of.Goals as goal
 
 pub returns-clause-there : goal.returns-clause-there

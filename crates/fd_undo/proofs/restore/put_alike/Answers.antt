@@ -3,7 +3,7 @@ use Rattle.std.specs.Prelude.{slice_get}
 use Rattle.fd_tile.specs.Tile.{Pixel, TileImage}
 use Rattle.fd_undo.specs.Frame.{kept_at, restored, alike}
 use Rattle.fd_undo.specs.Parts.{kept_in_parts}
-use Rattle.fd_undo.proofs.Alike.{none_kept, all_kept, restored-alike}
+use Rattle.fd_undo.proofs.Pixelwise.{none_kept, all_kept, restored-alike}
 use Rattle.fd_undo.proofs.restore.put_alike.Goals as goal
 use Rattle.fd_undo.proofs.restore.put_alike.Goals.{After-kept_in}
 

@@ -3,8 +3,8 @@ use Rattle.fd_tile.specs.Tile.{with_depths}
 use Rattle.fd_undo.specs.Frame.{restored}
 use Rattle.fd_undo.specs.Parts.{kept_in_parts}
 use Rattle.fd_undo.specs.Whole.{HaveAllRows}
-use Rattle.fd_undo.proofs.Alike.{restored-levelled}
-use Rattle.fd_undo.proofs.Wholes.{keeps-all}
+use Rattle.fd_undo.proofs.Pixelwise.{restored-levelled}
+use Rattle.fd_undo.proofs.Turns.{keeps-all}
 use Rattle.fd_undo.proofs.restore.put_frame.Goals as goal
 
 -- the tile whose depths were made alike gives what the tile gives

@@ -1,11 +1,10 @@
-use Rattle.std.proofs.Common.{◌≡◌, ◌+◌, ◌<◌, ◌∙◌, sym, subst, ap, length, get_or, arith, length-drop}
+use Rattle.std.proofs.Common.{◌≡◌, ◌+◌, ◌<◌, ◌∙◌, sym, ap, length, get_or, arith, length-drop}
 use Rattle.std.proofs.lemmas.List.{get_or-drop}
-use Rattle.fd_undo.specs.Block.{Filled, Rise, found}
+use Rattle.fd_undo.specs.Block.{Filled, found}
 use Rattle.fd_undo.specs.Stack.{stored_in, all_stored}
 use Rattle.fd_undo.proofs.RowLemmas.{tail_is}
-use Rattle.fd_undo.proofs.StackLemmas.{rise-back}
-use Rattle.fd_undo.proofs.Blocks.{block_rise, kept_in_block, found-after}
-use Rattle.fd_undo.proofs.Wholes.{keeps-found}
+use Rattle.fd_undo.proofs.StackLemmas.{kept_in_block, found-after}
+use Rattle.fd_undo.proofs.Turns.{keeps-found}
 use Rattle.fd_undo.proofs.stack.oldest_whole.Goals as goal
 use Rattle.fd_undo.proofs.stack.oldest_whole.Goals.{After-block-item}
 
@@ -15,18 +14,6 @@ within c = grind (arith, tail_is, length-drop)
 
 block_is : (c : After-block-item) → c.block-item.result ≡ get_or c.args.full.now (c.saturating_sub.result + c.loop-block.block-index) c.block-item.result
 block_is c = grind (arith, tail_is, get_or-drop)
-
-pub first_whole-number-requires : goal.first_whole-number-requires
-first_whole-number-requires c =
-    let d = (goal.at-first_whole-number-requires c).After-block-item in
-    record {
-      rise = (
-        c.requires.rise.0,
-        subst (λ (b : Filled). Rise 0 b.frames c.requires.rise.0) (sym (block_is d))
-            (block_rise c.args.full.now c.args.last.now.frames c.requires.rise.0 c.requires.have c.requires.rise.1
-            (c.saturating_sub.result + c.loop-block.block-index) c.block-item.result (within d)),
-      );
-    }
 
 pub returns-then-is_some : goal.returns-then-is_some
 returns-then-is_some c =
@@ -39,16 +26,10 @@ returns-then-is_some c =
     (omega (arith, some, ap (λ (b : Filled). length (found n b.frames)) (block_is d))))
     c.first_whole-number.ensures
 
-pub first_whole-requires : goal.first_whole-requires
-first_whole-requires c = record {
-  rise = (
-    c.requires.rise.0,
-    rise-back 0
-        (stored_in c.args.full.now) c.args.last.now.frames c.requires.rise.0 c.requires.rise.1,
-  );
-}
-
 pub returns : goal.returns
 returns c =
-    grind (arith, keeps-found c.args.from c.args.place c.args.last.now.frames (all_stored c.args.full.now c.args.last.now) c.first_whole.result (λ n some.
-    sym (found-after 0 (stored_in c.args.full.now) c.args.last.now.frames c.requires.rise.0 n c.requires.rise.1 some)) c.first_whole.ensures)
+    grind (
+      arith,
+      keeps-found c.args.from c.args.place c.args.last.now.frames (all_stored c.args.full.now c.args.last.now) c.first_whole.result (λ n some.
+          sym (found-after 0 (stored_in c.args.full.now) c.args.last.now.frames c.requires.rise.0 n c.requires.rise.1 some)) c.first_whole.ensures,
+    )

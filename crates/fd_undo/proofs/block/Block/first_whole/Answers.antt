@@ -2,7 +2,7 @@ use Rattle.std.proofs.Common.{◌≡◌, ◌<◌, ◌∙◌, sym, subst, length,
 use Rattle.fd_undo.specs.Frame.{KeepsAll}
 use Rattle.fd_undo.specs.Block.{no_frame, found}
 use Rattle.fd_undo.proofs.BlockLemmas.{found-place, marked-at, length-marked}
-use Rattle.fd_undo.proofs.Wholes.{keeps-all}
+use Rattle.fd_undo.proofs.Turns.{keeps-all}
 use Rattle.fd_undo.proofs.block.Block.first_whole.Goals as goal
 use Rattle.fd_undo.proofs.block.Block.first_whole.Goals.{After-mark_at-number}
 

@@ -8,8 +8,7 @@ use Rattle.fd_undo.specs.Frame.{kept_row}
 use Rattle.fd_undo.specs.Block.{others}
 use Rattle.fd_undo.specs.Rows.{Held, IsHeld, listed_colours, listed_depths, rows_of}
 use Rattle.fd_undo.proofs.SpanLemmas.{span_pixels-row}
-use Rattle.fd_undo.proofs.RowLemmas.{rows_in-push}
-use Rattle.fd_undo.proofs.Growing.{keeps-pushed, keeps-grown, held-grown}
+use Rattle.fd_undo.proofs.RowLemmas.{rows_in-push, keeps-pushed, keeps-grown, held-grown}
 use Rattle.fd_undo.proofs.rows.Rows.keep.Goals as goal
 use Rattle.fd_undo.proofs.rows.Rows.keep.Goals.{After-add-in-Some}
 

@@ -5,9 +5,8 @@ use Rattle.fd_blend.specs.declared.channel.Colour.{Colour}
 use Rattle.fd_undo.specs.Span.{Span}
 use Rattle.fd_undo.specs.Frame.{kept_rows, alike}
 use Rattle.fd_undo.specs.Rows.{Held, rows_in, rows_of}
-use Rattle.fd_undo.proofs.Alike.{zip-replicate}
-use Rattle.fd_undo.proofs.RowLemmas.{rows_in-push}
-use Rattle.fd_undo.proofs.Growing.{keeps-pushed}
+use Rattle.fd_undo.proofs.Pixelwise.{zip-replicate}
+use Rattle.fd_undo.proofs.RowLemmas.{rows_in-push, keeps-pushed}
 use Rattle.fd_undo.proofs.rows.Rows.keep_alike.Goals as goal
 
 pub returns : goal.returns

@@ -1,9 +1,9 @@
-use Rattle.std.proofs.Common.{◌≡◌, ◌+◌, ◌++◌, ◌∷◌, [], ◌∙◌, sym, subst, List, ap, arith}
+use Rattle.std.proofs.Common.{◌≡◌, ◌+◌, ◌++◌, ◌∷◌, [], sym, subst, List, ap, arith}
 use Rattle.fd_undo.specs.Frame.{KeptPixel, alike}
 use Rattle.fd_undo.specs.Block.{KeptFrame, Rise}
-use Rattle.fd_undo.specs.Undo.{Undo, without_room}
+use Rattle.fd_undo.specs.Undo.{without_room}
 use Rattle.fd_undo.specs.Stack.{frames_from, stored_in}
-use Rattle.fd_undo.proofs.Alike.{length-alike}
+use Rattle.fd_undo.proofs.Pixelwise.{length-alike}
 use Rattle.fd_undo.proofs.FrameLemmas.{recorded_in-push}
 use Rattle.fd_undo.proofs.StackLemmas.{frame_stored, frame_rises, closed}
 use Rattle.fd_undo.proofs.stack.UndoStack.push_alike.Goals as goal
