@@ -1,11 +1,11 @@
-//! Lanes, which go through the events of a table one by one and back, and the gate before each step.
+//! Lanes, which go through the events of a table one by one and back, as the owner of a tile does, and the gate before each step.
 ghost use Rattle.std.specs.Prelude.{◌≡◌, ◌<◌, ◌≤◌, length, MatchResult};
 ghost use Rattle.fd_owner.specs.History.{position};
 ghost use Rattle.fd_owner.specs.Untouched.{AreUntouched};
 ghost use Rattle.fd_owner.specs.Shown.{gone_forward, gone_on_to, gone_back, gone_back_to, refused};
 
 use fd_events::EventTable;
-use fd_owner::Refused;
+use fd_owner::{Owner, Refused};
 
 /// What a worker takes forward and back: a place with the list of its images, the opening one and one for each event that it went through.
 /// The position is the number of those events. A lane moves to the thread of the worker that owns it, and no other thread sees it until the worker has left.
@@ -80,6 +80,47 @@ pub trait Lane: Send {
         while self.position() > to {
             self.back();
         }
+    }
+}
+
+/// What an owner asks of a table is that its place lies inside the target.
+impl Lane for Owner {
+    ghost use Rattle.fd_owner.specs.Shown.{IsInside};
+
+    ghost shown = { λ o. o };
+
+    ghost fits = { λ o table. IsInside o.place table };
+
+    fn position(&self) -> u32 {
+        Owner::position(self)
+    }
+
+    fn refusals(&self) -> u64 {
+        Owner::refusals(self)
+    }
+
+    fn refused_at(&self) -> Option<u32> {
+        Owner::refused_at(self)
+    }
+
+    fn forward(&mut self, table: &EventTable) -> Result<(), Refused> {
+        Owner::forward(self, table)
+    }
+
+    fn next_near(&self, table: &EventTable, to: u32) -> u32 {
+        Owner::next_near(self, table, to)
+    }
+
+    fn pass_to(&mut self, table: &EventTable, to: u32) {
+        Owner::pass_to(self, table, to)
+    }
+
+    fn back(&mut self) {
+        Owner::back(self)
+    }
+
+    fn back_to(&mut self, to: u32) {
+        Owner::back_to(self, to)
     }
 }
 

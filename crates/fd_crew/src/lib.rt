@@ -8,7 +8,6 @@ mod crew;
 mod fence;
 mod lane;
 pub mod laws;
-mod owners;
 mod part;
 #[cfg(test)]
 mod tests;

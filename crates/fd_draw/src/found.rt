@@ -1,14 +1,13 @@
 ghost use Rattle.std.specs.Prelude.{◌≡◌, ℕ, ◌+◌, ◌<◌, ◌≤◌, false, ◌&&◌, IfSome, IfNone};
 ghost use Rattle.fd_cover.specs.Bounds.{is_within};
 ghost use Rattle.fd_cover.specs.Covers.{covers};
+ghost use Rattle.fd_snap.specs.Limits.{most_pixels};
 ghost use Rattle.fd_tile.specs.declared.place.TheConstants.{TILE_SIDE};
 ghost use Rattle.fd_draw.specs.Area.{IsPartOfBox, IsSmall, is_drawn_in};
 ghost use Rattle.fd_draw.specs.Found.{IsFound, span_from};
 ghost use Rattle.fd_draw.specs.Span.{IsRowSpan};
 
-use crate::area::drawn_area;
 use crate::room::{Demand, NOTHING};
-use crate::span::covered_span;
 use crate::write::WIDEST;
 use fd_cover::{Bounds, Raster, Rows, Tri};
 
@@ -115,4 +114,29 @@ pub(crate) fn find(triangle: &Tri, raster: &Raster, window: Bounds) -> Option<Fo
         return None;
     }
     Some(Found::of(edges, area))
+}
+
+/// The box in which a triangle is drawn wherever it covers a pixel, where `window` has the pixels that the scissor leaves. None
+/// where it is culled, or its own box misses them.
+fn drawn_area(triangle: &Tri, raster: &Raster, window: Bounds) -> Option<Bounds>
+    ensures part { IfSome result (λ area. IsPartOfBox area window) }
+    ensures drawn { IfSome result (λ area. (x y : ℕ) → is_drawn_in window raster.now triangle.now x y ≡ (is_within area x y && covers triangle.now x y)) }
+    ensures none { IfNone result ((x y : ℕ) → is_drawn_in window raster.now triangle.now x y ≡ false) }
+{
+    let area = window.meet(Bounds::of(triangle));
+    if area.is_empty() || raster.culls(triangle) {
+        None
+    } else {
+        Some(area)
+    }
+}
+
+/// The columns from `left` up to `right` that a triangle covers in the row at which its rows stand, as the first and one past the last.
+fn covered_span(rows: &Rows, left: u32, right: u32) -> Option<(u32, u32)>
+    requires row { rows.now.1 < most_pixels }
+    requires order { left ≤ right }
+    requires columns { right ≤ most_pixels }
+    ensures { IsRowSpan (λ x. covers rows.now.0 x rows.now.1) left right result }
+{
+    rows.span(left, right)
 }

@@ -1,22 +1,22 @@
-ghost use Rattle.std.specs.Prelude.{◌≡◌, ◌+◌, ◌*◌, ◌^◌, ◌<◌, ◌≤◌, min, ◌∷◌, ◌++◌, ◌⊎◌, IsTrue, true, [], length, if◌then◌else◌};
+ghost use Rattle.std.specs.Prelude.{◌≡◌, ℕ, ◌+◌, ◌*◌, ◌^◌, ◌<◌, ◌≤◌, ◌↔◌, pos, ◌≤ℤ◌, min, ◌∷◌, ◌++◌, ◌⊎◌, IsTrue, true, [], length, if◌then◌else◌, IfNone, IfSome};
 ghost use Rattle.std.specs.List.{sum_by};
 ghost use Rattle.fd_cover.specs.Bounds.{is_empty};
 ghost use Rattle.fd_events.specs.Bounds.{CoverNone};
 ghost use Rattle.fd_events.specs.Culled.{AreCulled};
 ghost use Rattle.fd_events.specs.Draw.{triangles_of};
+ghost use Rattle.fd_events.specs.declared.pipeline.Pipeline.{Pipeline};
 ghost use Rattle.fd_tile.specs.Place.{IsTilePlace};
 ghost use Rattle.fd_tile.specs.declared.place.TheConstants.{TILE_SIDE};
-ghost use Rattle.fd_draw.specs.Area.{box_of_place};
+ghost use Rattle.fd_draw.specs.Area.{LiesIn, IsOpen, box_of_place};
 ghost use Rattle.fd_draw.specs.Demand.{pixels_in, spans_in, triangle_pixels, triangle_spans, event_pixels, event_spans};
 ghost use Rattle.fd_draw.specs.declared.plan.TheConstants.{MOST_PLANNED};
 ghost use Rattle.arrayvec.specs.ArrayVec.{array_vec_len};
 ghost use Rattle.fd_draw.specs.Plan.{ArePlanned, IsPlan, MayBeginAt};
 
-use crate::area::open_area;
 use crate::found::{Found, find};
 use crate::room::{Demand, NOTHING};
 use arrayvec::ArrayVec;
-use fd_cover::{Bounds, Raster};
+use fd_cover::{Bounds, Raster, Rect};
 use fd_events::{Draw, Event, Pipeline};
 use fd_tile::Place;
 
@@ -135,4 +135,67 @@ fn plan_clear(place: Place) -> Plan
         pixels: place.width as usize * place.height as usize,
     };
     Plan::without_triangles(demand, 0)
+}
+
+/// The first triangle that a draw lists for a place, before which none covers a pixel of it. None where the event writes nothing there,
+/// in whatever state; it may also write nothing where this doesn't tell so.
+pub fn first_listed(event: &Event, place: Place) -> Option<u32>
+    requires { IsTilePlace place }
+    ensures first { IfSome result (λ first. MayBeginAt event.now place first) }
+    ensures none { IfNone result ((s : Pipeline) → (event_spans event.now s place ≡ 0) × (event_pixels event.now s place ≡ 0)) }
+{
+    match event {
+        Event::Draw(draw) => {
+            let first = draw.next_listed(0, box_of(place));
+            if first < draw.triangles() {
+                Some(first)
+            } else {
+                None
+            }
+        }
+        _ => Some(0),
+    }
+}
+
+/// The box of a tile's pixels.
+pub fn box_of(place: Place) -> Bounds
+    requires { IsTilePlace place }
+    ensures { result ≡ box_of_place place }
+{
+    Bounds {
+        left: place.left,
+        top: place.top,
+        right: place.left + place.width,
+        bottom: place.top + place.height,
+    }
+}
+
+/// The box of a tile's pixels that the scissor leaves.
+pub(crate) fn open_area(raster: &Raster, rect: &Rect, place: Place) -> Bounds
+    requires { IsTilePlace place }
+    ensures inside { LiesIn result place }
+    ensures left_open { IsOpen result raster.now rect.now place }
+{
+    let whole = box_of(place);
+    if !raster.scissor {
+        return whole;
+    }
+    let left = nearest(rect.left, whole.left, whole.right);
+    let top = nearest(rect.top, whole.top, whole.bottom);
+    Bounds {
+        left,
+        top,
+        right: nearest(rect.right, left, whole.right),
+        bottom: nearest(rect.bottom, top, whole.bottom),
+    }
+}
+
+/// The nearest to a scissor's bound of the numbers from `low` to `high`.
+fn nearest(bound: i32, low: u32, high: u32) -> u32
+    requires order { low ≤ high }
+    ensures least { low ≤ result }
+    ensures most { result ≤ high }
+    ensures numbers { (n : ℕ) → low ≤ n → n < high → (bound ≤ℤ pos n) ↔ (result ≤ n) }
+{
+    (bound.max(0) as u32).clamp(low, high)
 }

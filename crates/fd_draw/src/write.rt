@@ -16,10 +16,9 @@ ghost use Rattle.fd_draw.specs.Plan.{ArePlanned, IsFoundOn, IsPlan};
 ghost use Rattle.fd_draw.specs.Triangles.{triangle_at};
 ghost use Rattle.fd_draw.specs.Writing.{ChangesSpan, HasRoom, HasSpan, WritesRegion, columns_between, in_row, keep_each};
 
-use crate::area::{box_of, open_area};
 use crate::clear::{Clear, clear_rows};
 use crate::found::{Found, find};
-use crate::plan::{Plan, Planned};
+use crate::plan::{Plan, Planned, box_of, open_area};
 use crate::primitive::{Primitive, brush_of};
 use crate::tested::draw_span;
 use fd_blend::{Colour, blend_row};

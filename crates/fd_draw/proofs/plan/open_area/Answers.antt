@@ -1,6 +1,6 @@
 use Rattle.std.proofs.Common.{rules, ap}
 use Rattle.fd_draw.proofs.Areas.{open_between}
-use Rattle.fd_draw.proofs.area.open_area.Goals as goal
+use Rattle.fd_draw.proofs.plan.open_area.Goals as goal
 
 pub returns-clause-left_open : goal.returns-clause-left_open
 returns-clause-left_open c =

@@ -4,7 +4,7 @@ use Rattle.fd_events.specs.Bounds.{CoverNone}
 use Rattle.fd_events.specs.Draw.{triangles_of}
 use Rattle.fd_draw.specs.Demand.{event_pixels, event_spans}
 use Rattle.fd_draw.proofs.Triangles.{undrawn_uncovered, no_pixels, no_spans}
-use Rattle.fd_draw.proofs.near.first_listed.Goals as goal
+use Rattle.fd_draw.proofs.plan.first_listed.Goals as goal
 
 pub returns-else-first-triangles-clause-none : goal.returns-else-first-triangles-clause-none
 returns-else-first-triangles-clause-none c = λ s.
