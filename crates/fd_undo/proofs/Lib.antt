@@ -2,7 +2,6 @@ pub mod FrameLemmas
 pub mod KeptAt
 pub mod Restored
 pub mod Pixelwise
-pub mod SpanLemmas
 pub mod RowLemmas
 pub mod RowsAtOnce
 pub mod BlockLemmas

@@ -20,7 +20,7 @@ use Rattle.fd_undo.specs.Frame.{KeptPixel, kept_row, kept_rows, restored}
 use Rattle.fd_undo.specs.Whole.{AreWholeRows}
 use Rattle.fd_undo.specs.Rows.{listed_colours, colours_in, listed_depths, values_in, depths_from, colours_from, pixels_of_row, span_pixels}
 use Rattle.fd_undo.proofs.FrameLemmas.{length-zip_equal, kept_rows-same, kept_rows-top}
-use Rattle.fd_undo.proofs.SpanLemmas.{length-pixels_of_row}
+use Rattle.fd_undo.proofs.RowLemmas.{length-pixels_of_row}
 use Rattle.fd_undo.proofs.Restored.{Inside, Inside-front, Inside-back, restored-append, kept_row-first, kept_row-within, put_back_row_alike}
 
 -- each row lies in a place where all of them do

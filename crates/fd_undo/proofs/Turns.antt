@@ -10,8 +10,7 @@ use Rattle.fd_undo.specs.Span.{Span}
 use Rattle.fd_undo.specs.Frame.{kept_at, KeptPixel, KeepsAll}
 use Rattle.fd_undo.specs.Rows.{span_holds, listed_colours, listed_depths, colour_count, depth_count, pixels_of_row, span_pixels, rows_in, joined, no_span}
 use Rattle.fd_undo.proofs.KeptAt.{kept_at-append, kept_at-held, kept_at-not_held}
-use Rattle.fd_undo.proofs.SpanLemmas.{length-pixels_of_row}
-use Rattle.fd_undo.proofs.RowLemmas.{colours-cons, depths-cons}
+use Rattle.fd_undo.proofs.RowLemmas.{length-pixels_of_row, colours-cons, depths-cons}
 use Rattle.fd_undo.specs.declared.parts.Parts.{Parts}
 use Rattle.std.proofs.lemmas.Bool.Decides.{nat_tests}
 use Rattle.fd_tile.specs.declared.place.Place.{Place}

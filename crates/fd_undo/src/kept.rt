@@ -58,7 +58,7 @@ pub(crate) fn add_kept_in(
 
 /// The colour and the depth that one of some spans keeps of one of its pixels. Its own colours in the list stand from `colour` on, and its depths from `depth`
 /// on.
-#[tactic(auto, using(crate::proofs::SpanLemmas::kept_pixel_of_steps))]
+#[tactic(auto, using(crate::proofs::RowLemmas::kept_pixel_of_steps))]
 fn pixel_of(
     span: &Span,
     parts: Parts<'_>,

@@ -23,6 +23,7 @@ pub(crate) struct Cut {
 
 impl<'a> Parts<'a> {
     /// All but the last span, and that with its own values.
+    #[tactic(auto, using(crate::proofs::RowLemmas::parts_split_last_steps))]
     pub(crate) fn split_last(self) -> (Parts<'a>, Span, Parts<'a>)
         requires whole { AreParts self }
         requires some { 0 < length self.spans.now }

@@ -162,6 +162,7 @@ impl Rows {
     }
 
     /// The spans from one place up to another.
+    #[tactic(auto, using(crate::proofs::RowLemmas::rows_parts_steps))]
     pub(crate) fn parts(&self, first: Cut, end: Cut) -> Parts<'_>
         requires ordered { first.span ≤ end.span }
         requires first { IsCut first self.now.spans }

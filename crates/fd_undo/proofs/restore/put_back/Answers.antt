@@ -2,8 +2,7 @@ use Rattle.std.proofs.Common.{◌≡◌, ℕ, ◌+◌, ◌-◌, ◌++◌, List, 
 use Rattle.fd_tile.specs.Tile.{Pixel, TileImage}
 use Rattle.fd_undo.specs.Frame.{KeptPixel, kept_row, kept_rows, restored}
 use Rattle.fd_undo.specs.Rows.{row_of_span, pixels_of_row}
-use Rattle.fd_undo.proofs.SpanLemmas.{span_pixels-none}
-use Rattle.fd_undo.proofs.RowLemmas.{tail_is}
+use Rattle.fd_undo.proofs.RowLemmas.{span_pixels-none, tail_is}
 use Rattle.fd_undo.proofs.RowsAtOnce.{rows_from_top, rows_to_bottom, rows_written, Inside-row, row_held}
 use Rattle.fd_undo.proofs.Restored.{Inside, Inside-front, restored-append, restored-place, restored-made}
 use Rattle.fd_undo.proofs.restore.put_back.Goals as goal

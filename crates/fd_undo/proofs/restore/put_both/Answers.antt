@@ -3,7 +3,7 @@ use Rattle.fd_tile.specs.declared.place.Place.{Place}
 use Rattle.fd_tile.specs.Place.{Holds, HasRow}
 use Rattle.fd_tile.specs.Tile.{TileImage, depth_row_of}
 use Rattle.fd_tile.proofs.Pixels.{length-row_in, HasRow-from_Holds}
-use Rattle.fd_undo.proofs.SpanLemmas.{length-colours_in, row_deep, row_first, row_within}
+use Rattle.fd_undo.proofs.RowLemmas.{length-colours_in, row_deep, row_first, row_within}
 use Rattle.fd_undo.proofs.Restored.{put_back_row_is}
 use Rattle.fd_undo.proofs.restore.put_both.Goals as goal
 use Rattle.fd_undo.proofs.restore.put_both.Goals.{After-len-len, After-place, After-depth_row_mut-row}

@@ -1,5 +1,5 @@
 use Rattle.std.proofs.Common.{arith}
-use Rattle.fd_undo.proofs.SpanLemmas.{row_first, row_within, put_back_flat}
+use Rattle.fd_undo.proofs.RowLemmas.{row_first, row_within, put_back_flat}
 use Rattle.fd_undo.proofs.restore.put_row.Goals as goal
 
 pub put_colours-requires-clause-first : goal.put_colours-requires-clause-first
