@@ -1,9 +1,8 @@
 -- The newest of a list, the pixels of frames, and colours beside their depths.
-use Rattle.std.proofs.Common.{◌≡◌, ℕ, zero, suc, ◌+◌, ◌-◌, ◌*◌, ◌<◌, List, [], ◌∷◌, ◌++◌, length, get_or, take, refl, sym, ap, ◌∙◌, arith, length-append}
-use Rattle.std.proofs.Common.{append_assoc}
+use Rattle.std.proofs.Common.{◌≡◌, ℕ, zero, suc, ◌+◌, ◌-◌, ◌*◌, ◌<◌, List, [], ◌∷◌, ◌++◌, length, get_or, refl, sym, ap, ◌∙◌, arith, length-append}
 use Rattle.std.proofs.Math.Nat.{zero-mul, suc-mul}
-use Rattle.std.proofs.lemmas.List.{take_at, get_or_push, take_all, length_push, take_more, take-take, length-take, append-nil}
-use Rattle.std.proofs.lemmas.List.Sums.{sum_by-cons, sum_by_push}
+use Rattle.std.proofs.lemmas.List.{take_at, get_or_push, take_all, length_push, take_more}
+use Rattle.std.proofs.lemmas.List.Sums.{sum_by-cons}
 use Rattle.fd_tile.specs.Tile.{Pixel}
 use Rattle.fd_undo.specs.Frame.{KeptPixel, kept_row, kept_rows, top, older}
 use Rattle.fd_undo.specs.Block.{others}
@@ -32,25 +31,9 @@ top-push xs y = newest-push xs y []
 pub older-top : {X : Type 0} (xs : List (List X)) → 0 < length xs → xs ≡ older xs ++ top xs ∷ []
 older-top xs some = others-newest xs [] some
 
--- ---- the first of some frames
-abbrev pub IsFront : {X : Type 0} → List X → List X → Type 0
-IsFront xs front = front ≡ take (length front) xs
-
-pub front-front : {X : Type 0} (xs ys zs : List X) → IsFront xs ys → IsFront ys zs → IsFront xs zs
-front-front xs ys zs first second = grind (arith, length-take, take-take)
-
-pub front-older : {X : Type 0} (xs : List (List X)) → IsFront xs (older xs)
-front-older xs = ap (λ n. take n xs) {x = length xs - 1} {y = length (older xs)} (omega (arith, length-take (length xs - 1) xs))
-
-pub front-append : {X : Type 0} (xs ys zs : List X) → zs ≡ xs ++ ys → IsFront zs xs
-front-append xs ys zs is = sym (ap (take (length xs)) is ∙ take_at xs ys (length xs) refl)
-
 -- ---- how many pixels are kept
 pub recorded_in-cons : (f : List KeptPixel) (frames : List (List KeptPixel)) → recorded_in (f ∷ frames) ≡ length f + recorded_in frames
 recorded_in-cons f frames = sum_by-cons (λ (ks : List KeptPixel). length ks) f frames
-
-pub recorded_in-push : (frames : List (List KeptPixel)) (f : List KeptPixel) → recorded_in (frames ++ f ∷ []) ≡ recorded_in frames + length f
-recorded_in-push frames f = sum_by_push (λ (ks : List KeptPixel). length ks) frames f
 
 pub length-kept_row : (x y : ℕ) (cs : List Pixel) → length (kept_row x y cs) ≡ length cs
 length-kept_row x y [] = refl
@@ -59,32 +42,15 @@ length-kept_row x y (c ∷ cs) = ap (λ n. suc n) (length-kept_row (x + 1) y cs)
 -- ---- rows one below the other
 pub length-kept_rows : (x y n m : ℕ) (pixels : ℕ → List Pixel) → ((row : ℕ) → row < n → length (pixels row) ≡ m) → length (kept_rows x y n pixels) ≡ n * m
 length-kept_rows x y zero m pixels long = sym (zero-mul m)
-length-kept_rows x y (suc n) m pixels long =
-    omega (
-      arith,
-      length-append (kept_rows x y n pixels) (kept_row x (y + n) (pixels n)),
-      length-kept_rows x y n m pixels (λ row above. long row (omega (arith, above))),
-      length-kept_row x (y + n) (pixels n),
-      long n (omega arith),
-      suc-mul n m,
-    )
+length-kept_rows x y (suc n) m pixels long = grind (arith, length-append, length-kept_row, suc-mul, length-kept_rows x y n m pixels, long n)
 
 pub kept_rows-same : (x y n : ℕ) (pixels others : ℕ → List Pixel) → ((row : ℕ) → row < n → pixels row ≡ others row)
     → kept_rows x y n pixels ≡ kept_rows x y n others
 kept_rows-same x y zero pixels others same = refl
-kept_rows-same x y (suc n) pixels others same =
-    cc (kept_rows-same x y n pixels others (λ row above. same row (omega (arith, above))), same n (omega arith))
+kept_rows-same x y (suc n) pixels others same = grind (arith, kept_rows-same x y n pixels others, same n)
 
 pub kept_rows-one : (x y n : ℕ) (pixels : ℕ → List Pixel) → n ≡ 1 → kept_rows x y n pixels ≡ kept_row x y (pixels 0)
-kept_rows-one x y n pixels one = ap (λ k. kept_rows x y k pixels) one ∙ ap (λ z. kept_row x z (pixels 0)) {x = y + 0} {y = y} (omega arith)
-
-pub kept_rows-top : (x y n : ℕ) (pixels : ℕ → List Pixel)
-    → kept_rows x y (suc n) pixels ≡ kept_row x y (pixels 0) ++ kept_rows x (y + 1) n (λ row. pixels (suc row))
-kept_rows-top x y zero pixels = kept_rows-one x y 1 pixels refl ∙ sym (append-nil (kept_row x y (pixels 0)))
-kept_rows-top x y (suc n) pixels = grind (arith, kept_rows-top x y n pixels, append_assoc)
+kept_rows-one x y n pixels one = rw one (grind arith)
 
 pub length-zip_equal : {A B : Type 0} (xs : List A) (ys : List B) → length ys ≡ length xs → length (zip xs ys) ≡ length xs
-length-zip_equal xs ys e = omega (arith, length-zip xs ys, e)
-
--- ---- what the goals of a function want, which names it in its attribute
-pub ruleset stack_drop_to_steps = (length-take, front-front, front-older, front-append)
+length-zip_equal xs ys e = omega (arith, length-zip xs ys)

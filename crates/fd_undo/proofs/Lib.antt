@@ -3,8 +3,6 @@ pub mod KeptAt
 pub mod Restored
 pub mod Pixelwise
 pub mod RowLemmas
-pub mod RowsAtOnce
 pub mod BlockLemmas
 pub mod StackLemmas
 pub mod Backs
-pub mod Turns

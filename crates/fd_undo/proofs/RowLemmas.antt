@@ -1,23 +1,18 @@
 -- Spans, what one and what several of them keep, and spans that keep more.
 use Rattle.std.proofs.lemmas.Grind.{common_steps}
 use Rattle.std.proofs.Common.{true, ◌≡◌, ℕ, ◌+◌, ◌-◌, ◌*◌, ◌<◌, ◌≤◌, List, [], ◌∷◌, ◌++◌, length, get_or, take, drop, refl, arith, add-one, append_assoc}
-use Rattle.std.specs.Prelude.{if◌then◌else◌, IsSomeAnd, zip, sum_by}
+use Rattle.std.specs.Prelude.{if◌then◌else◌, zip, sum_by}
 use Rattle.std.proofs.Math.Nat.{zero-mul, one-mul, suc-mul, mul-le-mul_right}
 use Rattle.std.proofs.lemmas.List.{length-take, take-append-le, drop-append-le, get_or_append_left, take-take, drop-drop, drop_at}
 use Rattle.std.proofs.lemmas.List.{nil_from_length, take-append-drop, drop-take, append-nil, take_at, get_or-drop, take_rest, length-drop, length-append}
 use Rattle.std.proofs.lemmas.Slice.Zip.{get_or-zip}
 use Rattle.fd_blend.specs.declared.channel.Colour.{Colour}
 use Rattle.fd_blend.specs.Channel.{fresh}
-use Rattle.fd_tile.specs.declared.place.Place.{Place}
-use Rattle.fd_tile.specs.Place.{Holds}
-use Rattle.fd_tile.specs.Tile.{TileImage, IsTileImage, IsFlat, row_of, with_row_left}
-use borrow.Rule.Slice.PartMut.{put_mid}
 use Rattle.fd_undo.specs.Span.{Span, IsGrown, IsRowOf}
-use Rattle.fd_undo.specs.Frame.{kept_row, restored, KeptPixel}
-use Rattle.fd_undo.specs.Rows.{row_colours, listed_colours, colours_in, depths_listed, row_depths, listed_depths, depths_in, row_of_span, pixels_of_row}
+use Rattle.fd_undo.specs.Frame.{kept_row, KeptPixel}
+use Rattle.fd_undo.specs.Rows.{row_colours, listed_colours, colours_in, depths_listed, row_depths, listed_depths, depths_in, pixels_of_row}
 use Rattle.fd_undo.specs.Rows.{span_pixels, IsHeld, colour_count, depth_count, pixel_count, rows_in, joined, Held, KeepsMore, GrowsBy, no_span}
 use Rattle.fd_undo.proofs.FrameLemmas.{length-zip_equal, length-kept_rows, kept_rows-one, kept_rows-same, others-newest}
-use Rattle.fd_undo.proofs.Restored.{Inside, kept_row-first, kept_row-within, put_back_row_alike}
 use Rattle.std.proofs.lemmas.List.Sums.{sum_by-cons, sum_by-take-drop, sum_by_push, sum_by-take-le}
 use Rattle.fd_undo.specs.Block.{others}
 
@@ -35,14 +30,6 @@ module _ (s : Span) (colours : List Colour) (depths : List ℕ) (fits : row_colo
 
   pub zipped : length (zip (colours_in s colours) (depths_in s depths)) ≡ s.len
   zipped = grind (arith, length-zip_equal, row_deep, length-colours_in)
-
-  -- they lie in a place
-  module _ (p : Place) (y : ℕ) (some : 0 < s.len) (inside : Inside p (row_of_span s y colours depths)) where
-    pub row_first : Holds p s.x y
-    row_first = kept_row-first _ _ _ _ inside (omega (arith, zipped, some))
-
-    pub row_within : s.x + s.len ≤ p.left + p.width
-    row_within = omega (arith, kept_row-within _ _ _ _ inside (omega (arith, zipped, some)), zipped)
 
 -- ---- the values of a row stand behind those of the rows above it
 pub colours_behind : (s : Span) (row : ℕ) → row < s.rows → (if s.one_colour then 0 else row * s.len) + row_colours s ≤ listed_colours s
@@ -85,12 +72,6 @@ module _ (s row grown : Span) (old : List Colour) (deep : List ℕ) (is : IsGrow
 
     pub span_pixels-grown : span_pixels grown (cs ++ new) (ds ++ deeper) ≡ span_pixels s cs ds ++ kept_row row.x row.y (zip old deep)
     span_pixels-grown = cc (is.is, span_pixels-more s cs ds (omega arith) (omega arith) new deeper, is.y, is.x, row_is, add-one s.rows)
-
--- ---- a row that is as deep as all pixels of the tile: its colours alone are written
-pub put_back_flat : (t : TileImage) (s : Span) (y : ℕ) (colours : List Colour) (depths : List ℕ) → row_colours s ≤ length colours → 0 < s.len
-    → IsSomeAnd s.same_depth (λ depth. IsFlat t.place t.depths depth) → IsTileImage t → Inside t.place (row_of_span s y colours depths)
-    → with_row_left t y (put_mid (s.x - t.place.left) s.len (row_of t y) (colours_in s colours)) ≡ restored (row_of_span s y colours depths) t
-put_back_flat t s y colours depths counted some deep filled inside = grind (arith, common_steps, length-colours_in, put_back_row_alike)
 
 -- a span of rows without pixels keeps nothing
 pub span_pixels-none : (s : Span) (colours : List Colour) (depths : List ℕ) → length colours ≡ listed_colours s → length depths ≡ listed_depths s → s.len ≡ 0

@@ -62,20 +62,25 @@ marked (m ∷ marks) rows end = record { number = m.number; kept = joined (take 
 abbrev pub marks_left : Held → ℕ → ℕ
 marks_left h left = if nat_lt (length h.spans) (2 ^ 32) && (nat_lt (length h.colours) (2 ^ 32) && nat_lt (length h.depths) (2 ^ 32)) then left else 0
 
+-- what a mark says
+abbrev pub IsMark : Mark → List Span → Type 0
+IsMark m spans = (m.span ≤ length spans) × (m.colour ≡ colour_count (take m.span spans)) × (m.depth ≡ depth_count (take m.span spans)) × (m.number < 2 ^ 32)
+
 -- each frame begins where the one before it ends or later, up to the end of the spans, and its values where those of the spans before it end
 abbrev pub AreInOrder : List Mark → List Span → ℕ → Type 0
 AreInOrder [] spans end = Unit {0}
-AreInOrder (m ∷ marks) spans end =
-    (m.number < 2 ^ 32) × (m.span ≤ next marks end) × (m.colour ≡ colour_count (take m.span spans)) × (m.depth ≡ depth_count (take m.span spans))
-    × AreInOrder marks spans end
+AreInOrder (m ∷ marks) spans end = IsMark m spans × (m.span ≤ next marks end) × AreInOrder marks spans end
 
 -- a mark that nothing rests on
 abbrev pub no_mark : Mark
 no_mark = record { number = 0; span = 0; colour = 0; depth = 0 }
 
+abbrev pub last_mark : List Mark → Mark
+last_mark marks = slice_index_or marks (length marks - 1) no_mark
+
 -- the numbers of marks rise
 abbrev pub number_at : List Mark → ℕ → ℕ
 number_at marks place = (slice_index_or marks place no_mark).number
 
-abbrev pub NumbersRise : List Mark → Type 0
-NumbersRise marks = (a b : ℕ) → a < b → b < length marks → number_at marks a < number_at marks b
+pub record NumbersRise (marks : List Mark) : Type 0 where
+  pub rises : (a b : ℕ) → a < b → b < length marks → number_at marks a < number_at marks b

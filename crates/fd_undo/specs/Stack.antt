@@ -1,9 +1,8 @@
 -- Working. How an undo stack stores its frames: those that keep something in blocks, and of the others only how many there are.
 use Rattle.std.specs.Prelude.{◌≡◌, ℕ, ◌+◌, ◌-◌, ◌^◌, ◌<◌, ◌≤◌, Bool, true, false, All, List, [], ◌∷◌, ◌++◌, length, replicate}
-use Rattle.std.specs.List.{flat_map}
+use Rattle.std.specs.List.{flat_map, sum_by}
 use Rattle.fd_undo.specs.Frame.{KeptPixel}
 use Rattle.fd_undo.specs.Block.{KeptFrame, Filled, newest, Rise}
-use Rattle.fd_undo.specs.Undo.{recorded_in}
 
 -- the frames from number i up to `count`, of which some are stored
 abbrev pub frames_from : ℕ → List KeptFrame → ℕ → List (List KeptPixel)
@@ -17,6 +16,10 @@ stored_in blocks = flat_map (λ b. b.frames) blocks
 abbrev pub all_stored : List Filled → Filled → List KeptFrame
 all_stored full last = stored_in full ++ last.frames
 
+-- how many pixels stored frames keep
+abbrev pub pixels_stored : List KeptFrame → ℕ
+pixels_stored stored = sum_by (λ f. length f.kept) stored
+
 -- each of these blocks has a frame
 abbrev pub HaveFrames : List Filled → Type 0
 HaveFrames blocks = All (λ b. 0 < length b.frames) blocks
@@ -25,7 +28,7 @@ HaveFrames blocks = All (λ b. 0 < length b.frames) blocks
 pub record IsUndoStack (full : List Filled) (last : Filled) (count recorded : ℕ) (frame_left : Bool) (spans_left pixels_left : ℕ) : Type 0 where
   pub have : HaveFrames full
   pub rise : Rise 0 (all_stored full last) count
-  pub counted : recorded ≡ recorded_in (frames_from 0 (all_stored full last) count)
+  pub counted : recorded ≡ pixels_stored (all_stored full last)
   pub countable : recorded + pixels_left < 2 ^ 64
   pub frame_room : frame_left ≡ true → count + 1 < 2 ^ 64
   pub stored_room : frame_left ≡ true → 0 < spans_left → (count < 2 ^ 32) × (0 < last.frames_left)

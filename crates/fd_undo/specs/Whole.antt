@@ -13,15 +13,24 @@ pub record HasWholeRow (p : Place) (y : ℕ) (s : Span) : Type 0 where
   pub to : y < s.y + s.rows
 
 -- one of the spans has it
-abbrev pub AnyHasRow : Place → ℕ → List Span → Type 0
-AnyHasRow p y spans = (i : ℕ) × (i < length spans) × HasWholeRow p y (slice_index_or spans i no_span)
+pub record AnyHasRow (p : Place) (y : ℕ) (spans : List Span) : Type 0 where
+  pub place : ℕ
+  pub within : place < length spans
+  pub has : HasWholeRow p y (slice_index_or spans place no_span)
 
 -- each row of the place is one of the spans'
-abbrev pub HaveAllRows : Place → List Span → Type 0
-HaveAllRows p spans = (y : ℕ) → p.top ≤ y → y < p.top + p.height → AnyHasRow p y spans
+pub record HaveAllRows (p : Place) (spans : List Span) : Type 0 where
+  pub rows : (y : ℕ) → p.top ≤ y → y < p.top + p.height → AnyHasRow p y spans
 
 -- a span has whole rows of a tile, each pixel with its colour in the list, and they are as deep as all its pixels
 pub record AreWholeRows (t : TileImage) (s : Span) : Type 0 where
   pub wide : s.len ≡ t.place.width
   pub coloured : s.one_colour ≡ false
   pub flat : IsSomeAnd s.same_depth (λ depth. IsFlat t.place t.depths depth)
+
+-- a place has all pixels of a span
+pub record HoldsSpan (p : Place) (s : Span) : Type 0 where
+  pub from_left : p.left ≤ s.x
+  pub to_right : s.x + s.len ≤ p.left + p.width
+  pub from_top : p.top ≤ s.y
+  pub to_bottom : s.y + s.rows ≤ p.top + p.height

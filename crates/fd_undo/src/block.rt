@@ -1,11 +1,12 @@
-ghost use Rattle.std.specs.Prelude.{◌≡◌, ◌≢◌, ℕ, suc, ◌+◌, ◌-◌, ◌^◌, ◌<◌, ◌≤◌, [], ◌∷◌, ◌++◌, length, drop, replicate, slice_index_or};
+ghost use Rattle.std.specs.Prelude.{◌≡◌, ◌≢◌, ℕ, ◌+◌, ◌-◌, ◌^◌, ◌<◌, ◌≤◌, [], ◌∷◌, ◌++◌, length, drop, replicate, slice_index_or};
 ghost use Rattle.std.specs.Prelude.{None, IfOk, IfSome, true, false};
 ghost use Rattle.std.specs.List.{zip};
 ghost use Rattle.fd_snap.specs.Limits.{most_pixels};
 ghost use Rattle.fd_tile.specs.Place.{IsTilePlace};
 ghost use Rattle.fd_undo.specs.Frame.{kept_row, alike, KeepsAll};
 ghost use Rattle.fd_undo.specs.Parts.{AreParts, IsCut, kept_in_parts};
-ghost use Rattle.fd_undo.specs.Block.{KeptFrame, Filled, no_frame, newest, others, keeping_row, found, first_number, Rise, NumbersRise, AreInOrder, no_mark, next};
+ghost use Rattle.fd_undo.specs.Block.{KeptFrame, Filled, no_frame, newest, others, keeping_row, found, first_number, Rise};
+ghost use Rattle.fd_undo.specs.Block.{NumbersRise, AreInOrder, no_mark, last_mark, next};
 
 use crate::parts::{Cut, Parts};
 use crate::room::Room;
@@ -94,7 +95,7 @@ impl Block {
     }
 
     /// Whether it has no frame.
-    #[tactic(auto, using(crate::proofs::BlockLemmas::mark_counts))]
+    #[tactic(auto, using(crate::proofs::BlockLemmas::mark_steps))]
     pub(crate) fn is_empty(&self) -> bool
         ensures yes { result ≡ true → self.now.frames ≡ [] }
         ensures no { result ≡ false → 0 < length self.now.frames }
@@ -123,15 +124,8 @@ impl Block {
         }
     }
 
-    /// Whether its newest frame has this number.
-    pub(crate) fn is_newest(&self, number: usize) -> bool
-        ensures yes { result ≡ true → (0 < length self.now.frames) × ((newest self.now.frames).number ≡ number) }
-        ensures no { result ≡ false → 0 < length self.now.frames → (newest self.now.frames).number ≢ number }
-    {
-        !self.is_empty() && self.newest_number() == number
-    }
-
     /// The number of the newest frame.
+    #[tactic(auto, using(crate::proofs::BlockLemmas::mark_steps))]
     pub(crate) fn newest_number(&self) -> usize
         requires { 0 < length self.now.frames }
         ensures value { result ≡ (newest self.now.frames).number }
@@ -199,6 +193,7 @@ impl Block {
     }
 
     /// Keeps a whole place in the newest frame, which is of one colour and one depth.
+    #[tactic(auto, using(crate::proofs::BlockLemmas::block_keep_steps))]
     pub(crate) fn keep_alike(&mut self, place: Place, colour: Colour, depth: u16)
         requires placed { IsTilePlace place }
         requires begun { 0 < length self.old.frames }
@@ -210,6 +205,7 @@ impl Block {
     }
 
     /// Drops the newest frame, unread, and says how many pixels it kept.
+    #[tactic(auto, using(crate::proofs::BlockLemmas::block_drop_newest_steps))]
     pub(crate) fn drop_newest(&mut self) -> usize
         requires some { 0 < length self.old.frames }
         requires countable { length (newest self.old.frames).kept < 2 ^ 64 }
@@ -221,6 +217,7 @@ impl Block {
     }
 
     /// The number of the oldest frame from this number on that is seen to keep a whole place.
+    #[tactic(auto, using(crate::proofs::KeptAt::block_first_whole_steps))]
     pub(crate) fn first_whole(&self, from: usize, place: Place) -> Option<usize>
         requires rise { (count : ℕ) × Rise 0 self.now.frames count }
         ensures { IfSome result (λ n. (from ≤ n) × KeepsAll place (found n self.now.frames)) }
@@ -249,7 +246,7 @@ impl Block {
     }
 
     /// The same of the newest frame.
-    #[tactic(auto, using(crate::proofs::BlockLemmas::mark_counts))]
+    #[tactic(auto, using(crate::proofs::BlockLemmas::mark_steps))]
     pub(crate) fn newest_parts(&self) -> Parts<'_>
         requires { 0 < length self.now.frames }
         ensures whole { AreParts result }
@@ -259,6 +256,7 @@ impl Block {
     }
 
     /// The same of the frame at a place.
+    #[tactic(auto, using(crate::proofs::BlockLemmas::mark_steps))]
     fn parts_at(&self, place: usize) -> Parts<'_>
         requires { place < length self.now.frames }
         ensures whole { AreParts result }
@@ -279,9 +277,11 @@ fn is_countable(rows: &Rows) -> bool
 }
 
 /// Takes the last mark off.
+#[tactic(auto, using(crate::proofs::BlockLemmas::take_last_steps))]
 fn take_last(marks: &mut SmallVec<Mark, MARKS_INSIDE>) -> Mark
     requires { 0 < length marks.old.items }
-    ensures items { marks.old.items ≡ marks.new.items ++ result ∷ [] }
+    ensures last { result ≡ last_mark marks.old.items }
+    ensures rest { marks.new.items ≡ others marks.old.items }
 {
     marks.pop().unwrap()
 }
@@ -297,7 +297,7 @@ fn mark_at(marks: &[Mark], place: usize) -> Mark
 /// The last mark.
 fn newest_mark(marks: &[Mark]) -> Mark
     requires { 0 < length marks.now }
-    ensures { result ≡ slice_index_or marks.now (length marks.now - 1) no_mark }
+    ensures { result ≡ last_mark marks.now }
 {
     mark_at(marks, marks.len() - 1)
 }
@@ -314,10 +314,11 @@ fn place_of(marks: &[Mark], number: usize) -> Option<usize>
 }
 
 /// Where the frame of a mark ends: where the next one begins, or at the end.
+#[tactic(auto, using(crate::proofs::BlockLemmas::end_of_steps))]
 fn end_of(marks: &[Mark], place: usize, rows: &Rows) -> Cut
     requires within { place < length marks.now }
     requires order { AreInOrder marks.now rows.now.spans (length rows.now.spans) }
-    ensures span { result.span ≡ next (drop (suc place) marks.now) (length rows.now.spans) }
+    ensures span { result.span ≡ next (drop (place + 1) marks.now) (length rows.now.spans) }
     ensures cut { IsCut result rows.now.spans }
 {
     if place + 1 < marks.len() {

@@ -1,11 +1,11 @@
-ghost use Rattle.std.specs.Prelude.{◌≡◌, ℕ, ◌+◌, ◌-◌, ◌<◌, ◌≤◌, ◌⊎◌, length, All, IsSomeAnd, true, false};
+ghost use Rattle.std.specs.Prelude.{◌≡◌, ◌+◌, ◌-◌, ◌<◌, ◌≤◌, length, All, IsSomeAnd, true, false};
 ghost use borrow.Rule.Slice.PartMut.{put_mid};
 ghost use Rattle.fd_tile.specs.Place.{Holds};
-ghost use Rattle.fd_tile.specs.Tile.{row_of, with_row_left, with_depths, IsFlat, IsTileImage};
+ghost use Rattle.fd_tile.specs.Tile.{row_of, with_row_left, IsFlat, IsTileImage};
 ghost use Rattle.fd_undo.specs.Frame.{restored, IsAlike};
 ghost use Rattle.fd_undo.specs.Rows.{row_colours, listed_colours, colours_in, row_depths, listed_depths, depths_in, row_of_span, span_pixels};
 ghost use Rattle.fd_undo.specs.Parts.{AreParts, kept_in_parts};
-ghost use Rattle.fd_undo.specs.Whole.{HaveAllRows, AreWholeRows};
+ghost use Rattle.fd_undo.specs.Whole.{AreWholeRows, HoldsSpan};
 
 use crate::kept::kept_in;
 use crate::parts::Parts;
@@ -22,7 +22,7 @@ pub(crate) fn put_frame(parts: Parts<'_>, tile: &mut Tile)
     ensures { tile.new ≡ restored (kept_in_parts parts.entry) tile.old }
 {
     if tile.is_made() {
-        level(parts.spans, tile);
+        level(parts, tile);
         put_spans(parts, tile);
     } else {
         put_alike(parts, tile);
@@ -30,6 +30,7 @@ pub(crate) fn put_frame(parts: Parts<'_>, tile: &mut Tile)
 }
 
 /// The same of spans that keep nothing of the tile, or all of it, which was alike.
+#[tactic(auto, using(crate::proofs::Pixelwise::restored_as_read))]
 fn put_alike(parts: Parts<'_>, tile: &mut Tile)
     requires whole { AreParts parts }
     requires alike { IsAlike tile.old.place (kept_in_parts parts) }
@@ -44,10 +45,14 @@ fn put_alike(parts: Parts<'_>, tile: &mut Tile)
 
 /// Where some spans have all rows of a tile all its pixels are made as deep as the first of them: those that are so deep then need their colours alone, and
 /// the tile knows of its depth.
-fn level(spans: &[Span], tile: &mut Tile)
-    ensures levelled { (tile.new ≡ tile.old) ⊎ ((depth : ℕ) × (tile.new ≡ with_depths tile.old depth) × HaveAllRows tile.old.place spans.now) }
-    ensures filled { IsTileImage tile.old }
+fn level(parts: Parts<'_>, tile: &mut Tile)
+    requires whole { AreParts parts }
+    requires inside { All (λ k. Holds tile.old.place k.x k.y) (kept_in_parts parts) }
+    ensures place { tile.new.place ≡ tile.old.place }
+    ensures made { tile.new.made ≡ tile.old.made }
+    ensures same { restored (kept_in_parts parts.entry) tile.new ≡ restored (kept_in_parts parts.entry) tile.old }
 {
+    let spans = parts.spans;
     let place = tile.place();
     if let [first, ..] = spans {
         if let Some(deep) = first.same_depth() {
@@ -59,6 +64,7 @@ fn level(spans: &[Span], tile: &mut Tile)
 }
 
 /// Writes what some spans keep back on a tile that is made.
+#[tactic(auto, using(crate::proofs::Restored::put_spans_steps))]
 fn put_spans(parts: Parts<'_>, tile: &mut Tile)
     requires made { tile.old.made ≡ true }
     requires whole { AreParts parts }
@@ -74,11 +80,12 @@ fn put_spans(parts: Parts<'_>, tile: &mut Tile)
 }
 
 /// Writes the colours and depths of a span back.
+#[tactic(auto, using(crate::proofs::Restored::put_back_steps))]
 fn put_back(tile: &mut Tile, span: &Span, colours: &[Colour], depths: &[u16])
     requires made { tile.old.made ≡ true }
     requires counted { length colours.now ≡ listed_colours span.now }
     requires depths_counted { length depths.now ≡ listed_depths span.now }
-    requires inside { All (λ k. Holds tile.old.place k.x k.y) (span_pixels span.now colours.now depths.now) }
+    requires lies { 1 ≤ span.now.rows → 0 < span.now.len → HoldsSpan tile.old.place span.now }
     ensures { tile.new ≡ restored (span_pixels span.now colours.now depths.now) tile.old }
 {
     if span.len() == 0 {
@@ -108,12 +115,13 @@ fn are_whole_rows(tile: &Tile, span: &Span) -> bool
 
 /// Writes row y of a span back, where it has pixels and its own values stand first in the lists. Where all pixels of the tile are as deep as its own, no depth
 /// is looked at.
+#[tactic(auto, using(crate::proofs::Restored::row_flat))]
 fn put_row(tile: &mut Tile, span: &Span, y: u32, colours: &[Colour], depths: &[u16])
     requires made { tile.old.made ≡ true }
     requires counted { row_colours span.now ≤ length colours.now }
     requires depths_counted { row_depths span.now ≤ length depths.now }
-    requires some { 0 < span.now.len }
-    requires inside { All (λ k. Holds tile.old.place k.x k.y) (row_of_span span.now y colours.now depths.now) }
+    requires first { Holds tile.old.place span.now.x y }
+    requires within { span.now.x + span.now.len ≤ tile.old.place.left + tile.old.place.width }
     ensures { tile.new ≡ restored (row_of_span span.now y colours.now depths.now) tile.old }
 {
     if is_flat(tile, span) {
@@ -149,12 +157,13 @@ fn put_colours(tile: &mut Tile, span: &Span, y: u32, listed: &[Colour])
 }
 
 /// Writes the colours and depths of row y of a span back, where it has pixels.
+#[tactic(auto, using(crate::proofs::Restored::row_restored, crate::proofs::Restored::row_parts, crate::proofs::Restored::span_values))]
 fn put_both(tile: &mut Tile, span: &Span, y: u32, colours: &[Colour], depths: &[u16])
     requires made { tile.old.made ≡ true }
     requires counted { row_colours span.now ≤ length colours.now }
     requires depths_counted { row_depths span.now ≤ length depths.now }
-    requires some { 0 < span.now.len }
-    requires inside { All (λ k. Holds tile.old.place k.x k.y) (row_of_span span.now y colours.now depths.now) }
+    requires first { Holds tile.old.place span.now.x y }
+    requires within { span.now.x + span.now.len ≤ tile.old.place.left + tile.old.place.width }
     ensures { tile.new ≡ restored (row_of_span span.now y colours.now depths.now) tile.old }
 {
     let len = span.len();

@@ -5,6 +5,7 @@ use crate::span::Span;
 use fd_tile::Place;
 
 /// Whether some spans are seen to have all rows of a place: each has whole rows, and none begins below those that the ones before it have.
+#[tactic(auto, using(crate::proofs::KeptAt::have_all_rows_steps))]
 pub(crate) fn have_all_rows(spans: &[Span], place: Place) -> bool
     ensures { result ≡ true → HaveAllRows place spans.now }
 {

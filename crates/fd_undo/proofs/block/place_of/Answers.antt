@@ -1,14 +1,10 @@
-use Rattle.std.proofs.Common.{rules, ◌∙◌, sym}
+use Rattle.std.proofs.Common.{rules}
 use Rattle.std.proofs.lemmas.List.Sorted.{answers_always}
 use Rattle.fd_undo.proofs.BlockLemmas.{searched}
 use Rattle.fd_undo.proofs.block.place_of.Goals as goal
 
-pub returns-clause-there : goal.returns-clause-there
-returns-clause-there c =
-    rw c.ok.ensures.value (searched c.args.marks.now c.requires c.args.number c.binary_search_by_key.result c.binary_search_by_key.ensures.bound
-    (c.binary_search_by_key.ensures.position (λ m. m.number) (answers_always _ _ _ (λ f a r g called. search rules)))).found
-
-pub returns-clause-absent : goal.returns-clause-absent
-returns-clause-absent c none =
-    (searched c.args.marks.now c.requires c.args.number c.binary_search_by_key.result c.binary_search_by_key.ensures.bound
-    (c.binary_search_by_key.ensures.position (λ m. m.number) (answers_always _ _ _ (λ f a r g called. search rules)))).absent (sym c.ok.ensures.value ∙ none)
+pub returns : goal.returns
+returns c =
+    let by_number = c.binary_search_by_key.ensures.position (λ m. m.number) (answers_always _ _ _ (λ f a r g called. search rules)) in
+    let is = searched c.args.marks.now c.args.number c.binary_search_by_key.result c.requires c.binary_search_by_key.ensures.bound by_number in
+    rw c.ok.ensures.value (record { there = is.0; absent = is.1 })

@@ -1,7 +1,5 @@
 use Rattle.std.proofs.Common.{◌≡◌, ◌++◌, take}
-use Rattle.fd_undo.specs.Frame.{kept_at}
-use Rattle.fd_undo.specs.Parts.{kept_in_parts}
-use Rattle.fd_undo.proofs.Turns.{kept_from, StandsAt}
+use Rattle.fd_undo.proofs.KeptAt.{kept_from, StandsAt}
 use Rattle.fd_undo.proofs.kept.add_kept_in.Given as goal
 
 -- what the spans that are left keep of the pixel goes on where the search stands
@@ -9,5 +7,5 @@ abbrev pub invariant-loop-span : goal.invariant-loop-span
 invariant-loop-span l = record {
   at : StandsAt l.parts l.span-index l.first_colour l.first_depth;
   same : l.kept.items ++ take l.left (kept_from l.parts l.span-index l.first_colour l.first_depth l.x l.y)
-      ≡ l.initial.kept.items ++ take l.count (kept_at (kept_in_parts l.parts) l.x l.y);
+      ≡ l.initial.kept.items ++ take l.count (kept_from l.parts 0 0 0 l.x l.y);
 }

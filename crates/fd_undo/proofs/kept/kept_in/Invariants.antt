@@ -1,13 +1,11 @@
 use Rattle.std.proofs.Common.{◌≡◌}
 use Rattle.std.specs.Prelude.{slice_get}
-use Rattle.fd_undo.specs.Frame.{kept_at}
-use Rattle.fd_undo.specs.Parts.{kept_in_parts}
-use Rattle.fd_undo.proofs.Turns.{kept_from, StandsAt}
+use Rattle.fd_undo.proofs.KeptAt.{kept_from, StandsAt}
 use Rattle.fd_undo.proofs.kept.kept_in.Given as goal
 
 -- what the spans that are left keep of the pixel goes on where the search stands
 abbrev pub invariant-loop-span : goal.invariant-loop-span
 invariant-loop-span l = record {
   at : StandsAt l.parts l.span-index l.first_colour l.first_depth;
-  same : slice_get (kept_from l.parts l.span-index l.first_colour l.first_depth l.x l.y) l.left ≡ slice_get (kept_at (kept_in_parts l.parts) l.x l.y) l.n;
+  same : slice_get (kept_from l.parts l.span-index l.first_colour l.first_depth l.x l.y) l.left ≡ slice_get (kept_from l.parts 0 0 0 l.x l.y) l.n;
 }

@@ -1,15 +1,12 @@
-use Rattle.std.proofs.Common.{◌≡◌, ◌≤◌, true}
+use Rattle.std.proofs.Common.{◌≡◌, ◌≤◌}
 use Rattle.fd_undo.specs.Frame.{kept_rows, restored}
 use Rattle.fd_undo.specs.Rows.{pixels_of_row, span_pixels}
-use Rattle.fd_undo.proofs.Restored.{Inside}
 use Rattle.fd_undo.proofs.restore.put_back.Given as goal
 
 -- the rows that are left give what all of them give
 abbrev pub invariant-loop-row : goal.invariant-loop-row
 invariant-loop-row l = record {
-  made : l.tile.made ≡ true;
   within : l.row ≤ l.span.rows;
-  inside : Inside l.tile.place (kept_rows l.span.x l.span.y l.row (pixels_of_row l.span l.colours l.depths));
   rest : restored (kept_rows l.span.x l.span.y l.row (pixels_of_row l.span l.colours l.depths)) l.tile
       ≡ restored (span_pixels l.span l.colours l.depths) l.fn.tile;
 }

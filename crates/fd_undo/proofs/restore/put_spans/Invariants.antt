@@ -1,4 +1,4 @@
-use Rattle.std.proofs.Common.{◌≡◌, true, length}
+use Rattle.std.proofs.Common.{◌≡◌, length}
 use Rattle.fd_undo.specs.Frame.{restored}
 use Rattle.fd_undo.specs.Parts.{AreParts, kept_in_parts}
 use Rattle.fd_undo.proofs.Restored.{Inside}
@@ -7,9 +7,8 @@ use Rattle.fd_undo.proofs.restore.put_spans.Given as goal
 -- what is left to put back gives what all of it gives
 abbrev pub invariant-loop-left : goal.invariant-loop-left
 invariant-loop-left l = record {
-  made : l.tile.made ≡ true;
   whole : AreParts l.left;
-  inside : Inside l.tile.place (kept_in_parts l.left);
+  inside : Inside l.fn.tile.place (kept_in_parts l.left);
   rest : restored (kept_in_parts l.left) l.tile ≡ restored (kept_in_parts l.fn.parts) l.fn.tile;
 }
 

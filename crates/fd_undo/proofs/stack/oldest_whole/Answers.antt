@@ -1,10 +1,9 @@
-use Rattle.std.proofs.Common.{◌≡◌, ◌+◌, ◌<◌, ◌∙◌, sym, ap, length, get_or, arith, length-drop}
+use Rattle.std.proofs.Common.{◌≡◌, ◌+◌, ◌<◌, length, get_or, arith, length-drop}
 use Rattle.std.proofs.lemmas.List.{get_or-drop}
-use Rattle.fd_undo.specs.Block.{Filled, found}
-use Rattle.fd_undo.specs.Stack.{stored_in, all_stored}
+use Rattle.fd_undo.specs.Stack.{all_stored}
 use Rattle.fd_undo.proofs.RowLemmas.{tail_is}
-use Rattle.fd_undo.proofs.StackLemmas.{kept_in_block, found-after}
-use Rattle.fd_undo.proofs.Turns.{keeps-found}
+use Rattle.fd_undo.proofs.StackLemmas.{kept_in_block, kept_in_last}
+use Rattle.fd_undo.proofs.KeptAt.{keeps-found}
 use Rattle.fd_undo.proofs.stack.oldest_whole.Goals as goal
 use Rattle.fd_undo.proofs.stack.oldest_whole.Goals.{After-block-item}
 
@@ -19,17 +18,10 @@ pub returns-then-is_some : goal.returns-then-is_some
 returns-then-is_some c =
     let d = (goal.at-returns-then-is_some c).After-block-item in
     keeps-found c.args.from c.args.place c.block-item.result.frames (all_stored c.args.full.now c.args.last.now) c.first_whole-number.result
-    (λ n some.
-    ap (λ (b : Filled). found n b.frames) (block_is d)
-    ∙ kept_in_block c.args.full.now c.args.last.now.frames c.requires.rise.0 c.requires.have c.requires.rise.1
-    (c.saturating_sub.result + c.loop-block.block-index) c.block-item.result (within d) n
-    (omega (arith, some, ap (λ (b : Filled). length (found n b.frames)) (block_is d))))
+    (λ n. rw (block_is d) (kept_in_block c.args.full.now c.args.last.now.frames c.requires.rise.0 n c.requires.have c.requires.rise.1 _ _ (within d)))
     c.first_whole-number.ensures
 
 pub returns : goal.returns
 returns c =
-    grind (
-      arith,
-      keeps-found c.args.from c.args.place c.args.last.now.frames (all_stored c.args.full.now c.args.last.now) c.first_whole.result (λ n some.
-          sym (found-after 0 (stored_in c.args.full.now) c.args.last.now.frames c.requires.rise.0 n c.requires.rise.1 some)) c.first_whole.ensures,
-    )
+    keeps-found c.args.from c.args.place c.args.last.now.frames (all_stored c.args.full.now c.args.last.now) c.first_whole.result
+    (λ n. kept_in_last c.args.full.now c.args.last.now.frames c.requires.rise.0 n c.requires.have c.requires.rise.1) c.first_whole.ensures
