@@ -527,20 +527,18 @@ class Answers(Hands):
             self.assertFalse(self.browser.run("return document.getElementById('off-bar').checkVisibility()"))
 
     def test_a_pixel_is_moved_by_keys(self):
-        shift = lambda key: self.browser.run("document.body.dispatchEvent(new KeyboardEvent('keydown', { key: arguments[0], shiftKey: true, bubbles: true }))", key)
+        press = "for (const key of arguments) document.body.dispatchEvent(new KeyboardEvent('keydown', { key, shiftKey: true, bubbles: true }))"
         with Viewer(HOUSE) as viewer:
             self.open(viewer)
             self.at(13)
             for key, place in (("ArrowRight", "48 32"), ("ArrowRight", "49 32"), ("ArrowDown", "49 33"), ("ArrowLeft", "48 33"), ("ArrowUp", "48 32")):
-                shift(key)
+                self.browser.run(press, key)
                 self.reads("#place", place)
             self.at(13)
             self.browser.run("location.hash = '#at=13&pixel=95,63'")
             self.reads("#place", "95 63")
-            shift("ArrowRight")
-            shift("ArrowDown")
-            shift("ArrowLeft")
-            self.reads("#place", "94 63")
+            self.browser.run(press, "ArrowRight", "ArrowDown", "ArrowLeft", "ArrowLeft", "ArrowLeft")       # faster than any reply
+            self.reads("#place", "92 63")
 
     def test_the_line_remembers(self):
         with Viewer(HOUSE) as viewer:

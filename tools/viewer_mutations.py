@@ -206,6 +206,7 @@ MUTATIONS = [   # name, file, text, what stands there instead, test
     ("page: a filter of the writers of another pixel", "page/viewer.js", 'if (what === "history") listWriters();', 'if (what === "position") listWriters();', "AnswersInChromium.test_the_filter_follows_the_pixel"),
     ("page: undo forgets", "page/frame.js", "if (!isUndo) before.push(", "if (isUndo) before.push(", "AnswersInChromium.test_off_all_on_and_undo"),
     ("page: a pixel beyond the edge", "page/viewer.js", "Math.min(after.width - 1, x + dx)", "Math.min(after.width, x + dx)", "AnswersInChromium.test_a_pixel_is_moved_by_keys"),
+    ("page: keys from one pixel", "page/frame.js", "find => inTurn(() => choose(find()))", "(find, found = find()) => inTurn(() => choose(found))", "AnswersInChromium.test_a_pixel_is_moved_by_keys"),
     ("page: the line forgets", "page/typed.js", "if (before.at(-1) !== typed) before.push(typed);", "", "AnswersInChromium.test_the_line_remembers"),
     ("page: bookmarks for ever", "page/bookmarks.js", "isKept ? places.filter(other => other !== place)", "isKept ? places", "AnswersInChromium.test_bookmarks"),
     ("page: a column that isn't folded", "page/columns.js", "widths[side] === 0 ? null : 0);\n      else", "null);\n      else", "AnswersInChromium.test_columns"),

@@ -260,10 +260,16 @@ async function askAndTell(lines, untold) {
   return position;
 }
 
-export const pick = ({ x, y }) => inTurn(() => {
+export const pick = pixel => pickInTurn(() => pixel);
+
+// The same of a pixel that is found when its turn comes: keys that are faster than replies go on from each other's pixels
+export const pickInTurn = find => inTurn(() => choose(find()));
+
+function choose(pixel) {
+  if (!pixel) return;
   if (frame.outlined) outline(null);
-  return readHistory({ x, y }, true);
-});
+  return readHistory(pixel, true);
+}
 
 // The pixel here, and the whole frame's history, so that it stays while one walks through it. Another page may have moved the run
 async function readHistory({ x, y }, told = false) {

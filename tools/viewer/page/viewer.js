@@ -2,7 +2,7 @@
 
 import { captureName, firstPlace, onCapture } from "./run.js";
 import { onWorking } from "./working.js";
-import { frame, onShow, inTurn, open, goToPlace, again, last, stop, goTo, neighbour, switchOver, undo, pick, command, fetchPart, wantMap } from "./frame.js";
+import { frame, onShow, inTurn, open, goToPlace, again, last, stop, goTo, neighbour, switchOver, undo, pick, pickInTurn, command, fetchPart, wantMap } from "./frame.js";
 import { WRITES, setFilter, foundFirst, listEvents, listWriters, drawEvents, drawTicks, drawWriters } from "./events.js";
 import { drawPixel } from "./panels.js";
 import { drawState } from "./state.js";
@@ -230,12 +230,12 @@ function savePng() {
 }
 
 // The pixel beside the chosen one, or the middle of the image
-function movePixel(dx, dy) {
+const movePixel = (dx, dy) => pickInTurn(() => {
   const { after, pixel } = frame;
-  if (!after) return;
+  if (!after) return null;
   const { x, y } = pixel ?? { x: Math.floor(after.width / 2) - dx, y: Math.floor(after.height / 2) - dy };
-  pick({ x: Math.max(0, Math.min(after.width - 1, x + dx)), y: Math.max(0, Math.min(after.height - 1, y + dy)) });
-}
+  return { x: Math.max(0, Math.min(after.width - 1, x + dx)), y: Math.max(0, Math.min(after.height - 1, y + dy)) };
+});
 const MOVES = { ArrowLeft: [-1, 0], ArrowRight: [1, 0], ArrowUp: [0, -1], ArrowDown: [0, 1] };
 
 // For who hears the page
