@@ -320,7 +320,7 @@ class Measures(unittest.TestCase):
         for words, why in [(["nothing"], b"nothing"), (["--beside", "x", "workers"], b"measure one program alone")]:
             told = ran(BENCHES / "measure.py", *words)
             self.assertEqual((told.returncode, why in told.stderr, b"Traceback" in told.stderr), (2, True, False))
-        told = ran(BENCHES / "measure.py", "--write", SCALE="2")
+        told = ran(BENCHES / "measure.py", "--write", "events_on_a_tile", SCALE="2", MEASURED=os.devnull)        # a wrong version writes
         self.assertEqual((told.returncode, told.stderr), (1, b"measure: with SCALE the sizes aren't those of the page, so nothing is written\n"))
 
 
