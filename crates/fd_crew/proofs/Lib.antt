@@ -5,3 +5,5 @@ pub mod Ending
 pub mod Faking
 pub mod Crewing
 pub mod Parting
+pub mod Passing
+pub mod Wants

@@ -1,5 +1,5 @@
 -- Working. What a run does to its lanes: what it promises of them, and what each worker hands on.
-use Rattle.std.specs.Prelude.{◌≡◌, ℕ, ◌<◌, ◌≤◌, ◌⊎◌, List, [], ◌∷◌, Some}
+use Rattle.std.specs.Prelude.{◌≡◌, ℕ, ◌+◌, ◌<◌, ◌≤◌, ◌⊎◌, List, [], ◌∷◌, Some}
 use Rattle.std.specs.List.{AllZip}
 use Rattle.fd_events.specs.Table.{Table}
 use Rattle.fd_owner.specs.History.{position, extend_to, first_frames}
@@ -45,6 +45,17 @@ pub record RefusedAt (at : ℕ) (old new : Shown) : Type 0 where
 abbrev pub RefusedNoLower : ℕ → Shown → Shown → Type 0
 RefusedNoLower at old new = IsQuiet old new ⊎ ((r : ℕ) × RefusedAt r old new × (at ≤ r))
 
+-- the gate was opened for each event that the lane has gone through since
+abbrev pub IsPassed : (ℕ → Type 0) → Shown → Shown → Type 0
+IsPassed opened old new = (event : ℕ) → position old.history < event → event ≤ position new.history → opened event
+
+-- the same of each of these lanes, which are numbered on from this number
+abbrev pub ArePassed : {L : Type 0} → (L → Shown) → (ℕ → ℕ → Type 0) → ℕ → List L → List L → Type 0
+ArePassed shown opened number [] [] = Unit {0}
+ArePassed shown opened number [] (y ∷ ys) = ⊥
+ArePassed shown opened number (x ∷ xs) [] = ⊥
+ArePassed shown opened number (x ∷ xs) (y ∷ ys) = IsPassed (opened number) (shown x) (shown y) × ArePassed shown opened (number + 1) xs ys
+
 -- ---- a run
 
 -- R holds somewhere of the items of two lists
@@ -71,6 +82,11 @@ EndsApart shown table target old new Reached = AllZip (λ x y. StandsOn table ta
 EndsApart shown table target old new (Stopped at) =
     (at < target) × AllZip (λ x y. CameTo table at (shown x) (shown y) × RefusedNoLower at (shown x) (shown y)) old new
     × AnyZip (λ x y. RefusedAt at (shown x) (shown y)) old new
+
+-- what is known where the lanes stopped
+abbrev pub OnStop : Type 0 → Outcome → Type 0
+OnStop P Reached = Unit {0}
+OnStop P (Stopped at) = P
 
 -- ---- a worker
 

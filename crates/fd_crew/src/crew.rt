@@ -12,11 +12,12 @@ ghost use Rattle.fd_owner.specs.Shown.{gone_back_to};
 ghost use Rattle.fd_crew.specs.Fence.{CanWork};
 ghost use Rattle.fd_crew.specs.Seats.{crew_of, target_of};
 ghost use Rattle.fd_crew.specs.Parts.{IsPart, lower_lanes, upper_lanes};
-ghost use Rattle.fd_crew.specs.Lanes.{Drawn, RefusedAt, Worked, EndsAs, EndsApart, opening_position};
+ghost use Rattle.fd_crew.specs.Lanes.{Drawn, IsPassed, ArePassed, RefusedAt, Worked, EndsAs, EndsApart, OnStop, opening_position};
+ghost use Rattle.fd_memory.specs.Wanting.{Wanted};
 
 use crate::fence::{Fence, Post};
 use crate::lane::{Gate, Lane};
-use crate::part::Part;
+use crate::part::{Part, even_firsts};
 use fd_events::EventTable;
 use std::alloc::{AllocError, Global};
 use std::thread::{Threads, join_mut};
@@ -69,6 +70,8 @@ fn draw_lane<L: Lane, G: Gate, S: Post>(
     ensures lower { ((S.view seat.new).low ≤ (S.view seat.old).low) × ((S.view seat.new).seen ≤ (S.view seat.old).seen) }
     ensures low { ((S.view seat.new).low ≡ (S.view seat.old).low) ⊎ RefusedAt (S.view seat.new).low (L.shown lane.old) (L.shown lane.new) }
     ensures lane { Drawn course.now.table.now (target_of course.now.fence.now) (S.view seat.new).seen (S.view seat.new).low (L.shown lane.old) (L.shown lane.new) }
+    ensures wanted { ((S.view seat.new).low ≡ (S.view seat.old).low) ⊎ L.wanted }
+    ensures passed { IsPassed (G.opened course.now.gate.now number) (L.shown lane.old) (L.shown lane.new) }
     ensures fits { L.fits lane.new course.now.table.now }
 {
     loop {
@@ -105,6 +108,8 @@ fn draw_lanes<L: Lane, G: Gate, S: Post>(
     requires fits { All (λ l. L.fits l course.now.table.now) lanes.old }
     ensures seat { S.stands course.now.fence.now seat.new }
     ensures worked { Worked L.shown L.fits course.now.table.now (target_of course.now.fence.now) (S.view seat.old) (S.view seat.new) lanes.old lanes.new }
+    ensures wanted { ((S.view seat.new).low ≡ (S.view seat.old).low) ⊎ L.wanted }
+    ensures passed { ArePassed L.shown (G.opened course.now.gate.now) first lanes.old lanes.new }
 {
     for (index, lane) in lanes.iter_mut().enumerate() {
         draw_lane(course, first + index, seat, lane);
@@ -133,6 +138,10 @@ fn run_both<R: Threads + Sync, L: Lane, G: Gate, S: Post>(
     ensures seats { S.stands course.now.fence.now seat.new × S.stands course.now.fence.now other.new }
     ensures lower { Worked L.shown L.fits course.now.table.now (target_of course.now.fence.now) (S.view seat.old) (S.view seat.new) (lower_lanes halves.now.0 halves.now.1 lanes.old) (lower_lanes halves.now.0 halves.now.1 lanes.new) }
     ensures upper { Worked L.shown L.fits course.now.table.now (target_of course.now.fence.now) (S.view other.old) (S.view other.new) (upper_lanes halves.now.0 halves.now.1 lanes.old) (upper_lanes halves.now.0 halves.now.1 lanes.new) }
+    ensures lower_wanted { ((S.view seat.new).low ≡ (S.view seat.old).low) ⊎ L.wanted }
+    ensures upper_wanted { ((S.view other.new).low ≡ (S.view other.old).low) ⊎ L.wanted }
+    ensures lower_passed { ArePassed L.shown (G.opened course.now.gate.now) halves.now.0.first_lane (lower_lanes halves.now.0 halves.now.1 lanes.old) (lower_lanes halves.now.0 halves.now.1 lanes.new) }
+    ensures upper_passed { ArePassed L.shown (G.opened course.now.gate.now) halves.now.1.first_lane (upper_lanes halves.now.0 halves.now.1 lanes.old) (upper_lanes halves.now.0 halves.now.1 lanes.new) }
 {
     let (front, back) = lanes.split_at_mut(halves.1.first_lane - halves.0.first_lane);
     join_mut(
@@ -147,6 +156,8 @@ fn run_both<R: Threads + Sync, L: Lane, G: Gate, S: Post>(
             requires fits { All (λ l. L.fits l course.now.table.now) front.now }
             ensures seat { S.stands course.entry.now.fence.now seat.exit.now }
             ensures worked { Worked L.shown L.fits course.entry.now.table.now (target_of course.entry.now.fence.now) (S.view seat.entry.now) (S.view seat.exit.now) front.entry.now front.exit.now }
+            ensures wanted { ((S.view seat.exit.now).low ≡ (S.view seat.entry.now).low) ⊎ L.wanted }
+            ensures passed { ArePassed L.shown (G.opened course.entry.now.gate.now) halves.entry.now.0.first_lane front.entry.now front.exit.now }
         { run_range(rt, course, &halves.0, seat, front) },
         &mut ||
             requires threads { IsSync R.row × IsSend L.row × IsSync G.row × IsSend S.row }
@@ -158,6 +169,8 @@ fn run_both<R: Threads + Sync, L: Lane, G: Gate, S: Post>(
             requires fits { All (λ l. L.fits l course.now.table.now) back.now }
             ensures seat { S.stands course.entry.now.fence.now other.exit.now }
             ensures worked { Worked L.shown L.fits course.entry.now.table.now (target_of course.entry.now.fence.now) (S.view other.entry.now) (S.view other.exit.now) back.entry.now back.exit.now }
+            ensures wanted { ((S.view other.exit.now).low ≡ (S.view other.entry.now).low) ⊎ L.wanted }
+            ensures passed { ArePassed L.shown (G.opened course.entry.now.gate.now) halves.entry.now.1.first_lane back.entry.now back.exit.now }
         { run_range(rt, course, &halves.1, other, back) },
     );
 }
@@ -179,6 +192,8 @@ fn run_range<R: Threads + Sync, L: Lane, G: Gate, S: Post>(
     requires fits { All (λ l. L.fits l course.now.table.now) lanes.old }
     ensures seat { S.stands course.now.fence.now seat.new }
     ensures worked { Worked L.shown L.fits course.now.table.now (target_of course.now.fence.now) (S.view seat.old) (S.view seat.new) lanes.old lanes.new }
+    ensures wanted { ((S.view seat.new).low ≡ (S.view seat.old).low) ⊎ L.wanted }
+    ensures passed { ArePassed L.shown (G.opened course.now.gate.now) part.now.first_lane lanes.old lanes.new }
 {
     if part.workers < 2 || lanes.len() < 2 {
         draw_lanes(course, part.first_lane, seat, lanes);
@@ -219,6 +234,8 @@ pub fn run_shared<R: Threads + Sync, L: Lane, G: Gate>(
     requires workers { (1 ≤ run.now.workers) × (run.now.workers ≤ 64) }
     requires fits { All (λ l. L.fits l run.now.table.now) lanes.old }
     ensures ended { MatchResult result (λ outcome. EndsApart L.shown run.now.table.now run.now.target lanes.old lanes.new outcome) (λ _. lanes.new ≡ lanes.old) }
+    ensures wanted { MatchResult result (OnStop L.wanted) (λ _. Wanted) }
+    ensures passed { ArePassed L.shown (G.opened gate.now) 0 lanes.old lanes.new }
     ensures fits { All (λ l. L.fits l run.now.table.now) lanes.new }
 {
     let (fence, mut seat) = Fence::raise(alloc, run.target, run.workers)?;
@@ -237,7 +254,7 @@ pub fn run_shared<R: Threads + Sync, L: Lane, G: Gate>(
     Ok(Outcome::Stopped { at })
 }
 
-/// The same of lanes that all stand at one position, shared out evenly: each worker owns as many as any other, or one more.
+/// The same of lanes that all stand at one position, shared out evenly: worker w owns those from `w * lanes / workers` up to the next worker's first one.
 pub fn run_forward<R: Threads + Sync, L: Lane, G: Gate>(
     rt: &R,
     alloc: Global,
@@ -252,13 +269,16 @@ pub fn run_forward<R: Threads + Sync, L: Lane, G: Gate>(
     requires workers { (1 ≤ workers) × (workers ≤ 64) }
     requires fits { All (λ l. L.fits l table.now) lanes.old }
     ensures ended { MatchResult result (λ outcome. EndsAs L.shown table.now target lanes.old lanes.new outcome) (λ _. lanes.new ≡ lanes.old) }
+    ensures wanted { MatchResult result (OnStop L.wanted) (λ _. Wanted) }
+    ensures passed { ArePassed L.shown (G.opened gate.now) 0 lanes.old lanes.new }
     ensures fits { All (λ l. L.fits l table.now) lanes.new }
 {
+    let firsts = even_firsts(lanes.len(), workers);
     let run = Run {
         table,
         target,
         workers,
-        firsts: &[],
+        firsts: &firsts[..workers as usize],
     };
     run_shared(rt, alloc, lanes, &run, gate)
 }

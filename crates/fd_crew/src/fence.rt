@@ -3,9 +3,10 @@
 //! A worker reads it before each step of a lane, and lowers it to the position at which its lane has refused a step.
 //! It does so with a seat, which takes no bytes: what the worker knows of the word is written on it for the proofs alone (`View`).
 //! docs/ARCHITECTURE.md has the whole story.
-ghost use Rattle.std.specs.Prelude.{◌≡◌, ◌≤◌, ◌<◌, ◌^◌, ◌+◌, min, [], IfOk};
+ghost use Rattle.std.specs.Prelude.{◌≡◌, ◌≤◌, ◌<◌, ◌^◌, ◌+◌, min, [], IfOk, OnErr};
 ghost use Rattle.fd_crew.specs.Fence.{view as view_of, front_view, back_view, joined_view};
 ghost use Rattle.fd_crew.specs.Seats.{IsSeatAt, crew_of};
+ghost use Rattle.fd_memory.specs.Wanting.{Wanted};
 
 use atomic_table::{Join, Play, Seat, Split, Table, TableRule};
 use std::alloc::{AllocError, Global};
@@ -89,11 +90,12 @@ impl Fence {
         ensures workers { IfOk result (λ f. ((crew_of f.0).workers ≡ workers) × ((crew_of f.0).target ≡ target)) }
         ensures seat { IfOk result (λ f. IsSeatAt f.0 f.1) }
         ensures view { IfOk result (λ f. f.1.me.0 ≡ view_of target target workers) }
+        ensures wanted { OnErr result Wanted }
     {
         let target = u64::from(target);
         let workers = u64::from(workers);
         let crew = Crew { target, workers };
-        let (table, seat) = Table::of_words(alloc, &[target], &crew)?;
+        let (table, seat) = fd_memory::table(alloc, &[target], &crew)?;
         Ok((Fence { table }, seat))
     }
 

@@ -1,5 +1,5 @@
 //! Lanes, which go through the events of a table one by one and back, as the owner of a tile does, and the gate before each step.
-ghost use Rattle.std.specs.Prelude.{◌≡◌, ◌<◌, ◌≤◌, length, MatchResult};
+ghost use Rattle.std.specs.Prelude.{◌≡◌, ◌<◌, ◌≤◌, length, MatchResult, OnErr};
 ghost use Rattle.fd_owner.specs.History.{position};
 ghost use Rattle.fd_owner.specs.Untouched.{AreUntouched};
 ghost use Rattle.fd_owner.specs.Shown.{gone_forward, gone_on_to, gone_back, gone_back_to, refused};
@@ -19,6 +19,9 @@ pub trait Lane: Send {
     /// What the lane asks of a table.
     ghost fits: { Self → Table → Type 0 };
 
+    /// What each refusal tells beside. A lane that refuses for reasons of its own tells nothing.
+    ghost wanted: { Type 0 } = { Unit {0} };
+
     fn position(&self) -> u32
         ensures { result ≡ position (shown self.now).history };
 
@@ -35,6 +38,7 @@ pub trait Lane: Send {
         requires below { position (shown self.old).history < length table.now.events }
         requires fits { fits self.old table.now }
         ensures moved { MatchResult result (λ _. shown self.new ≡ gone_forward table.now (shown self.old)) (λ _. shown self.new ≡ refused (shown self.old)) }
+        ensures wanted { OnErr result wanted }
         ensures fits { fits self.new table.now };
 
     /// The first position from the lane's own on, and `to` at most, whose next event may write on its place. A lane that can't tell answers its own.
@@ -83,13 +87,16 @@ pub trait Lane: Send {
     }
 }
 
-/// What an owner asks of a table is that its place lies inside the target.
+/// What an owner asks of a table is that its place lies inside the target. It refuses where memory was wanted.
 impl Lane for Owner {
     ghost use Rattle.fd_owner.specs.Shown.{IsInside};
+    ghost use Rattle.fd_memory.specs.Wanting.{Wanted};
 
     ghost shown = { λ o. o };
 
     ghost fits = { λ o table. IsInside o.place table };
+
+    ghost wanted = { Wanted };
 
     fn position(&self) -> u32 {
         Owner::position(self)
@@ -127,10 +134,18 @@ impl Lane for Owner {
 /// What a worker passes before each event that it takes a lane through, in their order and after its look at the fence.
 /// A gate may hold a lane as long as it likes, as a test does that wants one lane ahead of another. No result depends on it.
 pub trait Gate: Sync {
-    fn pass(&self, lane: usize, event: u32);
+    ghost use Rattle.std.specs.Prelude.{ℕ};
+
+    /// It has let a lane pass for an event. Only a call gives it: whoever knows no more of a gate than this trait can't look into it.
+    ghost opened: { Self → ℕ → ℕ → Type 0 } = { λ _ _ _. Unit {0} };
+
+    fn pass(&self, lane: usize, event: u32)
+        ensures { opened self.now lane event };
 
     /// Passes for each event after one position, up to another, which the lane then goes through at once.
-    fn pass_each(&self, lane: usize, from: u32, to: u32) {
+    fn pass_each(&self, lane: usize, from: u32, to: u32)
+        ensures { (event : ℕ) → from < event → event ≤ to → opened self.now lane event }
+    {
         for event in from..to {
             self.pass(lane, event + 1);
         }

@@ -1,6 +1,8 @@
 //! Which worker owns which lanes. A lane has one owner for the whole run.
-ghost use Rattle.std.specs.Prelude.{◌≡◌, ◌≤◌, ◌<◌, ◌^◌, ◌+◌, ◌-◌, ◌*◌, ◌/◌};
+ghost use Rattle.std.specs.Prelude.{◌≡◌, ℕ, ◌≤◌, ◌<◌, ◌^◌, ◌+◌, ◌-◌, ◌*◌, ◌/◌, length, slice_index};
 ghost use Rattle.fd_crew.specs.Parts.{IsPart, owned_below};
+
+use crate::crew::MOST_WORKERS;
 
 /// Neighbouring workers of a crew, and where the lanes begin that they own together.
 #[derive(Clone, Copy)]
@@ -12,7 +14,7 @@ pub struct Part<'a> {
     pub firsts: &'a [usize],
 }
 
-/// How many of these lanes `count` of so many workers own where each of them owns as many as any other, or one more: `count * lanes / workers`,
+/// How many of these lanes the first `count` of so many workers own where each of them owns as many as any other, or one more: `count * lanes / workers`,
 /// computed from quotient and remainder, since the product may not fit.
 fn even_share(lanes: usize, workers: u32, count: u32) -> usize
     requires some { 0 < workers }
@@ -23,6 +25,19 @@ fn even_share(lanes: usize, workers: u32, count: u32) -> usize
     let workers = workers as usize;
     let count = count as usize;
     lanes / workers * count + lanes % workers * count / workers
+}
+
+/// The lane at which each of so many workers begins where they share out these lanes evenly: `worker * lanes / workers`. What stands behind them is 0.
+pub fn even_firsts(lanes: usize, workers: u32) -> [usize; MOST_WORKERS as usize]
+    requires workers { (1 ≤ workers) × (workers ≤ 64) }
+    ensures firsts { (worker : ℕ) → worker < workers → slice_index result worker ≡ worker * lanes / workers }
+    ensures counted { length result ≡ 64 }
+{
+    let mut firsts = [0; MOST_WORKERS as usize];
+    for worker in 0..workers {
+        firsts[worker as usize] = even_share(lanes, workers, worker);
+    }
+    firsts
 }
 
 impl<'a> Part<'a> {

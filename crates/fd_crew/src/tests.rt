@@ -25,7 +25,7 @@ fn markers(alloc: Global, count: u32) -> Result<EventTable, Fail>
     for _ in 0..count {
         events.push(Event::Marker(Label::new(String::new(alloc))?))?;
     }
-    Ok(EventTable::start(alloc, 2, 1, 1, events)?)
+    Ok(EventTable::start(alloc, 3, 1, 1, events)?)
 }
 
 /// A lane that refuses one event once.
@@ -278,6 +278,87 @@ fn every_worker_is_in_a_lane_at_once(rt: HostRuntime) -> Result<(), Fail> {
     assert!(rt;
         four.iter()
             .all(|lane| lane.position == 1 && !lane.went_early)
+    );
+    Ok(())
+}
+
+/// The first lanes of five workers, of seven lanes: they wait for one another, and lane 3, which is the third worker's second one, for none.
+#[derive(Drop)]
+struct FirstsMeet {
+    // one for each lane that has come
+    flags: [AtomicU64; 7],
+    gave_up: AtomicU64,
+    // whether lane 3 came before lane 4
+    is_early: AtomicU64,
+}
+
+/// The lanes at which five workers begin, of seven.
+const FIRSTS: [usize; 5] = [0, 1, 2, 4, 5];
+
+impl FirstsMeet {
+    fn has_come(&self, lane: usize) -> bool {
+        match self.flags.get(lane) {
+            Some(flag) => flag.load(Ordering::SeqCst) == 1,
+            None => false,
+        }
+    }
+}
+
+impl Gate for FirstsMeet {
+    fn pass(&self, lane: usize, _event: u32) {
+        if lane == 4 {
+            self.is_early
+                .fetch_max(self.flags[3].load(Ordering::SeqCst), Ordering::SeqCst);
+        }
+        if let Some(flag) = self.flags.get(lane) {
+            flag.store(1, Ordering::SeqCst);
+        }
+        if !FIRSTS.contains(&lane) {
+            return;
+        }
+        for _ in 0..TURNS {
+            if FIRSTS.iter().all(|first| self.has_come(*first)) {
+                return;
+            }
+            thread::yield_now();
+        }
+        self.gave_up.fetch_add(1, Ordering::SeqCst);
+    }
+}
+
+/// Five workers own of seven lanes 0, 1, 2 and 3, 4, 5 and 6.
+#[test]
+fn lanes_are_shared_out_evenly(rt: HostRuntime) -> Result<(), Fail> {
+    let table = markers(rt.alloc(), 1)?;
+    let gate = FirstsMeet {
+        flags: [
+            AtomicU64::new(0),
+            AtomicU64::new(0),
+            AtomicU64::new(0),
+            AtomicU64::new(0),
+            AtomicU64::new(0),
+            AtomicU64::new(0),
+            AtomicU64::new(0),
+        ],
+        gave_up: AtomicU64::new(0),
+        is_early: AtomicU64::new(0),
+    };
+    let mut lanes = [
+        Fake::new(None),
+        Fake::new(None),
+        Fake::new(None),
+        Fake::new(None),
+        Fake::new(None),
+        Fake::new(None),
+        Fake::new(None),
+    ];
+    let outcome = run_forward(&rt, rt.alloc(), &mut lanes, &table, 1, 5, &gate)?;
+    assert!(rt; outcome == Outcome::Reached && gate.gave_up.load(Ordering::SeqCst) == 0);
+    assert_eq!(rt; gate.is_early.load(Ordering::SeqCst), 0);
+    assert!(rt;
+        gate.flags
+            .iter()
+            .all(|flag| flag.load(Ordering::SeqCst) == 1)
     );
     Ok(())
 }
@@ -592,7 +673,7 @@ fn one_clear(alloc: Global, colour: Colour) -> Result<EventTable, Fail>
 {
     let mut events = Vec::new(alloc);
     events.push(Event::Clear(colour))?;
-    Ok(EventTable::start(alloc, 2, 33, 1, events)?)
+    Ok(EventTable::start(alloc, 3, 33, 1, events)?)
 }
 
 fn colour_shown<R: Abort>(rt: &R, owner: &Owner, x: u32) -> Colour {
@@ -628,7 +709,7 @@ fn three_markers(alloc: Global) -> Result<EventTable, Fail>
     events.push(Event::Marker(Label::new(String::new(alloc))?))?;
     events.push(Event::Marker(Label::new(String::new(alloc))?))?;
     events.push(Event::Marker(Label::new(String::new(alloc))?))?;
-    Ok(EventTable::start(alloc, 2, 1, 1, events)?)
+    Ok(EventTable::start(alloc, 3, 1, 1, events)?)
 }
 
 /// Counts the events that it is asked for, and those that aren't the next one.

@@ -1,2 +1,3 @@
+mod Asking
 pub mod Device
 pub mod Transfer

@@ -1,7 +1,10 @@
 ghost use Rattle.std.proofs.Common.{ap};
 ghost use Rattle.std.specs.Prelude.{◌≡◌, ◌<◌, ◌≤◌, ◌+◌, ◌-◌, ◌^◌, ◌||◌, ◌&&◌, ℕ, List, Option, None, Bool, false, length, take, IfOk, OnErr, OnOk, is_ok};
 ghost use Rattle.std.specs.Io.KnownBytes.{Consumes, Appends, Keeps};
-ghost use Rattle.fd_device.specs.Device.{ReadJudged, WriteJudged};
+ghost use Rattle.std.specs.Result.{result_ok};
+ghost use Rattle.std.specs.Io.{ReadsAtMost, WritesAtMost};
+ghost use Rattle.std.specs.Io.KnownBytes.{ReadConsumes, WriteAppends};
+ghost use Rattle.fd_device.specs.Device.{ReadJudged, WriteJudged, inner_of, IsOneRead, IsOneWrite};
 ghost use Rattle.fd_device.specs.Transfer.{Fills, Takes, CountsFailure, PutsOff, PassesOn, Puts};
 
 use crate::progress::Progress;
@@ -87,6 +90,55 @@ pub fn send<W: Sink>(sink: &mut W, sent: &mut u64, bytes: &[u8]) -> Result<(), F
     Ok(())
 }
 
+/// Calls of a reader. Whoever proves one of them may say that the reader answered so; other crates can't name this trait.
+trait Reads<T: Read> {
+    ghost answered: { T → T → Option ℕ → Type 0 };
+
+    fn ask(reader: &mut T, buffer: &mut [u8]) -> io::Result<usize>
+        ensures bound { ReadsAtMost result buffer.new }
+        ensures bytes { ReadConsumes (T.remaining reader.old) (T.remaining reader.new) result buffer.new }
+        ensures answered { answered reader.old reader.new (result_ok result) }
+    {
+        reader.read(buffer)
+    }
+
+    ghost gives: { (old new : T) (count : Option ℕ) → answered old new count };
+}
+
+/// The same of a writer.
+trait Writes<T: Write> {
+    ghost answered: { T → T → List ℕ → Option ℕ → Type 0 };
+
+    fn ask(writer: &mut T, bytes: &[u8]) -> io::Result<usize>
+        ensures bound { WritesAtMost result bytes.now }
+        ensures bytes { WriteAppends (T.contents writer.old) (T.contents writer.new) result bytes.now }
+        ensures answered { answered writer.old writer.new bytes.now (result_ok result) }
+    {
+        writer.write(bytes)
+    }
+
+    ghost gives: { (old new : T) (bytes : List ℕ) (count : Option ℕ) → answered old new bytes count };
+}
+
+/// A call that is made once.
+struct Once;
+
+impl<T: Read> Reads<T> for Once {
+    ghost use Rattle.fd_device.specs.Asking.{ReadOnce, read_once};
+
+    ghost answered = { ReadOnce };
+
+    ghost gives = { read_once };
+}
+
+impl<T: Write> Writes<T> for Once {
+    ghost use Rattle.fd_device.specs.Asking.{WrittenOnce, written_once};
+
+    ghost answered = { WrittenOnce };
+
+    ghost gives = { written_once };
+}
+
 /// What a read comes to: its count, or a failure, whatever the error is.
 fn judge_read(outcome: io::Result<usize>) -> Result<usize, Failed>
     ensures { ReadJudged outcome result }
@@ -144,8 +196,13 @@ impl<T: Read> Source for Device<T> {
 
     ghost failure_count = { λ d. d.failures };
 
-    fn fill(&mut self, buffer: &mut [u8]) -> Result<usize, Failed> {
-        let Ok(count) = judge_read(self.inner.read(buffer)) else {
+    fn fill(&mut self, buffer: &mut [u8]) -> Result<usize, Failed>
+        ensures bytes { Fills (T.remaining self.old.inner) (T.remaining self.new.inner) self.old.ended self.new.ended buffer.new result }
+        ensures failures { CountsFailure self.old.failures self.new.failures (is_ok result) }
+        ensures asked { IsOneRead (inner_of self.old) (inner_of self.new) result }
+    {
+        let answer = <Once as Reads<T>>::ask(&mut self.inner, buffer);
+        let Ok(count) = judge_read(answer) else {
             self.failures = self.failures.saturating_add(1);
             return Err(Failed);
         };
@@ -175,8 +232,14 @@ impl<T: Write> Sink for Device<T> {
 
     ghost failure_count = { λ d. d.failures };
 
-    fn put(&mut self, bytes: &[u8]) -> Result<usize, Failed> {
-        let Ok(count) = judge_write(self.inner.write(bytes), bytes.len()) else {
+    fn put(&mut self, bytes: &[u8]) -> Result<usize, Failed>
+        ensures bytes { Takes (T.contents self.old.inner) (T.contents self.new.inner) bytes.now result }
+        ensures flushed { PutsOff self.old.flushed self.new.flushed result }
+        ensures failures { CountsFailure self.old.failures self.new.failures (is_ok result) }
+        ensures asked { IsOneWrite (inner_of self.old) (inner_of self.new) bytes.now result }
+    {
+        let answer = <Once as Writes<T>>::ask(&mut self.inner, bytes);
+        let Ok(count) = judge_write(answer, bytes.len()) else {
             self.failures = self.failures.saturating_add(1);
             return Err(Failed);
         };

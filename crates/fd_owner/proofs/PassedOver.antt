@@ -1,21 +1,17 @@
 -- Events whose reach misses a place write nothing there.
-use Rattle.std.proofs.Common.{◌≡◌, ℕ, suc, ◌+◌, ◌<◌, ◌≤◌, false, List, length, Option, Some, None, refl, arith}
+use Rattle.std.proofs.Common.{◌≡◌, ℕ, suc, ◌+◌, ◌<◌, ◌≤◌, false, List, length, Option, Some, None, refl, arith, slice_get}
 use Rattle.std.specs.Prelude.{IsTrue, IfSome}
 use Rattle.fd_cover.specs.Bounds.{is_within}
 use Rattle.fd_cover.specs.declared.bounds.Bounds.{Bounds}
-use Rattle.fd_cover.proofs.BoundsLemmas.{uncovered_outside}
+use Rattle.fd_cover.specs.Covers.{covers}
 use Rattle.fd_tile.specs.declared.place.Place.{Place}
 use Rattle.fd_tile.specs.Place.{Holds, IsTilePlace}
 use Rattle.fd_events.specs.declared.event.Event.{Event}
 use Rattle.fd_events.specs.declared.event.Event.TheVariants.{Clear, DepthClear, Draw}
 use Rattle.fd_events.specs.declared.pipeline.Pipeline.{Pipeline}
-use Rattle.fd_events.specs.Bounds.{bounds_of_triangles}
 use Rattle.fd_events.specs.Draw.{Triangle, triangles_of}
-use Rattle.fd_events.specs.Far.{AreFar}
-use Rattle.fd_events.specs.Reach.{clipped_box, reach_of}
+use Rattle.fd_events.specs.Far.{LeavesAlone, AreFar}
 use Rattle.fd_events.specs.Table.{Table, active_event, state_at}
-use Rattle.fd_events.proofs.BoundsLemmas.{bounds_of_triangles-holds}
-use Rattle.fd_events.proofs.ReachLemmas.{outside_clipped, in_whole}
 use Rattle.fd_draw.specs.Area.{box_of_place}
 use Rattle.fd_draw.specs.Demand.{event_spans, event_pixels}
 use Rattle.fd_draw.proofs.Areas.{within_from}
@@ -37,42 +33,31 @@ module _ (place : Place) (width height : ℕ) (placed : IsTilePlace place) (righ
   in_target : (x y : ℕ) → Holds place x y → (x < width) × (y < height)
   in_target x y held = (omega (arith, held.to_right, right), omega (arith, held.to_bottom, bottom))
 
-  -- the whole target has the place's first pixel
-  not_whole : Misses (record { left = 0; top = 0; right = width; bottom = height }) place → ⊥
-  not_whole misses =
-      let held : Holds place place.left place.top = record {
-        from_left = omega arith;
-        to_right = omega (arith, placed.wide);
-        from_top =
-            omega arith;
-        to_bottom = omega (arith, placed.high);
-      } in
-      let on = in_target place.left place.top held in
-      let inside = in_whole width height place.left place.top on.0 on.1 in
-      let outside = misses place.left place.top held in
-      cc (inside, outside)
+  first_held : Holds place place.left place.top
+  first_held = record { from_left = omega arith; to_right = omega (arith, placed.wide); from_top = omega arith; to_bottom = omega (arith, placed.high) }
 
-  unreached : (ts : List Triangle) (s : Pipeline) → Misses (clipped_box width height (bounds_of_triangles ts)) place → AreUnreached ts s place 0 (length ts)
-  unreached ts s misses i t from to at x y held =
-      let on = in_target x y held in
-      let outside = outside_clipped (bounds_of_triangles ts) width height x y on.0 on.1 (misses x y held) in
-      rw (uncovered_outside t.corners (bounds_of_triangles ts) x y (bounds_of_triangles-holds ts i t at) outside) refl
+  unreached : (ts : List Triangle) (s : Pipeline)
+      → ((x y : ℕ) → Holds place x y → (i : ℕ) (t : Triangle) → slice_get ts i ≡ Some t → covers t.corners x y ≡ false)
+      → AreUnreached ts s place 0 (length ts)
+  unreached ts s alone i t from to at x y held = rw (alone x y held i t at) refl
 
-  event_demands-none : (event : Event) (s : Pipeline) → Misses (reach_of width height event) place → (event_spans event s place ≡ 0)
+  event_demands-none : (event : Event) (s : Pipeline) → ((x y : ℕ) → Holds place x y → LeavesAlone event x y) → (event_spans event s place ≡ 0)
       × (event_pixels event s place ≡ 0)
-  event_demands-none (Clear colour) s misses = absurd (not_whole misses)
-  event_demands-none (DepthClear depth) s misses = absurd (not_whole misses)
-  event_demands-none (Draw draw) s misses =
-      let nowhere = unreached (triangles_of draw) s misses in
+  event_demands-none (Clear colour) s alone = absurd (alone place.left place.top first_held)
+  event_demands-none (DepthClear depth) s alone = absurd (alone place.left place.top first_held)
+  event_demands-none (Draw draw) s alone =
+      let nowhere = unreached (triangles_of draw) s alone in
       (no_spans (triangles_of draw) s place nowhere, no_pixels (triangles_of draw) s place nowhere)
-  event_demands-none other s misses = (refl, refl)
+  event_demands-none other s alone = (refl, refl)
 
   -- the event may be missing, and is far from the place's box
   demands-none : (window : Bounds) → window ≡ box_of_place place → (event : Option Event) (s : Pipeline)
-      → IfSome event (λ event. (x y : ℕ) → IsTrue (is_within window x y) → is_within (reach_of width height event) x y ≡ false)
+      → IfSome event (λ event. (x y : ℕ) → IsTrue (is_within window x y) → x < width → y < height → LeavesAlone event x y)
       → (spans_of event s place ≡ 0) × (pixels_written event s place ≡ 0)
   demands-none window is None s far = (refl, refl)
-  demands-none window is (Some event) s far = event_demands-none event s (misses_from (reach_of width height event) window place is far)
+  demands-none window is (Some event) s far = event_demands-none event s (λ x y held.
+      let on = in_target x y held in
+      far x y (rw is (within_from (box_of_place place) x y held.from_left held.to_right held.from_top held.to_bottom)) on.0 on.1)
 
 pub untouched_from : (table : Table) (from to : ℕ) (window : Bounds) (place : Place) → IsTilePlace place → IsInside place table
     → window ≡ box_of_place place → AreFar table from to window → AreUntouched table from to place

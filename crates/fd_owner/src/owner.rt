@@ -9,6 +9,7 @@ ghost use Rattle.fd_owner.specs.Shown.{gone_forward, gone_on_to, gone_back, gone
 ghost use Rattle.fd_owner.specs.Step.{IsPlanPast, MayBeginPast, spans_past, pixels_past};
 ghost use Rattle.fd_owner.specs.Untouched.{IsUntouched, AreUntouched};
 ghost use Rattle.fd_events.specs.Table.{flag_at};
+ghost use Rattle.fd_memory.specs.Wanting.{Wanted};
 
 use fd_blend::Colour;
 use fd_cover::Bounds;
@@ -151,7 +152,8 @@ impl Owner {
     ) -> Result<(), AllocError>
         requires first { 1 ≤ event }
         requires last { event ≤ position self.now.history }
-        ensures { OnOk result (kept.new.items ≡ kept.old.items ++ take count (pixels_kept self.now.place self.now.history event x y)) }
+        ensures kept { OnOk result (kept.new.items ≡ kept.old.items ++ take count (pixels_kept self.now.place self.now.history event x y)) }
+        ensures wanted { OnErr result Wanted }
     {
         self.undo.add_kept(event as usize - 1, x, y, count, kept)
     }
@@ -164,6 +166,7 @@ impl Owner {
         ensures refused { OnErr result (self.new ≡ refused self.old) }
         ensures free { spans_past table.now (position self.old.history) self.old.place ≡ 0
             → pixels_past table.now (position self.old.history) self.old.place ≡ 0 → IsOk result }
+        ensures wanted { OnErr result Wanted }
     {
         let (position, place, _len) = (self.position(), self.place(), table.len());
         match first_near(table, position, place) {
@@ -185,6 +188,7 @@ impl Owner {
         ensures refused { OnErr result (self.new ≡ refused self.old) }
         ensures free { spans_past table.now (position self.old.history) self.old.place ≡ 0
             → pixels_past table.now (position self.old.history) self.old.place ≡ 0 → IsOk result }
+        ensures wanted { OnErr result Wanted }
     {
         let (position, place, _len) = (self.position(), self.place(), table.len());
         let plan = plan_past(table, position, place, first);
@@ -204,6 +208,7 @@ impl Owner {
         ensures ok { OnOk result (self.new ≡ gone_forward table.now self.old) }
         ensures refused { OnErr result (self.new ≡ refused self.old) }
         ensures free { plan.now.demand.spans ≡ 0 → plan.now.demand.pixels ≡ 0 → IsOk result }
+        ensures wanted { OnErr result Wanted }
     {
         let (position, _len, _place) = (self.position(), table.len(), self.tile.place());
         if make_room(plan.demand, &mut self.tile, &mut self.undo).is_err() {
@@ -223,6 +228,7 @@ impl Owner {
         ensures drawn { result ≡ Ok true → self.new ≡ gone_forward table.now self.old }
         ensures not { result ≡ Ok false → self.new ≡ self.old }
         ensures refused { OnErr result (self.new ≡ refused self.old) }
+        ensures wanted { OnErr result Wanted }
     {
         let (_len, _place) = (table.len(), self.tile.place());
         match fd_draw::clear_alike(table.event(number), &mut self.tile, &mut self.undo) {
@@ -339,9 +345,10 @@ fn make_room(demand: Demand, tile: &mut Tile, undo: &mut UndoStack) -> Result<()
     ensures made { OnOk result (0 < demand.pixels → tile.new.made ≡ true) }
     ensures room { OnOk result (undo.new ≡ record { frames = undo.old.frames; frame_left = true; spans_left = demand.spans; pixels_left = demand.pixels }) }
     ensures free { demand.spans ≡ 0 → demand.pixels ≡ 0 → length undo.old.frames + 1 < 2 ^ 64 → IsOk result }
+    ensures wanted { OnErr result (length undo.old.frames < 4294967295 → Wanted) }
 {
-    if demand.pixels > 0 {
-        tile.make().map_err(|_| Full)?;
+    if demand.pixels > 0 && tile.make().is_err() {
+        return Err(Full);
     }
     undo.reserve(demand.spans, demand.pixels)
 }

@@ -1,5 +1,5 @@
 ghost use Rattle.std.specs.Prelude.{◌≡◌, ◌≢◌, ℕ, ◌+◌, ◌-◌, ◌^◌, ◌<◌, ◌≤◌, [], ◌∷◌, ◌++◌, length, drop, replicate, slice_index_or};
-ghost use Rattle.std.specs.Prelude.{None, IfOk, IfSome, true, false};
+ghost use Rattle.std.specs.Prelude.{None, IfOk, OnErr, IfSome, true, false};
 ghost use Rattle.std.specs.List.{zip};
 ghost use Rattle.fd_snap.specs.Limits.{most_pixels};
 ghost use Rattle.fd_tile.specs.Place.{IsTilePlace};
@@ -7,6 +7,7 @@ ghost use Rattle.fd_undo.specs.Frame.{kept_row, alike, KeepsAll};
 ghost use Rattle.fd_undo.specs.Parts.{AreParts, IsCut, kept_in_parts};
 ghost use Rattle.fd_undo.specs.Block.{KeptFrame, Filled, no_frame, newest, others, keeping_row, found, first_number, Rise};
 ghost use Rattle.fd_undo.specs.Block.{NumbersRise, AreInOrder, no_mark, last_mark, next};
+ghost use Rattle.fd_memory.specs.Wanting.{Wanted};
 
 use crate::parts::{Cut, Parts};
 use crate::room::Room;
@@ -14,6 +15,7 @@ use crate::rows::Rows;
 use crate::span::Span;
 use crate::whole::have_all_rows;
 use fd_blend::Colour;
+use fd_memory::small_room;
 use fd_tile::Place;
 use smallvec::SmallVec;
 use std::alloc::{AllocError, Global};
@@ -77,9 +79,10 @@ impl Block {
         ensures frames { IfOk result (λ b. b.frames ≡ []) }
         ensures room { IfOk result (λ b. (room.frames ≤ b.frames_left) × (room.spans ≤ b.spans_left)
             × (room.colours ≤ b.colours_left) × (room.depths ≤ b.depths_left)) }
+        ensures wanted { OnErr result Wanted }
     {
         Ok(Block {
-            marks: SmallVec::with_capacity(alloc, room.frames)?,
+            marks: small_room(alloc, room.frames)?,
             rows: Rows::with_room(alloc, room)?,
         })
     }

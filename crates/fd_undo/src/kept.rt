@@ -1,8 +1,9 @@
-ghost use Rattle.std.specs.Prelude.{◌≡◌, ◌+◌, ◌-◌, ◌≤◌, ◌++◌, length, take, drop, slice_get, slice_index_or, OnOk, true};
+ghost use Rattle.std.specs.Prelude.{◌≡◌, ◌+◌, ◌-◌, ◌≤◌, ◌++◌, length, take, drop, slice_get, slice_index_or, OnErr, OnOk, true};
 ghost use Rattle.fd_tile.specs.Tile.{fresh_pixel};
 ghost use Rattle.fd_undo.specs.Frame.{kept_at};
 ghost use Rattle.fd_undo.specs.Rows.{span_holds, listed_colours, listed_depths, pixels_of_row};
 ghost use Rattle.fd_undo.specs.Parts.{AreParts, kept_in_parts};
+ghost use Rattle.fd_memory.specs.Wanting.{Wanted};
 
 use crate::parts::Parts;
 use crate::span::Span;
@@ -38,7 +39,8 @@ pub(crate) fn add_kept_in(
     kept: &mut Vec<(Colour, u16)>,
 ) -> Result<(), AllocError>
     requires { AreParts parts }
-    ensures { OnOk result (kept.new.items ≡ kept.old.items ++ take count (kept_at (kept_in_parts parts.entry) x y)) }
+    ensures kept { OnOk result (kept.new.items ≡ kept.old.items ++ take count (kept_at (kept_in_parts parts.entry) x y)) }
+    ensures wanted { OnErr result Wanted }
 {
     let (mut first_colour, mut first_depth) = (0, 0);
     let mut left = count;
@@ -47,7 +49,8 @@ pub(crate) fn add_kept_in(
             return Ok(());
         }
         if span.holds(x, y) {
-            kept.push(pixel_of(span, parts, first_colour, first_depth, x, y))?;
+            let pixel = pixel_of(span, parts, first_colour, first_depth, x, y);
+            fd_memory::push(kept, pixel)?;
             left -= 1;
         }
         first_colour += span.listed_colours();

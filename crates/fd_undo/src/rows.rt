@@ -1,4 +1,4 @@
-ghost use Rattle.std.specs.Prelude.{◌≡◌, ℕ, ◌+◌, ◌-◌, ◌^◌, ◌<◌, ◌≤◌, [], ◌∷◌, ◌++◌, length, take, drop, IfOk, IfSome, slice_index_or, true, vec_capacity};
+ghost use Rattle.std.specs.Prelude.{◌≡◌, ℕ, ◌+◌, ◌-◌, ◌^◌, ◌<◌, ◌≤◌, [], ◌∷◌, ◌++◌, length, take, drop, IfOk, OnErr, IfSome, slice_index_or, true, vec_capacity};
 ghost use Rattle.std.specs.List.{zip};
 ghost use Rattle.fd_undo.specs.Span.{IsRowOf};
 ghost use Rattle.fd_blend.specs.Channel.{fresh};
@@ -8,11 +8,13 @@ ghost use Rattle.fd_undo.specs.Frame.{kept_row, alike};
 ghost use Rattle.fd_undo.specs.Rows.{colour_count, depth_count, pixel_count, rows_of, joined, no_span};
 ghost use Rattle.fd_undo.specs.Rows.{KeepsMore, GrowsBy};
 ghost use Rattle.fd_undo.specs.Parts.{AreParts, IsCut, rows_in_parts};
+ghost use Rattle.fd_memory.specs.Wanting.{Wanted};
 
 use crate::parts::{Cut, Parts, part};
 use crate::room::{Room, SPANS_INSIDE};
 use crate::span::{Span, last_of};
 use fd_blend::Colour;
+use fd_memory::small_room;
 use fd_tile::Place;
 use smallvec::SmallVec;
 use std::alloc::{AllocError, Global};
@@ -51,11 +53,12 @@ impl Rows {
     pub(crate) fn with_room(alloc: Global, room: Room) -> Result<Rows, AllocError>
         ensures spans { IfOk result (λ r. (r.spans ≡ []) × (r.colours ≡ []) × (r.depths ≡ [])) }
         ensures room { IfOk result (λ r. (room.spans ≤ r.spans_left) × (room.colours ≤ r.colours_left) × (room.depths ≤ r.depths_left)) }
+        ensures wanted { OnErr result Wanted }
     {
         Ok(Rows {
-            spans: SmallVec::with_capacity(alloc, room.spans)?,
-            colours: Vec::with_capacity(alloc, room.colours)?,
-            depths: Vec::with_capacity(alloc, room.depths)?,
+            spans: small_room(alloc, room.spans)?,
+            colours: fd_memory::room(alloc, room.colours)?,
+            depths: fd_memory::room(alloc, room.depths)?,
         })
     }
 

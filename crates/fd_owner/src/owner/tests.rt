@@ -47,7 +47,7 @@ fn additive() -> Result<Event, Fail> {
 fn table(alloc: Global, width: u32, height: u32, event: Event) -> Result<EventTable, Fail> {
     let mut events = Vec::new(alloc);
     events.push(event)?;
-    Ok(EventTable::start(alloc, 2, width, height, events)?)
+    Ok(EventTable::start(alloc, 3, width, height, events)?)
 }
 
 /// A tile of one pixel with this colour and depth.
@@ -146,7 +146,7 @@ fn back_returns_to_the_image_before_the_draw(rt: HostRuntime) -> Result<(), Fail
     let mut events = Vec::new(alloc);
     events.push(additive()?)?;
     events.push(flat(alloc, &[triangle, triangle])?)?;
-    let table = EventTable::start(alloc, 2, 1, 1, events)?;
+    let table = EventTable::start(alloc, 3, 1, 1, events)?;
     let mut owner = Owner::of(alloc, one_pixel(alloc, before.0, before.1)?);
     forward(&mut owner, &table)?;
     forward(&mut owner, &table)?;
@@ -187,7 +187,7 @@ fn cleared_and_drawn(alloc: Global) -> Result<EventTable, Fail> {
     events.push(Event::Clear(colour(255, 0, 0, 255)))?;
     events.push(flat(alloc, &[half])?)?;
     events.push(Event::DepthClear(7))?;
-    Ok(EventTable::start(alloc, 2, 2, 2, events)?)
+    Ok(EventTable::start(alloc, 3, 2, 2, events)?)
 }
 
 /// A tile that is made when the second event draws on it.
@@ -256,7 +256,7 @@ fn hidden_and_shown(alloc: Global) -> Result<EventTable, Fail> {
     events.push(flat(alloc, &[far])?)?;
     events.push(Event::DepthClear(65535))?;
     events.push(flat(alloc, &[far])?)?;
-    Ok(EventTable::start(alloc, 2, 1, 1, events)?)
+    Ok(EventTable::start(alloc, 3, 1, 1, events)?)
 }
 
 #[test]

@@ -1,6 +1,10 @@
-use Rattle.std.proofs.Common.{arith, ◌≡◌, inl, sym, ap, ◌∙◌}
+use Rattle.std.proofs.Common.{arith, ◌≡◌, ◌+◌, inl, inr, sym, ap, ◌∙◌}
+use Rattle.fd_owner.specs.History.{position}
+use Rattle.fd_owner.specs.Shown.{Shown}
 use Rattle.fd_crew.specs.declared.fence.View.{View}
+use Rattle.fd_crew.proofs.Passing.{passed_near, passed_step}
 use Rattle.fd_crew.proofs.Laning.{Ran, ran_more, ran_on, drawn_quiet, drawn_refused, position_more, at_ok, at_err}
+use Rattle.fd_crew.proofs.Wants.{on_err}
 use Rattle.fd_crew.proofs.crew.draw_lane.Goals as goal
 
 pub loop-number-smaller : goal.loop-number-smaller
@@ -20,6 +24,11 @@ loop-number-preserved g c =
       seen = omega arith;
       fits = c.forward.ensures.fits;
       ran = ran_more _ _ _ _ is.1 (ran_on _ _ _ _ c.pass_to.ensures.moved c.pass_to.ensures.least c.loop-number.invariant.ran);
+      passed = passed_step (g.G.Gate.opened c.args.course.now.gate.now c.args.number) (g.L.Lane.shown c.args.lane.now) (g.L.Lane.shown c.pass_to.new.self)
+          (g.L.Lane.shown c.forward.new.self) (c.position-at.result + 1) (passed_near
+          (g.G.Gate.opened c.args.course.now.gate.now c.args.number) (g.L.Lane.shown c.args.lane.now)
+          (g.L.Lane.shown c.loop-number.lane) (g.L.Lane.shown c.pass_to.new.self) c.position-position.result c.next_near-near.result
+          c.position-position.ensures c.loop-number.invariant.passed c.pass_each.ensures c.pass_to.ensures.most) c.pass.ensures (omega arith) (omega arith);
       within = inl (omega arith);
     }
 
@@ -41,3 +50,22 @@ returns-then-is_err-clause-lane g c =
     let is = at_err _ _ _ c.forward.ensures.moved (sym c.is_err.ensures.value ∙ c.if-is_err.true) in
     let ran : Ran table old near = ran_on _ _ _ _ c.pass_to.ensures.moved c.pass_to.ensures.least c.loop-number.invariant.ran in
     drawn_refused _ _ _ _ _ _ _ ran is.1 (omega arith) (omega arith) (omega arith)
+
+pub returns-then-from-limit-2-clause-passed : goal.returns-then-from-limit-2-clause-passed
+returns-then-from-limit-2-clause-passed g c =
+    passed_near (g.G.Gate.opened c.args.course.now.gate.now c.args.number) (g.L.Lane.shown c.args.lane.now) (g.L.Lane.shown c.loop-number.lane)
+    (g.L.Lane.shown c.pass_to.new.self) c.position-position.result c.next_near-near.result c.position-position.ensures c.loop-number.invariant.passed
+    c.pass_each.ensures c.pass_to.ensures.most
+
+pub returns-then-is_err-clause-passed : goal.returns-then-is_err-clause-passed
+returns-then-is_err-clause-passed g c =
+    let is = at_err _ _ _ c.forward.ensures.moved (sym c.is_err.ensures.value ∙ c.if-is_err.true) in
+    let at : position (g.L.Lane.shown c.forward.new.self).history ≡ position (g.L.Lane.shown c.pass_to.new.self).history =
+    ap (λ (s : Shown). position s.history) is.1 in
+    passed_near (g.G.Gate.opened c.args.course.now.gate.now c.args.number) (g.L.Lane.shown c.args.lane.now) (g.L.Lane.shown c.loop-number.lane)
+    (g.L.Lane.shown c.forward.new.self) c.position-position.result c.next_near-near.result c.position-position.ensures c.loop-number.invariant.passed
+    c.pass_each.ensures (omega (arith, at, c.pass_to.ensures.most))
+
+pub returns-then-is_err-clause-wanted : goal.returns-then-is_err-clause-wanted
+returns-then-is_err-clause-wanted g c =
+    inr (on_err c.forward.result g.L.Lane.wanted (sym c.is_err.ensures.value ∙ c.if-is_err.true) c.forward.ensures.wanted)

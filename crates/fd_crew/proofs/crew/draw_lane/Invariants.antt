@@ -1,5 +1,6 @@
 use Rattle.std.proofs.Common.{◌≡◌, ◌≤◌, ◌-◌, ◌⊎◌, length}
 use Rattle.fd_owner.specs.History.{position}
+use Rattle.fd_crew.specs.Lanes.{IsPassed}
 use Rattle.fd_crew.proofs.Laning.{Ran}
 use Rattle.fd_crew.proofs.crew.draw_lane.Given as goal
 
@@ -13,6 +14,7 @@ invariant-loop-number g l =
       seen : (g.S.Post.view l.seat).seen ≤ (g.S.Post.view l.initial.seat).seen;
       fits : g.L.Lane.fits l.lane l.course.table.now;
       ran : Ran l.course.table.now old now;
+      passed : IsPassed (g.G.Gate.opened l.course.gate.now l.number) old now;
       within : (position now.history ≤ l.course.fence.now.table.shared.key.target) ⊎ (now.history ≡ old.history);
     }
 

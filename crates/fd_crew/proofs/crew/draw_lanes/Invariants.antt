@@ -1,5 +1,5 @@
-use Rattle.std.proofs.Common.{◌≡◌, take, drop}
-use Rattle.fd_crew.specs.Lanes.{Worked}
+use Rattle.std.proofs.Common.{◌≡◌, ◌⊎◌, take, drop}
+use Rattle.fd_crew.specs.Lanes.{Worked, ArePassed}
 use Rattle.fd_crew.proofs.crew.draw_lanes.Given as goal
 
 abbrev pub invariant-loop-index : goal.invariant-loop-index
@@ -8,5 +8,7 @@ invariant-loop-index g l = record {
   worked : Worked g.L.Lane.shown g.L.Lane.fits l.course.table.now l.course.fence.now.table.shared.key.target (g.S.Post.view l.initial.seat)
       (g.S.Post.view l.seat)
       (take l.index l.initial.lanes) (take l.index l.lanes);
+  wanted : ((g.S.Post.view l.seat).low ≡ (g.S.Post.view l.initial.seat).low) ⊎ g.L.Lane.wanted;
+  passed : ArePassed g.L.Lane.shown (g.G.Gate.opened l.course.gate.now) l.first (take l.index l.initial.lanes) (take l.index l.lanes);
   rest : drop l.index l.lanes ≡ drop l.index l.initial.lanes;
 }

@@ -2,6 +2,8 @@ use Rattle.std.proofs.Common.{ℕ, ap, subst}
 use Rattle.fd_crew.specs.declared.fence.View.{View}
 use Rattle.fd_crew.specs.Lanes.{Worked}
 use Rattle.fd_crew.proofs.Ending.{above_all, fits_worked, fits_all, ends_reached, ends_stopped}
+use Rattle.fd_crew.proofs.Passing.{passed_none, passed_from, passed_back}
+use Rattle.fd_crew.proofs.Wants.{not_reached}
 use Rattle.fd_crew.proofs.crew.run_shared.Goals as goal
 
 pub run_back-requires-after_bounds : goal.run_back-requires-after_bounds
@@ -28,3 +30,23 @@ returns-clause-ended g c =
 
 pub returns-clause-fits : goal.returns-clause-fits
 returns-clause-fits g c = fits_all _ _ _ _ _ _ _ _ _ c.run_range.ensures.worked c.run_back.ensures.fits
+
+pub returns-then-at-run-clause-passed : goal.returns-then-at-run-clause-passed
+returns-then-at-run-clause-passed g c =
+    passed_from g.L.Lane.shown (g.G.Gate.opened c.args.gate.now) 0 c.whole-part.result.first_lane c.args.lanes.now c.run_range.new.lanes
+    c.whole-part.ensures.first c.run_range.ensures.passed
+
+pub returns-clause-passed : goal.returns-clause-passed
+returns-clause-passed g c =
+    passed_back g.L.Lane.shown (g.G.Gate.opened c.args.gate.now) 0 c.close-at.result c.args.lanes.now c.run_range.new.lanes c.run_back.new.lanes
+    (above_all _ _ _ _ _ _ _ _ _ c.run_range.ensures.worked c.close-at.ensures.seen)
+    (passed_from g.L.Lane.shown (g.G.Gate.opened c.args.gate.now) 0 c.whole-part.result.first_lane c.args.lanes.now c.run_range.new.lanes
+    c.whole-part.ensures.first c.run_range.ensures.passed) c.run_back.ensures.moved
+
+pub returns-in_err-fence-clause-passed : goal.returns-in_err-fence-clause-passed
+returns-in_err-fence-clause-passed g c = passed_none g.L.Lane.shown (g.G.Gate.opened c.args.gate.now) 0 c.args.lanes.now
+
+pub returns-clause-wanted : goal.returns-clause-wanted
+returns-clause-wanted g c =
+    not_reached g.L.Lane.wanted _ c.run_range.new.seat.me.0.low c.in_ok-fence.seat.me.0.low _ c.close-at.ensures.low
+    (ap (λ (v : View). v.low) c.in_ok-fence.ensures.view) c.if-at-run.false c.run_range.ensures.wanted

@@ -73,3 +73,8 @@ returns-in-Ok-clause-drawn c = λ is.
     let d = (goal.at-returns-in-Ok-clause-drawn c).In-Ok in
     let drawn : c.in-Ok.drawn ≡ true = ap told is in
     rw (← c.self.view_is) (cc ((painted d drawn).placed, history d drawn))
+
+pub returns-in-Err-clause-wanted : goal.returns-in-Err-clause-wanted
+returns-in-Err-clause-wanted c =
+    let here = position_seen c.self.inside.tile c.self.inside.undo _ (ap (λ (s : Shown). s.history) c.self.view_is) in
+    c.in-Err.ensures.wanted (omega (arith, here, c.requires.next, c.requires.last, c.len-len.ensures.table.max_events))

@@ -1,4 +1,5 @@
-use Rattle.std.proofs.Common.{◌≡◌, ◌+◌, ◌^◌, ◌<◌, ◌∙◌, [], ◌∷◌, ◌++◌, refl, ap, arith, inl, length}
+use Rattle.std.proofs.Common.{◌≡◌, ◌+◌, ◌^◌, ◌<◌, ◌∙◌, [], ◌∷◌, ◌++◌, refl, sym, ap, arith, inl, length}
+use Rattle.std.specs.Prelude.{Result, Ok, Err, is_err, OnErr, true}
 use Rattle.fd_tile.specs.declared.place.Place.{Place}
 use Rattle.fd_tile.specs.Tile.{TileImage, IsTileImage}
 use Rattle.fd_undo.specs.Frame.{top}
@@ -81,3 +82,13 @@ returns-clause-ok c =
     let placed = c.draw_past.ensures.painted.placed ∙ stays at.After-make_room in
     let told = history at.After-make_room c.begin.new.self c.draw_past.new.tile c.draw_past.new.undo (begun at.After-begin) c.draw_past.ensures.painted in
     rw (← c.self.view_is) (cc (placed, told))
+
+on_err : {A E : Type 0} (r : Result A E) (P : Type 0) → is_err r ≡ true → OnErr r P → P
+on_err (Ok a) P e h = absurd (cc)
+on_err (Err x) P e h = h
+
+pub returns-then-is_err-clause-wanted : goal.returns-then-is_err-clause-wanted
+returns-then-is_err-clause-wanted c =
+    let here = position_seen c.self.inside.tile c.self.inside.undo _ (ap (λ (s : Shown). s.history) c.self.view_is) in
+    on_err c.make_room.result _ (sym c.is_err.ensures.value ∙ c.if-is_err.true) c.make_room.ensures.wanted
+    (omega (arith, here, c.requires.below, c.len-len.ensures.table.max_events))

@@ -54,4 +54,5 @@ returns c =
           (ap (λ (rows : List (List Colour)). record { place = p; rows = rows; depths = rows_over p c.in_ok-depths.depths.items; made = true }) (colours_are c)
           ∙ ap (λ (depths : List (List ℕ)). record { place = p; rows = flat_over p one; depths = depths; made = true }) (depths_are c));
       same = tt;
+      wanted = tt;
     }

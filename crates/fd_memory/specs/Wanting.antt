@@ -1,0 +1,2 @@
+-- Working. That memory was wanted: a growth was really refused.
+pub use Rattle.fd_memory.specs.Making.{Wanted}
