@@ -23,7 +23,7 @@ const SESSION: &str = "Commands, one a line on standard input:
   back           takes the last event back
   goto K         goes to position K: the first K events have been gone through
   on I, off I    switches event I on or off, and draws anew from there
-  pixel X Y      the pixel's colour, and its depth where the capture is of version 2
+  pixel X Y      the pixel's colour, and its depth where the capture has depths
   history X Y    what each event and triangle did to the pixel
   state          the pipeline state before the next event
   events         the events, and which of them are on

@@ -1,17 +1,20 @@
 -- What an event stands for is the same from the members that are kept and from all that were found.
-use Rattle.std.proofs.Common.{arith, ◌≡◌, ℕ, List, Option, Some, None, true, codes, option_map, option_and_then, refl, ap, ◌∙◌}
+use Rattle.std.proofs.Common.{arith, ◌≡◌, ℕ, ◌-◌, ◌^◌, List, Option, Some, None, Bool, true, false, ◌==◌, ◌&&◌, cond, codes, option_map, option_and_then, refl}
+use Rattle.std.proofs.Common.{ap, ◌∙◌, eqb-true}
+use Rattle.std.specs.Prelude.{ok_or}
 use Rattle.serde_json.specs.Data.{Data, object, Members}
 use Rattle.serde_json.specs.Find.{get_member, as_bool, as_str, as_i64}
 use Rattle.fd_json.specs.Clipped.{clipped}
-use Rattle.fd_capture.specs.Field.{between, number_between, colour_of_data, rect_of_data, part_of_data, vertices_member, indices_member, indices_of}
-use Rattle.fd_capture.specs.Field.{array_of, all_of, vertex_of, unsigned_32}
-use Rattle.fd_capture.specs.Kind.{clear_event, raster_event, scissor_event, blend_event, factor_of, draw_event, marker_event, depth_event, depth_clear_event}
+use Rattle.fd_capture.specs.Field.{between, number_between, colour_of_data, rect_of_data, part_of_data, indices_of, text_member, unsigned_32}
+use Rattle.fd_capture.specs.Picture.{bytes_of_data, holes_of, picture_of_data}
+use Rattle.fd_capture.specs.Kind.{clear_event, raster_event, scissor_event, blend_event, factor_of, marker_event, depth_event, depth_clear_event}
+use Rattle.fd_capture.specs.Kind.{draw_event, shaded_draw, painted_draw, is_picture}
 use Rattle.fd_capture.specs.Fault.{◌>>=◌}
 use Rattle.fd_capture.specs.declared.fault.EventFault.TheVariants.{BadField}
 use Rattle.fd_capture.specs.Capture.{event_of, event_of_kind}
-use Rattle.std.specs.Prelude.{ok_or}
-use Rattle.fd_capture.specs.Streamed.{is_small, Clips, vertices_of, indices_of_array, listed_indices, well_formed, draw_from, event_of_kind_from}
-use Rattle.fd_capture.specs.Streamed.{event_from, then_event}
+use Rattle.fd_capture.specs.Streamed.{is_small, Clips, indices_of_array, if_any, well_formed, large_in, picture_read, picture_from}
+use Rattle.fd_capture.specs.Streamed.{draw_from, shaded_draw_from, painted_draw_from, event_of_kind_from, event_from, then_event}
+use Rattle.fd_capture.proofs.Coloured.{coloured-found, painted-found}
 use Rattle.fd_capture.proofs.Outer.{number-clipped, text-clipped, flag-clipped, colour-clipped, rect-clipped, part-clipped}
 
 pub number_between-clipped : (low high : ℕ) (d : Data) → number_between low high (clipped d) ≡ number_between low high d
@@ -69,33 +72,71 @@ module _ (kept found : Members) (clips : Clips kept found) where
   pub marker-kept : marker_event (object kept) ≡ marker_event (object found)
   marker-kept = rw (member-kept as_str text-clipped (codes "name") refl) refl
 
--- the vertices and the indices of a draw, from what was read of them
-vertices_from : (version : ℕ) (o : Option Data) → well_formed (option_map (vertices_of version) o) ≡ option_and_then (all_of (vertex_of version))
-    (option_and_then array_of o)
-vertices_from version o = grind arith
+-- ---- the large members, from what was read of them
 
-pub vertices-found : (version : ℕ) (found : Members) → well_formed (option_map (vertices_of version) (get_member (codes "vertices") found))
-    ≡ vertices_member version "vertices" (object found)
-vertices-found version found = vertices_from version (get_member (codes "vertices") found)
-
-joined : (o : Option (List Data)) → option_and_then (λ (is : List ℕ). Some (Some is)) (option_and_then (all_of unsigned_32) o)
-    ≡ option_and_then (λ (ds : List Data). option_and_then (λ (is : List ℕ). Some (Some is)) (all_of unsigned_32 ds)) o
-joined o = grind arith
-
-indices_from : (o : Option Data) → listed_indices (option_map indices_of_array o) ≡ indices_of o
+indices_from : (o : Option Data) → if_any (option_map indices_of_array o) ≡ indices_of o
 indices_from o = grind arith
 
-pub indices-found : (found : Members) → listed_indices (option_map indices_of_array (get_member (codes "indices") found))
-    ≡ indices_member "indices" (object found)
-indices-found found = indices_from (get_member (codes "indices") found)
+holes_from : (o : Option Data) → if_any (option_map bytes_of_data o) ≡ holes_of o
+holes_from None = refl
+holes_from (Some d) = by_bytes (bytes_of_data d)
+  where
+    by_bytes : (o : Option (List ℕ)) → if_any (Some o) ≡ option_and_then (λ (bytes : List ℕ). Some (Some bytes)) o
+    by_bytes None = refl
+    by_bytes (Some bytes) = refl
+
+picture_from_member : (o : Option Data) → well_formed (option_map (picture_read 3) o) ≡ option_and_then picture_of_data o
+picture_from_member None = refl
+picture_from_member (Some d) = refl
+
+-- a picture
+pub picture-kept : (kept found : Members) → Clips kept found
+    → picture_from (object kept) (option_and_then bytes_of_data (get_member (codes "texels") found))
+    (option_map bytes_of_data (get_member (codes "holes") found))
+    ≡ picture_of_data (object found)
+picture-kept kept found clips =
+    let same = number_between-clipped 0 (2 ^ 32 - 1) in
+    rw (
+      member-kept kept found clips unsigned_32 same (codes "left") refl,
+      member-kept kept found clips unsigned_32 same (codes "top") refl,
+      member-kept kept found clips unsigned_32 same (codes "width") refl,
+      member-kept kept found clips unsigned_32 same (codes "height") refl,
+      holes_from (get_member (codes "holes") found),
+    ) refl
+
+painted-kept : (found : Members) → painted_draw_from (large_in 3 found) ≡ painted_draw 3 (object found)
+painted-kept found =
+    rw (
+      picture_from_member (get_member (codes "picture") found),
+      painted-found 3 (get_member (codes "vertices") found),
+      indices_from (get_member (codes "indices") found),
+    ) refl
 
 module _ (version : ℕ) (kept found : Members) (clips : Clips kept found) where
-  draw-kept : draw_from (object kept) (option_map (vertices_of version) (get_member (codes "vertices") found))
-      (option_map indices_of_array (get_member (codes "indices") found)) ≡ draw_event version (object found)
-  draw-kept = rw (member-kept kept found clips as_str text-clipped (codes "interp") refl, vertices-found version found, indices-found found) refl
+  shaded-kept : shaded_draw_from (object kept) (large_in version found) ≡ shaded_draw version (object found)
+  shaded-kept =
+      rw (
+        member-kept kept found clips as_str text-clipped (codes "interp") refl,
+        coloured-found version (get_member (codes "vertices") found),
+        indices_from (get_member (codes "indices") found),
+      ) refl
 
-  kinds-kept : (kind : List ℕ) → event_of_kind_from version kind (object kept) (option_map (vertices_of version) (get_member (codes "vertices") found))
-      (option_map indices_of_array (get_member (codes "indices") found)) ≡ event_of_kind version kind (object found)
+  -- version 3 alone looks for a picture
+  by_version : (b : Bool) → (version == 3) ≡ b → cond (b && is_picture (text_member "interp" (object kept))) (painted_draw_from (large_in version found))
+      (shaded_draw_from (object kept) (large_in version found))
+      ≡ cond (b && is_picture (text_member "interp" (object found))) (painted_draw version (object found)) (shaded_draw version (object found))
+  by_version false other = shaded-kept
+  by_version true third =
+      let is : version ≡ 3 = eqb-true version 3 third in
+      let painted : painted_draw_from (large_in version found) ≡ painted_draw version (object found) = rw is (painted-kept found) in
+      let interp : text_member "interp" (object kept) ≡ text_member "interp" (object found) =
+      member-kept kept found clips as_str text-clipped (codes "interp") refl in
+      cc (interp, painted, shaded-kept)
+
+  draw-kept : draw_from version (object kept) (large_in version found) ≡ draw_event version (object found)
+  draw-kept = by_version (version == 3) refl
+
+  kinds-kept : (kind : List ℕ) → event_of_kind_from version kind (object kept) (large_in version found) ≡ event_of_kind version kind (object found)
   kinds-kept kind =
       rw (
         clear-kept kept found clips,
@@ -109,16 +150,14 @@ module _ (version : ℕ) (kept found : Members) (clips : Clips kept found) where
         depth_clear-kept kept found clips,
       ) refl
 
-  pub event-kept : event_from version (object kept) (option_map (vertices_of version) (get_member (codes "vertices") found))
-      (option_map indices_of_array (get_member (codes "indices") found)) ≡ event_of version (object found)
-  event-kept = ap (λ o. then_event (ok_or o BadField)
-      (λ (kind : List ℕ). event_of_kind_from version kind (object kept) (option_map (vertices_of version) (get_member (codes "vertices") found))
-      (option_map indices_of_array (get_member (codes "indices") found)))) (kind-kept kept found clips)
-      ∙ by_kind (option_and_then as_str (get_member (codes "kind") found)) where
-        by_kind : (o : Option (List ℕ))
-            → then_event (ok_or o BadField)
-            (λ (kind : List ℕ). event_of_kind_from version kind (object kept) (option_map (vertices_of version) (get_member (codes "vertices") found))
-            (option_map indices_of_array (get_member (codes "indices") found)))
-            ≡ ok_or o BadField >>= (λ (kind : List ℕ). event_of_kind version kind (object found))
-        by_kind None = refl
-        by_kind (Some kind) = kinds-kept kind
+  pub event-kept : event_from version (object kept) (large_in version found) ≡ event_of version (object found)
+  event-kept =
+      ap (λ o. then_event (ok_or o BadField) (λ (kind : List ℕ). event_of_kind_from version kind (object kept) (large_in version found)))
+      (kind-kept kept found clips)
+      ∙ by_kind (option_and_then as_str (get_member (codes "kind") found))
+    where
+      by_kind : (o : Option (List ℕ))
+          → then_event (ok_or o BadField) (λ (kind : List ℕ). event_of_kind_from version kind (object kept) (large_in version found))
+          ≡ ok_or o BadField >>= (λ (kind : List ℕ). event_of_kind version kind (object found))
+      by_kind None = refl
+      by_kind (Some kind) = kinds-kept kind

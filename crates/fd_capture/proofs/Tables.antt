@@ -46,13 +46,13 @@ module _ (kept found : Members) (clips : Clips kept found) where
   table-kept read =
       rw (
         member-kept kept found clips as_str text-clipped (codes "format") refl,
-        member-kept kept found clips (number_between 1 2) (number_between-clipped 1 2) (codes "version") refl,
+        member-kept kept found clips (number_between 1 3) (number_between-clipped 1 3) (codes "version") refl,
         member-kept kept found clips (number_between 1 most_pixels) (number_between-clipped 1 most_pixels) (codes "width") refl,
         member-kept kept found clips (number_between 1 most_pixels) (number_between-clipped 1 most_pixels) (codes "height") refl,
       ) refl
 
-  pub version-kept : number_member "version" 1 2 (object kept) ≡ number_member "version" 1 2 (object found)
-  version-kept = member-kept kept found clips (number_between 1 2) (number_between-clipped 1 2) (codes "version") refl
+  pub version-kept : number_member "version" 1 3 (object kept) ≡ number_member "version" 1 3 (object found)
+  version-kept = member-kept kept found clips (number_between 1 3) (number_between-clipped 1 3) (codes "version") refl
 
 -- ---- the table
 
@@ -66,35 +66,35 @@ module _ (version : ℕ) (result : Result Table CaptureFault) where
   sized ds read found width height in_version gives is = grind arith
 
   table_is : (d : Data) (format : Option (List ℕ)) (read : Option ReadEvents) (listed : Option (List Data)) → text_member "format" d ≡ format
-      → GivesListed version read listed → IsReadIn version (number_member "version" 1 2 d)
+      → GivesListed version read listed → IsReadIn version (number_member "version" 1 3 d)
       → Gives here result (ok_or (option_and_then (λ text. cond (bytes_eq text (codes "framedbg")) read None) format) NotCapture >>= λ found. ok_or
-      (number_member "version" 1 2 d) Version >>= λ v. ok_or (number_member "width" 1 most_pixels d) Size >>= λ w. ok_or
+      (number_member "version" 1 3 d) Version >>= λ v. ok_or (number_member "width" 1 most_pixels d) Size >>= λ w. ok_or
       (number_member "height" 1 most_pixels d) Size >>= λ h. found >>= λ (es : Vec Event Global). Ok (all_on v w h es.items))
       → Gives here result (ok_or (option_and_then (λ text. cond (bytes_eq text (codes "framedbg")) listed None) format) NotCapture >>= λ ds. ok_or
-      (number_member "version" 1 2 d) Version >>= λ v. ok_or (number_member "width" 1 most_pixels d) Size >>= λ w. ok_or
+      (number_member "version" 1 3 d) Version >>= λ v. ok_or (number_member "width" 1 most_pixels d) Size >>= λ w. ok_or
       (number_member "height" 1 most_pixels d) Size >>= λ h. (cond (nat_lt most_events (length ds)) (Err TooMany) (Ok ds)) >>= λ few. events_from v 1 few
       >>= λ es. Ok (all_on v w h es))
   table_is d None read listed same gives in_version is = is
   table_is d (Some text) read listed same gives in_version is = by_text (bytes_eq text (codes "framedbg")) read listed gives is
     where
       by_text : (b : Bool) (read : Option ReadEvents) (listed : Option (List Data)) → GivesListed version read listed
-          → Gives here result (ok_or (cond b read None) NotCapture >>= λ found. ok_or (number_member "version" 1 2 d) Version >>= λ v. ok_or
+          → Gives here result (ok_or (cond b read None) NotCapture >>= λ found. ok_or (number_member "version" 1 3 d) Version >>= λ v. ok_or
           (number_member "width" 1 most_pixels d) Size >>= λ w. ok_or (number_member "height" 1 most_pixels d) Size >>= λ h. found >>=
           λ (es : Vec Event Global). Ok (all_on v w h es.items))
-          → Gives here result (ok_or (cond b listed None) NotCapture >>= λ ds. ok_or (number_member "version" 1 2 d) Version >>= λ v. ok_or
+          → Gives here result (ok_or (cond b listed None) NotCapture >>= λ ds. ok_or (number_member "version" 1 3 d) Version >>= λ v. ok_or
           (number_member "width" 1 most_pixels d) Size >>= λ w. ok_or (number_member "height" 1 most_pixels d) Size >>= λ h.
           (cond (nat_lt most_events (length ds)) (Err TooMany) (Ok ds)) >>= λ few. events_from v 1 few >>= λ es. Ok (all_on v w h es))
       by_text false read listed gives is = is
       by_text true None None gives is = is
       by_text true None (Some ds) gives is = absurd gives
       by_text true (Some r) None gives is = absurd gives
-      by_text true (Some r) (Some ds) gives is = sized ds r (number_member "version" 1 2 d) (number_member "width" 1 most_pixels d)
+      by_text true (Some r) (Some ds) gives is = sized ds r (number_member "version" 1 3 d) (number_member "width" 1 most_pixels d)
           (number_member "height" 1 most_pixels d) in_version gives is
 
   -- what the kept members and the events give is what the capture gives
   pub table-read : (kept found : Members) (read : Option ReadEvents) → Clips kept found
       → GivesListed version read (option_and_then array_of (get_member (codes "events") found))
-      → IsReadIn version (number_member "version" 1 2 (object found))
+      → IsReadIn version (number_member "version" 1 3 (object found))
       → Gives here result (table_from (object kept) read) → Gives here result (table_of_value (object found))
   unfolding table_of_value
   table-read kept found read clips gives in_version is =

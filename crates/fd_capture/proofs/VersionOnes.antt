@@ -142,7 +142,7 @@ all_zero (d ∷ ds) = both (one.vertex_of d) (all_of one.vertex_of ds) (vertex_z
     both (Some v) (Some vs) here rest = All-cons IsZero v vs here rest
 
 made_of : (vs : List Vertex) (is : Option (List ℕ)) (interp : Interp) → All IsZero vs
-    → IfSome (result_ok (one.made vs is interp)) (λ draw. All IsZero draw.vertices)
+    → IfSome (result_ok (one.made vs is interp)) (λ draw. All IsZero draw.vertices × (draw.picture ≡ None))
 made_of vs is interp zeros = grind arith
 
 or_fault : (o : Option Event) → Flat o → IfOk (ok_or o BadField) IsFlat
@@ -172,7 +172,8 @@ flat_kind kind d =
     (any (text_member "interp" d >>? spelled_interp) _ (λ interp.
     after (λ vs. All IsZero vs) (one.vertices_at "vertices" d) _ (through (λ vs. All IsZero vs) (array_member "vertices" d) _ all_zero) (λ vertices zeros.
     any (indices_member "indices" d) _ (λ indices.
-    after (λ draw. All IsZero draw.vertices) (result_ok (one.made vertices indices interp)) _ (made_of vertices indices interp zeros) (λ draw holds. holds))))))
+    after (λ draw. All IsZero draw.vertices × (draw.picture ≡ None)) (result_ok (one.made vertices indices interp)) _
+    (made_of vertices indices interp zeros) (λ draw holds. holds))))))
     (either (bytes_eq kind (codes "marker")) _ _
     (or_fault (marker_event d) (any (text_member "name" d) _ (λ name. any (result_ok (labelled name)) _ (λ label. tt)))) tt))))))
 
@@ -215,7 +216,7 @@ reads P r s f g first each = grind arith
 with_nothing : {A : Type 0} (r s : Result A CaptureFault) → StaysOk r s → IfOk r (λ a. (s ≡ Ok a) × Unit {0})
 with_nothing r s first = grind arith
 
-first_version : (d : Data) → IfOk (ok_or (number_member "version" 1 1 d) Version) (λ v. (ok_or (number_member "version" 1 2 d) Version ≡ Ok v) × (v ≡ 1))
+first_version : (d : Data) → IfOk (ok_or (number_member "version" 1 1 d) Version) (λ v. (ok_or (number_member "version" 1 3 d) Version ≡ Ok v) × (v ≡ 1))
 first_version d = grind arith
 
 few_stay : (listed : List Data)

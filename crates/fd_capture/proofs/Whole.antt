@@ -37,7 +37,7 @@ as_many version number [] es is = let empty : es ≡ [] = cc in rw empty refl
 as_many version number (d ∷ ds) es is = after_first (length ds) (event_numbered version number d) (events_from version (number + 1) ds) es
     (λ rest. as_many version (number + 1) ds rest) is
 
-pub are_of_version : (version : ℕ) (read : Option ReadEvents) (listed : Option (List Data)) → (1 ≤ version) × (version ≤ 2) → GivesListed version read listed
+pub are_of_version : (version : ℕ) (read : Option ReadEvents) (listed : Option (List Data)) → (1 ≤ version) × (version ≤ 3) → GivesListed version read listed
     → IfSome read (λ r. AreOf version r)
 are_of_version version (Some r) None bounds gives = absurd gives
 are_of_version version (Some (Ok events)) (Some ds) bounds gives = few (nat_lt most_events (length ds)) refl gives
@@ -48,13 +48,13 @@ are_of_version version (Some (Ok events)) (Some ds) bounds gives = few (nat_lt m
     few false many is =
         let number : length events.items ≡ length ds = as_many version 1 ds events.items is in
         let at_most : length ds ≤ 1000000 = grind (arith, nat_tests) in
-        (IsVersion-read version (Some version) ds events.items refl bounds is, omega (arith, number, at_most))
+        (IsVersion-read version ds events.items bounds is, omega (arith, number, at_most))
 are_of_version version read listed bounds gives = tt
 
 -- ---- the version of a text
 
-pub within-or : (found : Option ℕ) (likely : ℕ) → IfSome found (λ v. (1 ≤ v) × (v ≤ 2)) → (1 ≤ likely) × (likely ≤ 2) → (1 ≤ unwrap_or found likely)
-    × (unwrap_or found likely ≤ 2)
+pub within-or : (found : Option ℕ) (likely : ℕ) → IfSome found (λ v. (1 ≤ v) × (v ≤ 3)) → (1 ≤ likely) × (likely ≤ 3) → (1 ≤ unwrap_or found likely)
+    × (unwrap_or found likely ≤ 3)
 within-or found likely within bounds = grind arith
 
 -- ---- the bytes

@@ -18,7 +18,7 @@ use Rattle.fd_capture.specs.Fault.{numbered, map_fault, ◌>>=◌}
 
 -- ---- one event
 
--- the event of a kind that version 2 alone has
+-- the event of a kind that version 1 doesn't have
 abbrev pub event_of_depth : List ℕ → Data → Result Event EventFault
 event_of_depth kind d =
     if bytes_eq kind (codes "depth") then ok_or (depth_event d) BadField
@@ -35,8 +35,8 @@ event_of_kind version kind d =
     else (if bytes_eq kind (codes "factor") then ok_or (factor_of d) BadField
     else (if bytes_eq kind (codes "draw") then ok_or (draw_event version d) BadField
     else (if bytes_eq kind (codes "marker") then ok_or (marker_event d) BadField
-    else (if version == 2 then event_of_depth kind d
-    else Err UnknownEvent)))))))
+    else (if version == 1 then Err UnknownEvent
+    else event_of_depth kind d)))))))
 
 -- the event that a value stands for in a capture of a version; a value that is no object, or whose kind is no text, is a bad field
 abbrev pub event_of : ℕ → Data → Result Event EventFault
@@ -66,7 +66,7 @@ listed_events d = option_and_then (λ format. if bytes_eq format (codes "framedb
 unfoldable pub table_of_value : Data → Result Table CaptureFault
 table_of_value d = do
   listed ← ok_or (listed_events d) NotCapture
-  version ← ok_or (number_member "version" 1 2 d) Version
+  version ← ok_or (number_member "version" 1 3 d) Version
   width ← ok_or (number_member "width" 1 most_pixels d) Size
   height ← ok_or (number_member "height" 1 most_pixels d) Size
   few ← (if nat_lt most_events (length listed) then Err TooMany else Ok listed)

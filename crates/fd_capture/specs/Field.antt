@@ -1,12 +1,13 @@
 -- Promised. What the values and members of a capture (RFC 8259) stand for.
 use Rattle.std.specs.Prelude.{ℕ, ◌-◌, ◌^◌, ℤ, pos, negsuc, int_le, unsigned_abs, codes, Bool, Option, Some, None, option_map, option_and_then, List}
-use Rattle.std.specs.Prelude.{[], ◌∷◌, nat_le, ◌&&◌, ◌==◌, if◌then◌else◌}
+use Rattle.std.specs.Prelude.{[], ◌∷◌, nat_le, ◌&&◌, ◌==◌, unwrap_or, if◌then◌else◌}
 use Prim.Native.String.{String}
 use Rattle.serde_json.specs.Data.{Data, Items, no_items, item}
 use Rattle.serde_json.specs.Find.{get, as_bool, as_number, as_i64, as_str, as_array}
 use Rattle.fd_blend.specs.declared.equation.Part.{Part}
 use Rattle.fd_cover.specs.declared.verdict.Rect.{Rect}
 use Rattle.fd_events.specs.declared.draw.Vertex.{Vertex}
+use Rattle.fd_events.specs.Picture.{no_colour}
 use Rattle.fd_snap.specs.Limits.{position_limit}
 use Rattle.fd_snap.specs.Point.{Point}
 use Rattle.fd_capture.specs.Spelling.{spelled_factor, spelled_op}
@@ -125,9 +126,9 @@ part_member name d = get (codes name) d >>= part_of_data
 abbrev pub signed_member : String → Data → Option ℤ
 signed_member name d = get (codes name) d >>= signed_32
 
--- the depth of a vertex: a member of version 2, and 0 in version 1
+-- the depth of a vertex: a member since version 2, and 0 in version 1
 abbrev pub z_of : ℕ → Data → Option ℕ
-z_of version d = if version == 2 then number_member "z" 0 65535 d else Some 0
+z_of version d = if version == 1 then Some 0 else number_member "z" 0 65535 d
 
 -- a vertex in a capture of a version
 abbrev pub vertex_of : ℕ → Data → Option Vertex
@@ -139,8 +140,20 @@ vertex_of version d = do
   colour ← colour_member "color" d
   Some (record { pos = position; colour = colour; z = z })
 
+-- a vertex of a draw with a picture: its colour may be missing or anything, and is never looked at
+abbrev pub painted_vertex_of : ℕ → Data → Option Vertex
+painted_vertex_of version d = do
+  x ← signed_member "x" d
+  y ← signed_member "y" d
+  position ← position_within x y
+  z ← z_of version d
+  Some (record { pos = position; colour = unwrap_or (colour_member "color" d) no_colour; z = z })
+
 abbrev pub vertices_member : ℕ → String → Data → Option (List Vertex)
 vertices_member version name d = array_member name d >>= all_of (vertex_of version)
+
+abbrev pub painted_vertices_member : ℕ → String → Data → Option (List Vertex)
+painted_vertices_member version name d = array_member name d >>= all_of (painted_vertex_of version)
 
 -- indices may be missing
 abbrev pub indices_of : Option Data → Option (Option (List ℕ))

@@ -37,7 +37,7 @@ listed_from d read = option_and_then (λ format. if bytes_eq format (codes "fram
 abbrev pub table_from : Data → Option (Result (Vec Event Global) CaptureFault) → Result Table CaptureFault
 table_from d read = do
   found ← ok_or (listed_from d read) NotCapture
-  version ← ok_or (number_member "version" 1 2 d) Version
+  version ← ok_or (number_member "version" 1 3 d) Version
   width ← ok_or (number_member "width" 1 most_pixels d) Size
   height ← ok_or (number_member "height" 1 most_pixels d) Size
   events ← found

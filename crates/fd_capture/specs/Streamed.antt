@@ -1,43 +1,68 @@
 -- Working. What is made of the parts of a value, however they were read.
-use Rattle.std.specs.Prelude.{◌≡◌, ◌==◌, ℕ, ℤ, List, [], ◌∷◌, Bool, true, ◌||◌, codes, Option, Some, None, option_map, Result, Ok, Err, ok_or, if◌then◌else◌}
+use Rattle.std.specs.Prelude.{◌≡◌, ◌==◌, ℕ, ℤ, List, [], ◌∷◌, map, Bool, true, ◌||◌, ◌&&◌, codes, Option, Some, None, option_map, is_some, unwrap_or}
+use Rattle.std.specs.Prelude.{Result, Ok, Err, ok_or, if◌then◌else◌}
+use Rattle.std.specs.List.{list_all}
 use Rattle.std.specs.Result.{result_ok}
+use Rattle.fd_cover.specs.declared.shading.Interp.TheVariants.{Flat}
 use Rattle.fd_events.specs.declared.event.Event.{Event}
 use Rattle.fd_events.specs.declared.event.Event.TheVariants.{Draw}
-use Rattle.fd_events.specs.Draw.{made}
+use Rattle.fd_events.specs.Draw.{made, made_with}
+use Rattle.fd_events.specs.Picture.{Painting, made_painting, no_colour}
 use Rattle.fd_capture.specs.declared.fault.EventFault.{EventFault}
 use Rattle.fd_capture.specs.declared.fault.EventFault.TheVariants.{UnknownEvent, BadField}
-use Rattle.fd_capture.specs.Kind.{clear_event, raster_event, scissor_event, blend_event, factor_of, marker_event}
+use Rattle.fd_capture.specs.Kind.{clear_event, raster_event, scissor_event, blend_event, factor_of, is_picture, marker_event}
+use Rattle.fd_capture.specs.Picture.{picture_of_data}
+use Rattle.fd_capture.specs.declared.vertices.VertexList.{VertexList}
+use Rattle.fd_capture.specs.declared.parts.Parts.{Parts}
 use Rattle.fd_capture.specs.Capture.{event_of_depth}
 use Rattle.fd_capture.specs.Spelling.{spelled_interp}
 use Rattle.std.specs.Str.{bytes_eq}
 use Rattle.serde_json.specs.Data.{Data, Members}
-use Rattle.serde_json.specs.Find.{get_member}
+use Rattle.serde_json.specs.Find.{get, get_member}
 use Rattle.fd_json.specs.Clipped.{clipped}
 use Rattle.fd_blend.specs.declared.channel.Colour.{Colour}
 use Rattle.fd_events.specs.declared.draw.Vertex.{Vertex}
-use Rattle.fd_capture.specs.Field.{◌>>=◌, position_within, all_of, array_of, vertex_of, unsigned_32, text_member}
+use Rattle.fd_capture.specs.Field.{◌>>=◌, position_within, all_of, array_of, unsigned_32, text_member, number_member, colour_member, signed_member}
 
--- version 1 has no depths, which are 0 in the table
-abbrev pub vertex_from : ℕ → Option ℤ → Option ℤ → Option ℕ → Option Colour → Option Vertex
+-- ---- vertices, which are read before it is known whether they need a colour: 0 0 0 0 stands for one that is missing
+
+-- a vertex, and whether it has a colour; version 1 has no depths, which are 0 in the table
+abbrev pub vertex_from : ℕ → Option ℤ → Option ℤ → Option ℕ → Option Colour → Option (Vertex × Bool)
 vertex_from version some_x some_y some_z some_colour = do
   x ← some_x
   y ← some_y
   position ← position_within x y
-  z ← (if version == 2 then some_z else Some 0)
-  colour ← some_colour
-  Some (record { pos = position; colour = colour; z = z })
+  z ← (if version == 1 then Some 0 else some_z)
+  Some (record { pos = position; colour = unwrap_or some_colour no_colour; z = z }, is_some some_colour)
+
+abbrev pub vertex_read : ℕ → Data → Option (Vertex × Bool)
+vertex_read version d =
+    vertex_from version (signed_member "x" d) (signed_member "y" d) (number_member "z" 0 65535 d) (colour_member "color" d)
+
+-- vertices, and whether each has a colour
+abbrev pub together : List (Vertex × Bool) → List Vertex × Bool
+together read = (map (λ v. v.0) read, list_all (λ v. v.1) read)
+
+abbrev pub vertices_read : ℕ → Data → Option (List Vertex × Bool)
+vertices_read version d = option_map together (array_of d >>= all_of (vertex_read version))
+
+abbrev pub vertices_seen : VertexList → List Vertex × Bool
+vertices_seen v = (v.list.items, v.coloured)
+
+-- they, if each has a colour
+abbrev pub coloured : List Vertex × Bool → Option (List Vertex)
+coloured read = if read.1 then Some read.0 else None
 
 abbrev pub colour_from : List ℕ → Option Colour
 colour_from (r ∷ g ∷ b ∷ a ∷ []) = Some (record { r = r; g = g; b = b; a = a })
 colour_from others = None
 
-abbrev pub vertices_of : ℕ → Data → Option (List Vertex)
-vertices_of version d = array_of d >>= all_of (vertex_of version)
-
 abbrev pub indices_of_array : Data → Option (List ℕ)
 indices_of_array d = array_of d >>= all_of unsigned_32
 
--- a capture or a kind of event has a member of this name that is no long list
+-- ---- members
+
+-- a capture, a kind of event or a picture has a member of this name that is no long list or text
 abbrev pub is_small : List ℕ → Bool
 is_small name =
     bytes_eq name (codes "format") || bytes_eq name (codes "version") || bytes_eq name (codes "width") || bytes_eq name (codes "height")
@@ -46,45 +71,98 @@ is_small name =
     || bytes_eq name (codes "enable") || bytes_eq name (codes "rgb") || bytes_eq name (codes "alpha") || bytes_eq name (codes "mask")
     || bytes_eq name (codes "interp") || bytes_eq name (codes "name")
     || bytes_eq name (codes "write") || bytes_eq name (codes "func") || bytes_eq name (codes "depth")
+    || bytes_eq name (codes "left") || bytes_eq name (codes "top")
 
 -- of the small members, the outermost part
 abbrev pub Clips : Members → Members → Type 0
 Clips kept found = (name : List ℕ) → is_small name ≡ true → get_member name kept ≡ option_map clipped (get_member name found)
 
--- indices may be missing
-abbrev pub listed_indices : Option (Option (List ℕ)) → Option (Option (List ℕ))
-listed_indices None = Some None
-listed_indices (Some None) = None
-listed_indices (Some (Some is)) = Some (Some is)
+-- a member that may be missing, but not malformed
+abbrev pub if_any : {X : Type 0} → Option (Option X) → Option (Option X)
+if_any None = Some None
+if_any (Some None) = None
+if_any (Some (Some x)) = Some (Some x)
 
 abbrev pub well_formed : {X : Type 0} → Option (Option X) → Option X
 well_formed None = None
 well_formed (Some o) = o
 
-abbrev pub draw_from : Data → Option (Option (List Vertex)) → Option (Option (List ℕ)) → Option Event
-draw_from d vs is = do
+-- ---- a picture
+
+-- versions before 3 don't look at it
+abbrev pub picture_read : ℕ → Data → Option Painting
+picture_read version d = if version == 3 then picture_of_data d else None
+
+-- of its small members, and of what the large ones stand for
+abbrev pub picture_from : Data → Option (List ℕ) → Option (Option (List ℕ)) → Option Painting
+picture_from d some_texels some_holes = do
+  left ← get (codes "left") d >>= unsigned_32
+  top ← get (codes "top") d >>= unsigned_32
+  width ← get (codes "width") d >>= unsigned_32
+  height ← get (codes "height") d >>= unsigned_32
+  texels ← some_texels
+  holes ← if_any some_holes
+  result_ok (made_painting left top width height texels holes)
+
+-- ---- an event
+
+-- what the large members of an event stand for, if they are there and well formed
+pub record Large : Type 0 where
+  pub vertices : Option (Option (List Vertex × Bool))
+  pub indices : Option (Option (List ℕ))
+  pub picture : Option (Option Painting)
+
+abbrev pub large_of : Parts → Large
+large_of parts = record {
+  vertices = option_map (option_map vertices_seen) parts.vertices;
+  indices = option_map (option_map (λ v. v.items)) parts.indices;
+  picture = option_map (option_map (λ p. p.value)) parts.picture;
+}
+
+-- the large members that were found
+abbrev pub large_in : ℕ → Members → Large
+large_in version found = record {
+  vertices = option_map (vertices_read version) (get_member (codes "vertices") found);
+  indices = option_map indices_of_array (get_member (codes "indices") found);
+  picture = option_map (picture_read version) (get_member (codes "picture") found);
+}
+
+abbrev pub shaded_draw_from : Data → Large → Option Event
+shaded_draw_from d large = do
   interp ← text_member "interp" d >>= spelled_interp
-  vertices ← well_formed vs
-  indices ← listed_indices is
+  vertices ← well_formed large.vertices >>= coloured
+  indices ← if_any large.indices
   draw ← result_ok (made vertices indices interp)
   Some (Draw draw)
 
-abbrev pub event_of_kind_from : ℕ → List ℕ → Data → Option (Option (List Vertex)) → Option (Option (List ℕ)) → Result Event EventFault
-event_of_kind_from version kind d vs is =
+abbrev pub painted_draw_from : Large → Option Event
+painted_draw_from large = do
+  picture ← well_formed large.picture
+  vertices ← option_map (λ read. read.0) (well_formed large.vertices)
+  indices ← if_any large.indices
+  draw ← result_ok (made_with (Some picture) vertices indices Flat)
+  Some (Draw draw)
+
+abbrev pub draw_from : ℕ → Data → Large → Option Event
+draw_from version d large =
+    if version == 3 && is_picture (text_member "interp" d) then painted_draw_from large else shaded_draw_from d large
+
+abbrev pub event_of_kind_from : ℕ → List ℕ → Data → Large → Result Event EventFault
+event_of_kind_from version kind d large =
     if bytes_eq kind (codes "clear") then ok_or (clear_event d) BadField
     else (if bytes_eq kind (codes "raster") then ok_or (raster_event d) BadField
     else (if bytes_eq kind (codes "scissor") then ok_or (scissor_event d) BadField
     else (if bytes_eq kind (codes "blend") then ok_or (blend_event d) BadField
     else (if bytes_eq kind (codes "factor") then ok_or (factor_of d) BadField
-    else (if bytes_eq kind (codes "draw") then ok_or (draw_from d vs is) BadField
+    else (if bytes_eq kind (codes "draw") then ok_or (draw_from version d large) BadField
     else (if bytes_eq kind (codes "marker") then ok_or (marker_event d) BadField
-    else (if version == 2 then event_of_depth kind d
-    else Err UnknownEvent)))))))
+    else (if version == 1 then Err UnknownEvent
+    else event_of_depth kind d)))))))
 
 abbrev pub then_event : Result (List ℕ) EventFault → (List ℕ → Result Event EventFault) → Result Event EventFault
 then_event (Ok kind) f = f kind
 then_event (Err e) f = Err e
 
 -- the event of small members and of what the large ones stand for
-abbrev pub event_from : ℕ → Data → Option (Option (List Vertex)) → Option (Option (List ℕ)) → Result Event EventFault
-event_from version d vs is = then_event (ok_or (text_member "kind" d) BadField) (λ (kind : List ℕ). event_of_kind_from version kind d vs is)
+abbrev pub event_from : ℕ → Data → Large → Result Event EventFault
+event_from version d large = then_event (ok_or (text_member "kind" d) BadField) (λ (kind : List ℕ). event_of_kind_from version kind d large)

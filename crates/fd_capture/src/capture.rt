@@ -18,7 +18,7 @@ pub const MAX_CAPTURE_LEN: usize = 67_108_864;
 
 /// The version that a capture seems to have by what stands before its events. It may be wrong: then the text is read twice.
 fn likely_version(text: &str) -> u32
-    ensures { (1 ≤ result) × (result ≤ 2) }
+    ensures { (1 ≤ result) × (result ≤ 3) }
 {
     let before = match text.split_once("\"events\"") {
         Some((before, _)) => before,
@@ -28,7 +28,11 @@ fn likely_version(text: &str) -> u32
         return 1;
     };
     let value = after.trim_start().trim_start_matches(':').trim_start();
-    if value.starts_with('2') { 2 } else { 1 }
+    match value.as_bytes().first() {
+        Some(b'2') => 2,
+        Some(b'3') => 3,
+        _ => 1,
+    }
 }
 
 /// What is read of a capture, its events as those of a version.
@@ -57,7 +61,7 @@ fn table_of_text(alloc: Global, text: &str) -> Result<EventTable, CaptureFault>
     table(alloc, found, head)
 }
 
-/// The table that a capture of version 1 or 2 stands for, all its events switched on.
+/// The table that a capture of version 1, 2 or 3 stands for, all its events switched on.
 #[tactic(auto, unfolding(crate::specs::Capture::capture_of))]
 pub fn read(alloc: Global, bytes: &[u8]) -> Result<EventTable, CaptureFault>
     // Unless memory runs out, it is exactly the table or the first fault.

@@ -18,7 +18,7 @@ pub enum CaptureFault {
     /// The value is no object of this format with a list of events.
     #[error("not a capture")]
     NotCapture,
-    /// The version is neither 1 nor 2.
+    /// The version is none of 1, 2 and 3.
     #[error("version")]
     Version,
     /// The width or the height isn't a whole number from 1 to `MAX_SIDE`.

@@ -1,5 +1,5 @@
 //! The members of an event, taken from the tokens of its text.
-ghost use Rattle.std.specs.Prelude.{◌≡◌, ◌<◌, List, ℕ, codes, length, true, Some, None, Err, IfOk, OnOk, option_map, option_and_then};
+ghost use Rattle.std.specs.Prelude.{◌≡◌, ◌<◌, List, ℕ, codes, length, true, Some, None, Err, IfOk, OnOk};
 ghost use Rattle.serde_json.specs.Data.{Data, Members, put};
 ghost use Rattle.serde_json.specs.Find.{get_member};
 ghost use Rattle.serde_json.specs.View.{members_view, view};
@@ -7,12 +7,14 @@ ghost use Rattle.fd_capture.specs.Fault.{GivesEvent};
 ghost use Rattle.fd_capture.specs.Capture.{event_of, event_of_depth};
 ghost use Rattle.fd_json.specs.Taken.{taken, members_taken};
 ghost use Rattle.fd_json.specs.Clipped.{clipped};
-ghost use Rattle.fd_capture.specs.Streamed.{is_small, Clips, vertices_of, indices_of_array, draw_from, event_from};
+ghost use Rattle.fd_capture.specs.Streamed.{is_small, Clips, event_from, large_in, large_of};
 
 use crate::fault::EventFault;
+use crate::kind;
+use crate::parts::{Parts, draw};
+use crate::picture::picture;
 use crate::vertices::{indices, vertices};
-use crate::{kind, spelling};
-use fd_events::{Draw, Event, Vertex};
+use fd_events::Event;
 use fd_json::{Stop, clipped, open_object, pass};
 use json::Reader;
 use serde_json::{Map, Value};
@@ -22,11 +24,10 @@ use std::alloc::Global;
 #[derive(Drop)]
 pub(crate) struct Draft {
     pub(crate) members: Map<String, Value>,
-    pub(crate) vertices: Option<Option<Vec<Vertex>>>,
-    pub(crate) indices: Option<Option<Vec<u32>>>,
+    pub(crate) parts: Parts,
 }
 
-/// Whether a capture or a kind of event has a member of this name that is no long list.
+/// Whether a capture, a kind of event or a picture has a member of this name that is no long list or text.
 pub(crate) fn is_small(name: &str) -> bool
     ensures { result ≡ is_small name.now }
 {
@@ -49,7 +50,9 @@ pub(crate) fn is_small(name: &str) -> bool
         | "name"
         | "write"
         | "func"
-        | "depth" => true,
+        | "depth"
+        | "left"
+        | "top" => true,
         _ => false,
     }
 }
@@ -80,55 +83,36 @@ fn draft_members(
     depth: usize,
 ) -> Result<Draft, Stop>
     ensures ok { IfOk result (λ draft. (found : Members) × (members_taken depth reader.old ≡ Some (found, reader.new))
-        × Clips (members_view draft.members.entries) found
-        × (option_map (option_map (λ vertices. vertices.items)) draft.vertices ≡ option_map (vertices_of version) (get_member (codes "vertices") found))
-        × (option_map (option_map (λ indices. indices.items)) draft.indices ≡ option_map indices_of_array (get_member (codes "indices") found))) }
+        × Clips (members_view draft.members.entries) found × (large_of draft.parts ≡ large_in version found)) }
     ensures refused { result ≡ Err Stop.NotJson → members_taken depth reader.old ≡ None }
     ensures shorter { OnOk result (length reader.new < length reader.old) }
 {
     let mut members = Map::new(alloc);
     let mut large_vertices = None;
     let mut large_indices = None;
+    let mut large_picture = None;
     'members: while let Some(name) = reader.next_key()? {
         if name == "vertices" {
             large_vertices = Some(vertices(alloc, version, reader, depth)?);
         } else if name == "indices" {
             large_indices = Some(indices(alloc, reader, depth)?);
+        } else if name == "picture" {
+            large_picture = Some(picture(alloc, version, reader, depth)?);
         } else if is_small(name) {
             put(alloc, name, reader, depth, &mut members)?;
         } else {
             pass(reader, depth)?;
         }
     }
-    Ok(Draft {
-        members,
+    let parts = Parts {
         vertices: large_vertices,
         indices: large_indices,
-    })
-}
-
-/// A draw of its small members, its vertices and its indices.
-fn draw_from(
-    event: &Value,
-    vertices: Option<Option<Vec<Vertex>>>,
-    indices: Option<Option<Vec<u32>>>,
-) -> Option<Event>
-    ensures { result ≡ draw_from (view event.now) (option_map (option_map (λ v. v.items)) vertices) (option_map (option_map (λ v. v.items)) indices) }
-{
-    let interp = event
-        .get("interp")
-        .and_then(Value::as_str)
-        .and_then(spelling::interp)?;
-    let vertices = vertices??;
-    let indices = match indices {
-        None => None,
-        Some(indices) => Some(indices?),
+        picture: large_picture,
     };
-    let draw = Draw::new(vertices, indices, interp).ok()?;
-    Some(Event::Draw(draw))
+    Ok(Draft { members, parts })
 }
 
-/// The event of a kind that version 2 alone has.
+/// The event of a kind that version 1 doesn't have.
 fn depth_event(kind: &str, event: &Value) -> Result<Event, EventFault>
     ensures { GivesEvent (λ event. event) result (event_of_depth kind.now (view event.now)) }
 {
@@ -139,15 +123,9 @@ fn depth_event(kind: &str, event: &Value) -> Result<Event, EventFault>
     }
 }
 
-/// The event of its small members, its vertices and its indices.
-fn event_from(
-    alloc: Global,
-    version: u32,
-    event: &Value,
-    vertices: Option<Option<Vec<Vertex>>>,
-    indices: Option<Option<Vec<u32>>>,
-) -> Result<Event, EventFault>
-    ensures { GivesEvent (λ event. event) result (event_from version (view event.now) (option_map (option_map (λ v. v.items)) vertices) (option_map (option_map (λ v. v.items)) indices)) }
+/// The event of its small members, and of what its large ones stand for.
+fn event_from(alloc: Global, version: u32, event: &Value, parts: Parts) -> Result<Event, EventFault>
+    ensures { GivesEvent (λ event. event) result (event_from version (view event.now) (large_of parts)) }
 {
     let kind = event
         .get("kind")
@@ -159,10 +137,10 @@ fn event_from(
         "scissor" => kind::scissor(event).ok_or(EventFault::BadField),
         "blend" => kind::blend(event).ok_or(EventFault::BadField),
         "factor" => kind::factor(event).ok_or(EventFault::BadField),
-        "draw" => draw_from(event, vertices, indices).ok_or(EventFault::BadField),
+        "draw" => draw(version, event, parts).ok_or(EventFault::BadField),
         "marker" => kind::marker(alloc, event),
-        _ if version == 2 => depth_event(kind, event),
-        _ => Err(EventFault::UnknownEvent),
+        _ if version == 1 => Err(EventFault::UnknownEvent),
+        _ => depth_event(kind, event),
     }
 }
 
@@ -181,10 +159,6 @@ pub(crate) fn event(
         return Ok(Err(EventFault::BadField));
     }
     let draft = draft_members(alloc, version, reader, depth - 1)?;
-    let Draft {
-        members,
-        vertices,
-        indices,
-    } = draft;
-    Ok(event_from(alloc, version, &Value::Object(members), vertices, indices))
+    let Draft { members, parts } = draft;
+    Ok(event_from(alloc, version, &Value::Object(members), parts))
 }

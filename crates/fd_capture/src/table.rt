@@ -31,12 +31,12 @@ fn listed(
     events
 }
 
-/// The version, if it is 1 or 2.
+/// The version, if it is 1, 2 or 3.
 pub(crate) fn version(capture: &Value) -> Option<u32>
-    ensures value { result ≡ number_member "version" 1 2 (view capture.now) }
-    ensures within { IfSome result (λ version. (1 ≤ version) × (version ≤ 2)) }
+    ensures value { result ≡ number_member "version" 1 3 (view capture.now) }
+    ensures within { IfSome result (λ version. (1 ≤ version) × (version ≤ 3)) }
 {
-    number(capture.get("version")?, 1, 2)
+    number(capture.get("version")?, 1, 3)
 }
 
 /// A width or a height.
@@ -53,7 +53,7 @@ fn table_from(
     capture: &Value,
     events: Option<Result<Vec<Event>, CaptureFault>>,
 ) -> Result<EventTable, CaptureFault>
-    requires { IfSome events (λ read. IfSome (number_member "version" 1 2 (view capture.now)) (λ version. AreOf version read)) }
+    requires { IfSome events (λ read. IfSome (number_member "version" 1 3 (view capture.now)) (λ version. AreOf version read)) }
     ensures { Gives (λ table. table) result (table_from (view capture.now) events) }
 {
     let events = listed(capture, events).ok_or(CaptureFault::NotCapture)?;
@@ -66,7 +66,7 @@ fn table_from(
 
 /// The table of a capture whose events were read as those of its version.
 pub(crate) fn table(alloc: Global, version: u32, head: Head) -> Result<EventTable, CaptureFault>
-    requires version { IsReadIn version (number_member "version" 1 2 (view head.members)) }
+    requires version { IsReadIn version (number_member "version" 1 3 (view head.members)) }
     requires events { IfSome head.events (λ read. AreOf version read) }
     ensures { (found : Members) → HasHead version head found → Gives (λ table. table) result (table_of_value (object found)) }
 {

@@ -7,6 +7,8 @@ use std::alloc::Global;
 use std::process::Abort;
 use std::test::Fail;
 
+mod pictures;
+
 /// One clear of one pixel.
 const CAPTURE: &str =
     "{\"format\":\"framedbg\",\"version\":1,\"width\":1,\"height\":1,\"events\":[{\"kind\":\"clear\",\"color\":[10,20,30,40]}]}";
@@ -290,8 +292,8 @@ const HEAD_LIMITS: [(&str, &str, &str, CaptureFault); 4] = [
     ),
     (
         "\"version\":1",
-        "\"version\":2",
         "\"version\":3",
+        "\"version\":4",
         CaptureFault::Version,
     ),
     (

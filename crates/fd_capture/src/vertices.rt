@@ -1,9 +1,9 @@
 //! The vertices of a draw, taken from the tokens of its text.
-ghost use Rattle.std.specs.Prelude.{◌≡◌, ◌<◌, ◌≤◌, ◌-◌, ◌^◌, [], ◌∷◌, ◌++◌, ℤ, codes, length, map, take, Some, None, Err, IfOk, OnOk, option_map, option_and_then};
+ghost use Rattle.std.specs.Prelude.{◌≡◌, ◌<◌, ◌≤◌, ◌-◌, ◌^◌, [], ◌∷◌, ◌++◌, ◌&&◌, ℤ, codes, length, map, take, Some, None, Err, IfOk, OnOk, option_map, option_and_then};
 ghost use Rattle.serde_json.specs.Data.{Data, Items, Members, object};
 ghost use Rattle.fd_json.specs.Taken.{taken, members_taken, items_taken};
-ghost use Rattle.fd_capture.specs.Field.{all_of, array_of, between, colour_of_data, list_of, within_32, number_between, signed_32, unsigned_32, vertex_of};
-ghost use Rattle.fd_capture.specs.Streamed.{colour_from, vertex_from};
+ghost use Rattle.fd_capture.specs.Field.{all_of, array_of, between, colour_of_data, list_of, within_32, number_between, signed_32, unsigned_32};
+ghost use Rattle.fd_capture.specs.Streamed.{colour_from, together, vertex_from, vertex_read, vertices_read, vertices_seen};
 
 use arrayvec::ArrayVec;
 use fd_blend::Colour;
@@ -13,22 +13,53 @@ use fd_snap::Pos;
 use json::Reader;
 use std::alloc::Global;
 
-/// The vertex of these parts; version 1 has no depths.
+/// The vertices of a draw, and whether each has a colour: 0 0 0 0 stands for one that is missing.
+#[derive(Drop)]
+pub(crate) struct VertexList {
+    pub(crate) list: Vec<Vertex>,
+    pub(crate) coloured: bool,
+}
+
+impl VertexList {
+    /// One vertex more, and whether it has a colour.
+    fn push(&mut self, vertex: Vertex, has_colour: bool) -> Result<(), Stop>
+        ensures ok { OnOk result (vertices_seen self.new ≡ ((vertices_seen self.old).0 ++ vertex ∷ [], (vertices_seen self.old).1 && has_colour)) }
+        ensures memory { result ≡ Err Stop.NotJson → ⊥ }
+    {
+        self.list.push(vertex)?;
+        self.coloured = self.coloured & has_colour;
+        Ok(())
+    }
+}
+
+/// A missing colour.
+const NO_COLOUR: Colour = Colour {
+    r: 0,
+    g: 0,
+    b: 0,
+    a: 0,
+};
+
+/// The vertex of these parts, and whether it has a colour; version 1 has no depths.
 fn vertex_from(
     version: u32,
     x: Option<i32>,
     y: Option<i32>,
     z: Option<u16>,
     colour: Option<Colour>,
-) -> Option<Vertex>
+) -> Option<(Vertex, bool)>
     ensures { result ≡ vertex_from version x y z colour }
 {
     let x = x?;
     let y = y?;
     let pos = Pos::new(x, y)?;
-    let z = if version == 2 { z? } else { 0 };
-    let colour = colour?;
-    Some(Vertex { pos, colour, z })
+    let z = if version == 1 { 0 } else { z? };
+    let vertex = Vertex {
+        pos,
+        colour: colour.unwrap_or(NO_COLOUR),
+        z,
+    };
+    Some((vertex, colour.is_some()))
 }
 
 /// A whole number of 32 bits.
@@ -152,13 +183,13 @@ fn colour(reader: &mut Reader<'_>, depth: usize) -> Result<Option<Colour>, Stop>
     Ok(colour_from(channels.as_slice()))
 }
 
-/// A vertex whose brace was taken, up to the brace that closes it.
+/// A vertex whose brace was taken, up to the brace that closes it, and whether it has a colour.
 fn vertex_members(
     version: u32,
     reader: &mut Reader<'_>,
     depth: usize,
-) -> Result<Option<Vertex>, Stop>
-    ensures ok { IfOk result (λ v. (found : Members) × (members_taken depth reader.old ≡ Some (found, reader.new)) × (v ≡ vertex_of version (object found))) }
+) -> Result<Option<(Vertex, bool)>, Stop>
+    ensures ok { IfOk result (λ v. (found : Members) × (members_taken depth reader.old ≡ Some (found, reader.new)) × (v ≡ vertex_read version (object found))) }
     ensures refused { result ≡ Err Stop.NotJson → members_taken depth reader.old ≡ None }
     ensures shorter { OnOk result (length reader.new < length reader.old) }
 {
@@ -182,9 +213,13 @@ fn vertex_members(
     Ok(vertex_from(version, x, y, z, color))
 }
 
-/// The next value as a vertex.
-fn vertex(version: u32, reader: &mut Reader<'_>, depth: usize) -> Result<Option<Vertex>, Stop>
-    ensures ok { IfOk result (λ v. (d : Data) × (taken depth reader.old ≡ Some (d, reader.new)) × (v ≡ vertex_of version d)) }
+/// The next value as a vertex, and whether it has a colour.
+fn vertex(
+    version: u32,
+    reader: &mut Reader<'_>,
+    depth: usize,
+) -> Result<Option<(Vertex, bool)>, Stop>
+    ensures ok { IfOk result (λ v. (d : Data) × (taken depth reader.old ≡ Some (d, reader.new)) × (v ≡ vertex_read version d)) }
     ensures refused { result ≡ Err Stop.NotJson → taken depth reader.old ≡ None }
     ensures shorter { OnOk result (length reader.new < length reader.old) }
 {
@@ -200,16 +235,20 @@ fn vertex_items(
     version: u32,
     reader: &mut Reader<'_>,
     depth: usize,
-) -> Result<Option<Vec<Vertex>>, Stop>
-    ensures ok { IfOk result (λ v. (ds : Items) × (items_taken depth reader.old ≡ Some (ds, reader.new)) × (option_map (λ vertices. vertices.items) v ≡ all_of (vertex_of version) (list_of ds))) }
+) -> Result<Option<VertexList>, Stop>
+    ensures ok { IfOk result (λ v. (ds : Items) × (items_taken depth reader.old ≡ Some (ds, reader.new))
+        × (option_map vertices_seen v ≡ option_map together (all_of (vertex_read version) (list_of ds)))) }
     ensures refused { result ≡ Err Stop.NotJson → items_taken depth reader.old ≡ None }
     ensures shorter { OnOk result (length reader.new < length reader.old) }
 {
-    let mut vertices = Vec::new(alloc);
+    let mut vertices = VertexList {
+        list: Vec::new(alloc),
+        coloured: true,
+    };
     let mut well_formed = true;
     'items: while !reader.take_end_array() {
         match vertex(version, reader, depth)? {
-            Some(vertex) => vertices.push(vertex)?,
+            Some((vertex, has_colour)) => vertices.push(vertex, has_colour)?,
             None => well_formed = false,
         }
     }
@@ -225,8 +264,8 @@ pub(crate) fn vertices(
     version: u32,
     reader: &mut Reader<'_>,
     depth: usize,
-) -> Result<Option<Vec<Vertex>>, Stop>
-    ensures ok { IfOk result (λ v. (d : Data) × (taken depth reader.old ≡ Some (d, reader.new)) × (option_map (λ vertices. vertices.items) v ≡ option_and_then (all_of (vertex_of version)) (array_of d))) }
+) -> Result<Option<VertexList>, Stop>
+    ensures ok { IfOk result (λ v. (d : Data) × (taken depth reader.old ≡ Some (d, reader.new)) × (option_map vertices_seen v ≡ vertices_read version d)) }
     ensures refused { result ≡ Err Stop.NotJson → taken depth reader.old ≡ None }
     ensures shorter { OnOk result (length reader.new < length reader.old) }
 {

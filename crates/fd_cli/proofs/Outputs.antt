@@ -109,10 +109,27 @@ on_and_on state lines others text (inl is) =
     let same = ap (λ (xs : List ℕ). xs ++ transcript (left_by state lines) others) is ∙ sym (transcript_on state lines others) in
     (transcript (left_by state lines) others, inl same)
 on_and_on state lines others text (inr b) =
-    let cut = ap (λ (ls : List (List ℕ)). ls ++ others) b.cut ∙ append_assoc b.earlier (b.line ∷ b.later) others in
+    let cut = ap (λ (ls : List (List ℕ)). ls ++ others) b.cut ∙ append_assoc b.earlier (b.line ∷ (b.later ++ b.unread)) others
+    ∙ ap (λ (ls : List (List ℕ)). b.earlier ++ b.line ∷ ls) (append_assoc b.later b.unread others) in
     let wrote = append-nil text ∙ b.wrote in
-    let later = b.later ++ others in
-    ([], inr (record { earlier = b.earlier; line = b.line; later = later; reply = b.reply; more = b.more; cut = cut; names = b.names; wrote = wrote }))
+    let unread = b.unread ++ others in (
+      [],
+      inr (record {
+        earlier = b.earlier;
+        line = b.line;
+        later = b.later;
+        unread = unread;
+        reply = b.reply;
+        more = b.more;
+        left = b.left;
+        end = b.end;
+        cut = cut;
+        answers = b.answers;
+        names = b.names;
+        goes_on = b.goes_on;
+        wrote = wrote;
+      }),
+    )
 
 -- ---- the ways in which a run ends
 

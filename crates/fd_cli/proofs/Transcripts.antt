@@ -1,6 +1,6 @@
 -- Every run writes the transcript, up to the first reply that tells of a want of memory, and the transcript is a run in which none does.
 use Rattle.std.proofs.Common.{◌≡◌, ℕ, zero, suc, ◌+◌, ◌-◌, ◌<◌, ◌≤◌, List, [], ◌∷◌, ◌++◌, length, codes, Option, Some, None, Bool, true, false, cond, eqb}
-use Rattle.std.proofs.Common.{Result, Ok, Err, refl, sym, ap, ◌∙◌, arith, inl, inr, ◌⊎◌, append_assoc}
+use Rattle.std.proofs.Common.{Result, Ok, Err, refl, sym, ap, ◌∙◌, arith, inl, inr, ◌⊎◌, append_assoc, append-nil, subst}
 use Rattle.std.specs.Prelude.{not, ◌&&◌, nat_lt, nat_le, slice_index}
 use Rattle.std.proofs.lemmas.Bool.{lt-ltb, le-ltb, le-leb, lt-leb, ltb-true, ltb-false, leb-true, leb-false, eqb-false}
 use Rattle.std.proofs.lemmas.Bool.Decides.{nat_tests}
@@ -17,7 +17,7 @@ use Rattle.fd_words.specs.declared.command.CommandFault.{CommandFault}
 use Rattle.fd_words.specs.declared.command.CommandFault.TheVariants.{Unknown}
 use Rattle.fd_words.specs.Line.{command_of}
 use Rattle.fd_words.specs.Text.{number_line, entry_list, state_line}
-use Rattle.fd_cli.specs.Run.{Answers, NamesMemory}
+use Rattle.fd_cli.specs.Run.{Answers, Run, NamesMemory}
 use Rattle.fd_cli.specs.ReplyText.{answer_line, pixel_text, state_text}
 use Rattle.fd_cli.specs.Transcript.{Reply, moved_to, refusal_reply, switched, replied, transcript, left_by, WritesUpToMemory}
 use Rattle.fd_cli.specs.Transcript.{WritesTranscript, TranscriptRuns, WithoutMemoryWritesAll}
@@ -85,22 +85,53 @@ answer_or old other text new h = inr (cc)
 -- ---- line by line
 
 -- one line more
-one_more : (old : State) (line : List ℕ) (lines : List (List ℕ)) (first others text : List ℕ) (mid : State) → text ≡ first ++ others
+one_more : (old : State) (line : List ℕ) (lines : List (List ℕ)) (first others text : List ℕ) (mid new : State) → text ≡ first ++ others
+    → Answers old (command_of line) first mid → Run mid lines others new
     → OrMemory first mid (replied old (command_of line)) → WritesUpToMemory mid lines others → WritesUpToMemory old (line ∷ lines) text
-one_more old line lines first others text mid whole (inl names) later =
-    inr (record { earlier = []; line = line; later = lines; reply = first; more = others; cut = refl; names = names; wrote = whole })
-one_more old line lines first others text mid whole (inr same) (inl is) =
+one_more old line lines first others text mid new whole answers run (inl names) later =
+    let cut = ap (λ (ls : List (List ℕ)). line ∷ ls) (sym (append-nil lines)) in
+    inr (record {
+      earlier = [];
+      line = line;
+      later = lines;
+      unread = [];
+      reply = first;
+      more = others;
+      left = mid;
+      end = new;
+      cut = cut;
+      answers = answers;
+      names = names;
+      goes_on = run;
+      wrote = whole;
+    })
+one_more old line lines first others text mid new whole answers run (inr same) (inl is) =
     inl (whole ∙ ap (λ (xs : List ℕ). first ++ xs) is ∙ ap (λ (r : Reply). r.0 ++ transcript r.1 lines) same)
-one_more old line lines first others text mid whole (inr same) (inr b) =
+one_more old line lines first others text mid new whole answers run (inr same) (inr b) =
     let cut = ap (λ (ls : List (List ℕ)). line ∷ ls) b.cut in
     let wrote = whole ∙ ap (λ (xs : List ℕ). first ++ xs) b.wrote ∙ sym (append_assoc first (transcript mid b.earlier) (b.reply ++ b.more))
     ∙ ap (λ (r : Reply). (r.0 ++ transcript r.1 b.earlier) ++ (b.reply ++ b.more)) same in
-    inr (record { earlier = line ∷ b.earlier; line = b.line; later = b.later; reply = b.reply; more = b.more; cut = cut; names = b.names; wrote = wrote })
+    let there = subst (λ (r : Reply). Answers (left_by r.1 b.earlier) (command_of b.line) b.reply b.left) same b.answers in
+    inr (record {
+      earlier = line ∷ b.earlier;
+      line = b.line;
+      later = b.later;
+      unread = b.unread;
+      reply = b.reply;
+      more = b.more;
+      left = b.left;
+      end = b.end;
+      cut = cut;
+      answers = there;
+      names = b.names;
+      goes_on = b.goes_on;
+      wrote = wrote;
+    })
 
 pub writes_transcript : WritesTranscript
 writes_transcript old [] text new h = inl h.0
 writes_transcript old (line ∷ lines) text new h =
-    one_more old line lines h.0 h.2 text h.1 h.5 (answer_or old (command_of line) h.0 h.1 h.3) (writes_transcript h.1 lines h.2 new h.4)
+    one_more old line lines h.0 h.2 text h.1 new h.5 h.3 h.4 (answer_or old (command_of line) h.0 h.1 h.3) (writes_transcript h.1 lines h.2 new h.4)
 
 pub writes_all : WithoutMemoryWritesAll
 writes_all old [] text new h = (h, h.0, h.1)

@@ -1,68 +1,47 @@
 -- A run on a capture of version 1 writes what version 1 says.
 use Rattle.std.proofs.Common.{◌≡◌, ℕ, zero, suc, ◌+◌, List, [], ◌∷◌, ◌++◌, map, length, Bool, true, false, Result, Ok, Err, inl, inr, refl, sym, ap, ◌∙◌, ◌↔◌}
-use Rattle.std.proofs.Common.{subst, codes}
+use Rattle.std.proofs.Common.{codes, cond}
+use Rattle.std.specs.Prelude.{is_some}
 use Rattle.std.specs.List.{flat_map}
 use Rattle.std.proofs.lemmas.List.{length-map}
 use Rattle.std.proofs.lemmas.List.Folds.{flat_map-map}
 use Rattle.std.proofs.lemmas.List.Elements.{All-head, All-tail}
 use Rattle.fd_blend.specs.declared.channel.Colour.{Colour}
 use Rattle.fd_events.specs.declared.event.Event.{Event}
-use Rattle.fd_events.specs.declared.event.Event.TheVariants.{SetDepth, DepthClear}
+use Rattle.fd_events.specs.declared.event.Event.TheVariants.{SetDepth, DepthClear, Draw}
 use Rattle.fd_events.specs.declared.pipeline.Pipeline.{Pipeline}
+use Rattle.fd_events.specs.Draw.{triangles_of}
 use Rattle.fd_events.specs.Image.{stored_at}
-use Rattle.fd_events.specs.Table.{Table, is_of_depth, state_at, with_flag}
+use Rattle.fd_events.specs.Table.{Table, is_of_depth, state_at}
 use Rattle.fd_events.specs.VersionOne as drawing
 use Rattle.fd_events.proofs.VersionOnes.{ArePlain, states_same, colours_same, images_same}
 use Rattle.fd_history.specs.declared.entry.Entry.{Entry}
 use Rattle.fd_history.specs.History.{history_at}
 use Rattle.fd_history.specs.VersionOne as past
 use Rattle.fd_history.proofs.VersionOnes.{without_depths, histories_same}
+use Rattle.fd_capture.specs.Spelling.{interp_text}
 use Rattle.fd_capture.proofs.VersionOnes.{reads_same}
 use Rattle.fd_pam.specs.Pam.{header, pam_len, tuple}
-use Rattle.fd_session.specs.declared.answer.Answer.TheVariants.{Moved, Stopped, Refused}
 use Rattle.fd_session.specs.declared.answer.SessionFault.{SessionFault}
 use Rattle.fd_session.specs.Machine.{State, opening, ShowsPixel, ShowsDepth, ShowsHistory}
 use Rattle.fd_words.specs.declared.command.Command.{Command}
-use Rattle.fd_words.specs.declared.command.Command.TheVariants.{Step, Back, Goto, On, Off, Pixel, History, State as ShowState, Events, Show}
+use Rattle.fd_words.specs.declared.command.Command.TheVariants.{Pixel, History, State as ShowState, Events, Show}
 use Rattle.fd_words.specs.declared.command.CommandFault.{CommandFault}
 use Rattle.fd_words.specs.Line.{command_of}
 use Rattle.fd_cli.specs.Run.{Answers, Run}
 use Rattle.fd_cli.specs.Show.{show_text}
 use Rattle.fd_words.specs.Text.{state_line, event_words, event_line, event_lines, event_list, events_head, entry_line, entry_list, number_line}
+use Rattle.fd_words.specs.Text.{number_word, word}
 use Rattle.fd_cli.specs.ReplyText.{pixel_text, state_text, history_text}
 use Rattle.fd_cli.specs.VersionOne as one
+use Rattle.fd_cli.proofs.Staying.{answered}
 
--- a state of version 1
+-- a table of version 1, and a state with one
+abbrev IsOne : ℕ → List Event → Type 0
+IsOne version events = (version ≡ 1) × ArePlain events
+
 abbrev IsFirst : State → Type 0
-IsFirst state = (state.table.version ≡ 1) × ArePlain state.table.events
-
--- ---- moves stay in version 1
-
-kept : {new last : State} → new ≡ last → IsFirst last → IsFirst new
-kept is first = subst IsFirst (sym is) first
-
-with_flag_first : (t : Table) (number : ℕ) (on : Bool) → (t.version ≡ 1) × ArePlain t.events → ((with_flag t number on).version ≡ 1)
-    × ArePlain (with_flag t number on).events
-with_flag_first t zero on first = first
-with_flag_first t (suc n) on first = first
-
-answered : (command : Result Command CommandFault) (old new : State) (text : List ℕ) → Answers old command text new → IsFirst old → IsFirst new
-answered (Ok Step) old new text (Refused fault, h, is) first = kept h.1 first
-answered (Ok Step) old new text (other, h, is) first = kept h.2 first
-answered (Ok Back) old new text (Ok at, h, is) first = kept h.2 first
-answered (Ok Back) old new text (Err fault, h, is) first = kept h.2 first
-answered (Ok (Goto to)) old new text (Moved at, h, is) first = kept h.2 first
-answered (Ok (Goto to)) old new text (Stopped at, h, is) first = kept h.3 first
-answered (Ok (Goto to)) old new text (Refused fault, h, is) first = kept h.1 first
-answered (Ok (On number)) old new text (Moved at, h, is) first = kept h.2 (with_flag_first old.table number true first)
-answered (Ok (On number)) old new text (Stopped at, h, is) first = kept h.3 (with_flag_first old.table number true first)
-answered (Ok (On number)) old new text (Refused fault, h, is) first = kept h.1 first
-answered (Ok (Off number)) old new text (Moved at, h, is) first = kept h.2 (with_flag_first old.table number false first)
-answered (Ok (Off number)) old new text (Stopped at, h, is) first = kept h.3 (with_flag_first old.table number false first)
-answered (Ok (Off number)) old new text (Refused fault, h, is) first = kept h.1 first
-answered (Ok (Pixel x y)) old new text h first = kept h.5 first
-answered (Ok (History x y)) old new text h first = kept h.3 first
-answered other old new text h first = kept h.1 first
+IsFirst state = IsOne state.table.version state.table.events
 
 -- ---- the same texts
 
@@ -103,6 +82,7 @@ module _ (state : State) (first : IsFirst state) where
 words_same : (e : Event) → is_of_depth e ≡ false → event_words e ≡ one.event_words e
 words_same (SetDepth depth) plain = absurd (cc)
 words_same (DepthClear depth) plain = absurd (cc)
+words_same (Draw d) plain = ap (λ b. codes " draw" ++ number_word (length (triangles_of d)) ++ word (cond b (codes "picture") (interp_text d.interp))) plain
 words_same other plain = refl
 
 line_same : (number : ℕ) (e : Event) (on : Bool) → is_of_depth e ≡ false → event_line number e on ≡ one.event_line number e on
@@ -172,7 +152,7 @@ run_same [] old new text first = (λ h. h, λ h. h)
 run_same (line ∷ lines) old new text first =
     let same = λ (mid : State) (reply : List ℕ). answers_same (command_of line) old mid reply first in
     let later = λ (mid : State) (reply others : List ℕ) (is : Answers old (command_of line) reply mid).
-    run_same lines mid new others (answered (command_of line) old mid reply is first) in (
+    run_same lines mid new others (answered IsOne (command_of line) old mid reply is first) in (
       λ h. (h.0, h.1, h.2, (same h.1 h.0).0 h.3, (later h.1 h.0 h.2 h.3).0 h.4, h.5),
       λ h. let is = (same h.1 h.0).1 h.3 in (h.0, h.1, h.2, is, (later h.1 h.0 h.2 is).1 h.4, h.5),
     )
@@ -182,6 +162,7 @@ run_same (line ∷ lines) old new text first =
 plain_from_flat : (e : Event) → drawing.IsFlat e → is_of_depth e ≡ false
 plain_from_flat (SetDepth depth) flat = absurd flat
 plain_from_flat (DepthClear depth) flat = absurd flat
+plain_from_flat (Draw draw) flat = ap is_some flat.1
 plain_from_flat other flat = refl
 
 pub version_one_stays : one.VersionOneStays

@@ -10,3 +10,4 @@ pub mod Transcript
 pub mod Output
 pub mod Program
 pub mod VersionOne
+pub mod VersionTwo

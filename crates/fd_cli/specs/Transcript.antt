@@ -11,7 +11,7 @@ use Rattle.fd_words.specs.declared.command.Command.{Command}
 use Rattle.fd_words.specs.declared.command.Command.TheVariants.{Step, Back, Goto, On, Off, Pixel, History, State as ShowState, Events, Show, Quit}
 use Rattle.fd_words.specs.declared.command.CommandFault.{CommandFault}
 use Rattle.fd_words.specs.Line.{command_of}
-use Rattle.fd_cli.specs.Run.{Run, NamesMemory, RunWithoutMemory}
+use Rattle.fd_cli.specs.Run.{Answers, Run, NamesMemory, RunWithoutMemory}
 use Rattle.fd_cli.specs.Show.{show_text}
 use Rattle.fd_words.specs.Text.{number_line, fault_line, entry_list}
 use Rattle.fd_cli.specs.ReplyText.{refusal_line, pixel_text, state_text, events_text}
@@ -64,15 +64,21 @@ abbrev pub left_by : State → List (List ℕ) → State
 left_by state [] = state
 left_by state (line ∷ lines) = left_by (replied state (command_of line)).1 lines
 
--- The text is the transcript up to a line whose reply tells of a want of memory.
+-- The text is the transcript up to a line whose reply tells of a want of memory. The machine may give that reply there, and it leaves a state from which what
+-- follows is a run. Of the lines that are left, some first ones were answered in it.
 pub record BreaksAtMemory (state : State) (lines : List (List ℕ)) (text : List ℕ) : Type 0 where
   pub earlier : List (List ℕ)
   pub line : List ℕ
   pub later : List (List ℕ)
+  pub unread : List (List ℕ)
   pub reply : List ℕ
   pub more : List ℕ
-  pub cut : lines ≡ earlier ++ line ∷ later
+  pub left : State
+  pub end : State
+  pub cut : lines ≡ earlier ++ line ∷ (later ++ unread)
+  pub answers : Answers (left_by state earlier) (command_of line) reply left
   pub names : NamesMemory reply
+  pub goes_on : Run left later more end
   pub wrote : text ≡ transcript state earlier ++ (reply ++ more)
 
 abbrev pub WritesUpToMemory : State → List (List ℕ) → List ℕ → Type 0

@@ -1,6 +1,6 @@
 use crate::tests::captures::{
     ALPHA_SCALED, CULLED_THEN_SCISSORED, DEPTH_TEST, INDEXED, LINEAR_RED, MANY_TILES,
-    MASKED_AND_SCISSORED, NO_EVENTS, ONE_CLEAR, TWO_TRIANGLES,
+    MASKED_AND_SCISSORED, NO_EVENTS, ONE_CLEAR, PICTURE, TWO_TRIANGLES,
 };
 use crate::tests::devices::{Limited, Pieces};
 use crate::{Ending, image, list_events, serve};
@@ -234,6 +234,28 @@ fn history_shows_depths(rt: HostRuntime) {
         &rt,
         DEPTH_TEST,
         b"goto 5\nhistory 0 0\nstate\nevents\n",
+        text,
+    );
+}
+
+/// What a picture has no colour for is neither blended nor given a depth: outside of its box, and at its hole.
+#[test]
+fn a_picture_is_drawn_where_it_has_texels(rt: HostRuntime) {
+    let input =
+        b"goto 4\npixel 0 0\npixel 1 0\npixel 2 0\npixel 0 1\npixel 1 1\npixel 2 1\ngoto 5\npixel 1 0\npixel 1 1\nback\nback\npixel 2 0\ngoto 5\noff 4\npixel 2 1\n";
+    let text =
+        b"at 4\npixel 10 20 30 40 65535\npixel 255 0 0 255 1000\npixel 55 35 15 128 1000\npixel 10 20 30 40 65535\npixel 10 20 30 40 65535\npixel 10 20 30 0 1000\nat 5\npixel 255 0 0 255 1000\npixel 1 2 3 255 2000\nat 4\nat 3\npixel 10 20 30 40 65535\nat 5\nat 5\npixel 1 2 3 255 2000\n";
+    expect_replies(&rt, PICTURE, input, text);
+}
+
+#[test]
+fn history_shows_what_was_discarded(rt: HostRuntime) {
+    let text =
+        b"at 5\nhistory 3\n1 - drawn 10 20 30 40 0 0 0 0 10 20 30 40 0 65535 65535\n4 0 discarded 0 0 0 0 10 20 30 40 10 20 30 40 1000 65535 65535\n5 0 drawn 1 2 3 255 10 20 30 40 1 2 3 255 2000 65535 2000\nhistory 3\n1 - drawn 10 20 30 40 0 0 0 0 10 20 30 40 0 65535 65535\n4 0 drawn 100 50 0 128 10 20 30 40 55 35 15 128 1000 65535 1000\n5 0 depthfailed 1 2 3 255 55 35 15 128 55 35 15 128 2000 1000 1000\nevents 5 at 5\n1 on clear 10 20 30 40\n2 on blend 1 SRC_ALPHA INV_SRC_ALPHA ADD ONE ZERO ADD 15\n3 on depth 1 1 LESS\n4 on draw 1 picture\n5 on draw 1 flat\n";
+    expect_replies(
+        &rt,
+        PICTURE,
+        b"goto 5\nhistory 1 1\nhistory 2 0\nevents\n",
         text,
     );
 }

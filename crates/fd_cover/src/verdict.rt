@@ -1,5 +1,5 @@
 ghost use Rattle.std.specs.Prelude.{◌≡◌, ◌<◌, ℤ};
-ghost use Rattle.fd_cover.specs.Verdict.{is_front, is_dropped, is_in_range, holds, verdict_at, is_culled};
+ghost use Rattle.fd_cover.specs.Verdict.{is_front, is_dropped, is_in_range, holds, verdict_at, is_culled, unless_discarded};
 ghost use Rattle.fd_snap.specs.Limits.{most_pixels};
 
 use crate::coverage::covers;
@@ -31,13 +31,14 @@ pub struct Rect {
     pub bottom: i32,
 }
 
-/// What becomes of a triangle at a pixel: not covered, dropped by the way it faces, outside the scissor rectangle, not let pass by the
-/// depth test, or drawn.
+/// What becomes of a triangle at a pixel: not covered, dropped by the way it faces, outside the scissor rectangle, without a
+/// colour in the picture that it is drawn from, not let pass by the depth test, or drawn.
 #[derive(Clone, Copy, Debug, PartialEq, Eq)]
 pub enum Verdict {
     Missed,
     Culled,
     Scissored,
+    Discarded,
     DepthFailed,
     Drawn,
 }
@@ -56,6 +57,18 @@ impl Rect {
         ensures { result ≡ holds self.now x y }
     {
         is_in_range(self.left, self.right, x) && is_in_range(self.top, self.bottom, y)
+    }
+}
+
+impl Verdict {
+    /// The same where a triangle may have no colour at the pixel: it is discarded before its depth is tested.
+    pub fn unless_discarded(self, discarded: bool) -> Verdict
+        ensures { result ≡ unless_discarded discarded self }
+    {
+        match self {
+            Verdict::DepthFailed | Verdict::Drawn if discarded => Verdict::Discarded,
+            _ => self,
+        }
     }
 }
 

@@ -4,7 +4,7 @@ use Rattle.std.proofs.Common.{◌∙◌, arith, inl, inr, ◌⊎◌, ◌/◌, �
 use Rattle.std.specs.List.{range_with_len}
 use Rattle.std.proofs.lemmas.List.{get_or_append_left}
 use Rattle.std.proofs.lemmas.List.FromFn.{get_or-map-range_with_len, length-map-range_with_len}
-use Rattle.std.specs.Prelude.{Some}
+use Rattle.std.specs.Prelude.{Option, Some, None, IfSome, not, ◌&&◌}
 use Rattle.std.proofs.lemmas.Bool.{eq-eqb, ne_eqb, cases_eq}
 use Rattle.std.proofs.lemmas.Bool.Decides.{nat_tests}
 use Rattle.std.proofs.lemmas.Nat.{pow-add}
@@ -16,7 +16,8 @@ use Rattle.fd_cover.specs.declared.triangle.Tri.{Tri}
 use Rattle.fd_cover.specs.Depth.{depth_at, passes}
 use Rattle.fd_events.specs.declared.pipeline.Pipeline.{Pipeline}
 use Rattle.fd_events.specs.Draw.{Triangle}
-use Rattle.fd_events.specs.Image.{is_drawn, depth_of as source_depth, pixel_after_triangle}
+use Rattle.fd_events.specs.Picture.{Painting}
+use Rattle.fd_events.specs.Image.{is_discarded, is_drawn, depth_of as source_depth, pixel_after_triangle}
 use Rattle.fd_tile.specs.Place.{Holds, HasRow}
 use Rattle.fd_tile.specs.Tile.{Pixel, TileImage, IsTileImage}
 use Rattle.fd_tile.specs.Tile.{with_row, with_row_left, row_of}
@@ -26,7 +27,7 @@ use Rattle.fd_tile.proofs.Pixels.{length-row_of, with_row_left_is, IsTileImage-w
 use borrow.Rule.Slice.PartMut.{put_mid}
 use Rattle.fd_undo.specs.Undo.{Undo}
 use Rattle.fd_tile.specs.declared.place.Place.{Place}
-use Rattle.fd_draw.specs.Demand.{is_reached, pixels_in}
+use Rattle.fd_draw.specs.Demand.{is_reached, is_tested, pixels_in}
 use Rattle.fd_draw.proofs.Counts.{pixels_in-row, written_in_row-span}
 use Rattle.fd_draw.specs.declared.clear.Clear.{Clear}
 use Rattle.fd_draw.specs.declared.clear.Clear.TheVariants.{Colours, Depths}
@@ -34,7 +35,7 @@ use Rattle.fd_draw.specs.Written.{as_it_is, cleared, with_cleared, kept_by_trian
 use Rattle.fd_tile.proofs.Cut.{FillsPlace-flat}
 use Rattle.fd_undo.proofs.Pixelwise.{value_in-flat}
 use Rattle.fd_draw.specs.declared.primitive.Primitive.{Primitive}
-use Rattle.fd_draw.specs.Primitive.{kept_of, painted_by}
+use Rattle.fd_draw.specs.Primitive.{FindsDepths, kept_of, painted_by}
 use Rattle.fd_draw.specs.Mask.{has_bit}
 use Rattle.fd_draw.specs.Paints.{Paints}
 use Rattle.fd_draw.specs.Row.{changed_row}
@@ -124,11 +125,27 @@ pub depths_at : (corners : Tri) (depths : List ℕ) (left y n : ℕ) (out rest :
     → (column d : ℕ) → left ≤ column → column < left + n → get_or (out ++ rest) (column - left) d ≡ depth_at corners depths column y
 depths_at corners depths left y n out rest is column d low high = grind (arith, length-map-range_with_len, get_or_append_left, get_or-map-range_with_len)
 
+-- where the depth test is on they are the triangle's
+pub depths_found : (p : Primitive) (rows : Option (Tri × List ℕ)) (depths : List ℕ) (left y n : ℕ) → FindsDepths p rows
+    → IfSome rows (λ d. (column : ℕ) → left ≤ column → column < left + n → get_or depths (column - left) 0 ≡ depth_at d.0 d.1 column y)
+    → p.state.depth.enable ≡ true
+    → (column e : ℕ) → left ≤ column → column < left + n → get_or depths (column - left) 0 ≡ depth_at p.corners p.depths column y
+depths_found p None depths left y n finds known on column e low high = let off = finds.untested in absurd (cc)
+depths_found p (Some d) depths left y n finds known on column e low high =
+    known column low high ∙ ap (λ (f : Tri × List ℕ). depth_at f.0 f.1 column y) finds.tested.1
+
 -- a pixel that is reached is drawn as its test says
-pub drawn_as_tested : (tri : Triangle) (s : Pipeline) (x y source stored : ℕ) (passed : Bool) → passed ≡ passes s.depth source stored
-    → source ≡ source_depth tri x y → is_reached tri s x y ≡ true
+pub drawn_as_tested : (tri : Triangle) (s : Pipeline) (x y source stored : ℕ) (passed : Bool)
+    → passed ≡ (passes s.depth source stored && not (is_discarded tri.picture x y))
+    → (s.depth.enable ≡ true → source ≡ source_depth tri x y) → is_reached tri s x y ≡ true
     → passed ≡ is_drawn tri s x y stored
-drawn_as_tested tri s x y source stored passed is same reached = grind (arith, drawn_reached)
+drawn_as_tested tri s x y source stored passed is same reached =
+    is ∙ ap (λ b. b && not (is_discarded tri.picture x y)) (by_test s.depth.enable refl)
+    ∙ sym (drawn_reached tri s x y stored ∙ rw reached refl)
+  where
+    by_test : (b : Bool) → s.depth.enable ≡ b → passes s.depth source stored ≡ passes s.depth (source_depth tri x y) stored
+    by_test true on = ap (λ d. passes s.depth d stored) (same on)
+    by_test false off = rw off refl
 
 -- behind the pixels that are done the depths are as they were, and some in turn are drawn or not as the first of them
 module _ (tri : Triangle) (interp : Interp) (s : Pipeline) (x y done count passed : ℕ) {t t' : TileImage} {u u' : Undo}
@@ -176,16 +193,28 @@ module _ (written : ℕ → ℕ → Bool) {p : Place} {y first last : ℕ} (cros
 -- ---- with the depth test off
 
 -- a triangle is drawn wherever it is reached, and leaves the depth
-pub Paints-untested : (tri : Triangle) (interp : Interp) (s : Pipeline) (y : ℕ) {first last : ℕ} {t t' : TileImage} {u u' : Undo} → s.depth.enable ≡ false
+pub Paints-untested : (tri : Triangle) (interp : Interp) (s : Pipeline) (y : ℕ) {first last : ℕ} {t t' : TileImage} {u u' : Undo}
+    → is_tested s tri.picture ≡ false
     → ((c : ℕ) → first ≤ c → c < last → is_reached tri s c y ≡ true)
     → PaintsIn (in_row (columns_between first last) y) (pixel_blended tri interp s) keep_each t u t' u'
     → PaintsIn (in_row (columns_between first last) y) (pixel_after_triangle tri interp s) (kept_by_triangle tri s) t u t' u'
-Paints-untested tri interp s y {first} {last} {t} off reached = Paints-same
+Paints-untested tri interp s y {first} {last} {t} untested reached = Paints-same
     (λ c r held. cond_at (in_row (columns_between first last) y c r) _ _ _ (λ here. rw (drawn c r here, off) refl))
     (λ c r held. cond_at (in_row (columns_between first last) y c r) _ _ _ (λ here. rw (drawn c r here) refl))
   where
+    parts : (picture : Option Painting) → is_tested s picture ≡ false → (picture ≡ None) × (s.depth.enable ≡ false)
+    parts None untested = (refl, untested)
+    parts (Some picture) untested = absurd (cc)
+
+    plain : tri.picture ≡ None
+    plain = (parts tri.picture untested).0
+
+    off : s.depth.enable ≡ false
+    off = (parts tri.picture untested).1
+
     drawn : (c r : ℕ) → in_row (columns_between first last) y c r ≡ true → is_drawn tri s c r (depth_in t c r) ≡ true
-    drawn c r here = let at = run_columns first last y c r here in drawn_reached tri s c r (depth_in t c r) ∙ rw (at.2, reached c at.0 at.1, off) refl
+    drawn c r here = let at = run_columns first last y c r here in
+        drawn_reached tri s c r (depth_in t c r) ∙ rw (at.2, reached c at.0 at.1, off, plain) refl
 
 -- ---- a row that is kept
 

@@ -12,7 +12,10 @@ use Rattle.fd_blend.specs.Row.{blended_row, drawn_row}
 use Rattle.fd_cover.specs.declared.shading.Interp.TheVariants.{Flat}
 use Rattle.fd_cover.specs.Shade.{colour_of, shaded}
 use Rattle.fd_events.specs.declared.pipeline.Pipeline.{Pipeline}
+use Rattle.std.proofs.Common.{sym}
+use Rattle.std.specs.Prelude.{None}
 use Rattle.fd_events.specs.Draw.{Triangle}
+use Rattle.fd_events.specs.Image.{source_of}
 use Rattle.fd_draw.specs.Written.{colour_blended}
 use Rattle.fd_draw.specs.Row.{changed_row}
 
@@ -34,11 +37,16 @@ blended_columns state factor source x [] = refl
 blended_columns state factor source x (c ∷ row) = ap (λ cs. blend state factor (source x) c ∷ cs) (blended_columns state factor source (x + 1) row)
 
 -- a flat triangle's colour, drawn over a row
-pub drawn_columns : (t : Triangle) (s : Pipeline) (x y : ℕ) (row : List Colour)
-    → drawn_row s.blend s.factor (colour_of t.colours 0) row ≡ changed_row (λ column before. colour_blended t Flat s column y before) x row
+flat_source : (t : Triangle) (x y : ℕ) → t.picture ≡ None → source_of t Flat x y ≡ colour_of t.colours 0
 unfolding shaded
-drawn_columns t s x y [] = refl
-drawn_columns t s x y (c ∷ row) = ap (λ cs. blend s.blend s.factor (colour_of t.colours 0) c ∷ cs) (drawn_columns t s (x + 1) y row)
+flat_source t x y plain = rw plain refl
+
+pub drawn_columns : (t : Triangle) (s : Pipeline) (x y : ℕ) (row : List Colour) → t.picture ≡ None
+    → drawn_row s.blend s.factor (colour_of t.colours 0) row ≡ changed_row (λ column before. colour_blended t Flat s column y before) x row
+drawn_columns t s x y [] plain = refl
+drawn_columns t s x y (c ∷ row) plain =
+    ap (λ source. blend s.blend s.factor source c ∷ drawn_row s.blend s.factor (colour_of t.colours 0) row) (sym (flat_source t x y plain))
+    ∙ ap (λ cs. colour_blended t Flat s x y c ∷ cs) (drawn_columns t s (x + 1) y row plain)
 
 -- ---- a part of a list that is written
 

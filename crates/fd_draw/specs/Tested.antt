@@ -8,12 +8,12 @@ use Rattle.fd_draw.specs.declared.tested.Tested.{Tested}
 use Rattle.fd_draw.specs.Mask.{has_bit}
 use Rattle.fd_draw.specs.Primitive.{triangle_of}
 
--- a triangle covers as many pixels of row y from column x on as it has depths there, and a bit for each tells whether it is drawn
+-- a triangle covers as many pixels of row y from column x on as it has depths there, which are right where the depth test is on, and a bit for each tells whether it is drawn
 pub record AreTested (p : Primitive) (x y : ℕ) (t : TileImage) (tested : Tested) : Type 0 where
   pub few : length tested.depths.now ≤ 32
   pub bound : tested.passed < 2 ^ 32
   pub covered : (column : ℕ) → x ≤ column → column < x + length tested.depths.now → covers p.corners column y ≡ true
-  pub depths : (column : ℕ) → x ≤ column → column < x + length tested.depths.now
+  pub depths : p.state.depth.enable ≡ true → (column : ℕ) → x ≤ column → column < x + length tested.depths.now
       → slice_index_or tested.depths.now (column - x) 65535 ≡ source_depth (triangle_of p) column y
   pub passed : (column : ℕ) → x ≤ column → column < x + length tested.depths.now
       → has_bit tested.passed (column - x) ≡ is_drawn (triangle_of p) p.state column y (depth_in t column y)

@@ -1,5 +1,5 @@
 //! A clear: all pixels of a tile, row by row.
-ghost use Rattle.std.specs.Prelude.{◌≡◌, ◌≤◌, ◌<◌, true, false, Ok, OnErr, [], ◌∷◌, ◌++◌};
+ghost use Rattle.std.specs.Prelude.{◌≡◌, ◌≤◌, ◌<◌, true, false, Ok, OnErr, length, [], ◌∷◌, ◌++◌};
 ghost use Rattle.fd_events.specs.Image.{pixel_after, kept_by};
 ghost use Rattle.fd_tile.specs.Place.{HasRow};
 ghost use Rattle.fd_tile.specs.Tile.{IsTileImage};
@@ -10,6 +10,7 @@ ghost use Rattle.fd_draw.specs.Demand.{pixels_in, spans_in};
 ghost use Rattle.fd_draw.specs.Written.{as_it_is, cleared, with_cleared};
 ghost use Rattle.fd_draw.specs.Paints.{Paints};
 ghost use Rattle.fd_draw.specs.Writing.{HasRoom, WritesRegion, in_row, keep_each};
+ghost use Rattle.fd_memory.specs.Wanting.{Wanted};
 
 use crate::write::keep_span;
 use fd_blend::Colour;
@@ -70,6 +71,7 @@ pub fn clear_alike(event: &Event, tile: &mut Tile, undo: &mut UndoStack) -> Resu
     ensures alike { result ≡ Ok true → IsAlike tile.old.place (top undo.new.frames) }
     ensures not { result ≡ Ok false → (tile.new ≡ tile.old) × (undo.new ≡ undo.old) }
     ensures full { OnErr result ((tile.new ≡ tile.old) × (undo.new ≡ without_room undo.old.frames)) }
+    ensures wanted { OnErr result (length undo.old.frames < 4294967295 → Wanted) }
 {
     let clear = match event {
         Event::Clear(colour) => Clear::Colours(*colour),

@@ -8,7 +8,7 @@ ghost use Rattle.fd_events.specs.declared.pipeline.Pipeline.{Pipeline};
 ghost use Rattle.fd_tile.specs.Place.{IsTilePlace};
 ghost use Rattle.fd_tile.specs.declared.place.TheConstants.{TILE_SIDE};
 ghost use Rattle.fd_draw.specs.Area.{LiesIn, IsOpen, box_of_place};
-ghost use Rattle.fd_draw.specs.Demand.{pixels_in, spans_in, triangle_pixels, triangle_spans, event_pixels, event_spans};
+ghost use Rattle.fd_draw.specs.Demand.{is_tested, pixels_in, spans_in, triangle_pixels, triangle_spans, event_pixels, event_spans};
 ghost use Rattle.fd_draw.specs.declared.plan.TheConstants.{MOST_PLANNED};
 ghost use Rattle.arrayvec.specs.ArrayVec.{array_vec_len};
 ghost use Rattle.fd_draw.specs.Plan.{ArePlanned, IsPlan, MayBeginAt};
@@ -70,19 +70,19 @@ impl Plan {
     }
 
     /// Adds a triangle that was found, which is kept unless the plan is full.
-    fn add(&mut self, triangle: u32, found: Found, state: &Pipeline)
+    fn add(&mut self, triangle: u32, found: Found, tested: bool)
         requires few_spans { found.demand.spans ≤ TILE_SIDE }
         requires few_pixels { found.demand.pixels ≤ TILE_SIDE * TILE_SIDE }
         requires room_spans { self.old.demand.spans + TILE_SIDE * TILE_SIDE < 2 ^ 64 }
         requires room_pixels { self.old.demand.pixels + TILE_SIDE * TILE_SIDE < 2 ^ 64 }
-        ensures spans { self.new.demand.spans ≡ self.old.demand.spans + (if state.now.depth.enable then found.demand.pixels else found.demand.spans) }
+        ensures spans { self.new.demand.spans ≡ self.old.demand.spans + (if tested then found.demand.pixels else found.demand.spans) }
         ensures pixels { self.new.demand.pixels ≡ self.old.demand.pixels + found.demand.pixels }
         ensures room { array_vec_len self.old.planned < MOST_PLANNED → (self.new.planned.items ≡ self.old.planned.items ++ (record { triangle = triangle; found = found }) ∷ []) × (self.new.rest ≡ self.old.rest) }
         ensures full { array_vec_len self.old.planned ≡ MOST_PLANNED → (self.new.planned ≡ self.old.planned) × (self.new.rest ≡ min self.old.rest triangle) }
     {
         let Demand { spans, pixels } = found.demand;
-        // with the depth test on each pixel is a span of its own, as any of them may fail
-        self.demand.spans += if state.depth.enable { pixels } else { spans };
+        // with a test each pixel is a span of its own, as any of them may fail
+        self.demand.spans += if tested { pixels } else { spans };
         self.demand.pixels += pixels;
         if self.planned.is_full() {
             self.rest = self.rest.min(triangle);
@@ -99,6 +99,13 @@ fn is_idle(draw: &Draw, raster: &Raster, window: Bounds) -> bool
     window.is_empty() || draw.is_culled(raster)
 }
 
+/// Whether pixels that a draw's triangles reach may not be drawn.
+fn is_tested(draw: &Draw, state: &Pipeline) -> bool
+    ensures { result ≡ is_tested state.now draw.now.picture }
+{
+    draw.picture().is_some() || state.depth.enable
+}
+
 /// The plan of a draw, of whose triangles none before this one covers a pixel of the place.
 fn plan_draw(draw: &Draw, state: &Pipeline, place: Place, first: u32) -> Plan
     requires placed { IsTilePlace place }
@@ -111,13 +118,14 @@ fn plan_draw(draw: &Draw, state: &Pipeline, place: Place, first: u32) -> Plan
     let count = draw.triangles();
     let window = open_area(&state.raster, &state.scissor, place);
     let mut plan = Plan::without_triangles(NOTHING, count);
+    let tested = is_tested(draw, state);
     if is_idle(draw, &state.raster, window) {
         return plan;
     }
     let mut triangle = first;
     while triangle < count {
         if let Some(found) = find(&draw.tri(triangle), &state.raster, window) {
-            plan.add(triangle, found, state);
+            plan.add(triangle, found, tested);
         }
         triangle = draw.next_listed(triangle + 1, window);
     }

@@ -1,5 +1,6 @@
-ghost use Rattle.std.specs.Prelude.{◌≡◌, ℕ, ◌+◌, ◌-◌, ◌<◌, ◌≤◌, false, true, IsTrue, length};
-ghost use Rattle.std.specs.List.{sum_by};
+ghost use Rattle.std.specs.Prelude.{◌≡◌, ℕ, ◌+◌, ◌-◌, ◌<◌, ◌≤◌, false, true, IsTrue, Some, None, map, length};
+ghost use Rattle.std.specs.List.{range_with_len, sum_by};
+ghost use Rattle.fd_events.specs.Picture.{texel_or_none};
 ghost use Rattle.fd_events.specs.Draw.{triangles_of};
 ghost use Rattle.fd_events.specs.Image.{pixel_after, pixel_after_triangle, pixel_after_triangles, kept_by, kept_by_triangles};
 ghost use Rattle.fd_tile.specs.Place.{HasRow};
@@ -11,7 +12,7 @@ ghost use Rattle.fd_snap.specs.Limits.{most_pixels};
 ghost use Rattle.fd_tile.specs.declared.place.TheConstants.{TILE_SIDE};
 ghost use Rattle.fd_draw.specs.Row.{changed_row};
 ghost use Rattle.fd_draw.specs.Paints.{Paints};
-ghost use Rattle.fd_draw.specs.Primitive.{FindsDepths, IsReady, kept_of, painted_by, reached_by, triangle_of};
+ghost use Rattle.fd_draw.specs.Primitive.{FindsDepths, IsReady, is_tested_by, picture_of, kept_of, painted_by, reached_by, triangle_of};
 ghost use Rattle.fd_draw.specs.Plan.{ArePlanned, IsFoundOn, IsPlan};
 ghost use Rattle.fd_draw.specs.Triangles.{triangle_at};
 ghost use Rattle.fd_draw.specs.Writing.{ChangesSpan, HasRoom, HasSpan, WritesRegion, columns_between, in_row, keep_each};
@@ -23,7 +24,7 @@ use crate::primitive::{Primitive, brush_of};
 use crate::tested::draw_span;
 use fd_blend::{Colour, blend_row};
 use fd_cover::{DepthRows, shade_row};
-use fd_events::{Draw, Event, Pipeline};
+use fd_events::{Draw, Event, Picture, Pipeline};
 use fd_tile::{TILE_SIDE, Tile};
 use fd_undo::UndoStack;
 
@@ -38,8 +39,24 @@ const NO_COLOUR: Colour = Colour {
 };
 
 /// Blends a triangle's sources with neighbouring pixels of row y from column x on, all of which it covers.
-fn blend_triangle(row: &mut [Colour], x: u32, y: u32, primitive: &Primitive)
+fn blend_triangle(row: &mut [Colour], x: u32, y: u32, primitive: &Primitive<'_>)
     requires ready { IsReady primitive.now }
+    requires few { length row.old ≤ TILE_SIDE }
+    requires row { y < most_pixels }
+    requires columns { x + length row.old ≤ most_pixels }
+    requires covered { (column : ℕ) → x ≤ column → column < x + length row.old → IsTrue (covers primitive.now.corners column y) }
+    ensures { row.new ≡ changed_row (λ column before. colour_blended (triangle_of primitive.now) primitive.now.interp primitive.now.state column y before) x row.old }
+{
+    match primitive.picture {
+        Some(picture) => blend_painted(row, x, y, picture, primitive),
+        None => blend_plain(row, x, y, primitive),
+    }
+}
+
+/// The same without a picture.
+fn blend_plain(row: &mut [Colour], x: u32, y: u32, primitive: &Primitive<'_>)
+    requires ready { IsReady primitive.now }
+    requires plain { picture_of primitive.now ≡ None }
     requires few { length row.old ≤ TILE_SIDE }
     requires row { y < most_pixels }
     requires columns { x + length row.old ≤ most_pixels }
@@ -52,8 +69,33 @@ fn blend_triangle(row: &mut [Colour], x: u32, y: u32, primitive: &Primitive)
     }
 }
 
+/// The texels of a picture on neighbouring pixels of row y from column x on, with a transparent black where there is none.
+fn row_of_texels(picture: &Picture, x: u32, y: u32, out: &mut [Colour])
+    requires columns { x + length out.old ≤ most_pixels }
+    ensures { out.new ≡ map (λ column. texel_or_none picture.now column y) (range_with_len x (length out.old)) }
+{
+    for i in 0..out.len() {
+        out[i] = picture.texel_or_none(x + i as u32, y);
+    }
+}
+
+/// The same by the texels of its picture.
+fn blend_painted(row: &mut [Colour], x: u32, y: u32, picture: &Picture, primitive: &Primitive<'_>)
+    requires few { length row.old ≤ TILE_SIDE }
+    requires columns { x + length row.old ≤ most_pixels }
+    requires picture { picture_of primitive.now ≡ Some picture.now }
+    ensures { row.new ≡ changed_row (λ column before. colour_blended (triangle_of primitive.now) primitive.now.interp primitive.now.state column y before) x row.old }
+{
+    let Pipeline { blend, factor, .. } = primitive.state;
+    let mut sources = [NO_COLOUR; WIDEST];
+    let sources = &mut sources[..row.len()];
+    row_of_texels(picture, x, y, sources);
+    blend_row(&blend, factor, sources, row);
+}
+
 /// The same by the source of each pixel.
-fn blend_shaded(row: &mut [Colour], x: u32, y: u32, primitive: &Primitive)
+fn blend_shaded(row: &mut [Colour], x: u32, y: u32, primitive: &Primitive<'_>)
+    requires plain { picture_of primitive.now ≡ None }
     requires few { length row.old ≤ TILE_SIDE }
     requires row { y < most_pixels }
     requires columns { x + length row.old ≤ most_pixels }
@@ -93,7 +135,7 @@ pub(crate) fn keep_span(left: u32, right: u32, y: u32, tile: &Tile, undo: &mut U
 }
 
 /// Blends a triangle's sources with the pixels of row y from column `left` up to `right`, all of which it covers.
-fn blend_span(primitive: &Primitive, left: u32, right: u32, y: u32, tile: &mut Tile)
+fn blend_span(primitive: &Primitive<'_>, left: u32, right: u32, y: u32, tile: &mut Tile)
     requires span { HasSpan left right y tile.old }
     requires ready { IsReady primitive.now }
     requires covered { (column : ℕ) → left ≤ column → column < right → covers primitive.now.corners column y ≡ true }
@@ -108,7 +150,7 @@ fn blend_span(primitive: &Primitive, left: u32, right: u32, y: u32, tile: &mut T
 
 /// Keeps and then blends the pixels of row y from column `left` up to `right`, all of which a triangle covers.
 pub(crate) fn write_span(
-    primitive: &Primitive,
+    primitive: &Primitive<'_>,
     left: u32,
     right: u32,
     y: u32,
@@ -127,7 +169,7 @@ pub(crate) fn write_span(
 
 /// Keeps and then writes those of the pixels of row y at which a triangle was found at which it is drawn.
 fn draw_row(
-    primitive: &Primitive,
+    primitive: &Primitive<'_>,
     depth_rows: &Option<DepthRows>,
     found: &Found,
     y: u32,
@@ -141,8 +183,8 @@ fn draw_row(
     requires found { IsFoundOn (triangle_of primitive.now) primitive.now.state tile.old.place found.now }
     requires from_top { found.now.area.top ≤ y }
     requires to_bottom { y < found.now.area.bottom }
-    requires room { HasRoom (region_spans primitive.now.state.depth.enable (in_row (reached_by primitive.now) y) tile.old.place) (pixels_in (in_row (reached_by primitive.now) y) tile.old.place) undo.old }
-    ensures { WritesRegion (region_spans primitive.now.state.depth.enable (in_row (reached_by primitive.now) y) tile.old.place) (pixels_in (in_row (reached_by primitive.now) y) tile.old.place) (in_row (reached_by primitive.now) y)
+    requires room { HasRoom (region_spans (is_tested_by primitive.now) (in_row (reached_by primitive.now) y) tile.old.place) (pixels_in (in_row (reached_by primitive.now) y) tile.old.place) undo.old }
+    ensures { WritesRegion (region_spans (is_tested_by primitive.now) (in_row (reached_by primitive.now) y) tile.old.place) (pixels_in (in_row (reached_by primitive.now) y) tile.old.place) (in_row (reached_by primitive.now) y)
         (painted_by primitive.now) (kept_of primitive.now) tile.old undo.old tile.new undo.new }
 {
     if let Some(columns) = found.span(&primitive.corners, y) {
@@ -151,7 +193,7 @@ fn draw_row(
 }
 
 /// The same for all pixels at which it was found, row after row.
-fn draw_primitive(primitive: &Primitive, found: &Found, tile: &mut Tile, undo: &mut UndoStack)
+fn draw_primitive(primitive: &Primitive<'_>, found: &Found, tile: &mut Tile, undo: &mut UndoStack)
     requires made { tile.old.made ≡ true }
     requires ready { IsReady primitive.now }
     requires filled { IsTileImage tile.old }
@@ -192,6 +234,7 @@ fn draw_found(
         colours,
         depths,
         interp,
+        picture: draw.picture(),
         brush: brush_of(interp, state, colours[0]),
         state: *state,
     };

@@ -1,5 +1,5 @@
 -- Boxes round triangles.
-use Rattle.std.proofs.Common.{◌≡◌, ℕ, zero, suc, ◌+◌, ◌-◌, ◌*◌, ◌<◌, ◌≤◌, min, true, false, IsTrue, ◌⊎◌, inl, inr, List, [], ◌∷◌}
+use Rattle.std.proofs.Common.{◌≡◌, Bool, ℕ, zero, suc, ◌+◌, ◌-◌, ◌*◌, ◌<◌, ◌≤◌, min, true, false, IsTrue, ◌⊎◌, inl, inr, List, [], ◌∷◌}
 use Rattle.std.proofs.Common.{◌++◌, length, take, drop, Some, slice_get, option_map, arith, refl, sym, ap, ◌∙◌}
 use Rattle.std.proofs.lemmas.Bool.{both_ways, false_from_ne_true, or_left, or_right}
 use Rattle.std.proofs.lemmas.Option.{slice_get_within}
@@ -15,7 +15,9 @@ use Rattle.fd_events.specs.Limits.{group_size}
 use Rattle.fd_events.specs.Bounds.{HoldsTriangles, HoldsGroup, IsTriangleBox, triangles_between}
 use Rattle.fd_events.specs.Bounds.{joined_with, bounds_of_triangles, IsRound, CoverNone}
 use Rattle.fd_events.specs.Draw.{Triangle}
-use Rattle.fd_events.specs.Image.{Pixel, is_drawn_by, is_drawn, pixel_after_triangles, kept_by_triangles}
+use Rattle.fd_cover.specs.Verdict.{unless_discarded}
+use Rattle.fd_cover.specs.declared.verdict.Verdict.TheVariants.{Missed}
+use Rattle.fd_events.specs.Image.{is_discarded, Pixel, is_drawn_by, is_drawn, pixel_after_triangles, kept_by_triangles}
 
 -- ---- the box round triangles holds what they cover
 
@@ -115,7 +117,12 @@ IsTriangleBox-own ts number corners box is value covered = λ t at. let same : t
 -- nothing is drawn there
 pub is_drawn-outside : (t : Triangle) (s : Pipeline) (box : Bounds) (x y stored : ℕ) → HoldsCovered box t.corners → is_within box x y ≡ false
     → is_drawn t s x y stored ≡ false
-is_drawn-outside t s box x y stored holds outside = ap is_drawn_by (missed_outside t.corners t.depths s.raster s.scissor s.depth stored box x y holds outside)
+is_drawn-outside t s box x y stored holds outside =
+    ap (λ v. is_drawn_by (unless_discarded (is_discarded t.picture x y) v))
+    (missed_outside t.corners t.depths s.raster s.scissor s.depth stored box x y holds outside) ∙ missed (is_discarded t.picture x y)
+  where
+    missed : (discarded : Bool) → is_drawn_by (unless_discarded discarded Missed) ≡ false
+    missed discarded = grind arith
 
 -- it stays as it is
 pub pixel_after_triangles-outside : (ts : List Triangle) (interp : Interp) (s : Pipeline) (box : Bounds) (x y : ℕ) (before : Pixel) → HoldsTriangles box ts

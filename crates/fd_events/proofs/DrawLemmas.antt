@@ -9,24 +9,28 @@ use Rattle.fd_cover.specs.declared.shading.Interp.{Interp}
 use Rattle.fd_events.specs.declared.draw.Vertex.{Vertex}
 use Rattle.fd_events.specs.Limits.{most_vertices}
 use Rattle.fd_events.specs.Indices.{has_too_many, are_in_range}
+use Rattle.fd_events.specs.Picture.{Painting}
 use Rattle.fd_events.specs.Draw.{DrawList, made, listed_by, triangle_of_vertices, triangles_of_list}
 
-pub length-triangles_of_list : (vs : List Vertex) → length (triangles_of_list vs) ≡ length vs / 3
-length-triangles_of_list (a ∷ b ∷ c ∷ vs) = omega (arith, length-triangles_of_list vs)
-length-triangles_of_list vs = refl
+pub length-triangles_of_list : (picture : Option Painting) (vs : List Vertex) → length (triangles_of_list picture vs) ≡ length vs / 3
+unfolding triangles_of_list
+length-triangles_of_list picture (a ∷ b ∷ c ∷ vs) = omega (arith, length-triangles_of_list picture vs)
+length-triangles_of_list picture vs = refl
 
 -- the triangle of a number has the three corners from three times the number on
-pub slice_get-triangles_of_list : (vs : List Vertex) (i : ℕ) (a b c : Vertex) → slice_get vs (3 * i) ≡ Some a → slice_get vs (3 * i + 1) ≡ Some b
+pub slice_get-triangles_of_list : (picture : Option Painting) (vs : List Vertex) (i : ℕ) (a b c : Vertex) → slice_get vs (3 * i) ≡ Some a
+    → slice_get vs (3 * i + 1) ≡ Some b
     → slice_get vs (3 * i + 2) ≡ Some c
-    → slice_get (triangles_of_list vs) i ≡ Some (triangle_of_vertices a b c)
-slice_get-triangles_of_list (p ∷ []) i a b c first second third = let lt = slice_get_within (p ∷ []) (3 * i + 2) c third in absurd (omega arith)
-slice_get-triangles_of_list (p ∷ q ∷ []) i a b c first second third = let lt = slice_get_within (p ∷ q ∷ []) (3 * i + 2) c third in absurd (omega arith)
-slice_get-triangles_of_list (p ∷ q ∷ r ∷ vs) (suc i) a b c first second third =
+    → slice_get (triangles_of_list picture vs) i ≡ Some (triangle_of_vertices picture a b c)
+unfolding triangles_of_list
+slice_get-triangles_of_list picture (p ∷ []) i a b c first second third = let lt = slice_get_within (p ∷ []) (3 * i + 2) c third in absurd (omega arith)
+slice_get-triangles_of_list picture (p ∷ q ∷ []) i a b c first second third = let lt = slice_get_within (p ∷ q ∷ []) (3 * i + 2) c third in absurd (omega arith)
+slice_get-triangles_of_list picture (p ∷ q ∷ r ∷ vs) (suc i) a b c first second third =
     let at_first : 3 * suc i ≡ suc (suc (suc (3 * i))) = omega arith in
     let at_second : 3 * suc i + 1 ≡ suc (suc (suc (3 * i + 1))) = omega arith in
     let at_third : 3 * suc i + 2 ≡ suc (suc (suc (3 * i + 2))) = omega arith in
-    slice_get-triangles_of_list vs i a b c (rw at_first at first) (rw at_second at second) (rw at_third at third)
-slice_get-triangles_of_list vs i a b c first second third = cc
+    slice_get-triangles_of_list picture vs i a b c (rw at_first at first) (rw at_second at second) (rw at_third at third)
+slice_get-triangles_of_list picture vs i a b c first second third = cc
 
 -- what the constructor tests
 pub record IsMade (vertices : List Vertex) (indices : Option (List ℕ)) : Type 0 where

@@ -21,3 +21,7 @@ most_label_bytes = 64
 -- how many triangles of a draw that follow one another make a group
 abbrev pub group_size : ℕ
 group_size = 32
+
+-- of one picture
+abbrev pub most_side : ℕ
+most_side = 16384

@@ -1,10 +1,10 @@
 -- Promised. What a table of events is, and its states.
 use Rattle.std.specs.Prelude.{◌≡◌, ℕ, zero, suc, ◌≤◌, Bool, true, false, List, length, replicate, Option, Some, None, slice_get, slice_set}
-use Rattle.std.specs.Prelude.{unwrap_or, Result, Ok, Err, IsOk, nat_le, ◌&&◌, ◌⊎◌, All, if◌then◌else◌}
+use Rattle.std.specs.Prelude.{unwrap_or, is_some, Result, Ok, Err, IsOk, nat_le, ◌&&◌, ◌⊎◌, All, if◌then◌else◌}
 use Rattle.fd_snap.specs.Limits.{most_pixels}
 use Rattle.fd_events.specs.Limits.{most_events}
 use Rattle.fd_events.specs.declared.event.Event.{Event}
-use Rattle.fd_events.specs.declared.event.Event.TheVariants.{SetDepth, DepthClear}
+use Rattle.fd_events.specs.declared.event.Event.TheVariants.{SetDepth, DepthClear, Draw}
 use Rattle.fd_events.specs.declared.pipeline.Pipeline.{Pipeline}
 use Rattle.fd_events.specs.declared.table.TableFault.{TableFault}
 use Rattle.fd_events.specs.declared.table.TableFault.TheVariants.{Memory, Size, TooMany}
@@ -82,16 +82,23 @@ abbrev pub started : ℕ → ℕ → ℕ → List Event → Result Table TableFa
 started version width height events =
     if is_side width && is_side height then (if nat_le (length events) most_events then Ok (all_on version width height events) else Err TooMany) else Err Size
 
--- an event of version 2 alone
+-- an event of version 3 alone
+abbrev pub is_of_picture : Event → Bool
+is_of_picture (Draw draw) = is_some draw.picture
+is_of_picture other = false
+
+-- an event of version 2 or 3 alone
 abbrev pub is_of_depth : Event → Bool
 is_of_depth (SetDepth depth) = true
 is_of_depth (DepthClear depth) = true
+is_of_depth (Draw draw) = is_some draw.picture
 is_of_depth other = false
 
--- the version is 1 or 2, and one of version 1 has no event of version 2
+-- the version is 1, 2 or 3, and one has no event of a later one
 pub record IsVersion (version : ℕ) (events : List Event) : Type 0 where
-  pub number : (version ≡ 1) ⊎ (version ≡ 2)
+  pub number : (version ≡ 1) ⊎ ((version ≡ 2) ⊎ (version ≡ 3))
   pub first : version ≡ 1 → All (λ event. is_of_depth event ≡ false) events
+  pub second : version ≤ 2 → All (λ event. is_of_picture event ≡ false) events
 
 -- what holds of each table
 pub record IsTable (t : Table) : Type 0 where

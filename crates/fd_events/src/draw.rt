@@ -1,7 +1,9 @@
 ghost use Rattle.std.specs.Prelude.{◌≡◌, ◌+◌, ◌-◌, ◌*◌, ◌/◌, ◌<◌, ◌≤◌, length, IsTrue, Some, IfSome, option_map, slice_get};
 
+use crate::culled::Culled;
 use crate::finder::Finder;
 use crate::list::TriangleList;
+use crate::picture::Picture;
 use fd_blend::Colour;
 use fd_cover::{Bounds, Interp, Raster, Tri};
 use fd_snap::Pos;
@@ -45,6 +47,8 @@ pub enum DrawFault {
 #[derive(Debug, Drop)]
 pub struct Draw {
     list: TriangleList,
+    // in which raster states every triangle is culled, once a table was started with the draw
+    culled: Option<Culled>,
     // behind a pointer, since an event has room for the largest kind, and most are no draws
     finder: Option<Box<Finder>>,
 }
@@ -52,20 +56,24 @@ pub struct Draw {
 impl Model for Draw {
     ghost use Rattle.std.specs.Prelude.{IfSome};
     ghost use Rattle.fd_events.specs.Draw.{DrawList, triangles_of};
+    ghost use Rattle.fd_events.specs.Culled.{TellsCulled};
     ghost use Rattle.fd_events.specs.Finder.{Finds};
 
     ghost Value = { DrawList };
 
     ghost view = { λ d. d.list };
 
-    ghost invariant = { λ d. IfSome d.finder (λ finder. Finds finder.value (triangles_of d.list)) };
+    ghost invariant = { λ d.
+        IfSome d.culled (λ culled. TellsCulled culled (triangles_of d.list))
+        × IfSome d.finder (λ finder. Finds finder.value (triangles_of d.list)) };
 }
 
 impl Draw {
     ghost use Rattle.fd_events.specs.Bounds.{HoldsTriangles, IsTriangleBox, HoldsGroup, IsGroupBox, CoverNone, bounds_of_triangles};
     ghost use Rattle.fd_events.specs.Culled.{AreCulled};
     ghost use Rattle.fd_events.specs.Limits.{group_size, most_triangles};
-    ghost use Rattle.fd_events.specs.Draw.{made, triangles_of};
+    ghost use Rattle.fd_events.specs.Draw.{made, made_with, triangles_of};
+    ghost use Rattle.fd_cover.specs.declared.shading.Interp.TheVariants.{Flat};
 
     /// A draw of these vertices and indices, which are dropped on a refusal.
     pub fn new(
@@ -75,8 +83,28 @@ impl Draw {
     ) -> Result<Draw, DrawFault>
         ensures { result ≡ made vertices.items (option_map (λ v. v.items) indices) interp }
     {
-        let list = TriangleList::new(vertices, indices, interp)?;
-        Ok(Draw { list, finder: None })
+        let list = TriangleList::new(vertices, indices, interp, None)?;
+        Ok(Draw {
+            list,
+            culled: None,
+            finder: None,
+        })
+    }
+
+    /// A draw of these vertices and indices whose colours come from a picture, and not from those of the vertices. All are dropped on a refusal.
+    pub fn painted(
+        vertices: Vec<Vertex>,
+        indices: Option<Vec<u32>>,
+        picture: Box<Picture>,
+    ) -> Result<Draw, DrawFault>
+        ensures { result ≡ made_with (Some picture.value) vertices.items (option_map (λ v. v.items) indices) Flat }
+    {
+        let list = TriangleList::new(vertices, indices, Interp::Flat, Some(picture))?;
+        Ok(Draw {
+            list,
+            culled: None,
+            finder: None,
+        })
     }
 
     /// The number of triangles.
@@ -118,12 +146,19 @@ impl Draw {
         self.list.interp()
     }
 
-    /// Whether it is known that a raster state culls every triangle. Of up to three triangles it isn't kept, so `false` tells nothing.
+    /// The picture that its colours come from, if there is one.
+    pub fn picture(&self) -> Option<&Picture>
+        ensures { option_map (λ p. p.now) result ≡ self.now.picture }
+    {
+        self.list.picture()
+    }
+
+    /// Whether a table that was started with the draw tells that a raster state culls every triangle.
     pub fn is_culled(&self, raster: &Raster) -> bool
         ensures { IsTrue result → AreCulled raster.now.cull raster.now.front_ccw (triangles_of self.now) }
     {
-        match &self.finder {
-            Some(finder) => finder.culled.by(raster),
+        match self.culled {
+            Some(culled) => culled.by(raster),
             None => false,
         }
     }
@@ -258,6 +293,7 @@ impl Draw {
         if let Some(finder) = Finder::of(&self.list, width, height, alloc)? {
             self.finder = Some(Box::new(alloc, finder)?);
         }
+        self.culled = Some(Culled::of(&self.list));
         Ok(())
     }
 }

@@ -2,7 +2,6 @@ ghost use Rattle.std.specs.Prelude.{IfOk, IfSome};
 ghost use Rattle.fd_events.specs.Draw.{triangles_of};
 ghost use Rattle.fd_events.specs.Finder.{Finds};
 
-use crate::culled::Culled;
 use crate::grid::Cells;
 use crate::list::TriangleList;
 use fd_cover::Bounds;
@@ -18,7 +17,6 @@ const MOST_OF_A_VERTEX: usize = 3;
 #[derive(Debug, Drop)]
 pub(crate) struct Finder {
     pub(crate) bounds: Bounds,
-    pub(crate) culled: Culled,
     // the box of each group
     pub(crate) groups: Vec<Bounds>,
     // the box of each triangle, or nothing
@@ -42,12 +40,10 @@ impl Finder {
             return Ok(None);
         }
         let bounds = list.all_bounds();
-        let culled = Culled::of(list);
         let groups = list.groups(alloc)?;
         if count as usize / MOST_OF_A_VERTEX > list.vertex_count() {
             return Ok(Some(Finder {
                 bounds,
-                culled,
                 groups,
                 boxes: Vec::new(alloc),
                 cells: None,
@@ -57,7 +53,6 @@ impl Finder {
         let cells = Cells::on_target(bounds, width, height, list, &boxes, alloc)?;
         Ok(Some(Finder {
             bounds,
-            culled,
             groups,
             boxes,
             cells,

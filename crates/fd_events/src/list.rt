@@ -3,6 +3,7 @@ ghost use Rattle.std.specs.List.{list_all};
 ghost use Rattle.fd_events.specs.Indices.{has_too_many, are_in_range};
 
 use crate::draw::{DrawFault, GROUP_LEN, MAX_INDICES, MAX_VERTICES, Vertex};
+use crate::picture::Picture;
 use fd_blend::Colour;
 use fd_cover::{Bounds, Cull, Interp, Raster, Tri};
 use fd_snap::snap;
@@ -39,15 +40,17 @@ pub(crate) struct TriangleList {
     vertices: Vec<Vertex>,
     indices: Option<Vec<u32>>,
     interp: Interp,
+    // behind a pointer, since an event has room for the largest kind
+    picture: Option<Box<Picture>>,
 }
 
 impl Model for TriangleList {
     ghost use Rattle.std.specs.Prelude.{◌≡◌, Ok, option_map};
-    ghost use Rattle.fd_events.specs.Draw.{DrawList, draw_of, made};
+    ghost use Rattle.fd_events.specs.Draw.{DrawList, draw_of, made, with_picture};
 
     ghost Value = { DrawList };
 
-    ghost view = { λ d. draw_of d.vertices.items (option_map (λ v. v.items) d.indices) d.interp };
+    ghost view = { λ d. with_picture (option_map (λ p. p.value) d.picture) (draw_of d.vertices.items (option_map (λ v. v.items) d.indices) d.interp) };
 
     ghost invariant = { λ d.
         made d.vertices.items (option_map (λ v. v.items) d.indices) d.interp
@@ -59,7 +62,7 @@ impl TriangleList {
     ghost use Rattle.std.specs.Prelude.{IsTrue};
     ghost use Rattle.fd_events.specs.Culled.{AreCulled};
     ghost use Rattle.fd_events.specs.Bounds.{IsRound, IsRoundGroup, AreRoundGroups, AreTriangleBoxes, triangles_between};
-    ghost use Rattle.fd_events.specs.Draw.{made, listed, triangle_of_vertices, triangles_of};
+    ghost use Rattle.fd_events.specs.Draw.{made_with, listed, triangle_of_vertices, triangles_of};
     ghost use Rattle.fd_events.specs.Limits.{group_size, most_triangles, most_vertices};
 
     /// The triangles of these vertices and indices, which are dropped on a refusal.
@@ -67,8 +70,9 @@ impl TriangleList {
         vertices: Vec<Vertex>,
         indices: Option<Vec<u32>>,
         interp: Interp,
+        picture: Option<Box<Picture>>,
     ) -> Result<TriangleList, DrawFault>
-        ensures { result ≡ made vertices.items (option_map (λ v. v.items) indices) interp }
+        ensures { result ≡ made_with (option_map (λ p. p.value) picture) vertices.items (option_map (λ v. v.items) indices) interp }
     {
         if vertices.len() > MAX_VERTICES {
             return Err(DrawFault::Vertices);
@@ -83,6 +87,7 @@ impl TriangleList {
             vertices,
             indices,
             interp,
+            picture,
         })
     }
 
@@ -116,7 +121,7 @@ impl TriangleList {
     /// The vertices of a triangle.
     fn corners(&self, triangle: u32) -> (Vertex, Vertex, Vertex)
         requires { triangle < length (triangles_of self.now) }
-        ensures { slice_get (triangles_of self.now) triangle ≡ Some (triangle_of_vertices result.0 result.1 result.2) }
+        ensures { slice_get (triangles_of self.now) triangle ≡ Some (triangle_of_vertices self.now.picture result.0 result.1 result.2) }
     {
         let first = 3 * triangle as usize;
         (
@@ -186,6 +191,16 @@ impl TriangleList {
         ensures { result ≡ self.now.interp }
     {
         self.interp
+    }
+
+    /// The picture that the colours come from, if there is one.
+    pub(crate) fn picture(&self) -> Option<&Picture>
+        ensures { option_map (λ p. p.now) result ≡ self.now.picture }
+    {
+        match &self.picture {
+            Some(picture) => Some(picture),
+            None => None,
+        }
     }
 
     /// The box round the triangles from number `first` up to number `last`, which holds every pixel that one of them covers.

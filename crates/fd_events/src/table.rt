@@ -114,15 +114,14 @@ pub struct EventTable {
     reaches: Vec<Reach>,
     // whether each event is switched on and its box has a pixel: each tile asks this of every event
     writers: Vec<bool>,
-    // which events reach which bands of rows and columns, whether they are switched on or off
+    // which events can write in which bands of rows and columns, whether they are switched on or off
     index: EventIndex,
 }
 
 impl Model for EventTable {
     ghost use Rattle.fd_events.specs.Table.{Table, table_of, IsTable};
     ghost use Rattle.fd_events.specs.StateList.{HasStates};
-    ghost use Rattle.std.specs.Prelude.{map};
-    ghost use Rattle.fd_events.specs.Reach.{box_of, AreReaches, AreWriters};
+    ghost use Rattle.fd_events.specs.Reach.{AreReaches, AreWriters};
     ghost use Rattle.fd_events.specs.Index.{IsIndex};
 
     ghost Value = { Table };
@@ -134,7 +133,7 @@ impl Model for EventTable {
         × HasStates t.events.items t.states
         × AreReaches t.width t.height t.events.items t.reaches.items
         × AreWriters t.states.flags.items t.reaches.items t.writers.items
-        × IsIndex t.index (map box_of t.reaches.items) };
+        × IsIndex t.index t.width t.height t.events.items };
 }
 
 impl EventTable {
@@ -178,7 +177,7 @@ impl EventTable {
         let states = StateList::all_on(&events, alloc)?;
         let reaches = reaches_of(&events, width, height, alloc)?;
         let writers = writers_of(&reaches, alloc)?;
-        let index = EventIndex::of(&reaches, width, height, alloc)?;
+        let index = EventIndex::of(&events, width, height, alloc)?;
         Ok(EventTable {
             version,
             width,

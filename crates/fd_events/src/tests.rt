@@ -27,10 +27,10 @@ fn clears(alloc: Global, number: usize) -> Result<Vec<Event>, Fail> {
 #[test]
 fn events_start_switched_on(rt: HostRuntime) -> Result<(), Fail> {
     for (width, height, number) in [(1, 16_384, 1_000_000), (16_384, 1, 2)] {
-        let table = EventTable::start(rt.alloc(), 2, width, height, clears(rt.alloc(), number)?)?;
+        let table = EventTable::start(rt.alloc(), 3, width, height, clears(rt.alloc(), number)?)?;
         assert_eq!(rt;
             (table.width(), table.height(), table.version()),
-            (width, height, 2)
+            (width, height, 3)
         );
         assert_eq!(rt; table.len() as usize, number);
         assert!(rt; table.len() >= 2);
@@ -50,7 +50,7 @@ fn refused_tables_and_their_faults(rt: HostRuntime) -> Result<(), Fail> {
         (1, 16_385, 1_000_001, TableFault::Size),
         (1, 1, 1_000_001, TableFault::TooMany),
     ] {
-        let refused = EventTable::start(rt.alloc(), 2, width, height, clears(rt.alloc(), number)?);
+        let refused = EventTable::start(rt.alloc(), 3, width, height, clears(rt.alloc(), number)?);
         assert_eq!(rt;
             refused.err(),
             Some(fault),
@@ -89,7 +89,7 @@ fn states(
     events.push(Event::SetScissor(rect))?;
     events.push(Event::SetFactor(grey(5)))?;
     events.push(Event::SetDepth(NEARER))?;
-    Ok(EventTable::start(alloc, 2, 1, 1, events)?)
+    Ok(EventTable::start(alloc, 3, 1, 1, events)?)
 }
 
 #[test]
@@ -244,7 +244,7 @@ fn each_group_has_a_box_once_a_table_starts(rt: HostRuntime) -> Result<(), Fail>
     assert_eq!(rt; draw.triangle_bounds(32), FAR);
     let mut events = Vec::new(rt.alloc());
     events.push(Event::Draw(draw))?;
-    let table = EventTable::start(rt.alloc(), 2, 8, 8, events)?;
+    let table = EventTable::start(rt.alloc(), 3, 8, 8, events)?;
     assert!(rt; table.len() == 1);
     let Event::Draw(draw) = table.event(1) else {
         return Err("a draw".into());
@@ -275,13 +275,16 @@ const EACH_CULLING: [(Cull, bool); 5] = [
     (Cull::Back, true),
 ];
 
-/// Three triangles are few, and a fourth that is turned round is drawn where the others are culled.
+/// Three triangles, or four; but a fourth that is turned round is drawn where the others are culled.
 #[test]
 fn a_draw_is_culled_where_all_its_triangles_are(rt: HostRuntime) -> Result<(), Fail> {
     let [a, b, c] = NEAR_CORNERS;
     let none = [false, false, false, false, false];
     for (vertices, culled) in [
-        (clockwise_and(rt.alloc(), 2, NEAR_CORNERS)?, none),
+        (
+            clockwise_and(rt.alloc(), 2, NEAR_CORNERS)?,
+            [false, true, false, false, true],
+        ),
         (
             clockwise_and(rt.alloc(), 3, NEAR_CORNERS)?,
             [false, true, false, false, true],
@@ -332,7 +335,7 @@ fn square(left: u32, top: u32, side: u32) -> Bounds {
 fn table_of(alloc: Global, side: u32, vertices: Vec<Vertex>) -> Result<EventTable, Fail> {
     let mut events = Vec::new(alloc);
     events.push(Event::Draw(Draw::new(vertices, None, Interp::Flat)?))?;
-    Ok(EventTable::start(alloc, 2, side, side, events)?)
+    Ok(EventTable::start(alloc, 3, side, side, events)?)
 }
 
 /// So many triangles, in turn in the first cell and in the one right of it and below.
@@ -438,7 +441,7 @@ fn triangles_of_few_vertices_are_in_no_cells(rt: HostRuntime) -> Result<(), Fail
         }
         let mut events = Vec::new(rt.alloc());
         events.push(Event::Draw(Draw::new(corners, Some(indices), Interp::Flat)?))?;
-        let table = EventTable::start(rt.alloc(), 2, 64, 64, events)?;
+        let table = EventTable::start(rt.alloc(), 3, 64, 64, events)?;
         assert!(rt; table.len() == 1);
         let Event::Draw(draw) = table.event(1) else {
             return Err("a draw".into());
@@ -487,7 +490,7 @@ fn the_reach_of_each_event_lies_on_the_target(rt: HostRuntime) -> Result<(), Fai
     events.push(Event::Draw(Draw::new(vertices, None, Interp::Flat)?))?;
     events.push(Event::SetFactor(grey(5)))?;
     events.push(Event::DepthClear(7))?;
-    let table = EventTable::start(rt.alloc(), 2, 4, 3, events)?;
+    let table = EventTable::start(rt.alloc(), 3, 4, 3, events)?;
     assert!(rt; table.len() == 3);
     let cut = Bounds {
         right: 4,
@@ -534,7 +537,7 @@ fn markers_and_draws_share_the_state_before_them(rt: HostRuntime) -> Result<(), 
     events.push(one_triangle(rt.alloc(), NEAR_CORNERS)?)?;
     events.push(Event::SetFactor(grey(2)))?;
     events.push(Event::DepthClear(7))?;
-    let mut table = EventTable::start(rt.alloc(), 2, 64, 64, events)?;
+    let mut table = EventTable::start(rt.alloc(), 3, 64, 64, events)?;
     assert!(rt; table.len() == 5);
     let all = [255, 255, 1, 1, 2, 2];
     assert_eq!(rt; factors(&table), all);
@@ -559,7 +562,7 @@ fn the_next_event_near_a_window(rt: HostRuntime) -> Result<(), Fail> {
     events.push(one_triangle(rt.alloc(), NEAR_CORNERS)?)?;
     events.push(one_triangle(rt.alloc(), NEXT_CELL_CORNERS)?)?;
     events.push(Event::Clear(grey(9)))?;
-    let mut table = EventTable::start(rt.alloc(), 2, 64, 64, events)?;
+    let mut table = EventTable::start(rt.alloc(), 3, 64, 64, events)?;
     assert!(rt; table.len() == 4);
     assert_eq!(rt; table.next_near(0, 4, square(0, 0, 32)), 1);
     assert_eq!(rt; table.next_near(2, 4, square(0, 0, 32)), 3);
@@ -584,11 +587,69 @@ fn far_events_are_passed_over_by_thousands(rt: HostRuntime) -> Result<(), Fail> 
             events.push(one_triangle(rt.alloc(), NEXT_CELL_CORNERS)?)?;
         }
         events.push(one_triangle(rt.alloc(), NEAR_CORNERS)?)?;
-        let table = EventTable::start(rt.alloc(), 2, 64, 64, events)?;
+        let table = EventTable::start(rt.alloc(), 3, 64, 64, events)?;
         assert!(rt; table.len() as usize == number.saturating_add(1));
         let len = table.len();
         assert_eq!(rt; table.next_near(0, len, square(0, 0, 32)) as usize, number);
         assert_eq!(rt; table.next_near(0, len, square(0, 32, 32)), len);
     }
+    Ok(())
+}
+
+/// The bytes of so many texels, whose levels count up from 1.
+fn texels(alloc: Global, number: u8) -> Result<Vec<u8>, Fail> {
+    let mut bytes = Vec::new(alloc);
+    for texel in 0..number {
+        for _ in 0..4 {
+            bytes.push(texel.wrapping_add(1))?;
+        }
+    }
+    Ok(bytes)
+}
+
+/// A picture of two by two texels, of which the third is a hole.
+#[test]
+fn texels_of_a_picture(rt: HostRuntime) -> Result<(), Fail> {
+    let mut holes = Vec::new(rt.alloc());
+    holes.push(0b1111_0100)?;
+    let picture = Picture::new(5, 7, 2, 2, texels(rt.alloc(), 4)?, Some(holes))?;
+    for (x, y, texel) in [
+        (5, 7, Some(grey(1))),
+        (6, 7, Some(grey(2))),
+        (5, 8, None),
+        (6, 8, Some(grey(4))),
+        (4, 7, None),
+        (7, 7, None),
+        (5, 6, None),
+        (5, 9, None),
+    ] {
+        assert_eq!(rt; picture.texel(x, y), texel, "{x} {y}");
+        assert_eq!(rt;
+            picture.texel_or_none(x, y),
+            texel.unwrap_or(grey(0)),
+            "{x} {y}"
+        );
+    }
+    Ok(())
+}
+
+#[test]
+fn refused_pictures_and_their_faults(rt: HostRuntime) -> Result<(), Fail> {
+    for (left, top, width, height, number, fault) in [
+        (16_383, 16_383, 1, 2, 2, None),
+        (16_384, 0, 1, 2, 2, Some(PictureFault::Place)),
+        (0, 16_384, 1, 2, 2, Some(PictureFault::Place)),
+        (0, 0, 0, 2, 2, Some(PictureFault::Place)),
+        (0, 0, 1, 0, 2, Some(PictureFault::Place)),
+        (0, 0, 16_385, 1, 2, Some(PictureFault::Place)),
+        (0, 0, 2, 1, 1, Some(PictureFault::Texels)),
+        (0, 0, 2, 1, 3, Some(PictureFault::Texels)),
+    ] {
+        let picture = Picture::new(left, top, width, height, texels(rt.alloc(), number)?, None);
+        assert_eq!(rt; picture.err(), fault, "{left} {top} {width} {height}");
+    }
+    let holes = Some(Vec::new(rt.alloc()));
+    let picture = Picture::new(0, 0, 2, 1, texels(rt.alloc(), 2)?, holes);
+    assert_eq!(rt; picture.err(), Some(PictureFault::Holes));
     Ok(())
 }

@@ -1,5 +1,5 @@
 -- What is gathered of a pixel from the triangles of a draw.
-use Rattle.std.proofs.Common.{◌≡◌, ◌≢◌, ℕ, zero, suc, ◌+◌, ◌<◌, Bool, false, not, IsTrue, List, [], ◌∷◌, length, drop, slice_get, Option, Some}
+use Rattle.std.proofs.Common.{◌≡◌, ◌≢◌, ℕ, zero, suc, ◌+◌, ◌<◌, Bool, true, false, not, IsTrue, List, [], ◌∷◌, length, drop, slice_get, Option, Some}
 use Rattle.std.proofs.Common.{None, IfSome, option_map, refl, sym, ap, ◌∙◌, arith, append_assoc, append-nil, if◌then◌else◌, ◌≤◌}
 use Rattle.fd_cover.specs.declared.shading.Interp.{Interp}
 use Rattle.fd_cover.specs.declared.triangle.Tri.{Tri}
@@ -13,10 +13,11 @@ use Rattle.fd_cover.specs.Bounds.{HoldsCovered, is_within}
 use Rattle.fd_cover.proofs.BoundsLemmas.{missed_outside}
 use Rattle.fd_cover.specs.Covers.{covers}
 use Rattle.fd_cover.specs.Verdict.{verdict_at}
+use Rattle.fd_cover.specs.Verdict.{unless_discarded}
 use Rattle.fd_events.specs.declared.pipeline.Pipeline.{Pipeline}
 use Rattle.fd_events.specs.Bounds.{HoldsTriangles, CoverNone}
 use Rattle.fd_events.specs.Draw.{Triangle}
-use Rattle.fd_events.specs.Image.{Pixel, verdict_of, pixel_after_triangle}
+use Rattle.fd_events.specs.Image.{Pixel, is_discarded, verdict_of, pixel_after_triangle}
 use Rattle.fd_history.specs.declared.entry.Entry.{Entry}
 use Rattle.fd_history.specs.History.{is_missed, entry_of_triangle, entries_of_triangles}
 use Rattle.fd_history.specs.Gathered.{Gathering, gone_on, depth_after_triangle, gathered_of_triangle, gathered_of_triangles, past_triangle, past_triangles}
@@ -65,11 +66,21 @@ past_missed : (event number : ℕ) (t : Triangle) (interp : Interp) (s : Pipelin
     → g ≡ past_triangle event number t interp s g
 past_missed event number t interp s g missed = rw missed (sym (gone_nowhere g))
 
+still_missed : (discarded : Bool) → unless_discarded discarded Missed ≡ Missed
+still_missed true = refl
+still_missed false = refl
+
+verdict_outside : (t : Triangle) (s : Pipeline) (stored : ℕ) (box : Bounds) (x y : ℕ) → HoldsCovered box t.corners → is_within box x y ≡ false
+    → verdict_of t s x y stored ≡ Missed
+verdict_outside t s stored box x y holds out =
+    ap (unless_discarded (is_discarded t.picture x y)) (missed_outside t.corners t.depths s.raster s.scissor s.depth stored box x y holds out)
+    ∙ still_missed (is_discarded t.picture x y)
+
 outside : (found : Option Triangle) (corners : Tri) (box : Bounds) (event number : ℕ) (interp : Interp) (s : Pipeline) (g : Gathering)
     → option_map (λ (t : Triangle). t.corners) found ≡ Some corners → HoldsCovered box corners → is_within box g.x g.y ≡ false
     → IfSome found (λ t. g ≡ past_triangle event number t interp s g)
 outside None corners box event number interp s g is holds out = cc
-outside (Some t) corners box event number interp s g is holds out = grind (arith, past_missed, missed_outside)
+outside (Some t) corners box event number interp s g is holds out = grind (arith, past_missed, verdict_outside)
 
 -- a triangle whose box doesn't hold the pixel
 pub outside_triangle : (ts : List Triangle) (i : ℕ) (corners : Tri) (box : Bounds) (event number : ℕ) (interp : Interp) (s : Pipeline) (g : Gathering)
@@ -86,14 +97,24 @@ pub outside_triangles : (ts : List Triangle) (box : Bounds) (event number : ℕ)
 outside_triangles [] box event number interp s x y before holds out = refl
 outside_triangles (t ∷ ts) box event number interp s x y before holds out =
     let after = pixel_after_triangle t interp s x y before in
-    let missed = missed_outside t.corners t.depths s.raster s.scissor s.depth before.1 box x y (holds 0 t refl) out in
+    let missed = verdict_outside t s before.1 box x y (holds 0 t refl) out in
     let rest = outside_triangles ts box event (number + 1) interp s x y after (λ i u at. holds (suc i) u at) out in
     cc (missed_enters (verdict_of t s x y before.1) (entry_of_triangle event number t interp s x y before) missed, rest)
 
 -- ---- triangles that cover nothing of a window with the pixel
 missed_uncovered : (t : Triangle) (s : Pipeline) (x y stored : ℕ) → covers t.corners x y ≡ false → verdict_of t s x y stored ≡ Missed
 unfolding verdict_at
-missed_uncovered t s x y stored uncovered = rw uncovered
+missed_uncovered t s x y stored uncovered = rw uncovered (still_missed (is_discarded t.picture x y))
+
+-- triangles that don't cover the pixel enter nothing
+pub uncovered_triangles : (ts : List Triangle) (event number : ℕ) (interp : Interp) (s : Pipeline) (x y : ℕ) (before : Pixel)
+    → ((i : ℕ) (t : Triangle) → slice_get ts i ≡ Some t → covers t.corners x y ≡ false) → entries_of_triangles event number ts interp s x y before ≡ []
+uncovered_triangles [] event number interp s x y before uncovered = refl
+uncovered_triangles (t ∷ ts) event number interp s x y before uncovered =
+    let after = pixel_after_triangle t interp s x y before in
+    let missed = missed_uncovered t s x y before.1 (uncovered 0 t refl) in
+    let rest = uncovered_triangles ts event (number + 1) interp s x y after (λ i u at. uncovered (suc i) u at) in
+    cc (missed_enters (verdict_of t s x y before.1) (entry_of_triangle event number t interp s x y before) missed, rest)
 
 module _ (ts : List Triangle) (window : Bounds) (event : ℕ) (interp : Interp) (s : Pipeline) (g : Gathering) (within : IsTrue (is_within window g.x g.y)) where
   missed_at : (i : ℕ) → (found : Option Triangle) → slice_get ts i ≡ found → CoverNone window ts i (i + 1)

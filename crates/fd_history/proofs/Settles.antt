@@ -76,19 +76,20 @@ blank_history t (suc k) x y =
     cc (map-append blank (history_at t k x y) more, blank_history t k x y, events)
 
 -- what no entry enters is not gathered, and nothing is kept of it
-gathers_nothing : (number : ℕ) (event : Option Event) (s : Pipeline) (x y : ℕ) (before : Pixel) → entries_of_event number event s x y before ≡ []
+pub gathers_nothing : (number : ℕ) (event : Option Event) (s : Pipeline) (x y : ℕ) (before : Pixel) → entries_of_event number event s x y before ≡ []
     → gathered_of_event number event s x y before.1 ≡ []
 gathers_nothing number event s x y before none = sym (blank_event number event s x y before) ∙ ap (map blank) none
 
 -- nor does it change the depth
-keeps_depth : (number : ℕ) (event : Option Event) (s : Pipeline) (x y : ℕ) (before : Pixel) → entries_of_event number event s x y before ≡ []
+pub keeps_depth : (number : ℕ) (event : Option Event) (s : Pipeline) (x y : ℕ) (before : Pixel) → entries_of_event number event s x y before ≡ []
     → depth_after_event event s x y before.1 ≡ before.1
 keeps_depth number event s x y before none =
     let leads : Leads before (entries_of_event number event s x y before) (pixel_after_event event s x y before) = event_leads number event s x y before in
     let same : before ≡ pixel_after_event event s x y before = rw none at leads in
     sym (depth_event event s x y before) ∙ sym (ap (λ (p : Pixel). p.1) same)
 
-keeps_nothing : (t : Table) (k x y : ℕ) → entries_of_event (suc k) (active_event t (suc k)) (state_at t k) x y (pixel_at t k x y) ≡ [] → kept_after t k x y ≡ []
+pub keeps_nothing : (t : Table) (k x y : ℕ) → entries_of_event (suc k) (active_event t (suc k)) (state_at t k) x y (pixel_at t k x y) ≡ []
+    → kept_after t k x y ≡ []
 keeps_nothing t k x y none = kept_is_drawn_over t k x y ∙ ap drawn_over none
 
 -- ---- what a pixel went through
@@ -206,7 +207,7 @@ count_event t number x y event least found on =
 abbrev pub gathering_at : Table → ℕ → ℕ → ℕ → Gathering
 gathering_at t k x y = record { x = x; y = y; depth = stored_at t k x y; entries = gathered_at t k x y }
 
-one_event : (t : Table) (k x y : ℕ) → past_number (suc k) (active_event t (suc k)) (state_at t k) (gathering_at t k x y) ≡ gathering_at t (suc k) x y
+pub one_event : (t : Table) (k x y : ℕ) → past_number (suc k) (active_event t (suc k)) (state_at t k) (gathering_at t k x y) ≡ gathering_at t (suc k) x y
 one_event t k x y = grind (arith, depth_event)
 
 pub next_event : (t : Table) (k number x y : ℕ) (old new : Gathering) → number ≡ k + 1 → old ≡ gathering_at t k x y

@@ -3,3 +3,5 @@ pub mod Gathered
 pub mod Settled
 pub mod Chain
 pub mod VersionOne
+pub mod VersionTwo
+pub mod Primitive

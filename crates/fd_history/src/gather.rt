@@ -1,14 +1,16 @@
 //! First pass: each entry with its verdict, its source and its depths.
-ghost use Rattle.std.specs.Prelude.{◌≡◌, ◌<◌, ◌≤◌, ◌+◌, ◌++◌, [], ◌∷◌, false, length, slice_get, IsTrue, IfSome, OnOk};
+ghost use Rattle.std.specs.Prelude.{◌≡◌, ◌<◌, ◌≤◌, ◌+◌, ◌++◌, [], ◌∷◌, false, length, slice_get, IsTrue, IfSome, OnErr, OnOk};
 ghost use Rattle.fd_cover.specs.Bounds.{is_within};
 ghost use Rattle.fd_snap.specs.Limits.{most_pixels};
 ghost use Rattle.fd_events.specs.Draw.{triangles_of};
 ghost use Rattle.fd_events.specs.Limits.{most_triangles};
 ghost use Rattle.fd_history.specs.Gathered.{EntersNothing};
+ghost use Rattle.fd_memory.specs.Wanting.{Wanted};
 
 use crate::entry::Entry;
+use crate::primitive::Primitive;
 use fd_blend::Colour;
-use fd_cover::{Bounds, Verdict, depth_at, shade, verdict_at};
+use fd_cover::{Bounds, Verdict};
 use fd_events::{Draw, Event, Pipeline};
 use std::alloc::AllocError;
 use std::marker::Model;
@@ -47,15 +49,15 @@ impl Gather {
 
     /// Takes an entry that begins at the pixel's depth.
     fn enter(&mut self, entry: Entry) -> Result<(), AllocError>
-        ensures { OnOk result (self.new ≡ gone_on self.old entry.depth_after (entry ∷ [])) }
+        ensures entered { OnOk result (self.new ≡ gone_on self.old entry.depth_after (entry ∷ [])) }
+        ensures wanted { OnErr result Wanted }
     {
-        self.entries.push(entry)?;
+        fd_memory::push(&mut self.entries, entry)?;
         self.depth = entry.depth_after;
         Ok(())
     }
 
     /// Goes through one triangle of a draw.
-    #[tactic(auto, using(crate::proofs::Gathers::covered_unless_missed))]
     fn pass_triangle(
         &mut self,
         event: u32,
@@ -66,28 +68,19 @@ impl Gather {
         requires { triangle < length (triangles_of draw.now) }
         ensures exact { OnOk result (IfSome (slice_get (triangles_of draw.now) triangle) (λ t. self.new ≡ past_triangle event triangle t draw.now.interp state.now self.old)) }
         ensures few { OnOk result (length self.new.entries ≤ length self.old.entries + 1) }
+        ensures wanted { OnErr result Wanted }
     {
         let tri = draw.tri(triangle);
         if !Bounds::of(&tri).holds(self.x, self.y) {
             return Ok(());
         }
-        let depths = draw.depths(triangle);
-        let verdict = verdict_at(
-            &tri,
-            &depths,
-            &state.raster,
-            &state.scissor,
-            &state.depth,
-            self.depth,
-            self.x,
-            self.y,
-        );
+        let primitive = Primitive::of(draw, triangle);
+        let verdict = primitive.verdict(state, self.depth, self.x, self.y);
         if verdict == Verdict::Missed {
             return Ok(());
         }
-        let colours = draw.colours(triangle);
-        let source = shade(&tri, &colours, draw.interp(), self.x, self.y);
-        let source_depth = depth_at(&tri, &depths, self.x, self.y);
+        let source = primitive.source(self.x, self.y);
+        let source_depth = primitive.depth(self.x, self.y);
         let depth_after = if verdict == Verdict::Drawn {
             state.depth.stored_past(source_depth, self.depth)
         } else {
@@ -110,6 +103,7 @@ impl Gather {
     fn pass_draw(&mut self, event: u32, draw: &Draw, state: &Pipeline) -> Result<(), AllocError>
         ensures exact { OnOk result (self.new ≡ past_triangles event 0 (triangles_of draw.now) draw.now.interp state.now self.old) }
         ensures few { OnOk result (length self.new.entries ≤ length self.old.entries + most_triangles) }
+        ensures wanted { OnErr result Wanted }
     {
         let count = draw.triangles();
         let pixel = pixel_at(self.x, self.y);
@@ -130,6 +124,7 @@ impl Gather {
     ) -> Result<(), AllocError>
         ensures exact { OnOk result (self.new ≡ past_event number event.now state.now self.old) }
         ensures few { OnOk result (length self.new.entries ≤ length self.old.entries + most_triangles) }
+        ensures wanted { OnErr result Wanted }
     {
         match event {
             Event::Clear(colour) => self.enter(Entry {
@@ -166,7 +161,7 @@ impl Gather {
 }
 
 /// The box of pixel (x, y) alone.
-fn pixel_at(x: u32, y: u32) -> Bounds
+pub(crate) fn pixel_at(x: u32, y: u32) -> Bounds
     requires column { x < most_pixels }
     requires row { y < most_pixels }
     ensures { IsTrue (is_within result x y) }

@@ -1,15 +1,17 @@
-ghost use Rattle.std.specs.Prelude.{◌≡◌, ◌<◌, ◌≤◌, ◌+◌, ◌-◌, ◌*◌, length, IfOk, OnOk};
+ghost use Rattle.std.specs.Prelude.{◌≡◌, ◌<◌, ◌≤◌, ◌+◌, ◌-◌, ◌*◌, length, IfOk, OnErr, OnOk};
 ghost use Rattle.fd_tile.specs.Place.{Holds};
 ghost use Rattle.fd_events.specs.Limits.{most_triangles};
 ghost use Rattle.fd_events.specs.Image.{stored_at};
 ghost use Rattle.fd_events.specs.Table.{active_event, state_at};
 ghost use Rattle.fd_owner.specs.History.{position, drawn_history};
+ghost use Rattle.fd_owner.specs.Shown.{IsInside};
 ghost use Rattle.fd_history.specs.Gathered.{past_number};
 ghost use Rattle.fd_history.specs.History.{history_at};
 ghost use Rattle.fd_history.specs.Settled.{overwritten_past};
+ghost use Rattle.fd_memory.specs.Wanting.{Wanted};
 
 use crate::entry::Entry;
-use crate::gather::{Gather, may_reach};
+use crate::gather::{Gather, may_reach, pixel_at};
 use crate::settle::{count_drawn, settle};
 use fd_blend::Colour;
 use fd_events::EventTable;
@@ -33,6 +35,7 @@ fn pass_number(
     ensures entries { OnOk result (gather.new ≡ past_number number (active_event table.now number) (state_at table.now (number - 1)) gather.old) }
     ensures kept { OnOk result (kept.new.items ≡ overwritten_past table.now (number - 1) gather.old.x gather.old.y kept.old.items) }
     ensures few { OnOk result (length gather.new.entries ≤ length gather.old.entries + most_triangles) }
+    ensures wanted { OnErr result Wanted }
 {
     if !table.is_on(number) {
         return Ok(());
@@ -49,7 +52,7 @@ fn pass_number(
 
 /// What the switched-on events up to an owner's position did to a pixel of its tile. Nothing is drawn: the colours are those that the
 /// owner kept, and the one that it shows; the depths follow from one entry to the next. The owner's history has to be the one that the table's events give a fresh tile.
-/// A clear of either kind has one entry, and a draw at most one for each triangle.
+/// A clear of either kind has one entry, and a draw at most one for each triangle. An event that the table's index tells to be far from the pixel isn't looked at.
 pub fn history(
     alloc: Global,
     table: &EventTable,
@@ -58,10 +61,12 @@ pub fn history(
     y: u32,
 ) -> Result<Vec<Entry>, AllocError>
     requires pixel { Holds owner.now.place x y }
+    requires inside { IsInside owner.now.place table.now }
     requires follows { owner.now.history ≡ drawn_history table.now owner.now.place (position owner.now.history) }
     requires within { position owner.now.history ≤ length table.now.events }
     ensures exact { IfOk result (λ entries. entries.items ≡ history_at table.now (position owner.now.history) x y) }
     ensures few { IfOk result (λ entries. length entries.items ≤ most_triangles * position owner.now.history) }
+    ensures wanted { OnErr result Wanted }
 {
     let _place = owner.place();
     let mut gather = Gather {
@@ -71,10 +76,15 @@ pub fn history(
         entries: Vec::new(alloc),
     };
     let mut pixels = Vec::new(alloc);
-    for passed in 0..owner.position() {
+    let to = owner.position();
+    let window = pixel_at(x, y);
+    let mut passed = table.next_near(0, to, window);
+    while passed < to {
         pass_number(&mut gather, &mut pixels, table, owner, passed + 1)?;
+        passed = table.next_near(passed + 1, to, window);
     }
-    pixels.push((owner.pixel(x, y), owner.depth(x, y)))?;
+    let shown = (owner.pixel(x, y), owner.depth(x, y));
+    fd_memory::push(&mut pixels, shown)?;
     settle(&mut gather.entries, &pixels);
     Ok(gather.entries)
 }

@@ -59,7 +59,8 @@ fn fresh_owner(alloc: Global, table: &EventTable) -> Result<Owner, Fail>
 /// An owner of the first tile that went along the table's events up to a position.
 fn owner_at(alloc: Global, table: &EventTable, position: u32) -> Result<Owner, Fail>
     requires { position ≤ length table.now.events }
-    ensures { IfOk result (λ owner. owner.history ≡ drawn_history table.now owner.place position) }
+    ensures history { IfOk result (λ owner. owner.history ≡ drawn_history table.now owner.place position) }
+    ensures inside { IfOk result (λ owner. IsInside owner.place table.now) }
 {
     let mut owner = fresh_owner(alloc, table)?;
     for passed in 0..position {
@@ -119,7 +120,7 @@ fn history_names_culled_and_scissored(rt: HostRuntime) -> Result<(), Fail> {
         bottom: 1,
     }))?;
     events.push(flat(alloc, 1, CLOCKWISE, last, 0)?)?;
-    let mut table = EventTable::start(alloc, 2, 1, 1, events)?;
+    let mut table = EventTable::start(alloc, 3, 1, 1, events)?;
     let expected = [
         entry(1, Verdict::Culled, grey(1), grey(0), grey(0)),
         entry(3, Verdict::Scissored, grey(2), grey(0), grey(0)),
@@ -152,7 +153,7 @@ fn history_of_two_triangles_of_one_draw(rt: HostRuntime) -> Result<(), Fail> {
     events.push(additive()?)?;
     events.push(flat(alloc, 2, CLOCKWISE, grey(10), 0)?)?;
     events.push(Event::Clear(grey(7)))?;
-    let table = EventTable::start(alloc, 2, 1, 1, events)?;
+    let table = EventTable::start(alloc, 3, 1, 1, events)?;
     let first = entry(2, Verdict::Drawn, grey(10), grey(0), grey(10));
     let second = Entry {
         triangle: Some(1),
@@ -188,7 +189,7 @@ fn history_shows_depths(rt: HostRuntime) -> Result<(), Fail> {
     events.push(flat(alloc, 1, CLOCKWISE, grey(2), 2000)?)?;
     events.push(Event::DepthClear(65535))?;
     events.push(flat(alloc, 1, CLOCKWISE, grey(2), 2000)?)?;
-    let table = EventTable::start(alloc, 2, 1, 1, events)?;
+    let table = EventTable::start(alloc, 3, 1, 1, events)?;
     let nearer = Entry {
         source_depth: 1000,
         depth_after: 1000,

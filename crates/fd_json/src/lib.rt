@@ -9,6 +9,7 @@ mod passing;
 mod stop;
 #[cfg(test)]
 mod tests;
+mod texts;
 mod whole_number;
 
 pub use clipping::clipped;
@@ -17,4 +18,5 @@ pub use numeral::number;
 pub use opening::{open_array, open_object};
 pub use passing::{NotJson, pass, pass_rest};
 pub use stop::Stop;
+pub use texts::text;
 pub use whole_number::integer;

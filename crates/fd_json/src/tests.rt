@@ -140,3 +140,25 @@ fn an_object_is_opened(rt: HostRuntime) -> Result<(), Fail> {
     assert_eq!(rt; reader.next_key().ok(), Some(None));
     Ok(())
 }
+
+/// Values, and the text that each of them is.
+const TEXTS: [(&str, Option<&str>); 5] = [
+    ("\"\"", Some("")),
+    ("\"a\\/b\"", Some("a/b")),
+    ("null", None),
+    ("[\"a\"]", None),
+    ("{\"a\":\"b\"}", None),
+];
+
+#[test]
+fn values_as_texts(rt: HostRuntime) -> Result<(), Fail> {
+    for (value, expected) in TEXTS {
+        let mut scratch = Scratch::new(rt.alloc());
+        let mut reader = Reader::new(value, &mut scratch)?;
+        let Ok(found) = text(&mut reader, DEPTH) else {
+            return Err(Fail::from("no value"));
+        };
+        assert_eq!(rt; found, expected, "{value}");
+    }
+    Ok(())
+}

@@ -31,7 +31,7 @@ kept_fresh : (f : Bool) (place : Place) → kept f place (fresh_history place) �
 kept_fresh false place = refl
 kept_fresh true place = refl
 
-position_kept : (f : Bool) (place : Place) (h : History) → position (kept f place h) ≡ position h
+pub position_kept : (f : Bool) (place : Place) (h : History) → position (kept f place h) ≡ position h
 position_kept false place h = refl
 position_kept true place h = position-without_past place h
 

@@ -11,9 +11,6 @@ use fd_tile::TILE_SIDE;
 /// The work of writing a pixel and keeping what it was, in nanoseconds. This and what follows is what `make bench` has measured.
 const PIXEL_WORK: usize = 4;
 
-/// The work of a step on one tile that draws nothing there, in nanoseconds.
-const STEP_WORK: usize = 2;
-
 /// The work of looking for a draw's triangles on one tile, in nanoseconds.
 const LOOK_WORK: usize = 45;
 
@@ -82,9 +79,8 @@ fn tiles_of(pixels: usize) -> usize {
 pub(crate) struct Estimate<'a> {
     area: &'a Area,
     work: usize,
-    // of the work what lies in each row of tiles; the rest is alike on all tiles
+    // what of the work lies in each row of tiles
     rows: [usize; MOST_ROWS],
-    alike: usize,
 }
 
 impl<'a> Estimate<'a> {
@@ -94,7 +90,6 @@ impl<'a> Estimate<'a> {
             area,
             work: 0,
             rows: [0; MOST_ROWS],
-            alike: 0,
         }
     }
 
@@ -138,14 +133,11 @@ impl<'a> Estimate<'a> {
         }
     }
 
-    /// Adds the event of this number.
+    /// Adds the event of this number. A tile that it doesn't reach doesn't look at it, so it takes nothing there.
     pub(crate) fn add_event(&mut self, table: &EventTable, number: u32)
         requires first { 1 ≤ number }
         requires last { number ≤ length table.now.events }
     {
-        let steps = self.area.tiles.saturating_mul(STEP_WORK);
-        self.alike = self.alike.saturating_add(steps);
-        self.work = self.work.saturating_add(steps);
         let reached = self.area.bounds.meet(table.reach(number));
         let pixels = reached.count();
         if pixels == 0 || !table.is_on(number) {
@@ -168,20 +160,17 @@ impl<'a> Estimate<'a> {
             ..
         } = *self.area;
         let across = tiles_between(bounds.left, bounds.right);
-        let alike = self.alike / tiles_between(bounds.top, bounds.bottom).max(1);
-        let (first, past) = (bounds.top / TILE_SIDE, bounds.bottom.div_ceil(TILE_SIDE));
+        let past = bounds.bottom.div_ceil(TILE_SIDE);
         let mut left = work;
-        for (row, own) in self.rows.iter().take(past as usize).enumerate() {
-            let shared = if row < first as usize { 0 } else { alike };
-            let here = own.saturating_add(shared);
-            if left < here {
-                let column = left.saturating_mul(across) / here;
+        for (row, here) in self.rows.iter().take(past as usize).enumerate() {
+            if left < *here {
+                let column = left.saturating_mul(across) / *here;
                 return row
                     .saturating_mul(columns)
                     .saturating_add((bounds.left / TILE_SIDE) as usize)
                     .saturating_add(column);
             }
-            left -= here;
+            left -= *here;
         }
         columns.saturating_mul(past as usize)
     }

@@ -1,9 +1,10 @@
 //! Moves of all owners of a frame from one position to another.
-ghost use Rattle.std.specs.Prelude.{◌≡◌, ℕ, ◌<◌, ◌≤◌, Bool, length, map, IfOk};
+ghost use Rattle.std.specs.Prelude.{◌≡◌, ℕ, ◌<◌, ◌≤◌, Bool, length, map, IfOk, OnErr, MatchResult};
 ghost use Rattle.std.specs.Result.{result_unwrap_or};
-ghost use Rattle.fd_crew.specs.Lanes.{opening_position};
+ghost use Rattle.fd_crew.specs.Lanes.{opening_position, ArePassed};
 ghost use Rattle.fd_session.specs.Held.{HoldsAll, Stands, StandsFrom, as_kept};
 ghost use Rattle.fd_session.specs.Moves.{MayGo, Comes};
+ghost use Rattle.fd_memory.specs.Wanting.{Wanted};
 
 use crate::estimate::Area;
 use crate::worth::{MOVE_WORK, PICTURE_WORK, Slice, next_slice};
@@ -27,13 +28,14 @@ pub(crate) fn common_position(owners: &[Owner]) -> u32
 
 /// The tiles of a table's target, and an owner of each at position 0. A tile takes its memory when an event first draws on it.
 pub(crate) fn open(alloc: Global, table: &EventTable) -> Result<(Grid, Vec<Owner>), AllocError>
-    ensures { IfOk result (λ opened. (forgets : Bool) → HoldsAll forgets table.now opened.0 opened.1.items × (opening_position opened.1.items ≡ 0)) }
+    ensures opened { IfOk result (λ opened. (forgets : Bool) → HoldsAll forgets table.now opened.0 opened.1.items × (opening_position opened.1.items ≡ 0)) }
+    ensures wanted { OnErr result Wanted }
 {
     let grid = Grid::new(table.width(), table.height()).unwrap();
-    let mut owners = Vec::with_capacity(alloc, grid.count())?;
+    let mut owners = fd_memory::room(alloc, grid.count())?;
     for number in 0..grid.count() {
         let tile = Tile::blank(alloc, grid.place(number));
-        owners.push(Owner::of(alloc, tile))?;
+        fd_memory::push(&mut owners, Owner::of(alloc, tile))?;
     }
     Ok((grid, owners))
 }
@@ -114,7 +116,9 @@ fn run_on<R: Threads + Sync, G: Gate>(
     drive: &Drive<'_, G>,
 ) -> Result<u32, AllocError>
     requires { MayGo drive.now.forgets table.now slice.now.from slice.now.end slice.now.workers owners.old }
-    ensures { Comes (StandsFrom drive.now.forgets table.now) slice.now.from slice.now.end (result_unwrap_or result slice.now.from) owners.old owners.new }
+    ensures comes { Comes (StandsFrom drive.now.forgets table.now) slice.now.from slice.now.end (result_unwrap_or result slice.now.from) owners.old owners.new }
+    ensures wanted { MatchResult result (λ at. at < slice.now.end → Wanted) (λ _. Wanted) }
+    ensures passed { ArePassed (λ o. o) (G.opened drive.now.gate.now) 0 owners.old owners.new }
 {
     let outcome = run_shared(rt, drive.alloc, owners, &slice.run(table), drive.gate)?;
     settle(owners, drive.forgets);
@@ -134,7 +138,9 @@ fn go_slice<R: Threads + Sync, G: Gate>(
     drive: &Drive<'_, G>,
 ) -> Result<u32, AllocError>
     requires { MayGo drive.now.forgets table.now slice.now.from slice.now.end slice.now.workers owners.old }
-    ensures { Comes (StandsFrom drive.now.forgets table.now) slice.now.from slice.now.end (result_unwrap_or result slice.now.from) owners.old owners.new }
+    ensures comes { Comes (StandsFrom drive.now.forgets table.now) slice.now.from slice.now.end (result_unwrap_or result slice.now.from) owners.old owners.new }
+    ensures wanted { MatchResult result (λ at. at < slice.now.end → Wanted) (λ _. Wanted) }
+    ensures passed { ArePassed (λ o. o) (G.opened drive.now.gate.now) 0 owners.old owners.new }
 {
     let end = slice.end;
     let run = run_on(rt, owners, table, slice, drive);
@@ -171,6 +177,8 @@ fn go_on<R: Threads + Sync, G: Gate, T: Progress>(
 ) -> Result<u32, AllocError>
     requires { MayGo drive.now.forgets table.now way.now.from way.now.to drive.now.workers owners.old }
     ensures comes { Comes (StandsFrom drive.now.forgets table.now) way.now.from way.now.to (result_unwrap_or result way.now.from) owners.old owners.new }
+    ensures wanted { MatchResult result (λ at. at < way.now.to → Wanted) (λ _. Wanted) }
+    ensures passed { ArePassed (λ o. o) (G.opened drive.now.gate.now) 0 owners.old owners.new }
     ensures told { T.kept teller.new ≡ T.kept teller.old }
 {
     let mut at = way.from;
@@ -201,6 +209,8 @@ pub(crate) fn go_forward<R: Threads + Sync, G: Gate, T: Progress>(
 ) -> Result<u32, AllocError>
     requires { MayGo drive.now.forgets table.now way.now.from way.now.to drive.now.workers owners.old }
     ensures comes { Comes (Stands drive.now.forgets table.now) way.now.from way.now.to (result_unwrap_or result way.now.from) owners.old owners.new }
+    ensures wanted { MatchResult result (λ at. at < way.now.to → Wanted) (λ _. Wanted) }
+    ensures passed { ArePassed (λ o. o) (G.opened drive.now.gate.now) 0 owners.old owners.new }
     ensures told { T.kept teller.new ≡ T.kept teller.old }
 {
     let run = go_on(rt, owners, table, way, drive, teller);

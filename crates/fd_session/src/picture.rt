@@ -1,5 +1,6 @@
 //! The image of a frame, drawn forward alone.
-ghost use Rattle.std.specs.Prelude.{◌≡◌, ◌≤◌, length, IfOk, IfErr};
+ghost use Rattle.std.specs.Prelude.{◌≡◌, ◌<◌, ◌≤◌, length, IfOk, IfErr, OnErr};
+ghost use Rattle.fd_memory.specs.Wanting.{Wanted};
 
 use crate::answer::{Answer, SessionFault};
 use crate::estimate::Area;
@@ -42,7 +43,7 @@ impl Model for Picture {
 }
 
 impl Picture {
-    ghost use Rattle.fd_session.specs.Machine.{opening, at_position, Jumps};
+    ghost use Rattle.fd_session.specs.Machine.{opening, at_position, Jumps, OnWant};
 
     /// The image at position 0, which is drawn by at most so many workers. On want of memory the table is handed back.
     pub fn start(
@@ -53,6 +54,7 @@ impl Picture {
         requires { (1 ≤ workers) × (workers ≤ 64) }
         ensures ok { IfOk result (λ picture. picture ≡ opening table) }
         ensures err { IfErr result (λ e. e.0 ≡ table) }
+        ensures wanted { OnErr result Wanted }
     {
         match open(alloc, &table) {
             Ok((grid, owners)) => Ok(Picture {
@@ -73,6 +75,7 @@ impl Picture {
         ensures on { self.old.position ≤ result }
         ensures within { result ≤ to }
         ensures drawn { self.new ≡ at_position self.old result }
+        ensures wanted { result < to → Wanted }
         ensures told { T.kept teller.new ≡ T.kept teller.old }
     {
         let drive = Drive {
@@ -93,6 +96,7 @@ impl Picture {
     pub fn go<R: Threads + Sync, T: Progress>(&mut self, rt: &R, to: u32, teller: &mut T) -> Answer
         requires { self.old.position ≤ to }
         ensures jumps { Jumps self.old to result self.new }
+        ensures wanted { OnWant Wanted result }
         ensures told { T.kept teller.new ≡ T.kept teller.old }
     {
         if to > self.table().len() {

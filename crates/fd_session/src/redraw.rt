@@ -1,10 +1,11 @@
 //! A switch of an event that the owners of a frame have gone through. Tiles that the event can't reach are not drawn anew.
-ghost use Rattle.std.specs.Prelude.{◌≡◌, ◌+◌, ◌≤◌, Some, false, not, length, All};
+ghost use Rattle.std.specs.Prelude.{◌≡◌, ◌+◌, ◌<◌, ◌≤◌, Some, false, not, length, All};
 ghost use Rattle.fd_events.specs.Table.{with_flag, flag_at};
 ghost use Rattle.fd_crew.specs.Lanes.{opening_position};
 ghost use Rattle.fd_session.specs.Held.{Stands, StandsFrom, IsLeft};
 ghost use Rattle.fd_session.specs.Redraw.{IsTakenBefore};
 ghost use Rattle.fd_session.specs.Switch.{HoldsSwitched, unswitched};
+ghost use Rattle.fd_memory.specs.Wanting.{Wanted};
 
 use crate::estimate::Area;
 use crate::moves::{Drive, Way, common_position, go_forward};
@@ -64,6 +65,7 @@ pub(crate) fn go_again<R: Threads + Sync, G: Gate>(
     ensures low { number ≤ result + 1 }
     ensures high { result ≤ opening_position owners.old }
     ensures left { IsLeft (Stands false (with_flag table.old number on) result) owners.old owners.new }
+    ensures wanted { result < opening_position owners.old → Wanted }
 {
     let position = common_position(owners);
     let switch = Switch::make(table, number, on, position);

@@ -1,4 +1,5 @@
-ghost use Rattle.std.specs.Prelude.{◌≡◌, ◌≤◌, ◌+◌, false, Some, not, length, IfOk, IfErr};
+ghost use Rattle.std.specs.Prelude.{◌≡◌, ◌≤◌, ◌+◌, false, Some, not, length, IfOk, IfErr, OnErr, MatchResult};
+ghost use Rattle.fd_memory.specs.Wanting.{Wanted};
 
 use crate::answer::{Answer, SessionFault};
 use crate::estimate::Area;
@@ -53,7 +54,7 @@ impl Session {
     ghost use Rattle.fd_events.specs.Table.{state_at, flag_at};
     ghost use Rattle.fd_session.specs.Held.{Stands};
     ghost use Rattle.fd_session.specs.Machine.{State, opening, at_position, with_flag_at, Steps, GoesBack, Jumps, RefusesSwitch, Switches, ShowsPixel};
-    ghost use Rattle.fd_session.specs.Machine.{ShowsDepth, ShowsFlag, ShowsHistory, IsState};
+    ghost use Rattle.fd_session.specs.Machine.{ShowsDepth, ShowsFlag, ShowsHistory, IsState, OnMemory, Passes, OnWant};
 
     /// A session at position 0, whose moves have at most so many workers. On want of memory the table is handed back.
     pub fn start(
@@ -64,6 +65,7 @@ impl Session {
         requires { (1 ≤ workers) × (workers ≤ 64) }
         ensures ok { IfOk result (λ session. session ≡ opening table) }
         ensures err { IfErr result (λ e. e.0 ≡ table) }
+        ensures wanted { OnErr result Wanted }
     {
         match open(alloc, &table) {
             Ok((grid, owners)) => Ok(Session {
@@ -81,6 +83,7 @@ impl Session {
     fn drive<'a, G: Gate>(&self, pace: Pace, gate: &'a G) -> Drive<'a, G>
         ensures workers { (1 ≤ result.workers) × (result.workers ≤ 64) }
         ensures whole { result.forgets ≡ false }
+        ensures gate { result.gate.now ≡ gate.now }
     {
         Drive {
             pace,
@@ -105,6 +108,8 @@ impl Session {
         ensures on { self.old.position ≤ result_unwrap_or result self.old.position }
         ensures within { result_unwrap_or result self.old.position ≤ to }
         ensures moved { self.new ≡ at_position self.old (result_unwrap_or result self.old.position) }
+        ensures wanted { MatchResult result (λ at. at < to → Wanted) (λ _. Wanted) }
+        ensures passed { Passes (G.opened gate.now) self.old self.new }
         ensures told { T.kept teller.new ≡ T.kept teller.old }
     {
         let drive = self.drive(pace, gate);
@@ -132,7 +137,9 @@ impl Session {
         teller: &mut T,
     ) -> Answer
         ensures jumps { Jumps self.old to result self.new }
+        ensures passed { Passes (G.opened gate.now) self.old self.new }
         ensures told { T.kept teller.new ≡ T.kept teller.old }
+        ensures wanted { OnWant Wanted result }
     {
         if to > self.table().len() {
             return Answer::Refused(SessionFault::NoSuchPosition);
@@ -150,7 +157,8 @@ impl Session {
 
     /// Goes through the next event. On want of memory nothing changes.
     pub fn step<R: Threads + Sync>(&mut self, rt: &R) -> Answer
-        ensures { Steps self.old result self.new }
+        ensures steps { Steps self.old result self.new }
+        ensures wanted { OnWant Wanted result }
     {
         let position = self.position();
         if position == self.table.len() {
@@ -161,7 +169,8 @@ impl Session {
 
     /// Jumps to a position. A jump forward may stop before it. It goes slice by slice, so that where memory runs out all earlier slices stay.
     pub fn goto<R: Threads + Sync>(&mut self, rt: &R, to: u32) -> Answer
-        ensures { Jumps self.old to result self.new }
+        ensures jumps { Jumps self.old to result self.new }
+        ensures wanted { OnWant Wanted result }
     {
         self.go(rt, to, &mut Untold)
     }
@@ -170,13 +179,16 @@ impl Session {
     pub fn go<R: Threads + Sync, T: Progress>(&mut self, rt: &R, to: u32, teller: &mut T) -> Answer
         ensures jumps { Jumps self.old to result self.new }
         ensures told { T.kept teller.new ≡ T.kept teller.old }
+        ensures wanted { OnWant Wanted result }
     {
         self.jump(rt, to, Pace::Slices, &Free, teller)
     }
 
     /// Jumps to a position, by all workers. On the way forward each tile passes the gate before each of its events.
     pub fn goto_gated<R: Threads + Sync, G: Gate>(&mut self, rt: &R, to: u32, gate: &G) -> Answer
-        ensures { Jumps self.old to result self.new }
+        ensures jumps { Jumps self.old to result self.new }
+        ensures passed { Passes (G.opened gate.now) self.old self.new }
+        ensures wanted { OnWant Wanted result }
     {
         self.jump(rt, to, Pace::Whole, gate, &mut Untold)
     }
@@ -199,6 +211,7 @@ impl Session {
         ensures high { result ≤ self.old.position }
         ensures stays { self.old.position < number → result ≡ self.old.position }
         ensures switched { self.new ≡ with_flag_at self.old number on result }
+        ensures wanted { result < self.old.position → Wanted }
     {
         let position = common_position(&self.owners);
         if number > position {
@@ -211,7 +224,8 @@ impl Session {
 
     /// Switches an event on or off. Where it was gone through, it and the ones after it are drawn anew, which may stop before the position.
     pub fn switch<R: Threads + Sync>(&mut self, rt: &R, number: u32, on: bool) -> Answer
-        ensures { Switches self.old number on result self.new }
+        ensures switches { Switches self.old number on result self.new }
+        ensures wanted { OnWant Wanted result }
     {
         if let Err(fault) = self.can_switch(number, on) {
             return Answer::Refused(fault);
@@ -301,6 +315,7 @@ impl Session {
     pub fn history(&self, alloc: Global, x: u32, y: u32) -> Result<Vec<Entry>, SessionFault>
         ensures shows { ShowsHistory self.now x y (result_map_both (λ entries. entries.items) (λ fault. fault) result) }
         ensures few { IfOk result (λ entries. length entries.items ≤ most_triangles * most_events) }
+        ensures wanted { OnMemory Wanted result }
     {
         match history(alloc, &self.table, self.owner_of(x, y)?, x, y) {
             Ok(entries) => Ok(entries),

@@ -1,5 +1,5 @@
--- Promised. The lines of which replies are made. Those of version 2 show depths too.
-use Rattle.std.specs.Prelude.{ℕ, ◌+◌, ℤ, List, [], ◌∷◌, ◌++◌, Bool, Option, Some, None, codes, decimal, length, ◌==◌, if◌then◌else◌}
+-- Promised. The lines of which replies are made. Those of version 2 and later show depths too.
+use Rattle.std.specs.Prelude.{ℕ, ◌+◌, ℤ, List, [], ◌∷◌, ◌++◌, Bool, Option, Some, None, is_some, codes, decimal, length, ◌==◌, if◌then◌else◌}
 use Rattle.std.specs.Fmt.{signed_decimal}
 use Rattle.std.specs.List.{flat_map}
 use Rattle.fd_blend.specs.declared.channel.Colour.{Colour}
@@ -9,11 +9,11 @@ use Rattle.fd_blend.specs.Mask.{bits_of}
 use Rattle.fd_cover.specs.declared.depth.Depth.{Depth}
 use Rattle.fd_cover.specs.declared.verdict.Rect.{Rect}
 use Rattle.fd_cover.specs.declared.verdict.Verdict.{Verdict}
-use Rattle.fd_cover.specs.declared.verdict.Verdict.TheVariants.{Missed, Culled, Scissored, DepthFailed, Drawn}
+use Rattle.fd_cover.specs.declared.verdict.Verdict.TheVariants.{Missed, Culled, Scissored, Discarded, DepthFailed, Drawn}
 use Rattle.fd_events.specs.declared.event.Event.{Event}
 use Rattle.fd_events.specs.declared.event.Event.TheVariants.{Clear, SetRaster, SetScissor, SetBlend, SetFactor, SetDepth, DepthClear, Draw, Marker}
 use Rattle.fd_events.specs.declared.pipeline.Pipeline.{Pipeline}
-use Rattle.fd_events.specs.Draw.{triangles_of}
+use Rattle.fd_events.specs.Draw.{DrawList, triangles_of}
 use Rattle.fd_events.specs.Table.{Table}
 use Rattle.fd_capture.specs.Spelling.{factor_text, op_text, cull_text, func_text, interp_text}
 use Rattle.fd_history.specs.declared.entry.Entry.{Entry}
@@ -60,9 +60,9 @@ equation_words b = truth_word b.enable ++ part_words b.rgb ++ part_words b.alpha
 abbrev pub depth_words : Depth → List ℕ
 depth_words d = truth_word d.enable ++ truth_word d.write ++ word (func_text d.func)
 
--- the end of a line: in the replies on a capture of version 2 these words stand before the line feed
+-- the end of a line: but in the replies on a capture of version 1 these words stand before the line feed
 abbrev pub line_end : ℕ → List ℕ → List ℕ
-line_end version words = if version == 2 then words ++ codes "\n" else codes "\n"
+line_end version words = if version == 1 then codes "\n" else words ++ codes "\n"
 
 -- ---- lines, in the replies on a capture of a version
 
@@ -75,6 +75,10 @@ state_line version s =
     ++ codes " rect" ++ rect_words s.scissor ++ codes " blend" ++ equation_words s.blend ++ codes " mask" ++ number_word (bits_of s.blend.mask)
     ++ codes " factor" ++ colour_words s.factor ++ line_end version (codes " depth" ++ depth_words s.depth)
 
+-- what the colours of a draw come from
+abbrev pub source_text : DrawList → List ℕ
+source_text d = if is_some d.picture then codes "picture" else interp_text d.interp
+
 -- what stands behind an event's number and flag
 abbrev pub event_words : Event → List ℕ
 event_words (Clear colour) = codes " clear" ++ colour_words colour
@@ -84,7 +88,7 @@ event_words (SetBlend b) = codes " blend" ++ equation_words b ++ number_word (bi
 event_words (SetFactor colour) = codes " factor" ++ colour_words colour
 event_words (SetDepth d) = codes " depth" ++ depth_words d
 event_words (DepthClear depth) = codes " depth_clear" ++ number_word depth
-event_words (Draw d) = codes " draw" ++ number_word (length (triangles_of d)) ++ word (interp_text d.interp)
+event_words (Draw d) = codes " draw" ++ number_word (length (triangles_of d)) ++ word (source_text d)
 event_words (Marker name) = codes " marker " ++ name
 
 abbrev pub flag_word : Bool → List ℕ
@@ -117,6 +121,7 @@ abbrev pub verdict_text : Verdict → List ℕ
 verdict_text Missed = codes "missed"
 verdict_text Culled = codes "culled"
 verdict_text Scissored = codes "scissored"
+verdict_text Discarded = codes "discarded"
 verdict_text DepthFailed = codes "depthfailed"
 verdict_text Drawn = codes "drawn"
 

@@ -184,10 +184,11 @@ fn lines_that_are_no_command(rt: HostRuntime) {
 }
 
 #[test]
-fn a_pixel_shows_its_depth_in_version_two(rt: HostRuntime) {
+fn a_pixel_shows_its_depth_since_version_two(rt: HostRuntime) {
     for (version, line) in [
         (1, b"pixel 10 20 30 40\n".as_slice()),
         (2, b"pixel 10 20 30 40 65535\n".as_slice()),
+        (3, b"pixel 10 20 30 40 65535\n".as_slice()),
     ] {
         assert_eq!(rt; pixel_line(version, TEN_TO_FORTY, 65_535).as_slice(), line);
     }

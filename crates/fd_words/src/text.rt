@@ -1,7 +1,7 @@
 //! The texts of lines, and of the words that they are made of.
-ghost use Rattle.std.specs.Prelude.{◌≡◌, ◌==◌, ◌≤◌, ◌+◌, ◌++◌, codes, length, Ok};
+ghost use Rattle.std.specs.Prelude.{◌≡◌, ◌==◌, ◌≤◌, ◌+◌, ◌++◌, not, codes, length, Ok};
 ghost use Rattle.fd_capture.specs.Spelling.{factor_text, op_text, cull_text, func_text, interp_text};
-ghost use Rattle.fd_words.specs.Text.{word, number_word, signed_word, truth_word, flag_word, colour_words, rect_words, part_words, equation_words, depth_words, line_end, event_words, event_line, events_head, state_line, pixel_line, triangle_word, verdict_text, entry_line};
+ghost use Rattle.fd_words.specs.Text.{word, number_word, signed_word, truth_word, flag_word, colour_words, rect_words, part_words, equation_words, depth_words, line_end, source_text, event_words, event_line, events_head, state_line, pixel_line, triangle_word, verdict_text, entry_line};
 
 use arrayvec::ArrayVec;
 use bitflags::Flags;
@@ -160,6 +160,7 @@ fn verdict_word(verdict: Verdict) -> &'static [u8]
         Verdict::Missed => b" missed",
         Verdict::Culled => b" culled",
         Verdict::Scissored => b" scissored",
+        Verdict::Discarded => b" discarded",
         Verdict::DepthFailed => b" depthfailed",
         Verdict::Drawn => b" drawn",
     }
@@ -236,9 +237,9 @@ fn add_depth(line: &mut Line, depth: Depth)
 
 /// Whether the replies on a capture of a version show depths.
 fn shows_depths(version: u32) -> bool
-    ensures { result ≡ (version == 2) }
+    ensures { result ≡ not (version == 1) }
 {
-    version == 2
+    version != 1
 }
 
 /// The line of a pixel, in the replies on a capture of a version.
@@ -324,6 +325,17 @@ fn add_depth_clear(line: &mut Line, depth: u16)
     add_half(line, depth);
 }
 
+/// What the colours of a draw come from.
+fn source_word(draw: &Draw) -> &'static [u8]
+    ensures word { result.now ≡ word (source_text draw.now) }
+    ensures short { length result.now ≤ 8 }
+{
+    match draw.picture() {
+        Some(_) => b" picture",
+        None => interp_word(draw.interp()),
+    }
+}
+
 /// Appends a draw as an event.
 fn add_draw(line: &mut Line, draw: &Draw)
     requires { length line.old.items + 160 ≤ 256 }
@@ -332,7 +344,7 @@ fn add_draw(line: &mut Line, draw: &Draw)
 {
     append(line, b" draw");
     add_number(line, draw.triangles());
-    append(line, interp_word(draw.interp()));
+    append(line, source_word(draw));
 }
 
 /// Appends what stands behind an event's number and flag.

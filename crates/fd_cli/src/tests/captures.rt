@@ -57,6 +57,16 @@ pub(crate) const DEPTH_TEST: &str =
 {"kind":"draw","interp":"flat","vertices":[{"x":0,"y":0,"z":2000,"color":[2,2,2,2]},{"x":131072,"y":0,"z":2000,"color":[2,2,2,2]},{"x":0,"y":131072,"z":2000,"color":[2,2,2,2]}]}
 ]}"#;
 
+/// A picture of two by two texels, of which the third is a hole, is blended with a clear under the depth test, and a farther triangle drawn after it.
+pub(crate) const PICTURE: &str = r#"{"format":"framedbg","version":3,"width":3,"height":2,"events":[
+{"kind":"clear","color":[10,20,30,40]},
+{"kind":"blend","enable":true,"rgb":["SRC_ALPHA","INV_SRC_ALPHA","ADD"],"alpha":["ONE","ZERO","ADD"],"mask":15},
+{"kind":"depth","enable":true,"write":true,"func":"LESS"},
+{"kind":"draw","interp":"picture","vertices":[{"x":0,"y":0,"z":1000},{"x":524288,"y":0,"z":1000},{"x":0,"y":524288,"z":1000}],
+"picture":{"left":1,"top":0,"width":2,"height":2,"texels":"/wAA/2QyAIABAgMEAADIAA==","holes":"BA=="}},
+{"kind":"draw","interp":"flat","vertices":[{"x":0,"y":0,"z":2000,"color":[1,2,3,255]},{"x":524288,"y":0,"z":2000,"color":[1,2,3,255]},{"x":0,"y":524288,"z":2000,"color":[1,2,3,255]}]}
+]}"#;
+
 /// A target of 64 tiles: a clear, two halves of it drawn over one another, and a clear that hides all but what is drawn behind it.
 pub(crate) const MANY_TILES: &str =
     r#"{"format":"framedbg","version":1,"width":256,"height":256,"events":[

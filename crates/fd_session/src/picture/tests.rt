@@ -19,7 +19,7 @@ fn a_picture_keeps_nothing(rt: HostRuntime) -> Result<(), Fail> {
     for level in 1..=40 {
         clears.push(Event::Clear(grey(level)))?;
     }
-    let table = EventTable::start(rt.alloc(), 2, 512, 512, clears)?;
+    let table = EventTable::start(rt.alloc(), 3, 512, 512, clears)?;
     let Ok(mut picture) = Picture::start(rt.alloc(), table, 1) else {
         return Err(Fail::from("memory"));
     };

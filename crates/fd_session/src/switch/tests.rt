@@ -22,7 +22,7 @@ fn table(alloc: Global) -> Result<EventTable, Fail>
     events.push(blend(false, Factor::One, Factor::Zero, 15)?)?;
     events.push(Event::Clear(grey(1)))?;
     events.push(flat(alloc, [(80, 0), (88, 0), (80, 8)], grey(9))?)?;
-    Ok(EventTable::start(alloc, 2, 96, 96, events)?)
+    Ok(EventTable::start(alloc, 3, 96, 96, events)?)
 }
 
 /// Switches an event, and checks the box of what that changes up to a position, by its left, top, right and bottom.

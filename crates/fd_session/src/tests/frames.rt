@@ -125,7 +125,7 @@ pub(crate) fn session(
 ) -> Result<Session, Fail>
     requires { (1 ≤ workers) × (workers ≤ 64) }
 {
-    let table = EventTable::start(alloc, 2, width, height, events)?;
+    let table = EventTable::start(alloc, 3, width, height, events)?;
     match Session::start(alloc, table, workers) {
         Ok(session) => Ok(session),
         Err(_) => Err(Fail::from("memory")),

@@ -5,7 +5,7 @@ use fd_events::Event;
 use std::alloc::Global;
 use std::test::Fail;
 
-/// Clears of 512 by 512 pixels, each of its own grey, of 1,049,088 ns by estimate. With one worker a slice takes 60 ms, which are 58 of them.
+/// Clears of 512 by 512 pixels, each of its own grey, of 1,048,576 ns by estimate. With one worker a slice takes 60 ms, which are 58 of them.
 fn clears(alloc: Global, count: u8) -> Result<Session, Fail> {
     let mut events = Vec::new(alloc);
     for level in 1..=count {

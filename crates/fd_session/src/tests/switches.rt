@@ -121,7 +121,7 @@ fn expect_states(rt: &impl Abort, session: &Session, levels: [u8; 6]) {
     }
 }
 
-/// The levels are those that tools/reference.py gives.
+/// The levels are those that build/reference.py gives.
 #[test]
 fn a_switch_of_a_state_shows_where_it_is_drawn_in(rt: HostRuntime) -> Result<(), Fail> {
     let all = [5, 100, 50, 50, 100, 100];

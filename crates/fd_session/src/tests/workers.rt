@@ -43,6 +43,9 @@ fn every_worker_is_in_a_lane_at_once(rt: HostRuntime) -> Result<(), Fail> {
     };
     expect_moved(&rt, session.goto_gated(&rt, 1, &gate), 1);
     assert_eq!(rt; gate.gave_up.load(Ordering::SeqCst), 0);
+    for flag in [&gate.first, &gate.second] {
+        assert_eq!(rt; flag.load(Ordering::SeqCst), 1);
+    }
     for x in [0, 32] {
         expect_pixel(&rt, &session, (x, 0), colour(1, 2, 3, 4));
     }

@@ -15,7 +15,7 @@ fn table(alloc: Global, first: Event, second: Event) -> Result<EventTable, Fail>
     let mut events = Vec::new(alloc);
     events.push(first)?;
     events.push(second)?;
-    Ok(EventTable::start(alloc, 2, 1024, 512, events)?)
+    Ok(EventTable::start(alloc, 3, 1024, 512, events)?)
 }
 
 /// The next slice of a session's move over so many tiles.
@@ -37,7 +37,7 @@ fn work_decides_how_many_workers_start(rt: HostRuntime) -> Result<(), Fail> {
     let clear = Event::Clear(colour(1, 2, 3, 4));
     let small = flat(alloc, [(0, 0), (90, 0), (0, 90)], colour(1, 2, 3, 4))?;
     let mut table = table(alloc, clear, small)?;
-    // the clear takes 2,098,176 ns, which is worth 16 workers, and the draw 37,384 ns, which is worth none
+    // the clear takes 2,097,152 ns, which is worth 16 workers, and the draw 36,360 ns, which is worth none
     for (from, to, workers, worth) in [
         (0, 1, 64, 16),
         (0, 2, 64, 16),
@@ -104,16 +104,30 @@ fn what_lies_between_triangles_is_no_work(rt: HostRuntime) -> Result<(), Fail> {
     Ok(())
 }
 
-/// A step over 40,000,000 tiles takes longer than a slice does otherwise.
+/// A thousand triangles take 72,736,720 ns: more than a slice takes on few tiles, and less than it takes to fetch 400,000 tiles.
 #[test]
 fn a_slice_does_more_than_fetch_its_tiles(rt: HostRuntime) -> Result<(), Fail> {
     let alloc = rt.alloc();
-    let table = table(alloc, far_apart(alloc, 2)?, far_apart(alloc, 2)?)?;
-    assert_eq!(rt; slice_of(&table, 0, 2, 40_000_000, 1).end, 2);
+    let first = over_one_another(alloc, 1000)?;
+    let second = over_one_another(alloc, 1000)?;
+    let table = table(alloc, first, second)?;
+    assert_eq!(rt; slice_of(&table, 0, 2, 512, 1).end, 1);
+    assert_eq!(rt; slice_of(&table, 0, 2, 400_000, 1).end, 2);
     Ok(())
 }
 
-/// The clear is alike on all 16 rows of tiles. The triangles lie in the box of the upper four, where each row takes 292,448 ns; there all four workers begin,
+/// An event that is switched off takes nothing, on however many tiles.
+#[test]
+fn what_reaches_no_tile_is_no_work(rt: HostRuntime) -> Result<(), Fail> {
+    let alloc = rt.alloc();
+    let mut table = table(alloc, far_apart(alloc, 2)?, far_apart(alloc, 2)?)?;
+    table.set_on(1, false);
+    let slice = slice_of(&table, 0, 2, 134_000_000, 1);
+    assert_eq!(rt; slice.end, 2);
+    Ok(())
+}
+
+/// The clear is alike on all 16 rows of tiles. The triangles lie in the box of the upper four, where each row takes 292,384 ns; there all four workers begin,
 /// each with a row, and the last one has the rows below as well.
 #[test]
 fn workers_begin_where_the_work_is(rt: HostRuntime) -> Result<(), Fail> {
@@ -134,7 +148,7 @@ fn workers_begin_where_the_work_is(rt: HostRuntime) -> Result<(), Fail> {
     Ok(())
 }
 
-/// In a box of four rows of 16 tiles the clear takes 65,568 ns a row, which is worth two workers: they begin in its first and its third row, at its left edge.
+/// In a box of four rows of 16 tiles the clear takes 65,536 ns a row, which is worth two workers: they begin in its first and its third row, at its left edge.
 #[test]
 fn workers_begin_inside_the_box(rt: HostRuntime) -> Result<(), Fail> {
     let alloc = rt.alloc();

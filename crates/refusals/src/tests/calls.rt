@@ -28,7 +28,7 @@ fn table_start(rt: HostRuntime) -> Result<(), Fail> {
     let first = events(rt.alloc())?;
     let second = events(rt.alloc())?;
     println!(rt; "ready")?;
-    match EventTable::start(rt.alloc(), 2, 2, 2, first) {
+    match EventTable::start(rt.alloc(), 3, 2, 2, first) {
         Ok(table) => {
             println!(rt; "told Ok")?;
             assert_eq!(rt; table.len(), 2);
@@ -36,7 +36,7 @@ fn table_start(rt: HostRuntime) -> Result<(), Fail> {
         Err(fault) => {
             println!(rt; "told {fault:?}")?;
             assert_eq!(rt; fault, TableFault::Memory);
-            let again = EventTable::start(rt.alloc(), 2, 2, 2, second);
+            let again = EventTable::start(rt.alloc(), 3, 2, 2, second);
             assert!(rt; again.is_ok_and(|table| table.len() == 2));
         }
     }

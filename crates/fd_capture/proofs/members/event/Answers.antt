@@ -1,4 +1,4 @@
-use Rattle.std.proofs.Common.{◌≡◌, ◌-◌, option_map, subst, ap, ◌∙◌, rules}
+use Rattle.std.proofs.Common.{◌≡◌, ◌-◌, subst, ap, ◌∙◌, rules}
 use Rattle.json.specs.Json.{parse_map}
 use Rattle.serde_json.specs.Data.{object}
 use Rattle.serde_json.specs.View.{view, members_view}
@@ -7,7 +7,7 @@ use Rattle.serde_json.proofs.Views.{view-Object}
 use Rattle.fd_json.specs.Taken.{taken, members_taken}
 use Rattle.fd_capture.specs.Fault.{GivesEvent}
 use Rattle.fd_capture.specs.Capture.{event_of}
-use Rattle.fd_capture.specs.Streamed.{event_from}
+use Rattle.fd_capture.specs.Streamed.{event_from, large_of}
 use Rattle.fd_capture.proofs.Kept.{event-kept}
 use Rattle.fd_capture.proofs.members.event.Goals as goal
 
@@ -16,9 +16,10 @@ returns-clause-ok c =
     let opened : taken c.args.depth c.args.reader.now ≡ parse_map object (members_taken (c.args.depth - 1) c.open_object.new.reader) = search rules in
     let draft = c.in_ok-draft.draft in
     let read = c.in_ok-draft.ensures.ok in
-    let same : event_from c.args.version (view (Object draft.members)) (option_map (option_map (λ v. v.items)) draft.vertices)
-    (option_map (option_map (λ v. v.items)) draft.indices) ≡ event_of c.args.version (object read.0) =
-    rw (view-Object draft.members, read.3, read.4) (event-kept c.args.version (members_view draft.members.entries) read.0 read.2) in (
+    let same : event_from c.args.version (view (Object draft.members)) (large_of draft.parts) ≡ event_of c.args.version (object read.0) =
+    ap (λ d. event_from c.args.version d (large_of draft.parts)) (view-Object draft.members)
+    ∙ ap (λ large. event_from c.args.version (object (members_view draft.members.entries)) large) read.3
+    ∙ (event-kept c.args.version (members_view draft.members.entries) read.0 read.2) in (
       object read.0,
       opened ∙ ap (parse_map object) read.1,
       subst (GivesEvent (λ event. event) c.event_from.result) same c.event_from.ensures,

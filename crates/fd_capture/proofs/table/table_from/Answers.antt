@@ -10,7 +10,7 @@ start-requires c =
     let listed = some_from_ok_or c.listed.result NotCapture c.in_ok-events.events c.in_ok-events.ensures.value in
     let version = some_from_ok_or c.version.result Version c.in_ok-version.version c.in_ok-version.ensures.value in
     let is : c.in_ok-events.events ≡ Ok c.in_ok-events-2.events = search rules in
-    let are = are_of (view c.args.capture.now) c.args.events c.in_ok-events.events (number_member "version" 1 2 (view c.args.capture.now))
+    let are = are_of (view c.args.capture.now) c.args.events c.in_ok-events.events (number_member "version" 1 3 (view c.args.capture.now))
     c.in_ok-version.version c.in_ok-events-2.events c.requires (sym c.listed.ensures ∙ listed)
     (sym c.version.ensures.value ∙ version) is in
     are.0
@@ -20,7 +20,7 @@ returns-in_err-start c =
     let listed = some_from_ok_or c.listed.result NotCapture c.in_ok-events.events c.in_ok-events.ensures.value in
     let version = some_from_ok_or c.version.result Version c.in_ok-version.version c.in_ok-version.ensures.value in
     let is : c.in_ok-events.events ≡ Ok c.in_ok-events-2.events = search rules in
-    let are = are_of (view c.args.capture.now) c.args.events c.in_ok-events.events (number_member "version" 1 2 (view c.args.capture.now))
+    let are = are_of (view c.args.capture.now) c.args.events c.in_ok-events.events (number_member "version" 1 3 (view c.args.capture.now))
     c.in_ok-version.version c.in_ok-events-2.events c.requires (sym c.listed.ensures ∙ listed)
     (sym c.version.ensures.value ∙ version) is in
     search (rules)

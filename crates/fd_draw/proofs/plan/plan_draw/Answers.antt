@@ -1,10 +1,11 @@
-use Rattle.std.proofs.Common.{◌≡◌, ◌∙◌, ◌+◌, ◌<◌, inl, inr, length, min, sym, ap, arith}
+use Rattle.std.proofs.Common.{◌≡◌, ◌∙◌, cond, ◌+◌, ◌<◌, inl, inr, length, min, sym, ap, arith}
 use Rattle.fd_events.specs.Draw.{triangles_of}
 use Rattle.fd_draw.specs.declared.room.Demand.{Demand}
-use Rattle.fd_draw.specs.Demand.{triangle_pixels, triangle_spans}
+use Rattle.fd_draw.specs.Demand.{is_tested, triangle_pixels, triangle_spans}
 use Rattle.fd_draw.specs.Plan.{AreUnreached}
 use Rattle.fd_draw.specs.Triangles.{triangle_at}
-use Rattle.fd_draw.proofs.Triangles.{found_here, no_pixels, no_spans, none_pixels, none_spans, pixels-passed, pixels_found, planned_more, planned_past}
+use Rattle.fd_draw.proofs.Triangles.{found_here, no_pixels, no_spans, none_pixels, none_spans, pixels-passed, pixels_found, picture_at_number}
+use Rattle.fd_draw.proofs.Triangles.{planned_more, planned_past}
 use Rattle.fd_draw.proofs.Triangles.{spans-passed, spans_few, spans_found, sum_more, unreached_closed, unreached_culled}
 use Rattle.fd_draw.proofs.Triangles.{unreached_here, unreached_missed, unreached_uncovered}
 use Rattle.fd_draw.proofs.plan.plan_draw.Goals as goal
@@ -68,7 +69,9 @@ loop-triangle-preserved c =
       | in-Some w ↦
           let it = w.in-Some.ensures in
           let on = found_here d i s window.ensures.inside window.ensures.left_open c.tri.ensures it.found it.part it.drawn in
-          let its_spans = spans_found (triangle_at d i) s p w.in-Some.found on in
+          let its_spans = spans_found (triangle_at d i) s p w.in-Some.found on
+          ∙ ap (λ b. cond b w.in-Some.found.demand.pixels w.in-Some.found.demand.spans)
+          (ap (is_tested s) (picture_at_number d i below) ∙ sym c.is_tested-tested.ensures) in
           let its_pixels = pixels_found (triangle_at d i) s p w.in-Some.found on in
           let few_spans = spans_few (triangle_at d i) s p w.in-Some.found on in
           let add = w.add.ensures in

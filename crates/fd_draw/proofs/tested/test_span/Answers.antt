@@ -1,15 +1,29 @@
-use Rattle.std.proofs.Common.{◌-◌, ◌∙◌, ap, arith, length, get_or}
+use Rattle.std.proofs.Common.{◌≡◌, ◌+◌, ◌-◌, ◌∙◌, Bool, true, false, Option, Some, None, sym, refl, ap, arith, length, get_or, bit_and}
+use Rattle.std.specs.Prelude.{not, ◌&&◌, is_some, is_none}
+use Rattle.std.proofs.lemmas.Nat.{and_le_l}
 use Rattle.std.proofs.lemmas.List.{get_or_default}
 use Rattle.fd_cover.specs.Depth.{passes}
+use Rattle.fd_events.specs.Image.{is_discarded}
+use Rattle.fd_events.specs.Picture.{Painting, texel}
 use Rattle.fd_tile.specs.Tile.{depth_in, depth_row_of}
 use Rattle.fd_tile.proofs.Pixels.{length-depth_row_of}
-use Rattle.fd_draw.specs.Primitive.{triangle_of}
+use Rattle.fd_draw.specs.Mask.{has_bit}
+use Rattle.fd_draw.specs.Primitive.{picture_of, triangle_of}
+use Rattle.fd_draw.proofs.Masks.{both_set}
 use Rattle.fd_draw.proofs.Painting.{part_at, part_len}
 use Rattle.fd_draw.proofs.PixelTests.{drawn_as_tested}
 use Rattle.fd_draw.proofs.tested.test_span.Goals as goal
 
-pub returns-clause-passed : goal.returns-clause-passed
-returns-clause-passed c = λ column low high.
+with_true : (b : Bool) → b ≡ (b && not false)
+with_true true = refl
+with_true false = refl
+
+some_texel : {X : Type 0} (found : Option X) → is_some found ≡ not (is_none found)
+some_texel None = refl
+some_texel (Some x) = refl
+
+pub returns-in-None-clause-passed : goal.returns-in-None-clause-passed
+returns-in-None-clause-passed c = λ column low high.
     let p = c.args.primitive.now in
     let t = c.args.tile.now in
     let y = c.args.y in
@@ -19,7 +33,37 @@ returns-clause-passed c = λ column low high.
     let stored = part_at c.place-place.ensures.value is c.depth_row.result.now 0 column low high
     ∙ ap (λ r. get_or r (column - t.place.left) 0) c.depth_row.ensures
     ∙ get_or_default (depth_row_of t y) (column - t.place.left) 0 65535 (omega (arith, wide, low, high, is.from_left, is.to_right)) in
-    drawn_as_tested (triangle_of p) p.state column y _ (depth_in t column y) _
-    (c.test_row.ensures.bits (column - c.args.left) (omega (arith, low, high, long))
-    ∙ ap (λ d. passes p.state.depth (get_or c.args.depths.now (column - c.args.left) 0) d) stored)
-    (c.requires.depths column low high) (c.requires.reached column low high)
+    let depths = c.test_row-passed.ensures.bits (column - c.args.left) (omega (arith, low, high, long))
+    ∙ ap (λ d. passes p.state.depth (get_or c.args.depths.now (column - c.args.left) 0) d) stored in
+    let test = passes p.state.depth (get_or c.args.depths.now (column - c.args.left) 0) (depth_in t column y) in
+    let plain : picture_of p ≡ None = rw c.in-None.is refl in
+    let tests = depths ∙ with_true test ∙ ap (λ (o : Option Painting). test && not (is_discarded o column y)) (sym plain) in
+    drawn_as_tested (triangle_of p) p.state column y _ (depth_in t column y) _ tests (λ on. c.requires.depths on column low high)
+    (c.requires.reached column low high)
+
+pub returns-in-Some-clause-passed : goal.returns-in-Some-clause-passed
+returns-in-Some-clause-passed c = λ column low high.
+    let p = c.args.primitive.now in
+    let t = c.args.tile.now in
+    let y = c.args.y in
+    let is = c.requires.span in
+    let wide = length-depth_row_of t y is.filled is.crossed in
+    let long = part_len c.place-place.ensures.value is c.depth_row.result.now (ap length c.depth_row.ensures ∙ wide) in
+    let stored = part_at c.place-place.ensures.value is c.depth_row.result.now 0 column low high
+    ∙ ap (λ r. get_or r (column - t.place.left) 0) c.depth_row.ensures
+    ∙ get_or_default (depth_row_of t y) (column - t.place.left) 0 65535 (omega (arith, wide, low, high, is.from_left, is.to_right)) in
+    let depths = c.test_row-passed.ensures.bits (column - c.args.left) (omega (arith, low, high, long))
+    ∙ ap (λ d. passes p.state.depth (get_or c.args.depths.now (column - c.args.left) 0) d) stored in
+    let test = passes p.state.depth (get_or c.args.depths.now (column - c.args.left) 0) (depth_in t column y) in
+    let here : picture_of p ≡ Some c.in-Some.picture.now = rw c.in-Some.is refl in
+    let at : c.args.left + (column - c.args.left) ≡ column = omega (arith, low) in
+    let bit = c.mask_of.ensures.bits (column - c.args.left) (omega (arith, low, high))
+    ∙ ap (λ x. is_some (texel c.in-Some.picture.now x y)) at ∙ some_texel (texel c.in-Some.picture.now column y) in
+    let tests = both_set c.test_row-passed.result c.mask_of.result (column - c.args.left)
+    ∙ ap (λ b. b && has_bit c.mask_of.result (column - c.args.left)) depths ∙ ap (λ b. test && b) bit
+    ∙ ap (λ (o : Option Painting). test && not (is_discarded o column y)) (sym here) in
+    drawn_as_tested (triangle_of p) p.state column y _ (depth_in t column y) _ tests (λ on. c.requires.depths on column low high)
+    (c.requires.reached column low high)
+
+pub returns-in-Some-clause-bound : goal.returns-in-Some-clause-bound
+returns-in-Some-clause-bound c = omega (arith, and_le_l c.test_row-passed.result c.mask_of.result, c.test_row-passed.ensures.bound)

@@ -1,9 +1,20 @@
-use Rattle.std.proofs.Common.{◌∙◌, ap, rules}
+use Rattle.std.proofs.Common.{◌∙◌, ap, sym, rules, Option}
+use Rattle.std.specs.Prelude.{None}
+use Rattle.fd_blend.specs.Blend.{blend}
 use Rattle.fd_blend.specs.Row.{blended_row}
+use Rattle.fd_events.specs.Image.{source_from}
+use Rattle.fd_events.specs.Picture.{Painting}
+use Rattle.fd_draw.specs.Primitive.{triangle_of}
+use Rattle.fd_draw.specs.Row.{changed_row}
 use Rattle.fd_draw.proofs.Rows.{blended_columns}
 use Rattle.fd_draw.proofs.write.blend_shaded.Goals as goal
 
 pub returns : goal.returns
 returns c =
-    c.blend_row.ensures ∙ ap (λ cs. blended_row c.args.primitive.now.state.blend c.args.primitive.now.state.factor cs c.args.row.now) (search rules)
-    ∙ blended_columns c.args.primitive.now.state.blend c.args.primitive.now.state.factor _ c.args.x c.args.row.now
+    let p = c.args.primitive.now in
+    let s = c.args.primitive.now.state in
+    c.blend_row.ensures ∙ ap (λ cs. blended_row s.blend s.factor cs c.args.row.now) (search rules)
+    ∙ blended_columns s.blend s.factor (λ column. source_from None (triangle_of p) p.interp column c.args.y) c.args.x c.args.row.now
+    ∙ ap (λ (picture : Option Painting). changed_row (λ column before. blend s.blend s.factor
+    (source_from picture (triangle_of p) p.interp column c.args.y) before)
+    c.args.x c.args.row.now) (sym c.requires.plain)

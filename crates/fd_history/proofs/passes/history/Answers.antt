@@ -1,11 +1,13 @@
-use Rattle.std.proofs.Common.{refl, ◌≡◌, ◌+◌, ◌-◌, ◌∙◌, ◌++◌, [], ◌∷◌, ap, arith}
+use Rattle.std.proofs.Common.{List, refl, sym, ◌<◌, ◌≡◌, ◌+◌, ◌-◌, ◌∙◌, ◌++◌, [], ◌∷◌, ap, arith}
 use Rattle.fd_events.specs.Image.{Pixel, pixel_at, stored_at}
 use Rattle.fd_owner.specs.History.{History, position, last_image}
 use Rattle.fd_owner.proofs.Drawn.{pixel_drawn}
 use Rattle.fd_tile.specs.Tile.{pixel_in}
+use Rattle.fd_history.specs.declared.entry.Entry.{Entry}
 use Rattle.fd_history.specs.Gathered.{Gathering}
 use Rattle.fd_history.specs.Settled.{gathered_at, overwritten, settled}
 use Rattle.fd_history.proofs.Settles.{enough, history_settles, given_back, next_event, next_kept}
+use Rattle.fd_history.proofs.PassedBy.{gathered_past, kept_past}
 use Rattle.fd_history.proofs.passes.history.Goals as goal
 
 pub invariant_of-gather : goal.invariant_of-gather
@@ -21,23 +23,53 @@ pass_number-requires-clause-depth c =
     rw (ap (λ (g : Gathering). g.x) is, ap (λ (g : Gathering). g.y) is)
     (ap (λ (g : Gathering). g.depth) is ∙ ap (λ n. stored_at t n c.args.x c.args.y) before)
 
+pub loop-passed-init : goal.loop-passed-init
+loop-passed-init c =
+    let t = c.args.table.now in
+    let x = c.args.x in
+    let y = c.args.y in
+    let placed = c.place-place.ensures.filled.placed in
+    let column : x < t.width = omega (arith, c.requires.pixel.to_right, c.requires.inside.right) in
+    let row : y < t.height = omega (arith, c.requires.pixel.to_bottom, c.requires.inside.bottom) in
+    let far = c.next_near-passed.ensures.far in
+    record {
+      last = c.next_near-passed.ensures.last;
+      gathered =
+          ap (λ (es : List Entry). record { x = x; y = y; depth = 65535; entries = es }) c.new.ensures.items
+          ∙ sym (gathered_past t x y column row c.pixel_at-window.result c.pixel_at-window.ensures 0 c.next_near-passed.result (omega arith) far);
+      kept =
+          c.new-pixels.ensures.items
+          ∙ sym (kept_past t x y column row c.pixel_at-window.result c.pixel_at-window.ensures 0 c.next_near-passed.result (omega arith) far);
+      few = omega arith;
+    }
+
 pub loop-passed-preserved : goal.loop-passed-preserved
 loop-passed-preserved c =
     let t = c.args.table.now in
+    let x = c.args.x in
+    let y = c.args.y in
     let k = c.loop-passed.passed in
     let is = c.loop-passed.invariant.gathered in
+    let column : x < t.width = omega (arith, c.requires.pixel.to_right, c.requires.inside.right) in
+    let row : y < t.height = omega (arith, c.requires.pixel.to_bottom, c.requires.inside.bottom) in
+    let next = c.next_near-passed-in-loop-passed in
     record {
-      gathered = next_event t k (k + 1) c.args.x c.args.y c.loop-passed.gather c.pass_number.new.gather refl is c.in_ok-pass_number.ensures.entries;
-      kept = next_kept t k (k + 1) c.args.x c.args.y c.loop-passed.pixels.items c.pass_number.new.kept.items refl c.loop-passed.invariant.kept
-          (rw (ap (λ (g : Gathering). g.x) is, ap (λ (g : Gathering). g.y) is) at c.in_ok-pass_number.ensures.kept);
-      few = omega (arith, c.loop-passed.invariant.few, c.in_ok-pass_number.ensures.few);
+      last = next.ensures.last;
+      gathered =
+          next_event t k (k + 1) x y c.loop-passed.gather c.pass_number.new.gather refl is c.in_ok-pass_number.ensures.entries
+          ∙ sym (gathered_past t x y column row c.pixel_at-window.result c.pixel_at-window.ensures (k + 1) next.result next.ensures.from next.ensures.far);
+      kept =
+          next_kept t k (k + 1) x y c.loop-passed.pixels.items c.pass_number.new.kept.items refl c.loop-passed.invariant.kept
+          (rw (ap (λ (g : Gathering). g.x) is, ap (λ (g : Gathering). g.y) is) at c.in_ok-pass_number.ensures.kept)
+          ∙ sym (kept_past t x y column row c.pixel_at-window.result c.pixel_at-window.ensures (k + 1) next.result next.ensures.from next.ensures.far);
+      few = omega (arith, c.loop-passed.invariant.few, c.in_ok-pass_number.ensures.few, next.ensures.from);
     }
 
 pub settle-requires : goal.settle-requires
 settle-requires c =
     let k = position c.args.owner.now.history in
     let t = c.args.table.now in
-    let at : c.loop-passed.passed ≡ k = omega (arith, c.loop-passed-test.false, c.position-passed-end.ensures, c.loop-passed.auto.passed-end) in
+    let at : c.loop-passed.passed ≡ k = omega (arith, c.loop-passed-test.false, c.position-to.ensures, c.loop-passed.invariant.last) in
     let entries : c.deref_mut.result.now ≡ gathered_at t k c.args.x c.args.y =
     c.deref_mut.ensures.value ∙ ap (λ (g : Gathering). g.entries) (c.gather-2.view_is ∙ c.loop-passed.invariant.gathered) ∙ rw at refl in
     let pixels : c.deref.result.now ≡ overwritten t k c.args.x c.args.y ++ (c.pixel.result, c.depth.result) ∷ [] =
@@ -51,7 +83,7 @@ returns-clause-exact c =
     let t = c.args.table.now in
     let x = c.args.x in
     let y = c.args.y in
-    let at : c.loop-passed.passed ≡ k = omega (arith, c.loop-passed-test.false, c.position-passed-end.ensures, c.loop-passed.auto.passed-end) in
+    let at : c.loop-passed.passed ≡ k = omega (arith, c.loop-passed-test.false, c.position-to.ensures, c.loop-passed.invariant.last) in
     let gathered : c.gather-2.inside.entries.items ≡ gathered_at t k x y =
     ap (λ (g : Gathering). g.entries) (c.gather-2.view_is ∙ c.loop-passed.invariant.gathered) ∙ rw at refl in
     let image : pixel_in owner.place (last_image owner.history) x y ≡ pixel_at t k x y =

@@ -52,4 +52,4 @@ returns-clause-kept c =
     let all : take c.count_drawn-drawn.result (pixels_kept owner.place owner.history c.args.number c.gather-2.inside.x c.gather-2.inside.y) ≡ kept_after table
     (c.args.number - 1) x y =
     rw (same, row, c.requires.follows, kept) (take_all c.count_drawn-drawn.result (kept_after table (c.args.number - 1) x y) (omega (arith, drawn))) in
-    rw all at c.add_kept.ensures
+    rw all at c.add_kept.ensures.kept

@@ -25,5 +25,5 @@ opened place tile is =
 pub returns-clause-history : goal.returns-clause-history
 returns-clause-history c =
     ap (λ (s : Shown). s.history) c.of.ensures
-    ∙ opened c.place.result c.in_ok-fresh.field-0 c.in_ok-fresh.ensures
+    ∙ opened c.place.result c.in_ok-fresh.field-0 c.in_ok-fresh.ensures.painted
     ∙ sym (ap (λ (s : Shown). fresh_history s.place) c.of.ensures)

@@ -1,4 +1,6 @@
 use Rattle.std.proofs.Common.{◌≡◌, ◌≤◌, ◌-◌}
+use Rattle.fd_owner.specs.Shown.{Shown}
+use Rattle.fd_crew.specs.Lanes.{ArePassed}
 use Rattle.fd_session.specs.Held.{StandsFrom, IsLeft}
 use Rattle.fd_session.proofs.moves.go_on.Given as goal
 
@@ -6,6 +8,7 @@ use Rattle.fd_session.proofs.moves.go_on.Given as goal
 abbrev pub invariant-loop-at : goal.invariant-loop-at
 invariant-loop-at g l = record {
   left : IsLeft (StandsFrom l.drive.forgets l.table l.at) l.fn.owners l.owners;
+  passed : ArePassed (λ (o : Shown). o) (g.G.Gate.opened l.drive.gate.now) 0 l.fn.owners l.owners;
   ahead : l.way.from ≤ l.at;
   high : l.at ≤ l.way.to;
   told : g.T.Progress.kept l.teller ≡ g.T.Progress.kept l.fn.teller;

@@ -11,8 +11,8 @@ loop-number-preserved c =
     (loop.invariant.stand forgets) c.place.ensures.place c.place.ensures.inside c.blank-tile.ensures c.of.ensures in
     rw c.in_ok-push.ensures.items (record { places = (more true).0; stand = λ forgets. (more forgets).1 })
 
-pub returns : goal.returns
-returns c = λ forgets.
+pub returns-clause-opened : goal.returns-clause-opened
+returns-clause-opened c = λ forgets.
     let grid = c.unwrap-grid.result in
     let owners = c.loop-number.owners.items in
     let whole : c.loop-number.number ≡ tile_count grid = omega (arith, c.count-number-end.ensures, c.loop-number-test.false, c.loop-number.auto.number-end) in

@@ -6,5 +6,5 @@ pub returns-clause-far : goal.returns-clause-far
 returns-clause-far c =
     let fields = c.self.inside in
     rw (← c.self.view_is)
-    (far_from (table_of fields.version fields.width fields.height fields.events.items fields.states.flags.items) fields.index fields.reaches.items c.args.from
-    c.next.result c.args.window c.self.invariant.2 c.self.invariant.4 c.next.ensures.passed)
+    (far_from (table_of fields.version fields.width fields.height fields.events.items fields.states.flags.items) fields.index c.args.from
+    c.next.result c.args.window c.self.invariant.4 c.next.ensures.passed)

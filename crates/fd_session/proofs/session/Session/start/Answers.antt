@@ -3,7 +3,7 @@ use Rattle.fd_session.specs.Machine.{at_position, opening}
 use Rattle.fd_session.proofs.session.Session.start.Goals as goal
 
 pub invariant_of-result : goal.invariant_of-result
-invariant_of-result c = ((c.in-Ok.ensures false).0, c.requires.0, c.requires.1)
+invariant_of-result c = ((c.in-Ok.ensures.opened false).0, c.requires.0, c.requires.1)
 
 pub returns-in-Ok-clause-ok : goal.returns-in-Ok-clause-ok
-returns-in-Ok-clause-ok c = ap (at_position (opening c.args.table)) (c.in-Ok.ensures false).1
+returns-in-Ok-clause-ok c = ap (at_position (opening c.args.table)) (c.in-Ok.ensures.opened false).1

@@ -8,7 +8,7 @@ use Rattle.fd_draw.specs.Primitive.{stroke_of, triangle_of}
 use Rattle.fd_draw.specs.Row.{changed_row}
 use Rattle.fd_draw.specs.Written.{colour_blended}
 use Rattle.fd_draw.proofs.Rows.{drawn_columns}
-use Rattle.fd_draw.proofs.write.blend_triangle.Goals as goal
+use Rattle.fd_draw.proofs.write.blend_plain.Goals as goal
 
 pub returns-in-Some : goal.returns-in-Some
 returns-in-Some c =
@@ -20,5 +20,5 @@ returns-in-Some c =
     c.requires.ready in
     c.draw.ensures
     ∙ ap (λ (b : Stroke). drawn_row b.state b.factor b.source row) brushed.1
-    ∙ drawn_columns t s c.args.x c.args.y row
+    ∙ drawn_columns t s c.args.x c.args.y row c.requires.plain
     ∙ ap (λ (interp : Interp). changed_row (λ column before. colour_blended t interp s column c.args.y before) c.args.x row) (sym brushed.0)

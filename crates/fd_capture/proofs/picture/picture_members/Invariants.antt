@@ -1,0 +1,17 @@
+use Rattle.std.proofs.Common.{◌≡◌, length, codes, option_map, option_and_then}
+use Rattle.serde_json.specs.Data.{Members}
+use Rattle.serde_json.specs.Find.{get_member}
+use Rattle.serde_json.specs.View.{members_view}
+use Rattle.fd_json.proofs.Within.{InObject}
+use Rattle.fd_capture.specs.Picture.{bytes_of_data}
+use Rattle.fd_capture.specs.Streamed.{Clips}
+use Rattle.fd_capture.proofs.picture.picture_members.Given as goal
+
+abbrev pub invariant-members : goal.invariant-members
+invariant-members l =
+    (found : Members) × InObject l.depth l.initial.reader found l.reader × Clips (members_view l.members.entries) found
+    × (option_map (λ v. v.items) l.texels ≡ option_and_then bytes_of_data (get_member (codes "texels") found))
+    × (option_map (option_map (λ v. v.items)) l.holes ≡ option_map bytes_of_data (get_member (codes "holes") found))
+
+abbrev pub decreases-members : goal.decreases-members
+decreases-members l = length l.reader

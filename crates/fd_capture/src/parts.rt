@@ -1,0 +1,82 @@
+//! What the large members of an event stand for, and the draw of them.
+ghost use Rattle.std.specs.Prelude.{◌≡◌, option_map};
+ghost use Rattle.serde_json.specs.View.{view};
+ghost use Rattle.fd_capture.specs.Streamed.{coloured, draw_from, if_any, large_of, painted_draw_from, shaded_draw_from, vertices_seen};
+
+use crate::spelling;
+use crate::vertices::VertexList;
+use fd_events::{Draw, Event, Picture, Vertex};
+use serde_json::Value;
+
+/// What the large members of an event stand for: none if there is no such member, and none within if it isn't well formed.
+#[derive(Drop)]
+pub(crate) struct Parts {
+    pub(crate) vertices: Option<Option<VertexList>>,
+    pub(crate) indices: Option<Option<Vec<u32>>>,
+    pub(crate) picture: Option<Option<Box<Picture>>>,
+}
+
+/// A member that may be missing, but not malformed.
+pub(crate) fn if_any<T: Drop>(member: Option<Option<T>>) -> Option<Option<T>>
+    ensures { result ≡ if_any member }
+{
+    match member {
+        None => Some(None),
+        Some(value) => Some(Some(value?)),
+    }
+}
+
+/// Vertices, if each has a colour.
+fn coloured(vertices: VertexList) -> Option<Vec<Vertex>>
+    ensures { option_map (λ v. v.items) result ≡ coloured (vertices_seen vertices) }
+{
+    let VertexList { list, coloured } = vertices;
+    if coloured { Some(list) } else { None }
+}
+
+/// A draw whose colours come from its vertices.
+fn shaded_draw(event: &Value, parts: Parts) -> Option<Event>
+    ensures { result ≡ shaded_draw_from (view event.now) (large_of parts) }
+{
+    let Parts {
+        vertices,
+        indices,
+        ..
+    } = parts;
+    let interp = event
+        .get("interp")
+        .and_then(Value::as_str)
+        .and_then(spelling::interp)?;
+    let vertices = coloured(vertices??)?;
+    let indices = if_any(indices)?;
+    let draw = Draw::new(vertices, indices, interp).ok()?;
+    Some(Event::Draw(draw))
+}
+
+/// A draw whose colours come from a picture.
+fn painted_draw(parts: Parts) -> Option<Event>
+    ensures { result ≡ painted_draw_from (large_of parts) }
+{
+    let Parts {
+        vertices,
+        indices,
+        picture,
+    } = parts;
+    let picture = picture??;
+    let vertices = vertices??;
+    let indices = if_any(indices)?;
+    let draw = Draw::painted(vertices.list, indices, picture).ok()?;
+    Some(Event::Draw(draw))
+}
+
+/// A draw in a capture of a version; pictures are of version 3.
+pub(crate) fn draw(version: u32, event: &Value, parts: Parts) -> Option<Event>
+    ensures { result ≡ draw_from version (view event.now) (large_of parts) }
+{
+    let interp = event.get("interp").and_then(Value::as_str);
+    if version == 3 && interp == Some("picture") {
+        painted_draw(parts)
+    } else {
+        shaded_draw(event, parts)
+    }
+}
