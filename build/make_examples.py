@@ -9,6 +9,8 @@ import pathlib
 import subprocess
 import sys
 
+import folders
+
 import captures
 from captures import FUNCTIONS, PIXEL, REPLACE, blend, clear, compact, depth, depth_clear, marker, raster, scissor
 from framedbg_client.replies import images_of
@@ -34,6 +36,15 @@ def quad(left, top, right, bottom, upper, lower=None, interp="flat", z=None):
     lower = lower or upper
     a, b, c, d = (left, top, upper), (right, top, upper), (right, bottom, lower), (left, bottom, lower)
     return draw([[a, b, d], [b, c, d]], interp=interp, z=z)
+
+
+def painted(triangles, box, texels, holes=None, z=0):
+    """Triangles in pixels at one depth, and what is put out over a box: a colour a pixel, and the pixels of it that are holes, rows from the top."""
+    left, top, width, height = box
+    rgba = bytes(byte for texel in texels for byte in texel)
+    truths = holes and [(left + n % width, top + n // width) in holes for n in range(width * height)]
+    corners = [captures.corner(int(x * PIXEL), int(y * PIXEL), z) for t in triangles for x, y in t]
+    return captures.picture_draw(corners, captures.picture(left, top, width, height, rgba, truths))
 
 
 def fan(x, y, radius, corners, centre, rim, z=None, z_rim=None):
@@ -133,6 +144,60 @@ def depth_sessions():
             "on 1", "pixel 1 1", "off 14", "pixel 1 0")
 
 
+def picture_captures():
+    """Captures of version 3: a picture with a hole blended and tested by depth, one that is smaller than its triangle, one that reaches beyond the target,
+    pictures that are culled, scissored and drawn twice, and large ones. tests/test_pictures.py has the small ones worked out by hand."""
+    whole = [[(0, 0), (4, 0), (0, 4)]]
+    four = [(200, 100, 0, 255), (255, 0, 10, 51), (40, 80, 120, 0), (7, 7, 7, 255)]
+    capture("row01_version_3", 1, 1, [clear(10, 20, 30, 40)], version=3)
+    capture("picture_blended", 2, 2, [clear(100, 100, 100, 100), blend(1, ["SRC_ALPHA", "INV_SRC_ALPHA", "ADD"], REPLACE, 15),
+                                      painted(whole, (0, 0, 2, 2), four, [(1, 1)], z=500)], version=3)
+    capture("picture_tested", 2, 2, [depth(1, 1, "LESS"), quad(0, 0, 1, 2, (9, 9, 9, 9), z=1000), painted(whole, (0, 0, 2, 2), four, [(0, 1), (1, 1)], z=2000),
+                                     draw(whole, (3, 3, 3, 3), z=3000)], version=3)
+    everywhere = [[(0, 0), (8, 0), (0, 8)]]
+    capture("picture_smaller", 4, 4, [clear(1, 1, 1, 1), painted(everywhere, (1, 1, 2, 2), four)], version=3)
+    capture("picture_beyond", 4, 4, [painted(everywhere, (2, 3, 3, 2), [(n, n, n, 255) for n in range(10, 16)])], version=3)
+    two, turned = [(5, 6, 7, 8), (250, 0, 0, 9)], [[(0, 0), (0, 4), (4, 0)]]
+    twice = painted(whole, (0, 0, 2, 1), two)
+    twice["indices"] = [0, 1, 2, 2, 0, 1]
+    twice["vertices"][1]["color"] = "none"      # a colour is passed over in a draw with a picture
+    plain = draw([[(0, 0), (2, 0), (0, 2)]], (1, 1, 1, 1), z=0)
+    plain["picture"] = "none"                   # and a picture in any other
+    capture("picture_passed_over", 2, 1, [painted(turned, (0, 0, 2, 1), two, [(1, 0)]), raster("none", 0, 1), painted(turned, (0, 0, 2, 1), two, [(1, 0)]),
+                                          raster("none", 0, 0), blend(1, SUM, SUM, 7), twice, plain], version=3)
+    capture("pictures", 72, 48, large_pictures(), version=3)
+
+
+def large_pictures():
+    """Over six tiles: a backdrop, a disc whose outside is holes behind a wall and before it, and a pane that is blended."""
+    backdrop = [(3 * x % 256, 5 * y % 256, (x * y) % 256, 255) for y in range(48) for x in range(72)]
+    disc = [(255 - 6 * x, 6 * x, 5 * y, 40 + 4 * y) for y in range(40) for x in range(40)]
+    outside = [(x + 16, y + 4) for y in range(40) for x in range(40) if (x - 20) ** 2 + (y - 20) ** 2 > 361 or (x - 14) ** 2 + (y - 12) ** 2 < 16]
+    sheet = [[(0, 0), (72, 0), (0, 48)], [(72, 0), (72, 48), (0, 48)]]
+    square = [[(10, 0), (70, 0), (10, 48)], [(70, 0), (70, 48), (10, 48)]]
+    pane = [(9 * (x % 5), 200, 255 - 3 * y, 16 * (x % 16)) for y in range(20) for x in range(50)]
+    box, wall = (16, 4, 40, 40), quad(30, 0, 44, 48, (120, 120, 130, 255), z=20000)
+    return [marker("a backdrop, and a disc that is cut out"), painted(sheet, (0, 0, 72, 48), backdrop, z=60000), depth(1, 1, "LESS"), depth_clear(65535),
+            wall, painted(square, box, disc, outside, z=30000), blend(1, ["SRC_ALPHA", "INV_SRC_ALPHA", "ADD"], SUM, 15), raster("none", 0, 1),
+            scissor(20, 20, 68, 44), painted(square, (40, 14, 50, 20), pane, z=10000), depth(1, 1, "GREATER_EQUAL"),
+            painted(square, box, disc[::-1], outside, z=20000)]
+
+
+def picture_sessions():
+    all_four = [f"{ask} {x} {y}" for ask in ("pixel", "history") for y in (0, 1) for x in (0, 1)]
+    session("row01_version_3", "row01_version_3", "step", "show", "pixel 0 0", "state", "events", "quit")
+    session("picture_blended", "picture_blended", "goto 3", *all_four, "show", "events", "off 3", "pixel 0 0", "on 3", "back", "pixel 1 0", "step",
+            "pixel 1 0", "pixel 1 1")
+    session("picture_tested", "picture_tested", "goto 4", *all_four, "back", *all_four[:4], "off 2", *all_four, "step", "pixel 0 0", "pixel 0 1", "back", "back",
+            "pixel 1 0")
+    session("picture_smaller", "picture_smaller", "goto 2", "show", "history 0 0", "history 1 1", "history 2 2", "history 3 2", "back", "pixel 1 1")
+    session("picture_beyond", "picture_beyond", "goto 1", "show", "history 2 3", "history 3 3", "history 2 2", "history 1 3")
+    session("picture_passed_over", "picture_passed_over", "goto 7", "history 0 0", "history 1 0", "events", "off 1", "off 3", "history 1 0")
+    asked = [f"history {x} {y}" for x, y in ((0, 0), (16, 4), (36, 24), (30, 16), (44, 20), (60, 30), (36, 34))]
+    session("pictures", "pictures", "goto 12", "show", "events", *asked, "off 5", "show", "goto 6", "show", "back", "pixel 36 24", "step", "pixel 50 30", "on 5",
+            "pixel 36 24", "goto 11", "back", "back", "pixel 50 30", "show", "goto 2", "pixel 71 47")
+
+
 def crowd():
     """Frames upon frames on a target of 64 tiles: enough to draw for a crew of 64 workers to start them all."""
     events = [marker("a crowd of discs, tested by depth")]
@@ -187,6 +252,8 @@ def main():
     small_sessions()
     depth_captures()
     depth_sessions()
+    picture_captures()
+    picture_sessions()
     crowd()
     house()
     gallery()
@@ -194,7 +261,7 @@ def main():
     pathlib.Path("crates/worked_sessions/stdout").write_text("".join(f"{name}: as expected\n" for name in sessions))
     for name, of in sessions.items():
         with open(EXAMPLES / f"{name}.session", "rb") as lines, open(EXAMPLES / f"{name}.expected", "wb") as expected:
-            subprocess.run([sys.executable, "tools/reference.py", EXAMPLES / f"{of}.json"], stdin=lines, stdout=expected, check=True)
+            subprocess.run([sys.executable, "build/reference.py", EXAMPLES / f"{of}.json"], stdin=lines, stdout=expected, check=True)
     hides_in_any_order()
 
 

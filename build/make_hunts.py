@@ -11,10 +11,11 @@ import pathlib
 import subprocess
 import sys
 
-sys.path.insert(0, str(pathlib.Path(__file__).resolve().parent))
-from captures import FARTHEST, head, text   # noqa: E402
-from hunts.frames import FRAMES   # noqa: E402
-from hunts.stage import HEIGHT, WIDTH   # noqa: E402
+import folders
+
+from captures import FARTHEST, head, text
+from hunts.frames import FRAMES
+from hunts.stage import HEIGHT, WIDTH
 
 EXAMPLES = pathlib.Path("examples")
 HUNTS = EXAMPLES / "hunts"
@@ -49,7 +50,7 @@ def write_frame(make):
 
 def answer(session, capture):
     with open(HUNTS / f"{session}.session", "rb") as lines, open(HUNTS / f"{session}.expected", "wb") as expected:
-        subprocess.run([sys.executable, "tools/reference.py", HUNTS / f"{capture}.json"], stdin=lines, stdout=expected, check=True)
+        subprocess.run([sys.executable, "build/reference.py", HUNTS / f"{capture}.json"], stdin=lines, stdout=expected, check=True)
 
 
 def add_to_list(path, lines):

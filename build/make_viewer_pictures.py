@@ -6,11 +6,12 @@ import sys
 import tempfile
 import time
 
+from folders import TOP
+
 import browser
 from page import module, packing
 from viewer_testing import EXAMPLES, Viewer
 
-TOP = pathlib.Path(__file__).resolve().parent.parent
 PICTURES = TOP / "docs/images"
 SETTLED = 0.4      # seconds until what was asked for is drawn
 

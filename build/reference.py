@@ -9,6 +9,7 @@ Its outputs stand in examples/*.expected, and the gate compares what the program
 Other tools import it: fault says why a capture is refused, Frame holds one, replay gives a pixel and its history, reply
 answers one line of a session.
 """
+import base64
 import functools
 import json
 import math
@@ -94,15 +95,39 @@ def is_part(value, allowed):
     return isinstance(value, list) and len(value) == 3 and value[0] in allowed and value[1] in allowed and value[2] in OPERATIONS
 
 
-def is_vertex(value, version):
-    return (isinstance(value, dict) and all(whole(value.get(name), -2**30, 2**30) for name in "xy") and is_color(value.get("color"))
+def is_place(value, version):
+    return (isinstance(value, dict) and all(whole(value.get(name), -2**30, 2**30) for name in "xy")
             and (version == 1 or whole(value.get("z"), 0, 65535)))
 
 
+def bytes_of(text):
+    """The bytes that a text in base64 stands for; none where it isn't their one spelling: padded, with nothing between, and zero bits behind the last byte."""
+    try:
+        data = base64.b64decode(text.encode("ascii"), validate=True)
+    except ValueError:
+        return None
+    return data if base64.b64encode(data).decode() == text else None
+
+
+def is_data(value, length):
+    """Whether a value is a text in base64 of so many bytes."""
+    return isinstance(value, str) and len(value) == -(-length // 3) * 4 and len(bytes_of(value) or b"") == length
+
+
+def is_picture(value):
+    if not (isinstance(value, dict) and all(whole(value.get(name), 0, 16383) for name in ("left", "top"))
+            and all(whole(value.get(name), 1, 16384) for name in ("width", "height"))):
+        return False
+    texels = value["width"] * value["height"]
+    return is_data(value.get("texels"), 4 * texels) and ("holes" not in value or is_data(value["holes"], -(-texels // 8)))
+
+
 def is_draw(e, version):
-    vertices, indices = e.get("vertices"), e.get("indices", [])
-    return (e.get("interp") in ("flat", "linear") and all(isinstance(list_, list) and len(list_) <= 196608 for list_ in (vertices, indices))
-            and all(is_vertex(v, version) for v in vertices) and all(whole(i, 0, len(vertices) - 1) for i in indices))
+    vertices, indices, painted = e.get("vertices"), e.get("indices", []), version == 3 and e.get("interp") == "picture"
+    return ((is_picture(e.get("picture")) if painted else e.get("interp") in ("flat", "linear"))
+            and all(isinstance(list_, list) and len(list_) <= 196608 for list_ in (vertices, indices))
+            and all(is_place(v, version) and (painted or is_color(v.get("color"))) for v in vertices)
+            and all(whole(i, 0, len(vertices) - 1) for i in indices))
 
 
 def truths(e, *names):
@@ -146,7 +171,7 @@ def fault(data):
         return 2, FAULTS[2]
     if not isinstance(capture, dict) or capture.get("format") != "framedbg" or not isinstance(capture.get("events"), list):
         return 3, FAULTS[3]
-    if not whole(capture.get("version"), 1, 2):
+    if not whole(capture.get("version"), 1, 3):
         return 4, FAULTS[4]
     if not all(whole(capture.get(name), 1, 16384) for name in ("width", "height")):
         return 5, FAULTS[5]
@@ -192,7 +217,7 @@ def covers(t, x, y):
     return True
 
 
-def verdict(t, depths, state, stored, x, y):
+def verdict(t, depths, picture, state, stored, x, y):
     if not covers(t, x, y):
         return "missed"
     cull, ccw, scissor = state["raster"]
@@ -203,6 +228,8 @@ def verdict(t, depths, state, stored, x, y):
     left, top, right, bottom = state["scissor"]
     if scissor and not (left <= x < right and top <= y < bottom):
         return "scissored"
+    if picture and picture.texel(x, y) is None:
+        return "discarded"
     enable, _, func = state["depth"]
     if enable and not PASSES[func](depth_of(t, depths, x, y), stored):
         return "depthfailed"
@@ -217,7 +244,26 @@ def nearest_mean(t, values, x, y):
     return whole + (2 * rest >= abs(cross(*t)))
 
 
-def source(t, colours, interp, x, y):
+class Picture:
+    """The colours that a draw puts out, pixel by pixel."""
+    def __init__(self, value):
+        self.left, self.top, self.width, self.height = (value[name] for name in ("left", "top", "width", "height"))
+        self.texels, self.holes = bytes_of(value["texels"]), bytes_of(value.get("holes", ""))
+
+    def texel(self, x, y):
+        """The colour of a pixel; none outside of the box and on a hole."""
+        column, row = x - self.left, y - self.top
+        if not (0 <= column < self.width and 0 <= row < self.height):
+            return None
+        n = row * self.width + column
+        if self.holes and self.holes[n // 8] >> n % 8 & 1:
+            return None
+        return tuple(self.texels[4 * n:4 * n + 4])
+
+
+def source(t, colours, interp, x, y, picture=None):
+    if interp == "picture":
+        return picture.texel(x, y) or (0, 0, 0, 0)
     if interp == "flat":
         return tuple(colours[0])
     return tuple(nearest_mean(t, [c[k] for c in colours], x, y) for k in range(4))
@@ -276,10 +322,12 @@ class Frame:
     def event(self, e):
         kind = e["kind"]
         if kind == "draw":
-            corners = [((nearest_even(v["x"]), nearest_even(v["y"])), tuple(v["color"]), v["z"] if self.version == 2 else 0) for v in e["vertices"]]
+            painted = e["interp"] == "picture"
+            places = [(nearest_even(v["x"]), nearest_even(v["y"])) for v in e["vertices"]]
+            corners = [(place, None if painted else tuple(v["color"]), 0 if self.version == 1 else v["z"]) for place, v in zip(places, e["vertices"])]
             named = [corners[i] for i in e["indices"]] if "indices" in e else corners
             triangles = [named[i:i + 3] for i in range(0, len(named) - 2, 3)]
-            return kind, ([tuple(zip(*t)) for t in triangles], e["interp"])
+            return kind, ([tuple(zip(*t)) for t in triangles], e["interp"], Picture(e["picture"]) if painted else None)
         return kind, {
             "clear": lambda: tuple(e["color"]), "factor": lambda: tuple(e["color"]), "marker": lambda: e["name"],
             "raster": lambda: (e["cull"], int(e["front_ccw"]), int(e["scissor"])), "scissor": lambda: tuple(e["rect"]),
@@ -300,12 +348,12 @@ class Frame:
                 history.append((number, "-", "drawn", (0, 0, 0, 0), colour, colour, what, depth, what))
                 depth = what
             elif kind == "draw":
-                triangles, interp = what
+                triangles, interp, picture = what
                 for i, (t, colours, depths) in enumerate(triangles):
-                    v = verdict(t, depths, state, depth, x, y)
+                    v = verdict(t, depths, picture, state, depth, x, y)
                     if v == "missed":
                         continue
-                    src, src_depth = source(t, colours, interp, x, y), depth_of(t, depths, x, y)
+                    src, src_depth = source(t, colours, interp, x, y, picture), depth_of(t, depths, x, y)
                     enable, write, _ = state["depth"]
                     after = blend(state, src, colour) if v == "drawn" else colour
                     depth_after = src_depth if v == "drawn" and enable and write else depth
@@ -376,7 +424,7 @@ def answer(frame, name, arguments):
             return refused(6)
         (colour, depth), history = frame.replay(k, *arguments)
         if name == "pixel":
-            return (words("pixel", colour, depth if frame.version == 2 else ()) + "\n").encode()
+            return (words("pixel", colour, depth if frame.version > 1 else ()) + "\n").encode()
         if frame.version == 1:
             history = [entry[:6] for entry in history]
         return "".join(words(*line) + "\n" for line in [("history", len(history))] + history).encode()
@@ -385,7 +433,7 @@ def answer(frame, name, arguments):
         cull, ccw, scissor = s["raster"]
         enable, rgb, alpha, mask = s["blend"]
         return (words("state cull", cull, "ccw", ccw, "scissor", scissor, "rect", s["scissor"], "blend", enable, rgb, alpha,
-                      "mask", mask, "factor", s["factor"], ("depth",) + s["depth"] if frame.version == 2 else ()) + "\n").encode()
+                      "mask", mask, "factor", s["factor"], ("depth",) + s["depth"] if frame.version > 1 else ()) + "\n").encode()
     if name == "events":
         lines = [event_line(i, on, *e) for i, (e, on) in enumerate(zip(frame.events, frame.on), 1)]
         return "".join(line + "\n" for line in [f"events {n} at {k}"] + lines).encode()

@@ -1,4 +1,4 @@
-/* framedbg_capture.h: writes captures of framedbg (version 2) from one's own renderer. C99 or C++, one header, no library but C's own (-lm).
+/* framedbg_capture.h: writes captures of framedbg (version 2 or 3) from one's own renderer. C99 or C++, one header, no library but C's own (-lm).
  *
  *     framedbg_capture *capture = framedbg_begin("frame.json", width, height);
  *     framedbg_marker(capture, "shadows");
@@ -8,7 +8,8 @@
  *     int fault = framedbg_end(capture);          FRAMEDBG_FINE, or the first fault: framedbg_fault_name tells it
  *
  * All calls take NULL for a capture and do nothing, so that a renderer may leave them in. Coordinates are pixels of the target, y down, the
- * centre of the first pixel at 0.5, 0.5; depths are 0 to 1; colours are bytes. framedbg_place turns clip space into these.
+ * centre of the first pixel at 0.5, 0.5; depths are 0 to 1; colours are bytes. framedbg_place turns clip space into these. A capture that is begun
+ * with framedbg_begin_with_pictures is of version 3: there framedbg_draw_picture takes what the pixel shader gave, pixel by pixel.
  * docs/CAPTURES.md says what to log of which call.
  */
 #ifndef FRAMEDBG_CAPTURE_H
@@ -20,17 +21,21 @@
 #include <stdlib.h>
 #include <string.h>
 
-enum { FRAMEDBG_FINE, FRAMEDBG_FILE, FRAMEDBG_RANGE, FRAMEDBG_WORD, FRAMEDBG_TOO_LONG, FRAMEDBG_TOO_MANY, FRAMEDBG_FAULTS };
+enum { FRAMEDBG_FINE, FRAMEDBG_FILE, FRAMEDBG_RANGE, FRAMEDBG_WORD, FRAMEDBG_TOO_LONG, FRAMEDBG_TOO_MANY, FRAMEDBG_NO_PICTURES, FRAMEDBG_FAULTS };
 enum { FRAMEDBG_CULL_NONE, FRAMEDBG_CULL_FRONT, FRAMEDBG_CULL_BACK };
 enum { FRAMEDBG_MOST_SIDE = 16384, FRAMEDBG_MOST_VERTICES = 196608, FRAMEDBG_MOST_EVENTS = 1000000, FRAMEDBG_MOST_BYTES = 67108864, FRAMEDBG_MOST_NAME = 64 };
 enum { FRAMEDBG_PIXEL = 65536, FRAMEDBG_FARTHEST = 65535 };
 
 typedef struct { double x, y, depth; uint8_t r, g, b, a; } framedbg_vertex;
 typedef struct { double left, top, width, height; int half_depth, y_down; } framedbg_viewport;
-typedef struct { FILE *file; int fault; uint32_t events; int has_source; unsigned long source; } framedbg_capture;
+/* What a draw puts out over a box of the target, in pixels: red, green, blue, alpha of each, rows from the top. holes may be NULL, else it has a byte a
+ * pixel, and where that isn't 0 nothing is put out, as beyond the box. */
+typedef struct { int left, top, width, height; const uint8_t *rgba, *holes; } framedbg_picture;
+typedef struct { FILE *file; int fault, version; uint32_t events; int has_source; unsigned long source; } framedbg_capture;
 
 static inline const char *framedbg_fault_name(int fault) {
-    static const char *const names[] = {"fine", "the file can't be written", "a number is out of range", "a word is unknown", "the capture is too long", "too many events, vertices or indices"};
+    static const char *const names[] = {"fine", "the file can't be written", "a number is out of range", "a word is unknown", "the capture is too long", "too many events, vertices or indices",
+                                        "the capture was begun without pictures"};
     return fault < 0 || fault >= FRAMEDBG_FAULTS ? "unknown" : names[fault];
 }
 
@@ -39,7 +44,7 @@ static inline void framedbg_fail(framedbg_capture *c, int fault) {
     if (!c->fault) c->fault = fault;
 }
 
-static inline framedbg_capture *framedbg_begin(const char *path, int width, int height) {
+static inline framedbg_capture *framedbg_begin_version(const char *path, int width, int height, int version) {
     framedbg_capture *c;
     if (width < 1 || height < 1 || width > FRAMEDBG_MOST_SIDE || height > FRAMEDBG_MOST_SIDE) return NULL;
     c = (framedbg_capture *)calloc(1, sizeof *c);
@@ -49,8 +54,17 @@ static inline framedbg_capture *framedbg_begin(const char *path, int width, int 
         free(c);
         return NULL;
     }
-    fprintf(c->file, "{\"format\":\"framedbg\",\"version\":2,\"width\":%d,\"height\":%d,\"events\":[", width, height);
+    c->version = version;
+    fprintf(c->file, "{\"format\":\"framedbg\",\"version\":%d,\"width\":%d,\"height\":%d,\"events\":[", version, width, height);
     return c;
+}
+
+static inline framedbg_capture *framedbg_begin(const char *path, int width, int height) {
+    return framedbg_begin_version(path, width, height, 2);
+}
+
+static inline framedbg_capture *framedbg_begin_with_pictures(const char *path, int width, int height) {
+    return framedbg_begin_version(path, width, height, 3);
 }
 
 static inline int framedbg_end(framedbg_capture *c) {
@@ -193,6 +207,14 @@ static inline int framedbg_draw_fault(const framedbg_vertex *vertices, size_t co
     return FRAMEDBG_FINE;
 }
 
+static inline void framedbg_indices(framedbg_capture *c, const uint32_t *indices, size_t index_count) {
+    size_t i;
+    if (!indices) return;
+    fputs(",\"indices\":[", c->file);
+    for (i = 0; i < index_count; i++) fprintf(c->file, "%s%lu", i ? "," : "", (unsigned long)indices[i]);
+    fputc(']', c->file);
+}
+
 /* A list of triangles; indices may be NULL. linear mixes the corners' colours, else the first corner's is taken. */
 static inline void framedbg_draw(framedbg_capture *c, int linear, const framedbg_vertex *vertices, size_t count, const uint32_t *indices, size_t index_count) {
     size_t i;
@@ -206,11 +228,58 @@ static inline void framedbg_draw(framedbg_capture *c, int linear, const framedbg
                 framedbg_depth_word(v->depth), v->r, v->g, v->b, v->a);
     }
     fputc(']', c->file);
-    if (indices) {
-        fputs(",\"indices\":[", c->file);
-        for (i = 0; i < index_count; i++) fprintf(c->file, "%s%lu", i ? "," : "", (unsigned long)indices[i]);
-        fputc(']', c->file);
+    framedbg_indices(c, indices, index_count);
+    fputc('}', c->file);
+}
+
+/* Up to three bytes as four characters of base64. */
+static inline void framedbg_base64(framedbg_capture *c, const uint8_t *bytes, int count) {
+    static const char letters[] = "ABCDEFGHIJKLMNOPQRSTUVWXYZabcdefghijklmnopqrstuvwxyz0123456789+/";
+    uint32_t word = (uint32_t)bytes[0] << 16 | (count > 1 ? (uint32_t)bytes[1] << 8 : 0) | (count > 2 ? bytes[2] : 0);
+    int i;
+    for (i = 0; i < 4; i++) fputc(i <= count ? letters[word >> (18 - 6 * i) & 63] : '=', c->file);
+}
+
+static inline void framedbg_holes(framedbg_capture *c, const uint8_t *holes, size_t texels) {
+    uint8_t three[3] = {0, 0, 0};
+    size_t i;
+    for (i = 0; i < texels; i++) {
+        three[i / 8 % 3] |= (uint8_t)(!!holes[i] << i % 8);
+        if (i % 24 < 23 && i + 1 < texels) continue;
+        framedbg_base64(c, three, (int)(i / 8 % 3 + 1));
+        memset(three, 0, sizeof three);
     }
+}
+
+/* The fault of a picture, or FRAMEDBG_FINE. */
+static inline int framedbg_picture_fault(const framedbg_capture *c, const framedbg_picture *p) {
+    if (c->version < 3) return FRAMEDBG_NO_PICTURES;
+    if (!p->rgba || p->left < 0 || p->top < 0 || p->left >= FRAMEDBG_MOST_SIDE || p->top >= FRAMEDBG_MOST_SIDE) return FRAMEDBG_RANGE;
+    if (p->width < 1 || p->height < 1 || p->width > FRAMEDBG_MOST_SIDE || p->height > FRAMEDBG_MOST_SIDE) return FRAMEDBG_RANGE;
+    return FRAMEDBG_FINE;
+}
+
+/* A list of triangles whose colours are those of a picture; the vertices' own are passed over. Only in a capture that was begun with pictures. */
+static inline void framedbg_draw_picture(framedbg_capture *c, const framedbg_picture *picture, const framedbg_vertex *vertices, size_t count,
+                                         const uint32_t *indices, size_t index_count) {
+    size_t i, texels;
+    if (!c || c->fault) return;
+    framedbg_fail(c, framedbg_picture_fault(c, picture));
+    framedbg_fail(c, framedbg_draw_fault(vertices, count, indices, index_count));
+    if (!framedbg_event(c, "draw")) return;
+    texels = (size_t)picture->width * (size_t)picture->height;
+    fprintf(c->file, ",\"interp\":\"picture\",\"picture\":{\"left\":%d,\"top\":%d,\"width\":%d,\"height\":%d,\"texels\":\"", picture->left, picture->top, picture->width, picture->height);
+    for (i = 0; i < 4 * texels; i += 3) framedbg_base64(c, picture->rgba + i, 4 * texels - i < 3 ? (int)(4 * texels - i) : 3);
+    if (picture->holes) {
+        fputs("\",\"holes\":\"", c->file);
+        framedbg_holes(c, picture->holes, texels);
+    }
+    fputs("\"},\"vertices\":[", c->file);
+    for (i = 0; i < count; i++)
+        fprintf(c->file, "%s{\"x\":%ld,\"y\":%ld,\"z\":%ld}", i ? "," : "", lround(vertices[i].x * FRAMEDBG_PIXEL), lround(vertices[i].y * FRAMEDBG_PIXEL),
+                framedbg_depth_word(vertices[i].depth));
+    fputc(']', c->file);
+    framedbg_indices(c, indices, index_count);
     fputc('}', c->file);
 }
 

@@ -1,4 +1,4 @@
-//! Writes captures of framedbg (version 2) from one's own renderer. One file, standard library alone; put it beside your sources and say
+//! Writes captures of framedbg (version 2 or 3) from one's own renderer. One file, standard library alone; put it beside your sources and say
 //! `mod framedbg_capture;`.
 //!
 //! ```ignore
@@ -9,7 +9,8 @@
 //! ```
 //!
 //! Coordinates are pixels of the target, y down, the centre of the first pixel at 0.5, 0.5; depths are 0 to 1; colours are bytes. `Viewport::place`
-//! turns clip space into these. docs/CAPTURES.md says what to log of which call.
+//! turns clip space into these. A capture that is begun by `Capture::with_pictures` is of version 3: there `draw_picture` takes what the pixel shader
+//! gave, pixel by pixel. docs/CAPTURES.md says what to log of which call.
 #![allow(dead_code)]
 
 use std::fmt;
@@ -63,6 +64,31 @@ pub struct Vertex {
     pub color: [u8; 4],
 }
 
+/// What a draw puts out over a box of the target, in pixels: red, green, blue, alpha of each, rows from the top. Where `holes`, a truth a pixel, is true
+/// nothing is put out, as beyond the box.
+#[derive(Clone, Copy, Debug, Default)]
+pub struct Picture<'a> {
+    pub left: u32,
+    pub top: u32,
+    pub width: u32,
+    pub height: u32,
+    pub rgba: &'a [u8],
+    pub holes: Option<&'a [bool]>,
+}
+
+impl Picture<'_> {
+    fn check(&self) -> Result<(), Fault> {
+        if self.left >= MOST_SIDE || self.top >= MOST_SIDE || !(1..=MOST_SIDE).contains(&self.width) || !(1..=MOST_SIDE).contains(&self.height) {
+            return Err(Fault::Range("the box of a picture"));
+        }
+        let texels = self.width as usize * self.height as usize;
+        if self.rgba.len() != 4 * texels || self.holes.is_some_and(|holes| holes.len() != texels) {
+            return Err(Fault::Range("the length of a picture"));
+        }
+        Ok(())
+    }
+}
+
 #[derive(Clone, Copy, Debug)]
 pub enum Cull {
     None,
@@ -114,18 +140,28 @@ impl<W: Write> Write for Counted<W> {
 
 pub struct Capture<W: Write> {
     to: Counted<W>,
+    version: u32,
     events: u32,
     source: Option<u64>,
 }
 
 impl<W: Write> Capture<W> {
     pub fn new(to: W, width: u32, height: u32) -> Result<Self, Fault> {
+        Capture::of_version(2, to, width, height)
+    }
+
+    /// A capture whose draws may have pictures.
+    pub fn with_pictures(to: W, width: u32, height: u32) -> Result<Self, Fault> {
+        Capture::of_version(3, to, width, height)
+    }
+
+    fn of_version(version: u32, to: W, width: u32, height: u32) -> Result<Self, Fault> {
         if !(1..=MOST_SIDE).contains(&width) || !(1..=MOST_SIDE).contains(&height) {
             return Err(Fault::Range("the target"));
         }
         let mut to = Counted { to: BufWriter::new(to), bytes: 0 };
-        write!(to, "{{\"format\":\"framedbg\",\"version\":2,\"width\":{width},\"height\":{height},\"events\":[")?;
-        Ok(Capture { to, events: 0, source: None })
+        write!(to, "{{\"format\":\"framedbg\",\"version\":{version},\"width\":{width},\"height\":{height},\"events\":[")?;
+        Ok(Capture { to, version, events: 0, source: None })
     }
 
     /// Your own number of the next event, for finding it again: its member `source`, which framedbg passes over.
@@ -217,22 +253,41 @@ impl<W: Write> Capture<W> {
 
     /// A list of triangles; `linear` mixes the corners' colours, else the first corner's is taken.
     pub fn draw(&mut self, linear: bool, vertices: &[Vertex], indices: Option<&[u32]>) -> Result<(), Fault> {
-        if vertices.len() > MOST_VERTICES || indices.is_some_and(|some| some.len() > MOST_VERTICES) {
-            return Err(Fault::TooMany("vertices or indices of a draw"));
-        }
-        let side = f64::from(MOST_SIDE);
-        if !vertices.iter().all(|v| v.x.abs() <= side && v.y.abs() <= side) {
-            return Err(Fault::Range("a position"));
-        }
-        if indices.is_some_and(|some| some.iter().any(|&i| i as usize >= vertices.len())) {
-            return Err(Fault::Range("an index"));
-        }
+        check_draw(vertices, indices)?;
         self.begin("draw")?;
         write!(self.to, ",\"interp\":\"{}\",\"vertices\":[", if linear { "linear" } else { "flat" })?;
         for (i, v) in vertices.iter().enumerate() {
             let (x, y, z, color) = ((v.x * PIXEL).round() as i64, (v.y * PIXEL).round() as i64, depth_word(v.depth), v.color);
             write!(self.to, "{}{{\"x\":{x},\"y\":{y},\"z\":{z},\"color\":{color:?}}}", if i > 0 { "," } else { "" })?;
         }
+        self.end_draw(indices)
+    }
+
+    /// A list of triangles whose colours are those of a picture; the vertices' own are passed over. Only in a capture `with_pictures`.
+    pub fn draw_picture(&mut self, picture: &Picture<'_>, vertices: &[Vertex], indices: Option<&[u32]>) -> Result<(), Fault> {
+        if self.version < 3 {
+            return Err(Fault::Word("picture".to_string()));
+        }
+        picture.check()?;
+        check_draw(vertices, indices)?;
+        self.begin("draw")?;
+        let Picture { left, top, width, height, rgba, holes } = *picture;
+        write!(self.to, ",\"interp\":\"picture\",\"picture\":{{\"left\":{left},\"top\":{top},\"width\":{width},\"height\":{height},\"texels\":\"")?;
+        write_base64(&mut self.to, rgba)?;
+        if let Some(holes) = holes {
+            write!(self.to, "\",\"holes\":\"")?;
+            let bits: Vec<u8> = holes.chunks(8).map(|eight| (0u8..).zip(eight).fold(0, |byte, (bit, &hole)| byte | u8::from(hole) << bit)).collect();
+            write_base64(&mut self.to, &bits)?;
+        }
+        write!(self.to, "\"}},\"vertices\":[")?;
+        for (i, v) in vertices.iter().enumerate() {
+            let (x, y, z) = ((v.x * PIXEL).round() as i64, (v.y * PIXEL).round() as i64, depth_word(v.depth));
+            write!(self.to, "{}{{\"x\":{x},\"y\":{y},\"z\":{z}}}", if i > 0 { "," } else { "" })?;
+        }
+        self.end_draw(indices)
+    }
+
+    fn end_draw(&mut self, indices: Option<&[u32]>) -> Result<(), Fault> {
         write!(self.to, "]")?;
         if let Some(some) = indices {
             write!(self.to, ",\"indices\":{some:?}")?;
@@ -250,6 +305,31 @@ impl<W: Write> Capture<W> {
         }
         Ok(())
     }
+}
+
+fn check_draw(vertices: &[Vertex], indices: Option<&[u32]>) -> Result<(), Fault> {
+    if vertices.len() > MOST_VERTICES || indices.is_some_and(|some| some.len() > MOST_VERTICES) {
+        return Err(Fault::TooMany("vertices or indices of a draw"));
+    }
+    let side = f64::from(MOST_SIDE);
+    if !vertices.iter().all(|v| v.x.abs() <= side && v.y.abs() <= side) {
+        return Err(Fault::Range("a position"));
+    }
+    if indices.is_some_and(|some| some.iter().any(|&i| i as usize >= vertices.len())) {
+        return Err(Fault::Range("an index"));
+    }
+    Ok(())
+}
+
+/// Bytes in base64: three of them are four characters, and the last ones are padded.
+fn write_base64(to: &mut impl Write, bytes: &[u8]) -> io::Result<()> {
+    const LETTERS: &[u8; 64] = b"ABCDEFGHIJKLMNOPQRSTUVWXYZabcdefghijklmnopqrstuvwxyz0123456789+/";
+    for some in bytes.chunks(3) {
+        let word = some.iter().fold(0, |word, &byte| word << 8 | u32::from(byte)) << (8 * (3 - some.len()));
+        let four: [u8; 4] = std::array::from_fn(|i| if i > some.len() { b'=' } else { LETTERS[(word >> (18 - 6 * i) & 63) as usize] });
+        to.write_all(&four)?;
+    }
+    Ok(())
 }
 
 fn known(word: &str, words: &[&str]) -> Result<(), Fault> {

@@ -8,10 +8,13 @@
     capture.write(file)
 
 Positions are pixels of the target with y down, the centre of the first at 0.5, 0.5; depths are 0 to 1; colours are bytes. `place` turns
-clip space into these. A Fault says what a capture can't hold.
+clip space into these. `draw_picture` takes what the pixel shader gave, pixel by pixel, and makes the capture one of version 3. A Fault says what a
+capture can't hold.
 
 The limits and spellings of captures stand here, and nowhere else in Python but in reference.py, which has its own to be compared with.
 """
+import base64
+import binascii
 import json
 
 PIXEL = 65536                   # captures give positions in 1/65536 pixel
@@ -21,9 +24,11 @@ MOST_TRIANGLES = MOST_CORNERS // 3              # of one draw
 MOST_POSITION = MOST_SIDE * PIXEL               # to both sides
 LEAST_EDGE, MOST_EDGE = -(1 << 31), (1 << 31) - 1       # of a scissor's rectangle
 KINDS = ("clear", "raster", "scissor", "blend", "factor", "draw", "marker", "depth", "depth_clear")
-ONLY_IN_TWO = ("depth", "depth_clear")          # kinds that version 1 doesn't have
+SINCE_TWO = ("depth", "depth_clear")            # kinds that version 1 doesn't have
 STATES = ("raster", "scissor", "blend", "factor", "depth")      # kinds that set a part of the state
-INTERPOLATIONS = ("flat", "linear")
+MOST_CORNER = MOST_SIDE - 1                     # of a picture: the last pixel that its first texel may lie on
+INTERPOLATIONS = ("flat", "linear")             # those of version 3 are these, and a picture
+PICTURE = "picture"
 CULLS = ("none", "front", "back")
 FACTORS = ("ZERO", "ONE", "SRC_COLOR", "INV_SRC_COLOR", "SRC_ALPHA", "INV_SRC_ALPHA", "DEST_ALPHA", "INV_DEST_ALPHA", "DEST_COLOR",
            "INV_DEST_COLOR", "BLEND_FACTOR", "INV_BLEND_FACTOR")
@@ -110,6 +115,43 @@ def draw(vertices, interp="flat", indices=None):
     return {"kind": "draw", "interp": interp, "vertices": vertices, **({} if indices is None else {"indices": list(indices)})}
 
 
+def corner(x, y, z):
+    """A corner of a draw with a picture, which needs no colour."""
+    return {"x": x, "y": y, "z": z}
+
+
+def picture(left, top, width, height, rgba, holes=None):
+    """A box of the target, and what a draw puts out there: four bytes a pixel, rows from the top. holes: for each pixel whether nothing is put out."""
+    return {"left": left, "top": top, "width": width, "height": height, "texels": spelled(rgba), **({} if holes is None else {"holes": spelled(bits(holes))})}
+
+
+def picture_draw(vertices, box, indices=None):
+    """A draw whose colours are those of a picture: of version 3 alone."""
+    return {**draw(vertices, PICTURE, indices), "picture": box}
+
+
+def spelled(data):
+    """Bytes in base64, in the one spelling that a capture takes."""
+    return base64.b64encode(data).decode()
+
+
+def unspelled(text):
+    """The bytes that such a text stands for, or None where it is no spelling of any."""
+    try:
+        data = base64.b64decode(text.encode("ascii"), validate=True)
+    except (UnicodeEncodeError, binascii.Error):
+        return None
+    return data if spelled(data) == text else None
+
+
+def bits(truths):
+    """Truths as bits, from the least bit of the first byte."""
+    packed = bytearray(-(-len(truths) // 8))
+    for place, truth in enumerate(truths):
+        packed[place // 8] |= bool(truth) << place % 8
+    return bytes(packed)
+
+
 def place(clip, viewport, half_depth=False, y_up=True):
     """A vertex (x, y, z, w) of clip space on a viewport (left, top, width, height), as (x, y, depth); clip at w > 0 first.
 
@@ -175,22 +217,47 @@ class Capture:
 
     def draw(self, corners, linear=True, indices=None, source=None):
         """Triangles from corners (x, y, depth, colour), or from corners and indices."""
-        if len(corners) > MOST_CORNERS or len(indices or ()) > MOST_CORNERS:
-            raise Fault(f"a draw of {len(corners)} corners and {len(indices or ())} indices: {MOST_CORNERS} is the most of each")
-        bad = [index for index in indices or () if not 0 <= index < len(corners)]
-        if bad:
-            raise Fault(f"index {bad[0]} of {len(corners)} corners")
+        countable(corners, indices)
         vertices = [vertex(position(x), position(y), colour(four), depth_word(depth)) for x, y, depth, four in corners]
         self.put(draw(vertices, "linear" if linear else "flat", indices), source)
 
+    def draw_picture(self, corners, box, rgba, holes=None, indices=None, source=None):
+        """Triangles from corners (x, y, depth), whose colours are those of a picture over the box (left, top, width, height): four bytes a pixel of it,
+        rows from the top. holes: for each pixel whether nothing is put out there, as beyond the box."""
+        countable(corners, indices)
+        fits(box, rgba, holes)
+        vertices = [corner(position(x), position(y), depth_word(depth)) for x, y, depth in corners]
+        self.put(picture_draw(vertices, picture(*box, rgba, holes), indices), source)
+
     def text(self):
-        made = text(frame(self.width, self.height, self.events))
+        version = 3 if any(PICTURE in event for event in self.events) else 2
+        made = text(frame(self.width, self.height, self.events, version))
         if len(made.encode()) > MOST_BYTES:
             raise Fault(f"a capture of more than {MOST_BYTES} bytes")
         return made
 
     def write(self, file):
         file.write(self.text())
+
+
+def countable(corners, indices):
+    """There aren't too many, and each index names a corner."""
+    if len(corners) > MOST_CORNERS or len(indices or ()) > MOST_CORNERS:
+        raise Fault(f"a draw of {len(corners)} corners and {len(indices or ())} indices: {MOST_CORNERS} is the most of each")
+    bad = [index for index in indices or () if not 0 <= index < len(corners)]
+    if bad:
+        raise Fault(f"index {bad[0]} of {len(corners)} corners")
+
+
+def fits(box, rgba, holes):
+    """A picture may lie there, and has as many bytes and holes as pixels."""
+    left, top, width, height = box
+    if not (0 <= left <= MOST_CORNER and 0 <= top <= MOST_CORNER and 1 <= width <= MOST_SIDE and 1 <= height <= MOST_SIDE):
+        raise Fault(f"a picture of {width} by {height} at {left}, {top}: each side is 1 to {MOST_SIDE}, left and top are 0 to {MOST_CORNER}")
+    if len(rgba) != 4 * width * height:
+        raise Fault(f"a picture of {width} by {height} with {len(rgba)} bytes: {4 * width * height} are wanted, four a pixel")
+    if holes is not None and len(holes) != width * height:
+        raise Fault(f"a picture of {width} by {height} with {len(holes)} holes: {width * height} truths are wanted, one a pixel")
 
 
 def position(pixels):

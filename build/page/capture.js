@@ -10,7 +10,7 @@ export const AT_START = {
   depth: { kind: "depth", enable: false, write: true, func: "LESS" },
 };
 const PIXEL = 65_536, LEAST = 2 ** 31;       // places are in 1/65536 pixel; no edge of a scissor is less
-const OFF = { kind: "marker", name: "off" };
+const OFF = { kind: "marker", name: "off" }, NOTHING = { kind: "draw", interp: "flat", vertices: [] };
 
 export class Capture {
   texts = new Map(); setters = new Map();          // by window and event; by an event's number and a part
@@ -19,7 +19,7 @@ export class Capture {
   constructor(bytes, off = new Set()) {
     const { version, width, height, events } = JSON.parse(new TextDecoder().decode(bytes));
     Object.assign(this, { version, width, height, events: events.map((event, i) => off.has(i + 1) ? OFF : event), numbers: events.map((_, i) => i + 1) });
-    this.states = STATES.slice(0, version === 2 ? 5 : 4);
+    this.states = STATES.slice(0, version > 1 ? 5 : 4);
     this.whole = { left: 0, top: 0, right: width, bottom: height };
   }
 
@@ -54,7 +54,7 @@ export class Capture {
 
 // An event as it is drawn on a window: triangles that can't reach it are left out
 function within(event, window) {
-  const { left, top } = window, { kind, rect, interp, vertices, indices } = event;
+  const { left, top } = window, { kind, rect, interp, vertices, indices, picture } = event;
   if (kind === "scissor") return { kind, rect: rect.map((edge, i) => Math.max(edge - (i % 2 ? top : left), -LEAST)) };
   if (kind !== "draw") return event;
   const order = indices ?? vertices.map((_, number) => number), kept = [], numbers = new Map();
@@ -64,7 +64,33 @@ function within(event, window) {
   }
   for (const number of kept) if (!numbers.has(number)) numbers.set(number, numbers.size);
   const corners = [...numbers.keys()].map(number => ({ ...vertices[number], x: vertices[number].x - left * PIXEL, y: vertices[number].y - top * PIXEL }));
-  return { kind, interp, vertices: corners, indices: kept.map(number => numbers.get(number)) };
+  const draw = { kind, interp, vertices: corners, indices: kept.map(number => numbers.get(number)) };
+  if (interp !== "picture") return draw;
+  const part = pictureOn(picture, window);
+  return part ? { ...draw, picture: part } : NOTHING;
+}
+
+// What of a draw's picture lies on a window, or null
+function pictureOn({ left, top, width, height, texels, holes }, window) {
+  const [x, y] = [Math.max(left, window.left), Math.max(top, window.top)];
+  const [wide, high] = [Math.min(left + width, window.right) - x, Math.min(top + height, window.bottom) - y];
+  if (wide <= 0 || high <= 0) return null;
+  const starts = Array.from({ length: high }, (_, row) => (y - top + row) * width + x - left), bytes = atob(texels);
+  const rows = starts.map(at => bytes.slice(4 * at, 4 * (at + wide)));
+  const part = { left: x - window.left, top: y - window.top, width: wide, height: high, texels: btoa(rows.join("")) };
+  return holes === undefined ? part : { ...part, holes: holesOn(atob(holes), starts, wide) };
+}
+
+// The bits of the texels that begin at some places, so many each
+function holesOn(bits, starts, wide) {
+  const kept = new Uint8Array(Math.ceil(starts.length * wide / 8));
+  for (const [row, start] of starts.entries()) {
+    for (let i = 0; i < wide; i++) {
+      const from = start + i, to = row * wide + i;
+      kept[to >> 3] |= (bits.charCodeAt(from >> 3) >> (from & 7) & 1) << (to & 7);
+    }
+  }
+  return btoa(Array.from(kept, byte => String.fromCharCode(byte)).join(""));
 }
 
 // Whether a triangle's box meets a window

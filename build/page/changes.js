@@ -31,7 +31,7 @@ const KINDS = [
   members("raster", turned("scissor", "scissor ")), members("scissor", rectangles),
   members("depth", turned("enable", "depth test ")), members("depth", turned("write", "depth writes ")),
   members("depth", others("func", "depth function ", FUNCTIONS)), members("depth_clear", depths),
-  members("draw", others("interp", "", ["flat", "linear"])), members("clear", colours("clear")), members("factor", colours("factor")),
+  members("draw", interpolations), members("clear", colours("clear")), members("factor", colours("factor")),
   [["draw"], before], [[...DRAWN, ...STATES], without], [DRAWN, moves], [STATES, stateMoves], [DRAWN, exchanged], [DRAWN, doubled],
 ];
 
@@ -48,6 +48,11 @@ const ascending = (one, two) => one - two;
 const has = (event, members) => Object.entries(members).every(([name, value]) => String(event[name]) === String(value));
 
 // ---- Members
+// A draw with a picture has no other colours
+function interpolations(event) {
+  return event.interp === "picture" ? [] : others("interp", "", ["flat", "linear"])(event);
+}
+
 function masks({ mask: was }) {
   const bits = mask => [1, 2, 4, 8].filter(bit => mask & bit).length;
   const order = [...Array(16).keys()].sort((one, two) => (two === 15) - (one === 15) || bits(one ^ was) - bits(two ^ was));

@@ -3,7 +3,7 @@
 import { STATES } from "./capture.js";
 
 const OVER = 3, HIDDEN = 3, HIDER = 4, BLENDED = 3, LAST = 1, STATE = 0.9, TOUCHED = 0.2;
-const BY_VERDICT = { scissored: ["raster", "scissor"], culled: ["raster"], depthfailed: ["depth", "depth_clear"] };
+const BY_VERDICT = { scissored: ["raster", "scissor"], culled: ["raster"], discarded: [], depthfailed: ["depth", "depth_clear"] };
 
 // Suspects, the strongest first: { event, weight, clusters }. A sample is { x, y, wanted, entries, cluster }
 export function suspectsOf(capture, samples, isNear) {
@@ -20,7 +20,8 @@ export function suspectsOf(capture, samples, isNear) {
 // [event, weight] of all that a pixel says
 function* facts(capture, { wanted, entries }, isNear) {
   const drawn = entries.filter(({ verdict }) => verdict === "drawn"), right = drawn.findLastIndex(({ after }) => isNear(after, wanted));
-  for (const entry of entries) if (entry.verdict !== "drawn") yield* hidden(capture, entry, isNear(entry.source, wanted));
+  // What is discarded by the draw's own picture has no colour that could be wanted
+  for (const entry of entries) if (entry.verdict !== "drawn") yield* hidden(capture, entry, entry.verdict !== "discarded" && isNear(entry.source, wanted));
   if (right >= 0 && right + 1 < drawn.length) yield [drawn[right + 1].event, OVER];
   for (const [i, entry] of drawn.entries()) {
     const isLast = i === drawn.length - 1, isBlended = isNear(entry.source, wanted) && !isNear(entry.after, wanted);

@@ -46,7 +46,7 @@ def exchanged(whole, old, new):
     return whole.replace(old, new)
 
 
-def page(module, capture, opens=False, viewer=HERE.parent / "viewer/page", own=HERE):
+def page(module, capture, opens=False, viewer=HERE.parent.parent / "tools/viewer/page", own=HERE):
     """The page's text. It opens the capture at once, or offers it and the hunts beside the reader's own."""
     whole = (viewer / "index.html").read_text()
     head = f'<meta http-equiv="Content-Security-Policy" content="{POLICY}">\n<style>\n{(viewer / "viewer.css").read_text()}</style>\n{imports(viewer, own)}'

@@ -10,7 +10,8 @@ import { Ended, Runner, Stopped } from "./runner.js";
 import { Search } from "./search.js";
 
 const WORDS = ["framedbg", "run", "--workers", "1", "CAPTURE"];
-const MAX_OUTLINED = 32 << 20;     // bytes of a capture that is read for outlines, and changed by a search
+const MAX_OUTLINED = 32 << 20;     // bytes of a capture, for outlines without its pictures, that is read for outlines, and changed by a search
+const TEXTS = /"(texels|holes)"(\s*:\s*)"[^"\\]*"/g;       // of pictures, which no outline needs
 const PIXEL = 65536;               // positions are in 1/65536 pixel
 
 export { Ended, Stopped };
@@ -132,9 +133,11 @@ export const stopBlame = () => search.stop();
 // An event of the capture, or undefined where that is too large to be read for it
 function eventOf(number) {
   const { bytes } = capture;
-  events ??= bytes.length > MAX_OUTLINED ? [] : JSON.parse(new TextDecoder().decode(bytes)).events;
+  events ??= eventsIn(new TextDecoder().decode(bytes).replace(TEXTS, '"$1"$2""'));
   return events[number - 1];
 }
+
+const eventsIn = text => text.length > MAX_OUTLINED ? [] : JSON.parse(text).events;
 
 // The corners of a triangle in pixels, as the capture has them, or null
 export async function triangle(event, number) {
@@ -148,8 +151,11 @@ export async function triangle(event, number) {
 
 // A draw as the capture has it (mesh.js), or null
 export async function draw(event) {
-  const { interp, vertices, indices = null } = eventOf(event) ?? {};
-  return vertices ? { interp, vertices: vertices.map(({ x, y, z = null, color }) => [x, y, z, color]), indices } : null;
+  const { interp, vertices, indices = null, picture } = eventOf(event) ?? {};
+  if (!vertices) return null;
+  if (interp !== "picture") return { interp, vertices: vertices.map(({ x, y, z = null, color }) => [x, y, z, color]), indices };
+  const { left, top, width, height } = picture;
+  return { interp, vertices: vertices.map(({ x, y, z }) => [x, y, z, null]), indices, picture: [left, top, width, height] };
 }
 
 // The calls that events come from: [number, { event, name, until }]

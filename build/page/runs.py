@@ -91,6 +91,16 @@ def draw(dice, width, height):
     return captures.draw(vertices, interp, indices)
 
 
+def picture_draw(dice, width, height):
+    """Triangles over a picture that lies on the target, at its edge or beyond it, perhaps with holes."""
+    event, wide, high = draw(dice, width, height), dice.choice((1, 3, 32, 33, 70)), dice.choice((1, 2, 8, 31))
+    rgba = b"".join(bytes(colour(dice)) for _ in range(wide * high))
+    holes = [dice.random() < 0.3 for _ in range(wide * high)] if dice.random() < 0.6 else None
+    box = captures.picture(dice.randrange(width + 3), dice.randrange(height + 3) // 2, wide, high, rgba, holes)
+    corners = [{name: value for name, value in corner.items() if name != "color" or dice.random() < 0.1} for corner in event["vertices"]]
+    return captures.picture_draw(corners, box, event.get("indices"))
+
+
 def event(dice, width, height, version):
     kinds = {
         "clear": lambda: captures.clear(*colour(dice)),
@@ -102,14 +112,15 @@ def event(dice, width, height, version):
         "marker": lambda: captures.marker(dice.choice(["", "a house", "\u00e9" * 32])),
         "draw": lambda: draw(dice, width, height),
     }
-    if version == 2:
+    if version > 1:
         kinds["depth"] = lambda: captures.depth(dice.random() < 0.7, dice.random() < 0.7, dice.choice(FUNCTIONS))
         kinds["depth_clear"] = lambda: captures.depth_clear(dice.randrange(FARTHEST + 1))
-    return kinds[dice.choice([*kinds, "draw", "draw", "draw"])]()
+    made = kinds[dice.choice([*kinds, "draw", "draw", "draw"])]()
+    return picture_draw(dice, width, height) if version == 3 and made["kind"] == "draw" and dice.random() < 0.6 else made
 
 
 def capture(dice):
-    version, width, height = dice.choice((1, 2)), dice.choice((1, 7, 64, 65, 200)), dice.choice((1, 9, 64, 130))
+    version, width, height = dice.choice((1, 2, 3)), dice.choice((1, 7, 64, 65, 200)), dice.choice((1, 9, 64, 130))
     events = [event(dice, width, height, version) for _ in range(dice.randrange(14))]
     return json.dumps(captures.frame(width, height, events, version)).encode()
 

@@ -1,4 +1,4 @@
-/* Two turned quads and a see-through pane over them, as a renderer would log its frame:
+/* Two turned quads, a see-through pane over them, and a decal with holes, pixel by pixel as its shader gave it, as a renderer would log its frame:
  *
  *     cc -I share share/emitting/frame.c -lm -o frame && ./frame frame.json
  */
@@ -23,8 +23,30 @@ static void quad(framedbg_capture *capture, double turn, double depth, int r, in
     framedbg_draw(capture, 1, corners, 4, indices, 6);
 }
 
+static void decal(framedbg_capture *capture) {
+    static const framedbg_vertex corners[3] = {{90, 50, 0.2, 0, 0, 0, 0}, {90, 90, 0.2, 0, 0, 0, 0}, {130, 50, 0.2, 0, 0, 0, 0}};
+    uint8_t rgba[8 * 5 * 4], holes[8 * 5];
+    framedbg_picture picture;
+    int i;
+    for (i = 0; i < 8 * 5; i++) {
+        int x = i % 8, y = i / 8;
+        rgba[4 * i] = (uint8_t)(30 * x);
+        rgba[4 * i + 1] = (uint8_t)(40 * y);
+        rgba[4 * i + 2] = (uint8_t)(255 - 30 * x);
+        rgba[4 * i + 3] = 255;
+        holes[i] = (x + y) % 4 == 0;
+    }
+    picture.left = 100;
+    picture.top = 60;
+    picture.width = 8;
+    picture.height = 5;
+    picture.rgba = rgba;
+    picture.holes = holes;
+    framedbg_draw_picture(capture, &picture, corners, 3, NULL, 0);
+}
+
 int main(int count, char **words) {
-    framedbg_capture *capture = framedbg_begin(count > 1 ? words[1] : "frame.json", 320, 240);
+    framedbg_capture *capture = framedbg_begin_with_pictures(count > 1 ? words[1] : "frame.json", 320, 240);
     int fault;
     framedbg_marker(capture, "the \"frame\" begins");
     framedbg_clear(capture, 20, 24, 40, 255);
@@ -40,6 +62,8 @@ int main(int count, char **words) {
     framedbg_raster(capture, FRAMEDBG_CULL_BACK, 1, 1);
     framedbg_source(capture, 3);
     quad(capture, 0.6, 0.3, 90, 120, 255, 128);
+    framedbg_source(capture, 4);
+    decal(capture);
     fault = framedbg_end(capture);
     if (fault) fprintf(stderr, "frame: %s\n", framedbg_fault_name(fault));
     return fault;

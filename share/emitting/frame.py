@@ -18,6 +18,12 @@ def quad(capture, turn, depth, colour, source):
     capture.draw(corners, indices=[0, 1, 2, 0, 2, 3], source={"event": source})
 
 
+def decal(capture, source):
+    places = [(x, y) for y in range(5) for x in range(8)]
+    rgba = bytes(byte for x, y in places for byte in (30 * x, 40 * y, 255 - 30 * x, 255))
+    capture.draw_picture([(90, 50, 0.2), (90, 90, 0.2), (130, 50, 0.2)], (100, 60, 8, 5), rgba, [(x + y) % 4 == 0 for x, y in places], source={"event": source})
+
+
 capture = Capture(WIDTH, HEIGHT)
 capture.marker('the "frame" begins')
 capture.clear(20, 24, 40, 255)
@@ -30,4 +36,5 @@ capture.blend(True, "SRC_ALPHA INV_SRC_ALPHA ADD", "ONE ZERO ADD")
 capture.scissor(60, 40, 260, 130)
 capture.raster("back", True, True)
 quad(capture, 0.6, 0.3, (90, 120, 255, 128), 3)
+decal(capture, 4)
 capture.write(sys.stdout)

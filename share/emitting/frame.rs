@@ -2,7 +2,7 @@
 #[path = "../framedbg_capture.rs"]
 mod framedbg_capture;
 
-use framedbg_capture::{Capture, Cull, Fault, Viewport};
+use framedbg_capture::{Capture, Cull, Fault, Picture, Vertex, Viewport};
 use std::io::Write;
 
 const VIEWPORT: Viewport = Viewport { left: 0.0, top: 0.0, width: 320.0, height: 240.0, half_depth: false, y_down: false };
@@ -18,8 +18,17 @@ fn quad<W: Write>(capture: &mut Capture<W>, turn: f64, depth: f64, [r, g, b, a]:
     capture.draw(true, &corners, Some(&[0, 1, 2, 0, 2, 3]))
 }
 
+fn decal<W: Write>(capture: &mut Capture<W>) -> Result<(), Fault> {
+    let places = || (0..5u8).flat_map(|y| (0..8u8).map(move |x| (x, y)));
+    let rgba: Vec<u8> = places().flat_map(|(x, y)| [30 * x, 40 * y, 255 - 30 * x, 255]).collect();
+    let holes: Vec<bool> = places().map(|(x, y)| (x + y) % 4 == 0).collect();
+    let picture = Picture { left: 100, top: 60, width: 8, height: 5, rgba: &rgba, holes: Some(&holes) };
+    let corners = [(90.0, 50.0), (90.0, 90.0), (130.0, 50.0)].map(|(x, y)| Vertex { x, y, depth: 0.2, ..Vertex::default() });
+    capture.draw_picture(&picture, &corners, None)
+}
+
 fn main() -> Result<(), Fault> {
-    let mut capture = Capture::new(std::io::stdout().lock(), 320, 240)?;
+    let mut capture = Capture::with_pictures(std::io::stdout().lock(), 320, 240)?;
     capture.marker("the \"frame\" begins")?;
     capture.clear([20, 24, 40, 255])?;
     capture.depth_clear(1.0)?;
@@ -34,5 +43,7 @@ fn main() -> Result<(), Fault> {
     capture.raster(Cull::Back, true, true)?;
     capture.source(3);
     quad(&mut capture, 0.6, 0.3, [90, 120, 255, 128])?;
+    capture.source(4);
+    decal(&mut capture)?;
     capture.end()
 }

@@ -9,6 +9,7 @@ from dataclasses import dataclass
 
 from .fragments import cross, least
 from .frame import order_of
+from .painting import has_picture
 
 REACH = 40 * 256         # how far a vertex is looked for
 MOST_TURNS = 300         # choices between alternatives
@@ -77,7 +78,7 @@ class Cell:
     def __init__(self, points, number, at, is_clockwise=None):
         """`is_clockwise` says which way its triangles run where none is culled; else they run as they do with the vertex at a place."""
         event = points.frame.events[number - 1]
-        self.points, self.number, self.at, self.is_flat = points, number, at, event["interp"] == "flat"
+        self.points, self.number, self.at, self.event = points, number, at, event
         self.state, self.is_clockwise = points.steps[number - 1][0], is_clockwise
         self.corners = [points.corner(vertex) for vertex in event["vertices"]]
         order = order_of(event)
@@ -89,7 +90,7 @@ class Cell:
         made = {}
         for number, triangle in enumerate(self.triangles):
             if self.at not in triangle:
-                for point, fragment in self.points.of_triangle(*(self.corners[i] for i in triangle), self.is_flat):
+                for point, fragment in self.points.put_out(self.event, [self.corners[i] for i in triangle]):
                     made.setdefault(point, []).append((number, fragment))
         return made
 
@@ -119,8 +120,9 @@ class Cell:
             return None
         source, depth = shaded(triangle, middle, place, vertex)
         wanted = self.points.wanted[point]
-        if self.is_flat:
-            return lines if self.points.is_near(self.with_own(point, triangle, triangle.flat, depth), wanted) else None
+        if self.event["interp"] != "linear":
+            source = self.points.texel(self.event, point) if has_picture(self.event) else triangle.flat
+            return lines if self.points.is_near(self.with_own(point, triangle, source, depth), wanted) else None
         for channel in range(4):
             bounds = self.bounds(point, triangle, source, depth, channel)
             if bounds is None:
@@ -147,7 +149,7 @@ class Cell:
         own, number = list(self.own(place)), self.number - 1
         for point, wanted in enumerate(self.points.wanted):
             near = [triangle for triangle in own if self.reaches(triangle, point, place)]
-            if not near or not self.points.is_inside(point, self.state):
+            if not near or not self.points.is_inside(point, self.state) or self.is_discarded(point):
                 continue
             is_bare = self.points.is_near(self.points.final(point, number, [fragment for _, fragment in self.fixed.get(point, ())]), wanted)
             fitting = [lines for lines in (self.fits(point, triangle, place) for triangle in near) if lines]
@@ -158,6 +160,10 @@ class Cell:
                         yield [[added((-1, line))] for line in lines]
             elif fitting and not is_bare:
                 yield fitting
+
+    def is_discarded(self, point):
+        """Whether the draw has a picture that puts out nothing there, wherever the vertex lies."""
+        return has_picture(self.event) and self.points.texel(self.event, point) is None
 
     def reaches(self, triangle, point, place):
         x, y = self.points.centres[point]

@@ -9,6 +9,7 @@ from .cells import Cell
 from .fragments import centre, cross, mean, snapped
 from .frame import order_of
 from .kinds import kind, replaced
+from .painting import has_picture
 from .slips import vertices_near
 from .states import allowed
 
@@ -57,7 +58,7 @@ class Shade:
 @kind("colour of a vertex", "draw")
 def colours(case, number):
     draw = case.frame.events[number - 1]
-    for at, places in met(case, number):
+    for at, places in () if has_picture(draw) else met(case, number):
         held = []
         for sample, entry in [(sample, entry) for sample, entry in places if entry.is_drawn][:40]:
             chain = Chain(case.frame, sample.entries)

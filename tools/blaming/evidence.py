@@ -5,7 +5,8 @@ from dataclasses import dataclass, field
 from captures import PIXEL, STATES
 
 
-BY_VERDICT = {"scissored": ("raster", "scissor"), "culled": ("raster",), "depthfailed": ("depth", "depth_clear")}
+DISCARDED = "discarded"  # by the draw's own picture, and with no colour that could be the wanted one
+BY_VERDICT = {"scissored": ("raster", "scissor"), "culled": ("raster",), DISCARDED: (), "depthfailed": ("depth", "depth_clear")}
 WEIGHTS = {"hidden": 3, "hider": 4, "over": 3, "last": 1, "blend": 3, "state": 0.9, "touched": 0.2, "reaches": 0.3}
 
 REACHES = "has vertices round the pixel, and doesn't cover it"
@@ -42,7 +43,7 @@ def facts(frame, sample, is_near):
     """(event, triangle, what the pixel says of it, weight) of one pixel."""
     wanted, drawn, since = sample.wanted, sample.drawn, first_that_counts(frame, sample.entries)
     for entry in sample.entries:
-        is_wanted = is_near(entry.source, wanted)
+        is_wanted = entry.verdict != DISCARDED and is_near(entry.source, wanted)
         if not entry.is_drawn and (is_wanted or entry.event >= since):
             yield from hidden(frame, entry, is_wanted)
     right = [k for k, entry in enumerate(drawn) if is_near(entry.after, wanted)]

@@ -12,6 +12,7 @@ import captures
 from captures import LEAST_EDGE, MOST_BYTES, MOST_EDGE, MOST_POSITION, PIXEL, STATES, compact
 
 from .faults import READING, Fault
+from .painting import Album, has_picture
 
 AT_START = {
     "raster": captures.raster(), "scissor": captures.scissor(0, 0, 0, 0), "blend": captures.blend(False), "factor": captures.factor(255, 255, 255, 255),
@@ -28,9 +29,28 @@ def read_capture(path):
     if len(data) > MOST_BYTES:
         raise Fault(f"{path}: a capture has at most {MOST_BYTES} bytes")
     try:
-        return json.loads(data)
+        capture = without_colours(json.loads(data))
     except (ValueError, RecursionError):
         raise Fault(f"{path}: no JSON") from None
+    if capture["version"] == 1:
+        forget_depths(capture["events"])
+    return capture
+
+
+def forget_depths(events):
+    """Takes the depths of vertices away: in version 1 they are none, whatever stands there."""
+    for event in events:
+        if event["kind"] == "draw":
+            for vertex in event["vertices"]:
+                vertex.pop("z", None)
+
+
+def without_colours(capture):
+    """Without the colours that stand at the corners of draws with pictures, which framedbg passes over."""
+    for event in capture["events"] if capture.get("version") == 3 else ():
+        if has_picture(event):
+            event["vertices"] = [{name: what for name, what in vertex.items() if name != "color"} for vertex in event["vertices"]]
+    return capture
 
 
 def key_of(event):
@@ -59,14 +79,15 @@ class Frame:
     def __init__(self, capture):
         self.capture, self.events = capture, capture["events"]
         self.version, self.width, self.height = capture["version"], capture["width"], capture["height"]
-        self.states = [kind for kind in STATES if kind != "depth" or self.version == 2]
+        self.states = [kind for kind in STATES if kind != "depth" or self.version > 1]
+        self.album = Album()
         self._setters, self._ways = {}, {}
         self._differing = None           # the list that was asked about last, and the answer
         self._texts = {}                 # by an event's identity and a window; the event is kept with it, so that its identity stays its own
 
     def with_events(self, events):
         made = Frame(self.capture | {"events": events})
-        made._texts = self._texts
+        made._texts, made.album = self._texts, self.album
         return made
 
     def differing_part(self, events):
@@ -125,7 +146,7 @@ class Frame:
         key = id(event), window
         if key not in self._texts:
             shown = {name: what for name, what in event.items() if name != "source"} if "source" in event else event
-            shown = moved(shown, window) if window else shown
+            shown = moved(shown, window, self.album) if window else shown
             self._texts[key] = event, compact(shown) if shown else ""
         return self._texts[key][1]
 
@@ -135,7 +156,7 @@ class Frame:
         self._texts = {key: value for key, value in self._texts.items() if key[0] in kept}
 
 
-def moved(event, window):
+def moved(event, window, album):
     """An event as it is drawn on a window: what can't reach it is left out, and a draw that can't is None."""
     left, top, right, bottom = window
     if event["kind"] == "scissor":
@@ -150,7 +171,11 @@ def moved(event, window):
         return None
     numbers = {number: at for at, number in enumerate(dict.fromkeys(i for triangle in named for i in triangle))}
     shifted = [vertices[i] | {"x": vertices[i]["x"] - box[0], "y": vertices[i]["y"] - box[1]} for i in numbers]
-    return captures.draw(shifted, event["interp"], [numbers[i] for triangle in named for i in triangle])
+    order = [numbers[i] for triangle in named for i in triangle]
+    if not has_picture(event):
+        return captures.draw(shifted, event["interp"], order)
+    part = album.on(event, window)
+    return part and captures.picture_draw(shifted, part, order)
 
 
 def meets(corners, box):

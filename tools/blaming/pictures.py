@@ -8,10 +8,12 @@ from captures import MOST_SIDE
 from framedbg_client.image import END, fields_of
 
 from .faults import READING, Fault
+from .unfiltering import unfiltered
 
 SIGNATURE = b"\x89PNG\r\n\x1a\n"
 CHANNELS = {0: 1, 2: 3, 3: 1, 4: 2, 6: 4}        # of a PNG, by its colour type
-PPM = re.compile(rb"P6(?:\s+|\s*#[^\n]*\n)+?(\d+)(?:\s+|\s*#[^\n]*\n)+?(\d+)(?:\s+|\s*#[^\n]*\n)+?(\d+)\s")
+BLANK = re.compile(rb"\s+|#[^\n]*\n")           # of a PPM's header, some of which lie between two numbers
+NUMBER = re.compile(rb"\d{1,5}(?!\d)")
 
 
 @dataclass(frozen=True)
@@ -25,34 +27,37 @@ class Picture:
         return tuple(self.samples[4 * number:4 * number + 4])
 
 
-def read_picture(path):
+def read_picture(path, size=None):
+    """The picture in a file. One of another size than is wanted is a Fault before its pixels are unpacked."""
     try:
         with open(path, "rb") as file:
             data = file.read()
     except OSError as fault:
         raise Fault(f"{path}: {fault.strerror}", READING) from None
     try:
-        return picture_of(data)
+        return picture_of(data, size)
     except Fault as fault:
         raise Fault(f"{path}: {fault}") from None
-    except (zlib.error, struct.error, IndexError):
+    except (zlib.error, struct.error):
         raise Fault(f"{path}: a PNG that is cut or broken") from None
 
 
-def picture_of(data):
-    if data.startswith(SIGNATURE):
-        return of_png(data)
-    if data.startswith(b"P7"):
-        return of_pam(data)
-    if data.startswith(b"P6"):
-        return of_ppm(data)
-    raise Fault("no picture: PAM, PPM or PNG is wanted")
+def picture_of(data, size=None):
+    read = next((read for begun, read in READERS.items() if data.startswith(begun)), None)
+    if read is None:
+        raise Fault("no picture: PAM, PPM or PNG is wanted")
+    return read(data, size)
+
+
+def check_size(width, height, size):
+    if not (1 <= width <= MOST_SIDE and 1 <= height <= MOST_SIDE):
+        raise Fault(f"a picture of {width} by {height}: each side is 1 to {MOST_SIDE}")
+    if size not in (None, (width, height)):
+        raise Fault(f"the capture's target is {size[0]} by {size[1]}, the picture {width} by {height}")
 
 
 def made(width, height, samples, channels):
     """A picture from samples of three or four channels."""
-    if not (1 <= width <= MOST_SIDE and 1 <= height <= MOST_SIDE):
-        raise Fault(f"a picture of {width} by {height}: each side is 1 to {MOST_SIDE}")
     if len(samples) < channels * width * height:
         raise Fault("a picture that is shorter than its header says")
     samples = samples[:channels * width * height]
@@ -64,7 +69,7 @@ def made(width, height, samples, channels):
     return Picture(width, height, bytes(four), False)
 
 
-def of_pam(data):
+def of_pam(data, size):
     head, end, samples = data.partition(END)
     fields = fields_of(head)
     numbers = [fields.get(name, b"") for name in (b"WIDTH", b"HEIGHT", b"DEPTH", b"MAXVAL")]
@@ -73,32 +78,47 @@ def of_pam(data):
     width, height, channels, most = map(int, numbers)
     if channels not in (3, 4) or most != 255:
         raise Fault(f"a PAM of {channels} channels up to {most}: three or four channels up to 255 are wanted")
+    check_size(width, height, size)
     return made(width, height, samples, channels)
 
 
-def of_ppm(data):
-    head = PPM.match(data)
-    if not head or any(len(number) > 5 for number in head.groups()):
+def of_ppm(data, size):
+    width, end = number_of_ppm(data, len(b"P6"))
+    height, end = number_of_ppm(data, end)
+    most, end = number_of_ppm(data, end)
+    if not data[end:end + 1].isspace():
         raise Fault("a PPM without a whole header")
-    width, height, most = map(int, head.groups())
     if most != 255:
         raise Fault(f"a PPM up to {most}: 255 is wanted")
-    return made(width, height, data[head.end():], 3)
+    check_size(width, height, size)
+    return made(width, height, data[end + 1:], 3)
 
 
-def of_png(data):
+def number_of_ppm(data, at):
+    """The next number of a header, which stands behind blanks and comments, and where it ends."""
+    start = at
+    while blank := BLANK.match(data, at):
+        at = blank.end()
+    number = NUMBER.match(data, at)
+    if at == start or not number:
+        raise Fault("a PPM without a whole header")
+    return int(number[0]), number.end()
+
+
+def of_png(data, size):
     chunks = list(pieces(data))
     if not chunks or chunks[0][0] != b"IHDR" or chunks[-1][0] != b"IEND":
         raise Fault("a PNG that is cut or broken")
     width, height, bits, kind, _, _, interlaced = struct.unpack(">IIBBBBB", chunks[0][1])
     if bits != 8 or kind not in CHANNELS or interlaced:
         raise Fault("a PNG of another kind: eight bits a channel, not interlaced, are wanted")
-    if not (1 <= width <= MOST_SIDE and 1 <= height <= MOST_SIDE):
-        raise Fault(f"a picture of {width} by {height}: each side is 1 to {MOST_SIDE}")
+    check_size(width, height, size)
     channels = CHANNELS[kind]
     packed = b"".join(body for name, body in chunks if name == b"IDAT")
     whole = (channels * width + 1) * height
     rows = unfiltered(zlib.decompressobj().decompress(packed, whole), channels, width, height)
+    if rows is None:
+        raise Fault("a PNG that is cut or broken")
     return made(width, height, *spread(rows, kind, next((body for name, body in chunks if name == b"PLTE"), b"")))
 
 
@@ -119,7 +139,7 @@ def spread(rows, kind, palette):
     if kind in (2, 6):
         return rows, CHANNELS[kind]
     if kind == 3:
-        return b"".join(palette[3 * index:3 * index + 3] for index in rows), 3
+        return by_palette(rows, palette), 3
     step = CHANNELS[kind]
     channels = 4 if kind == 4 else 3
     out = bytearray(len(rows) // step * channels)
@@ -130,44 +150,14 @@ def spread(rows, kind, palette):
     return bytes(out), channels
 
 
-def unfiltered(data, channels, width, height):
-    """The samples of a PNG, whose rows each begin with the number of their filter."""
-    stride = channels * width
-    if len(data) < (stride + 1) * height:
+def by_palette(indices, palette):
+    count = len(palette) // 3
+    if max(indices) >= count:
         raise Fault("a PNG that is cut or broken")
-    above, out = bytearray(stride), []
-    for y in range(height):
-        start = y * (stride + 1)
-        row = bytearray(data[start + 1:start + 1 + stride])
-        if data[start] > 4:
-            raise Fault("a PNG that is cut or broken")
-        UNFILTER[data[start]](row, above, channels)
-        out.append(row)
-        above = row
-    return b"".join(out)
+    samples = bytearray(3 * len(indices))
+    for channel in range(3):
+        samples[channel::3] = indices.translate(palette[channel::3][:count].ljust(256, b"\0"))
+    return bytes(samples)
 
 
-def left(row, _, step):
-    for i in range(step, len(row)):
-        row[i] = row[i] + row[i - step] & 255
-
-
-def up(row, above, _):
-    for i, over in enumerate(above):
-        row[i] = row[i] + over & 255
-
-
-def mean(row, above, step):
-    for i, over in enumerate(above):
-        row[i] = row[i] + ((row[i - step] if i >= step else 0) + over >> 1) & 255
-
-
-def paeth(row, above, step):
-    for i, b in enumerate(above):
-        a, c = (row[i - step], above[i - step]) if i >= step else (0, 0)
-        towards_a, towards_b, towards_c = abs(b - c), abs(a - c), abs(a + b - 2 * c)
-        nearest = a if towards_a <= towards_b and towards_a <= towards_c else b if towards_b <= towards_c else c
-        row[i] = row[i] + nearest & 255
-
-
-UNFILTER = (lambda *_: None, left, up, mean, paeth)
+READERS = {SIGNATURE: of_png, b"P7": of_pam, b"P6": of_ppm}

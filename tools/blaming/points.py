@@ -8,9 +8,11 @@ from captures import FARTHEST, PIXEL
 from .blending import blended
 from .frame import AT_START, order_of
 from .fragments import Triangle, centre, snapped
+from .painting import has_picture
 
 PASSES = {"NEVER": lambda source, stored: False, "LESS": operator.lt, "EQUAL": operator.eq, "LESS_EQUAL": operator.le, "GREATER": operator.gt,
           "NOT_EQUAL": operator.ne, "GREATER_EQUAL": operator.ge, "ALWAYS": lambda source, stored: True}
+NO_COLOUR = (0, 0, 0, 0)            # of a corner whose draw has a picture
 FRESH = (0, 0, 0, 0), FARTHEST      # a pixel's colour and depth before the first event
 FEW = 16                 # points that are looked at first
 MOST_KEPT = 100_000      # triangles whose fragments are kept
@@ -47,7 +49,7 @@ class Points:
         """A vertex as it is drawn. Those of a draw are asked for again and again."""
         known = self.corners.get(id(vertex))
         if known is None:
-            known = vertex, (snapped(vertex), tuple(vertex["color"]), vertex.get("z", 0))
+            known = vertex, (snapped(vertex), tuple(vertex.get("color", NO_COLOUR)), vertex.get("z", 0))
             self.corners[id(vertex)] = known
         return known[1]
 
@@ -56,14 +58,26 @@ class Points:
         return self.covered[id(event)] if id(event) in self.covered else self._covering(event)
 
     def _covering(self, event):
-        order, vertices, is_flat = order_of(event), event["vertices"], event["interp"] == "flat"
+        order, vertices, found = order_of(event), event["vertices"], {}
         if not self._meets(vertices):
             return []
-        corners, found = [self.corner(vertex) for vertex in vertices], {}
+        corners = [self.corner(vertex) for vertex in vertices]
         for at in range(0, len(order) - 2, 3):
-            for point, fragment in self.of_triangle(corners[order[at]], corners[order[at + 1]], corners[order[at + 2]], is_flat):
+            for point, fragment in self.put_out(event, [corners[number] for number in order[at:at + 3]]):
                 found.setdefault(point, []).append(fragment)
         return list(found.items())
+
+    def texel(self, event, point):
+        """The colour that a draw with a picture puts out at a point, or None."""
+        return self.frame.album.painting(event).texel(*self.places[point])
+
+    def put_out(self, event, corners):
+        """[(point, fragment)] of a triangle of a draw, but for those that are discarded."""
+        found = self.of_triangle(*corners, event["interp"] != "linear")
+        if not has_picture(event):
+            return found
+        told = [(point, is_clockwise, self.texel(event, point), depth) for point, (is_clockwise, _, depth) in found]
+        return [(point, (is_clockwise, texel, depth)) for point, is_clockwise, texel, depth in told if texel]
 
     def _meets(self, vertices):
         if not vertices:

@@ -1,17 +1,17 @@
 """A run of framedbg-blame, from its words to its status."""
-import os
 import signal
 import subprocess
 import sys
-import tempfile
 import time
 
 from explaining.printable import printable
 from framedbg_client import Ended, Garbled, Refusal, find_program
+from framedbg_client.program import as_word
+from writing import files
 
 from . import report, telling_json
 from .comparing import Comparison
-from .faults import INTERRUPTED, MEMORY, NOBODY, READING, WORDS, Fault
+from .faults import MEMORY, NOBODY, READING, WORDS, Fault
 from .frame import Frame, read_capture
 from .pictures import read_picture
 from .progress import Progress
@@ -27,14 +27,14 @@ def run(given):
     signal.signal(signal.SIGTERM, signal.default_int_handler)
     try:
         return blamed(given)
-    except KeyboardInterrupt:
-        return told("interrupted", INTERRUPTED)
     except Fault as fault:
         return told(fault, fault.status)
     except Ended as ended:
         return told(ended.said or str(ended), ended.status if 2 <= ended.status <= 5 and ended.status != NOBODY else READING, is_plain=bool(ended.said))
     except (Garbled, Refusal) as fault:
         return told(fault, READING)
+    except OSError as fault:
+        return told(f"{fault.filename}: {fault.strerror}" if fault.filename else fault.strerror, READING)
     except MemoryError:
         return told("memory", MEMORY)
 
@@ -67,9 +67,7 @@ def found(capture, picture, given, is_quiet=False):
     if not program:
         raise Fault("framedbg isn't built or installed here", READING)
     frame = checked_frame(program, capture)
-    wanted = read_picture(picture)
-    if (wanted.width, wanted.height) != (frame.width, frame.height):
-        raise Fault(f"the capture's target is {frame.width} by {frame.height}, the picture {wanted.width} by {wanted.height}", WORDS)
+    wanted = read_picture(picture, (frame.width, frame.height))
     tolerance = given.tolerance if wanted.has_alpha else (*given.tolerance[:3], 255)
     progress = Progress(is_quiet=is_quiet)
     try:
@@ -84,9 +82,11 @@ def found(capture, picture, given, is_quiet=False):
 def checked_frame(program, capture):
     """The frame of a capture that framedbg accepts; why it is refused is framedbg's to say."""
     try:
-        ran = subprocess.run([program, "events", "--", capture], stdin=subprocess.DEVNULL, stdout=subprocess.DEVNULL, stderr=subprocess.PIPE, check=False)
+        with as_word(capture) as (word, descriptors):
+            ran = subprocess.run([program, "events", "--", word], stdin=subprocess.DEVNULL, stdout=subprocess.DEVNULL, stderr=subprocess.PIPE, check=False,
+                                 pass_fds=descriptors)
     except OSError as fault:
-        raise Fault(f"{program}: {fault.strerror}", READING) from None
+        raise Fault(f"{fault.filename or program}: {fault.strerror}", READING) from None
     if ran.returncode:
         said = ran.stderr.decode("utf-8", "replace").strip().removeprefix("framedbg: ")
         raise Fault(f"{capture}: {said}", ran.returncode if ran.returncode in (WORDS, READING, MEMORY) else READING)
@@ -94,13 +94,7 @@ def checked_frame(program, capture):
 
 
 def keep(path, text):
-    """Writes a file whole, or leaves what was there."""
-    folder = os.path.dirname(os.path.abspath(path))
     try:
-        handle, name = tempfile.mkstemp(dir=folder, prefix=".framedbg-blame-")
-        with os.fdopen(handle, "w", encoding="utf-8") as file:
-            file.write(text + "\n")
-        os.chmod(name, 0o644)
-        os.replace(name, path)
+        files.keep(path, f"{text}\n".encode())
     except OSError as fault:
         raise Fault(f"{path}: {fault.strerror}", READING) from None

@@ -1,7 +1,7 @@
 """Kinds of change: parts of the state, clears, and how a draw is shaded. One thing of one event, by the values that it can have."""
 import collections
 
-from captures import ALPHA_FACTORS, CULLS, FACTORS, FARTHEST, FUNCTIONS, OPERATIONS, depth, scissor
+from captures import ALPHA_FACTORS, CULLS, FACTORS, FARTHEST, FUNCTIONS, INTERPOLATIONS, OPERATIONS, depth, scissor
 
 from .blending import Chain
 from .frame import AT_START, key_of
@@ -117,8 +117,8 @@ def depths(case, number):
 @kind("interpolation", "draw")
 def interpolations(case, number):
     was = case.frame.events[number - 1]["interp"]
-    other = "linear" if was == "flat" else "flat"
-    yield from with_members(case, number, f"{other} in place of {was}", interp=other)
+    for other in [other for other in INTERPOLATIONS if was in INTERPOLATIONS and other != was]:
+        yield from with_members(case, number, f"{other} in place of {was}", interp=other)
 
 
 # ---- Values that are worked out from the pixels

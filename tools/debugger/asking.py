@@ -53,8 +53,8 @@ def tell_off(session):
 
 
 def tell_breakpoints(session):
-    known = session.breakpoints.numbered
-    session.tell("note", *(f"breakpoint {given}: {what}" for given, what in known.items()) if known else ["no breakpoints"])
+    breakpoints = session.breakpoints
+    session.tell("note", *map(breakpoints.told, breakpoints.numbered) if breakpoints.numbered else ["no breakpoints"])
 
 
 @WORDS.add("help", "help [WORD]", "the words, or more of one", also=("h",), takes=("word",))

@@ -24,7 +24,7 @@ def run(given):
     try:
         client = Client(given.capture, given.program, given.workers, None if sys.stderr.isatty() else subprocess.PIPE)
     except OSError as fault:
-        return told(fault, 3)
+        return told(f"{fault.filename}: {fault.strerror}" if fault.filename else fault, 3)
     try:
         return debugged(client, given)
     except KeyboardInterrupt:
@@ -77,7 +77,7 @@ def start(session, given, is_asked):
     frame = session.frame
     wanted = len(frame) if given.at is None else given.at
     if is_asked:
-        session.screen.write(f"{pathlib.Path(given.capture).name}: {len(frame)} events. help lists the words, q ends.")
+        session.screen.write(f"{printable(pathlib.Path(given.capture).name)}: {len(frame)} events. help lists the words, q ends.")
     try:
         with session.left_as_it_was():
             reached = frame.client.goto(wanted) if wanted else 0

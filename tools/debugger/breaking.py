@@ -3,37 +3,52 @@ from captures import KINDS
 from framedbg_client import Pixel
 
 from .breakpoints import AtEvent, AtPixel, OfKind
+from .conditions import condition_of
 from .faults import Slip
 from .words import WORDS, number, place
 
 
+CONDITION = "Behind X Y may stand if CHANNEL SIGN VALUE, as in b pixel 5 5 if red > 200: it stops where that holds after the change."
+
+
 def at_pixel(session, arguments, usage):
-    x, y = place(arguments, usage)
+    at = arguments.index("if") if "if" in arguments else len(arguments)
+    x, y = place(arguments[:at], usage)
+    condition = condition_of(arguments[at + 1:]) if at < len(arguments) else None
     session.frame.client.reply(f"pixel {x} {y}", Pixel)       # refused where there is no such pixel
-    return AtPixel(x, y)
+    return AtPixel(x, y, condition)
 
 
-def set_breakpoint(session, what):
-    session.tell("note", f"breakpoint {session.breakpoints.add(what)}: {what}")
+def set_breakpoint(session, what, once=False):
+    session.tell("note", session.breakpoints.told(session.breakpoints.add(what, once)))
+
+
+def place_of(session, arguments, word):
+    """Where a breakpoint is to stand that is set by a word."""
+    if arguments[:1] == ["pixel"]:
+        return at_pixel(session, arguments[1:], f"{word} pixel X Y")
+    if len(arguments) != 1:
+        raise Slip(f"{word} K, {word} KIND or {word} pixel X Y is wanted")
+    if arguments[0] in KINDS:
+        return OfKind(arguments[0])
+    if not arguments[0][:1].isdigit():
+        raise Slip(f"a kind is one of {', '.join(KINDS)}, and not {arguments[0]}")
+    what = AtEvent(number(arguments[0], "K", len(session.frame)))
+    if what.event == 0:
+        raise Slip("events are numbered from 1")
+    return what
 
 
 @WORDS.add("b", "b K | KIND | pixel X Y", "a breakpoint at event K, at events of a kind that are on, or where the pixel changes",
-           "c and rc stop on it: the event has just been gone through, and rs goes before it. A pixel's are found by its history, forward and back.",
+           f"c and rc stop on it: the event has just been gone through, and rs goes before it. A pixel's are found by its history, forward and back. {CONDITION}",
            also=("break",), takes=("breakpoint", "number", "number"))
 def break_at(session, arguments):
-    if arguments[:1] == ["pixel"]:
-        what = at_pixel(session, arguments[1:], "b pixel X Y")
-    elif len(arguments) != 1:
-        raise Slip("b K, b KIND or b pixel X Y is wanted")
-    elif arguments[0] in KINDS:
-        what = OfKind(arguments[0])
-    elif arguments[0][:1].isdigit():
-        what = AtEvent(number(arguments[0], "K", len(session.frame)))
-        if what.event == 0:
-            raise Slip("events are numbered from 1")
-    else:
-        raise Slip(f"a kind is one of {', '.join(KINDS)}, and not {arguments[0]}")
-    set_breakpoint(session, what)
+    set_breakpoint(session, place_of(session, arguments, "b"))
+
+
+@WORDS.add("tbreak", "tbreak K | KIND | ..", "a breakpoint as b sets it, which is gone after its first stop", also=("tb",), takes=("breakpoint", "number", "number"))
+def break_once(session, arguments):
+    set_breakpoint(session, place_of(session, arguments, "tbreak"), once=True)
 
 
 @WORDS.add("watch", "watch X Y", "a breakpoint where the pixel changes, as b pixel X Y", takes=("number", "number"))
@@ -41,14 +56,29 @@ def watch(session, arguments):
     set_breakpoint(session, at_pixel(session, arguments, "watch X Y"))
 
 
-@WORDS.add("delete", "delete [N]", "takes breakpoint N away, or all of them", takes=("given",))
-def delete(session, arguments):
+def given(session, arguments, usage):
+    """The breakpoint that a number names, or all of them."""
     known = session.breakpoints.numbered
     if len(arguments) > 1:
-        raise Slip("delete [N] is wanted")
+        raise Slip(f"{usage} is wanted")
     if not arguments:
-        return known.clear()
-    given = number(arguments[0], "N")
-    if given not in known:
-        raise Slip(f"there is no breakpoint {given}")
-    del known[given]
+        return list(known)
+    named = number(arguments[0], "N")
+    if named not in known:
+        raise Slip(f"there is no breakpoint {named}")
+    return [named]
+
+
+@WORDS.add("delete", "delete [N]", "takes breakpoint N away, or all of them", takes=("given",))
+def delete(session, arguments):
+    session.breakpoints.delete(given(session, arguments, "delete [N]"))
+
+
+@WORDS.add("disable", "disable [N]", "lets breakpoint N, or all of them, stop nowhere until enable", takes=("given",))
+def disable(session, arguments):
+    session.breakpoints.disabled.update(given(session, arguments, "disable [N]"))
+
+
+@WORDS.add("enable", "enable [N]", "lets breakpoint N, or all of them, stop again", takes=("given",))
+def enable(session, arguments):
+    session.breakpoints.disabled.difference_update(given(session, arguments, "enable [N]"))

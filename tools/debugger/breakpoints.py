@@ -35,8 +35,13 @@ class OfKind(Place):
 class AtPixel(Place):
     x: int
     y: int
+    condition: object = None         # of conditions.py, or None
 
     def __str__(self):
+        return f"{self.place} if {self.condition}" if self.condition else self.place
+
+    @property
+    def place(self):
         return f"pixel {self.x} {self.y}"
 
     def changes(self, frame):
@@ -44,7 +49,7 @@ class AtPixel(Place):
 
     def next(self, frame, position, forward):
         """By the pixel's history: forward by that of the whole frame, which moves to its end."""
-        events = [change.event for change in frame.changes(self.x, self.y, whole=forward)]
+        events = [change.event for change in frame.changes(self.x, self.y, whole=forward) if self.condition is None or self.condition.holds(change)]
         if forward:
             return next((event for event in events if event > position), None)
         return next((event for event in reversed(events) if event < position), None)
@@ -53,20 +58,33 @@ class AtPixel(Place):
 class Breakpoints:
     def __init__(self):
         self.numbered, self.given = {}, 0
+        self.once, self.disabled = set(), set()      # numbers of those that are gone after a stop, and of those that don't stop
 
-    def add(self, what):
+    def told(self, number):
+        how = [text for numbers, text in ((self.once, "once"), (self.disabled, "disabled")) if number in numbers]
+        said = f" ({', '.join(how)})" if how else ""
+        return f"breakpoint {number}: {self.numbered[number]}{said}"
+
+    def delete(self, numbers):
+        """Takes them away; no other gets their numbers."""
+        for number in numbers:
+            del self.numbered[number]
+
+    def add(self, what, once=False):
         """The number of a breakpoint, which is new unless there is one like it."""
         known = next((number for number, other in self.numbered.items() if other == what), None)
         if known is None:
             self.given += 1
             known = self.given
             self.numbered[known] = what
+            if once:
+                self.once.add(known)
         return known
 
     def next(self, frame, forward):
         """Where the nearest breakpoint is, and which stop there: (position or None, [(number, breakpoint)])."""
         position = frame.position
-        found = [(what.next(frame, position, forward), number, what) for number, what in self.numbered.items()]
+        found = [(what.next(frame, position, forward), number, what) for number, what in self.numbered.items() if number not in self.disabled]
         found = [hit for hit in found if hit[0] is not None]
         if not found:
             return None, []

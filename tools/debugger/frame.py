@@ -19,6 +19,7 @@ class Change(NamedTuple):
     event: int
     before: Colour
     after: Colour
+    depth: int | None = None         # after it, in a capture of version 2
 
 
 class Frame:
@@ -84,7 +85,7 @@ class Frame:
             first, last = entries[0], entries[-1]
             depths = [first.depths.before, last.depths.after] if first.depths else [0, 0]
             if (first.before, depths[0]) != (last.after, depths[1]):
-                found.append(Change(event, first.before, last.after))
+                found.append(Change(event, first.before, last.after, last.depths.after if last.depths else None))
         return found
 
 

@@ -88,10 +88,11 @@ def run_on(session, arguments, forward):
 
 def tell_stops(session, stops, position):
     for given, what in stops:
-        session.tell("note", f"breakpoint {given}: {what}")
+        session.tell("note", session.breakpoints.told(given))
         for change in what.changes(session.frame):
             if change.event == position:
-                session.tell("change", what, change)
+                session.tell("change", what.place, change)
+    session.breakpoints.delete(session.breakpoints.once.intersection(given for given, _ in stops))
 
 
 @WORDS.add("c", "c", "on to the next breakpoint, or to the end", also=("continue",), repeats=True)

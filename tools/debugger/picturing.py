@@ -1,13 +1,14 @@
 """Words that show the image, or keep it in a file."""
 import os
 import pathlib
-import tempfile
 
 from framedbg_client import Image
+from writing.files import keep
 
 from . import drawing
 from .faults import Slip
 from .screen import CELL
+from .telling import printable
 from .words import WORDS, number
 
 ZOOM, LARGEST_ZOOM = 4, 64
@@ -50,7 +51,7 @@ def view_of(image, numbers, wide, high):
     return drawing.part(image, numbers[:2], zoom, wide, high)
 
 
-@WORDS.add("save", "save FILE.png", "keeps the image in a file: its colours as PNG, or all four channels as FILE.pam", "A file that is there is replaced.", takes=("file",))
+@WORDS.add("save", "save FILE.png", "keeps the image in a file: its colours as PNG, or all four channels as FILE.pam", "A file that is there is replaced; a device, a pipe or a link is written through.", takes=("file",))
 def save(session, arguments):
     path = pathlib.Path(os.path.expanduser(" ".join(arguments)))
     kind = path.suffix.lower()
@@ -58,26 +59,7 @@ def save(session, arguments):
         raise Slip("save FILE.png or save FILE.pam is wanted")
     image = session.frame.client.value("show", Image)
     try:
-        replace(path, image.png() if kind == ".png" else image.pam())
+        keep(path, image.png() if kind == ".png" else image.pam())
     except (OSError, ValueError) as fault:
         raise Slip(f"{path}: {getattr(fault, 'strerror', None) or fault}") from None
-    session.tell("note", f"saved {path}")
-
-
-def replace(path, data):
-    """Writes a file whole, or leaves what was there."""
-    handle, name = tempfile.mkstemp(dir=path.parent, prefix=".fdb-")
-    try:
-        with os.fdopen(handle, "wb") as file:
-            file.write(data)
-        os.chmod(name, 0o666 & ~umask())
-        os.replace(name, path)
-    except BaseException:
-        os.unlink(name)
-        raise
-
-
-def umask():
-    mask = os.umask(0)
-    os.umask(mask)
-    return mask
+    session.tell("note", f"saved {printable(str(path))}")

@@ -9,6 +9,9 @@ from .telling import PLAIN, printable
 from .words import OWN, WORDS
 
 
+MOST_PAST = 1000         # words that can be undone
+
+
 class Session:
     def __init__(self, frame, teller, screen, goes_on=False):
         """`goes_on`: also after a Ctrl-C."""
@@ -16,6 +19,7 @@ class Session:
         self.breakpoints = Breakpoints()
         self.told = []                        # by the word before, plainly: what `expect` looks at
         self.found = None                     # where `last` or `first` came to: (x, y, position)
+        self.past = []                        # where the words before stood: (position, what was off), which `undo` goes back to
         self.scripts = []                     # those that are being run, the innermost last
 
     def tell(self, what, *about):
@@ -34,11 +38,20 @@ class Session:
             self.told = []
         own = name in OWN and not (name in ("on", "off") and len(arguments) > 1)
         word = None if own else WORDS.find(name)
+        known, before = len(self.past), (self.frame.client.position, self.frame.client.off)
         with self.left_as_it_was():
             try:
                 self.pass_on(line) if own else word.run(self, arguments)
             except Refusal as refusal:
                 self.tell("refusal", refusal.reply)
+        if name != "undo":
+            self.remember(known, before)
+
+    def remember(self, known, before):
+        """What a word changed, for `undo`; of a script all its lines are one."""
+        if (self.frame.client.position, self.frame.client.off) != before:
+            self.past[known:] = [before]
+            del self.past[:-MOST_PAST]
 
     def pass_on(self, line):
         """A line of framedbg's own, and its reply as it is."""

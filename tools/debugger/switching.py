@@ -1,5 +1,6 @@
 """Several events switched at once. One alone is framedbg's own line."""
 from .faults import Slip
+from .moving import go
 from .words import WORDS, number
 
 
@@ -23,3 +24,16 @@ def switch_off(session, arguments):
 @WORDS.add("on", "on I [J ..]", "switches events on again", "With one event it is framedbg's own line.", takes=("off", "off"))
 def switch_on(session, arguments):
     switch(session, arguments, True)
+
+
+@WORDS.add("undo", "undo", "takes the last word back that moved or switched", "Said again it takes the one before it back, up to 1000 of them. A script is one.")
+def undo(session, arguments):
+    if arguments:
+        raise Slip("nothing is wanted behind the word")
+    if not session.past:
+        raise Slip("there is nothing to take back")
+    position, off = session.past.pop()
+    client = session.frame.client
+    for event in sorted(client.off ^ off):
+        client.switch(event, event not in off)
+    go(session, position)

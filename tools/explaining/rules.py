@@ -1,9 +1,10 @@
 """What framedbg wants of a capture, and the first member that isn't so, in the order in which framedbg looks."""
 import difflib
 import itertools
+import re
 
-from captures import (ALPHA_FACTORS, CULLS, FACTORS, FARTHEST, FUNCTIONS, INTERPOLATIONS, LEAST_EDGE, MOST_CORNERS, MOST_EDGE, MOST_EVENTS, MOST_NAME, MOST_POSITION,
-                      MOST_SIDE, ONLY_IN_TWO, OPERATIONS)
+from captures import (ALPHA_FACTORS, CULLS, FACTORS, FARTHEST, FUNCTIONS, INTERPOLATIONS, LEAST_EDGE, MOST_CORNER, MOST_CORNERS, MOST_EDGE, MOST_EVENTS,
+                      MOST_NAME, MOST_POSITION, MOST_SIDE, OPERATIONS, PICTURE, SINCE_TWO, unspelled)
 
 from .json_text import Other
 
@@ -32,8 +33,8 @@ def check(capture):
         raise missing_or(3, capture, (), "format", 'the text "framedbg" is wanted')
     if not isinstance(capture.get("events"), list):
         raise missing_or(3, capture, (), "events", "an array is wanted")
-    if not is_whole(capture.get("version"), 1, 2):
-        raise missing_or(4, capture, (), "version", "1 or 2 is wanted")
+    if not is_whole(capture.get("version"), 1, 3):
+        raise missing_or(4, capture, (), "version", "1, 2 or 3 is wanted")
     for name in ("width", "height"):
         if not is_whole(capture.get(name), 1, MOST_SIDE):
             raise missing_or(5, capture, (), name, f"a whole number from 1 to {MOST_SIDE} is wanted")
@@ -50,9 +51,9 @@ def check_event(event, version, path):
     kind = event.get("kind")
     if not isinstance(kind, str):
         raise missing_or(8, event, path, "kind", "a text is wanted")
-    kinds = KINDS if version == 2 else {name: rule for name, rule in KINDS.items() if name not in ONLY_IN_TWO}
+    kinds = KINDS if version > 1 else {name: rule for name, rule in KINDS.items() if name not in SINCE_TWO}
     if kind not in kinds:
-        why = f'"{kind}" comes with version 2 only' if kind in ONLY_IN_TWO else f'there is no kind "{kind}"{near(kind, kinds)}'
+        why = f'"{kind}" comes with version 2' if kind in SINCE_TWO else f'there is no kind "{kind}"{near(kind, kinds)}'
         raise Wrong(7, (*path, "kind"), why)
     kinds[kind](event, version, path)
 
@@ -90,10 +91,18 @@ def blend_part(part, path):
 
 
 def draw(event, version, path):
-    one_of(event, path, "interp", INTERPOLATIONS)
+    has_picture = event.get("interp") == PICTURE
+    if has_picture and version < 3:
+        raise Wrong(8, (*path, "interp"), f'"{PICTURE}" comes with version 3: one of {", ".join(INTERPOLATIONS)} is wanted')
+    if has_picture:
+        picture(event, path)
+    else:
+        one_of(event, path, "interp", (*INTERPOLATIONS, PICTURE) if version == 3 else INTERPOLATIONS)
     vertices = array(event, path, "vertices")
     for number, corner in enumerate(vertices):
         vertex(corner, version, (*path, "vertices", number))
+        if not has_picture:
+            colour(corner, (*path, "vertices", number))
     indices = array(event, path, "indices") if "indices" in event else []
     for number, index in enumerate(indices):
         if not is_whole(index, 0, (1 << 32) - 1):
@@ -111,9 +120,23 @@ def vertex(corner, version, path):
         raise Wrong(8, path, f"a vertex is an object; this is {told(corner)}")
     for name in ("x", "y"):
         whole(corner, path, name, -MOST_POSITION, MOST_POSITION, " of 1/65536 pixel")
-    if version == 2:
+    if version > 1:
         whole(corner, path, "z", 0, FARTHEST)
-    colour(corner, path)
+
+
+def picture(event, path):
+    box = event.get("picture")
+    if not isinstance(box, dict):
+        raise missing_or(8, event, path, "picture", "an object is wanted")
+    path = (*path, "picture")
+    for name in ("left", "top"):
+        whole(box, path, name, 0, MOST_CORNER, " of pixels")
+    for name in ("width", "height"):
+        whole(box, path, name, 1, MOST_SIDE)
+    size = f"{box['width']} by {box['height']} texels"
+    in_base64(box, path, "texels", 4 * box["width"] * box["height"], f"four for each of {size}")
+    if "holes" in box:
+        in_base64(box, path, "holes", -(-box["width"] * box["height"] // 8), f"a bit for each of {size}")
 
 
 def marker(event, _, path):
@@ -177,6 +200,28 @@ def whole_numbers(owner, path, name, length, low, high):
 
 def colour(owner, path):
     whole_numbers(owner, path, "color", 4, 0, 255)
+
+
+def in_base64(owner, path, name, length, why):
+    """Bytes as a text, in its one spelling; the reason why it isn't names the first character that is at fault."""
+    text = owner.get(name)
+    if not isinstance(text, str):
+        raise missing_or(8, owner, path, name, f"a text in base64 is wanted, of {counted(length)}")
+    strange = re.search("[^A-Za-z0-9+/](?![=]*$)|[^A-Za-z0-9+/=]", text)
+    if strange:
+        raise Wrong(8, (*path, name), f"character {strange.start()} of the text is {strange[0]!r}, which is none of base64's (A to Z, a to z, 0 to 9, + and /)")
+    if len(text) % 4 or text.count("=") > 2:
+        raise Wrong(8, (*path, name), f"the text's {len(text)} characters aren't padded by = to whole fours, as base64 is")
+    data = unspelled(text)
+    if data is None:
+        why = f"behind the last byte of the text stand bits that aren't zero: base64 spells these bytes with another last letter before {text[-1]}"
+        raise Wrong(8, (*path, name), why)
+    if len(data) != length:
+        raise Wrong(8, (*path, name), f"{counted(length)} in base64 {'is' if length == 1 else 'are'} wanted, {why}; the text has {len(data)}")
+
+
+def counted(bytes_):
+    return "1 byte" if bytes_ == 1 else f"{bytes_} bytes"
 
 
 # ---- Words --------------------------------------------------------------------------------------------------

@@ -1,5 +1,8 @@
 """A session over one capture: lines of framedbg's own with their replies, and a call for each of them that gives values."""
+import errno
 import itertools
+import os
+import stat
 import subprocess
 
 from .connection import Connection
@@ -25,8 +28,10 @@ class Client:
         program = program or find_program()
         if not program:
             raise FileNotFoundError("framedbg isn't built or installed here")
-        self.words = (program, str(capture), workers, errors)
-        self.position, self.off = 0, set()       # as the replies told so far
+        check_readable(capture)
+        self.words = (program, os.fspath(capture), workers, errors)
+        self.position, self._off = 0, set()      # as the replies told so far
+        self._told_off = None                    # what was given of `_off`, as long as it is so
         self.switches = 0                        # how often events were switched
         self.is_asking = False                   # also after a call that was interrupted: what comes next isn't the reply to the next line
         self.connection = Connection(*self.words)
@@ -40,19 +45,31 @@ class Client:
     def close(self):
         self.connection.end()
 
+    @property
+    def off(self):
+        """The events that are off now: a set that doesn't change with them, and by which they can't be changed."""
+        if self._told_off is None:
+            self._told_off = frozenset(self._off)
+        return self._told_off
+
     # ---- Lines and replies
     def ask(self, line):
         """The Reply to a line; its `value` is what it says."""
         return self.ask_all([line])[0]
 
-    def ask_all(self, lines):
-        """The replies to some lines. `pixel` lines that follow one another are sent together."""
-        lines = [as_bytes(line) for line in lines]
+    def _begin_asking(self):
+        """Refuses to ask where the run has ended, or where a reply is still to be read."""
         if self.connection.ending:
             raise self.connection.ending
         if self.is_asking:
             raise Garbled("a reply wasn't read to its end: restart() begins anew")
-        self.is_asking, replies = True, []
+        self.is_asking = True
+
+    def ask_all(self, lines):
+        """The replies to some lines. `pixel` lines that follow one another are sent together."""
+        lines = [as_bytes(line) for line in lines]
+        self._begin_asking()
+        replies = []
         for bundle in bundles(lines):
             self.connection.write(bundle)
             replies += [self._reply(line) for line in bundle]
@@ -64,11 +81,12 @@ class Client:
         self.connection.end(at_once=True)
         off = sorted(self.off if off is None else off)
         self.connection, self.is_asking = Connection(*self.words), False
-        self.position, self.off, self.switches = 0, set(), self.switches + 1
+        self.position, self.switches = 0, self.switches + 1
+        self._set_off(())
         try:
             self.ask_all([f"off {number}" for number in off])
         finally:
-            self.off = set(off)                   # also where this was interrupted: the next restart makes it good
+            self._set_off(off)                    # also where this was interrupted: the next restart makes it good
         return self.goto(position) if position else 0
 
     def _reply(self, line):
@@ -82,7 +100,11 @@ class Client:
         self.position = value.position
         if words[0] in (b"on", b"off"):
             self.switches += 1
-            (self.off.discard if words[0] == b"on" else self.off.add)(int(words[1]))
+            (self._off.discard if words[0] == b"on" else self._off.add)(int(words[1]))
+            self._told_off = None
+
+    def _set_off(self, events):
+        self._off, self._told_off = set(events), None
 
     # ---- Values
     def reply(self, line, *kinds):
@@ -118,6 +140,20 @@ class Client:
         """The pixels at some places, each (x, y)."""
         return [reply.value for reply in self.ask_all([f"pixel {x} {y}" for x, y in places])]
 
+    def depths(self, left, top, right, bottom):
+        """The depths in a box of pixels, row by row, of a capture since version 2; `right` and `bottom` lie behind it. They are asked for in one go:
+        lines are written while replies are read, and of these the last word alone is looked at."""
+        lines = [f"pixel {x} {y}".encode() for y in range(top, bottom) for x in range(left, right)]
+        self._begin_asking()
+        depths = []
+        for line in self.connection.exchange(lines):
+            words = line.split(b" ")
+            if len(words) != 6:
+                raise Garbled(f"no depth of framedbg: {line[:80]!r}")
+            depths.append(int(words[5]))
+        self.is_asking = False
+        return depths
+
     def history(self, x, y):
         return self.value(f"history {x} {y}", History).entries
 
@@ -129,6 +165,14 @@ class Client:
 
     def image(self):
         return self.value("show", Image)
+
+
+def check_readable(capture):
+    """An OSError that names the file and says why, where a capture can't be read: framedbg says that it can't."""
+    if stat.S_ISDIR(os.stat(capture).st_mode):
+        raise IsADirectoryError(errno.EISDIR, os.strerror(errno.EISDIR), os.fspath(capture))
+    if not os.access(capture, os.R_OK):
+        raise PermissionError(errno.EACCES, os.strerror(errno.EACCES), os.fspath(capture))
 
 
 def as_bytes(line):

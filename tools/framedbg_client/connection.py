@@ -1,5 +1,9 @@
 """One process of `framedbg run` behind pipes: lines in, lines and bytes out."""
+import contextlib
 import subprocess
+import threading
+
+from .program import as_word
 
 MOST_LINE, MOST_LINES, MOST_INPUT = 256, 1_000_000, 268_435_456      # bytes of a line, lines that a run answers, and bytes that it takes
 BUFFER = 1 << 20
@@ -18,8 +22,10 @@ class Connection:
     def __init__(self, program, capture, workers=None, errors=subprocess.PIPE):
         """`errors` is where framedbg's standard error goes; from a pipe it is told with Ended. The process has a session of its own,
         so that a Ctrl-C at the terminal is its client's alone."""
-        words = [program, "run", *(["--workers", str(workers)] if workers else []), "--", capture]
-        self.process = subprocess.Popen(words, stdin=subprocess.PIPE, stdout=subprocess.PIPE, stderr=errors, bufsize=BUFFER, start_new_session=True)
+        words = [program, "run", *(["--workers", str(workers)] if workers else []), "--"]
+        with as_word(capture) as (word, descriptors):
+            self.process = subprocess.Popen([*words, word], stdin=subprocess.PIPE, stdout=subprocess.PIPE, stderr=errors, bufsize=BUFFER, start_new_session=True,
+                                            pass_fds=descriptors)
         self.ending = None
 
     def write(self, lines):
@@ -29,6 +35,23 @@ class Connection:
             self.process.stdin.flush()
         except (BrokenPipeError, ValueError):
             raise self.end() from None
+
+    def exchange(self, lines):
+        """Sends lines that have a reply of one line each, and gives these as bytes. Both go on at once, so that no pipe is full on both sides."""
+        writer = threading.Thread(target=self._write_all, args=[lines], daemon=True)
+        writer.start()
+        for _ in lines:
+            line = self.process.stdout.readline()
+            if not line.endswith(b"\n"):
+                raise self.end()
+            yield line[:-1]
+        writer.join()
+
+    def _write_all(self, lines):
+        """The reader tells of a run that has ended."""
+        with contextlib.suppress(BrokenPipeError, ValueError):
+            self.process.stdin.write(b"".join(line + b"\n" for line in lines))
+            self.process.stdin.flush()
 
     def line(self):
         line = self.process.stdout.readline()

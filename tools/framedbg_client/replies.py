@@ -59,7 +59,7 @@ class Bye:
 @dataclass(frozen=True)
 class Pixel:
     colour: Colour
-    depth: int | None = None        # in a capture of version 2
+    depth: int | None = None        # since version 2 of captures
 
 
 @dataclass(frozen=True)
@@ -71,7 +71,7 @@ class Entry:
     source: Colour
     before: Colour
     after: Colour
-    depths: Depths | None = None    # in a capture of version 2
+    depths: Depths | None = None    # since version 2 of captures
 
     @property
     def is_drawn(self):
@@ -123,7 +123,7 @@ class State:
     alpha: tuple
     mask: int
     factor: Colour
-    depth: DepthState | None = None     # in a capture of version 2
+    depth: DepthState | None = None     # since version 2 of captures
 
 
 @dataclass(frozen=True)

@@ -5,7 +5,8 @@
 
 The picture of frame.json is frame.png, frame.pam or frame.ppm beside it. In FOLDER/night stand the result of each capture, night.xml (JUnit)
 and night.html. What is done isn't done again: the same command goes on where it was broken off, and does what failed or was killed once more.
-Statuses: 0 all are alike, 1 some differ, 2 a fault of the words, 3 a read or write fault, 4 some couldn't be compared, 130 interrupted.
+Statuses: 0 all are alike, 1 some differ, 2 a fault of the words, 3 a read or write fault, 4 some failed or have no picture, or there are none,
+130 interrupted.
 """
 import argparse
 import os
@@ -32,6 +33,7 @@ def words(given=None):
     parser.add_argument("--processes", type=processes, default=os.cpu_count() or 1, metavar="N", help="jobs at a time on this machine [one a core]")
     parser.add_argument("--slurm", action="store_true", help="runs the jobs as an array of Slurm")
     parser.add_argument("--sbatch", type=shlex.split, default=[], metavar="WORDS", help="further words for sbatch, as in --sbatch='--partition=night --time=60'")
+    parser.add_argument("--allow-missing", action="store_true", help="captures without a picture, or none at all, are no fault")
     parser.add_argument("--again", action="store_true", help="does also what is done")
     parser.add_argument("--program", help="framedbg [the one that was built or installed here, else the one on the path]")
     parser.add_argument("--names", type=pathlib.Path, help=argparse.SUPPRESS)

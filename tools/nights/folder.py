@@ -1,13 +1,16 @@
 """The captures of a folder, each with its picture of the same name, and what is kept of each."""
 import hashlib
 import json
-import os
 import pathlib
-import tempfile
 from dataclasses import dataclass
+
+from blaming.faults import Fault
+from writing import files
 
 PICTURES = (".png", ".pam", ".ppm")
 RESULTS = "night"        # the folder of results, in that of the captures
+MARK = ".framedbg-night"        # a file that each folder of results has
+BEGINNING = b'{\n "format": "framedbg-night"'       # of the result of a capture
 
 
 @dataclass(frozen=True)
@@ -34,6 +37,17 @@ class Results:
     def __init__(self, folder):
         self.folder = folder
 
+    def claim(self, captures):
+        """Makes the folder. What lacks the mark of results is somebody's own, and is never written over."""
+        if captures.resolve().is_relative_to(self.folder.resolve()):
+            raise Fault(f"{self.folder}: the captures lie in it: results want a folder of their own")
+        mark = self.folder / MARK
+        if not mark.exists():
+            if self.folder.is_dir() and any(self.folder.iterdir()):
+                raise Fault(f"{self.folder}: it has files, and no results of framedbg-night: name another folder with --results")
+            self.folder.mkdir(parents=True, exist_ok=True)
+            mark.touch()
+
     def path(self, name, end=".json"):
         return self.folder / f"{name}{end}"
 
@@ -46,21 +60,25 @@ class Results:
         return kept if isinstance(kept, dict) and kept.get("key") == key_of(case, how) else None
 
     def write(self, case, how, result):
-        self.keep(case.name, ".json", json.dumps(result | {"name": case.name, "key": key_of(case, how)}, indent=1).encode())
+        """Keeps a result. A capture that somebody has put in its place stays."""
+        path = self.path(case.name)
+        if path.exists() and not is_result(path):
+            raise Fault(f"{path}: no result of framedbg-night: it isn't written over")
+        told = {"format": "framedbg-night", "name": case.name, "key": key_of(case, how), **result}
+        self.keep(case.name, ".json", json.dumps(told, indent=1).encode())
 
     def keep(self, name, end, data):
         """Writes a file whole, or leaves what was there: two jobs at once, or one that is killed, leave no half of one."""
         path = self.path(name, end)
         path.parent.mkdir(parents=True, exist_ok=True)
-        handle, made = tempfile.mkstemp(dir=path.parent, prefix=".night-")
-        try:
-            with os.fdopen(handle, "wb") as file:
-                file.write(data)
-            os.chmod(made, 0o644)
-            os.replace(made, path)
-        except BaseException:
-            os.unlink(made)
-            raise
+        files.keep(path, data)
+
+
+def is_result(path):
+    """Whether a file is a result, or half of one."""
+    with open(path, "rb") as file:
+        begun = file.read(len(BEGINNING))
+    return BEGINNING.startswith(begun)
 
 
 def key_of(case, how):

@@ -17,7 +17,7 @@ def text_of(night):
 
 
 def case_of(one):
-    head = f'<testcase classname="framedbg-night" name={quoteattr(clean(one.name))} time="{one.seconds:.2f}"'
+    head = f'<testcase classname="framedbg-night" name={quoteattr(clean(one.shown))} time="{one.seconds:.2f}"'
     if one.verdict == "alike":
         return head + "/>"
     kind = {"differs": "failure", "failed": "error", "no picture": "skipped"}[one.verdict]

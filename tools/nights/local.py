@@ -2,15 +2,57 @@
 import concurrent.futures
 import signal
 import subprocess
+import threading
 
 SLACK = 120              # seconds beside those of the search that a job may take
+GRACE = 10               # seconds that a job has to end when it is told to
+
+
+class Over(Exception):
+    """The night is over before this job has begun."""
+
+
+class Jobs:
+    """Those that run. Each has a session of its own, so that a Ctrl-C is the night's, which ends them."""
+
+    def __init__(self):
+        self.running, self.lock, self.is_over = set(), threading.Lock(), False
+
+    def start(self, words):
+        with self.lock:
+            if self.is_over:
+                raise Over
+            job = subprocess.Popen(words, stdin=subprocess.DEVNULL, stdout=subprocess.DEVNULL, stderr=subprocess.PIPE, start_new_session=True)
+            self.running.add(job)
+            return job
+
+    def end(self):
+        with self.lock:
+            self.is_over = True
+            for job in self.running:
+                job.terminate()
+            for job in self.running:
+                end(job)
+
+    def done(self, job):
+        with self.lock:
+            self.running.discard(job)
+
+
+def end(job):
+    """Ends a job that was told to end, and ends what doesn't hear it."""
+    try:
+        job.wait(GRACE)
+    except subprocess.TimeoutExpired:
+        job.kill()
+        job.wait()
 
 
 def run_all(cases, words, given, tell):
     """Runs a job for each case; `words` gives the command line of one. Gives why it failed, by name, for those that did."""
-    failed = {}
+    failed, running = {}, Jobs()
     with concurrent.futures.ThreadPoolExecutor(given.processes) as pool:
-        jobs = {pool.submit(run, words(case), given.seconds + SLACK): case for case in cases}
+        jobs = {pool.submit(run, running, words(case), given.seconds + SLACK): case for case in cases}
         try:
             for job in concurrent.futures.as_completed(jobs):
                 why = job.result()
@@ -19,22 +61,28 @@ def run_all(cases, words, given, tell):
                 tell(jobs[job], why)
         except BaseException:
             pool.shutdown(wait=False, cancel_futures=True)
+            running.end()
             raise
     return failed
 
 
-def run(words, seconds):
+def run(running, words, seconds):
     """Why a job failed, in one line, or None."""
     try:
-        ran = subprocess.run(words, stdin=subprocess.DEVNULL, stdout=subprocess.DEVNULL, stderr=subprocess.PIPE, timeout=seconds, check=False)
+        job = running.start(words)
+    except (OSError, Over) as fault:
+        return str(fault) or "the night is over"
+    try:
+        said = job.communicate(timeout=seconds)[1].decode("utf-8", "replace").strip().splitlines()
     except subprocess.TimeoutExpired:
+        job.terminate()
+        end(job)
         return f"not done within {seconds:g} s"
-    except OSError as fault:
-        return str(fault)
-    if ran.returncode == 0:
+    finally:
+        running.done(job)
+    if job.returncode == 0:
         return None
-    said = ran.stderr.decode("utf-8", "replace").strip().splitlines()
-    return said[-1].removeprefix("framedbg-night: ") if said and ran.returncode > 0 else ending(ran.returncode)
+    return said[-1].removeprefix("framedbg-night: ") if said and job.returncode > 0 else ending(job.returncode)
 
 
 def ending(status):

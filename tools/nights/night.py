@@ -1,10 +1,13 @@
 """A night, from its words to its status: which captures are to do, their jobs, and the reports."""
+import json
 import os
 import pathlib
+import signal
 import sys
 from dataclasses import dataclass
 
 from blaming.faults import INTERRUPTED, MEMORY, READING, WORDS, Fault
+from blaming.report import counted
 from explaining.printable import printable
 from framedbg_client import Ended, Garbled, Refusal, find_program
 
@@ -26,8 +29,16 @@ class Told:
     lines: tuple
     seconds: float
 
+    @property
+    def shown(self):
+        """The name, with what of it is no UTF-8 as \\xff and the like."""
+        return os.fsencode(self.name).decode("utf-8", "backslashreplace")
+
 
 def run(given):
+    """The status of a night, or of one of its jobs. Who ends it by a signal is told so too, and its jobs end with it."""
+    sys.stdout.reconfigure(errors="backslashreplace")
+    signal.signal(signal.SIGTERM, signal.default_int_handler)
     try:
         return night(given) if given.job is None and given.task is None else one_job(given)
     except KeyboardInterrupt:
@@ -38,8 +49,6 @@ def run(given):
         return told(ended.said or ended, READING)
     except (Garbled, Refusal) as fault:
         return told(fault, READING)
-    except BrokenPipeError:
-        raise
     except OSError as fault:
         return told(f"{fault.filename}: {fault.strerror}" if fault.filename else fault, READING)
     except MemoryError:
@@ -61,7 +70,7 @@ def places(given):
 def one_job(given):
     """What a job does: the case of a name, or of the line of a task."""
     _, results, cases = places(given)
-    name = given.job if given.task is None else given.names.read_text(encoding="utf-8").splitlines()[given.task]
+    name = given.job if given.task is None else json.loads(given.names.read_text(encoding="utf-8"))[given.task]
     case = next((case for case in cases if case.name == name and case.picture), None)
     if case is None:
         raise Fault(f"{name}: no capture with a picture")
@@ -75,7 +84,7 @@ def night(given):
     given.program = given.program or find_program()
     if not given.program:
         raise Fault("framedbg isn't built or installed here", READING)
-    folder.mkdir(parents=True, exist_ok=True)
+    results.claim(given.folder)
     how = job.how_of(given)
     with_picture = [case for case in cases if case.picture]
     todo = [case for case in with_picture if given.again or results.read(case, how) is None]
@@ -83,12 +92,12 @@ def night(given):
         for case in todo:
             results.path(case.name).unlink(missing_ok=True)
     bar = Bar(len(with_picture), len(with_picture) - len(todo))
-    failed = done_by_slurm(todo, folder, results, given, bar) if given.slurm else local.run_all(todo, lambda case: [*words_of(given), "--job", case.name], given, bar.tell)
+    failed = done_by_slurm(todo, folder, results, given, bar) if given.slurm else local.run_all(todo, lambda case: [*words_of(given), f"--job={case.name}"], given, bar.tell)
     bar.end()
     report = [of_case(number, case, results.read(case, how) if case.picture else None, failed) for number, case in enumerate(cases)]
     results.keep("night", ".xml", junit.text_of(report).encode())
-    results.keep("night", ".html", page.text_of(report, results).encode())
-    return summed(report, len(todo), folder)
+    results.keep("night", ".html", page.text_of(report, results).encode(errors="backslashreplace"))
+    return summed(report, len(todo), given, folder)
 
 
 def words_of(given):
@@ -126,15 +135,17 @@ def headline(result):
     return f"{result['differ']:,} of {result['pixels']:,} pixels differ: {named}{mended}"
 
 
-def summed(report, done, folder):
+def summed(report, done, given, folder):
     """Tells what came of the night, and gives its status."""
     count = {word: sum(one.verdict == word for one in report) for word in ("alike", "differs", "failed", "no picture")}
-    print(f"{len(report)} captures: {count['alike']} alike, {count['differs']} differ, {count['failed']} failed, {count['no picture']} without a picture; {done} done now")
+    print(f"{counted(len(report), 'capture')}: {count['alike']} alike, {count['differs']} differ, {count['failed']} failed, {count['no picture']} without a picture; {done} done now")
+    untold = ("alike", "no picture") if given.allow_missing else ("alike",)
     for one in report:
-        if one.verdict in ("differs", "failed"):
-            print(printable(f"{one.name}: {one.headline}"))
+        if one.verdict not in untold:
+            print(printable(f"{one.shown}: {one.headline}"))
     print(f"{folder / 'night.xml'} and {folder / 'night.html'} tell more")
-    return FAILED if count["failed"] else DIFFERS if count["differs"] else ALIKE
+    is_missing = (count["no picture"] or not report) and not given.allow_missing
+    return FAILED if count["failed"] or is_missing else DIFFERS if count["differs"] else ALIKE
 
 
 class Bar:

@@ -1,4 +1,6 @@
 """The jobs of a night as job arrays of Slurm. Which task is which case stands in a file; what came of each is read from the results alone."""
+import json
+import os
 import shlex
 import subprocess
 import time
@@ -22,7 +24,7 @@ def submit(words, logs, count, options):
     """Submits an array of so many tasks, and gives its number."""
     script = "#!/bin/sh\nexec " + " ".join(map(shlex.quote, words)) + ' --task "$SLURM_ARRAY_TASK_ID"\n'
     path = logs / "task.sh"
-    path.write_text(script)
+    path.write_bytes(os.fsencode(script))
     ran = called("sbatch", "--parsable", f"--array=0-{count - 1}", "--job-name=framedbg-night", "--cpus-per-task=1", f"--output={logs}/%a.log", *options, str(path))
     if ran.returncode:
         raise Fault(f"sbatch: {(ran.stderr.strip().splitlines() or ['no reason told'])[-1]}", READING)
@@ -41,7 +43,7 @@ def run_all(cases, words, tasks, options, tell):
         some = cases[start:start + MOST_TASKS]
         logs = tasks / str(number)
         logs.mkdir(parents=True, exist_ok=True)
-        (logs / "names").write_text("".join(f"{case.name}\n" for case in some), encoding="utf-8")
+        (logs / "names").write_text(json.dumps([case.name for case in some]), encoding="utf-8")
         for old in logs.glob("*.log"):
             old.unlink()
         job = submit([*words, "--names", str(logs / "names")], logs, len(some), options)

@@ -9,6 +9,7 @@ from real_frames.reel import Reel
 from . import numbers as gl
 from .calls import said, started
 
+TRY = "; try LIBGL_ALWAYS_SOFTWARE=1, another --frame, or take_frame --zink"       # a driver may end what it replays
 HEAD = re.compile(rb"P6\n(?:#([^\n]*)\n)?(\d+) (\d+)\n255\n")
 
 
@@ -28,7 +29,7 @@ class Snapshots:
                 finally:
                     process.kill()
                 if len(self.kept) < len(wanted):
-                    raise Fault(f"{retracer} gave {len(self.kept)} of {len(wanted)} pictures: {said(process)}")
+                    raise Fault(f"{retracer} gave {len(self.kept)} of {len(wanted)} pictures: {said(process)}{TRY}")
 
     def read(self, stream, wanted, say):
         reel = Reel()

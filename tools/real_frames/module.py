@@ -4,6 +4,8 @@ import signal
 import sys
 import traceback
 
+from writing import ending
+
 from .orphans import end_with_parent
 
 SYSTEM_S_PYTHON = "/usr/bin/python3"
@@ -32,6 +34,7 @@ def run_by_its_python():
 
 def guarded(tool, main):
     """Runs a tool in a process of its own, so that a line tells where RenderDoc or a driver ended it; ends with its status."""
+    ending.hear_interrupts()
     child = os.fork()
     if child == 0:
         end_with_parent()
@@ -48,23 +51,9 @@ def guarded(tool, main):
 def status_of(tool, main):
     """The status that a tool ends with, after it has written all."""
     try:
-        main()
-        status = 0
-    except SystemExit as end:
-        status = end.code if isinstance(end.code, int) else int(end.code is not None)
-        if isinstance(end.code, str):
-            print(end.code, file=sys.stderr)
-    except KeyboardInterrupt:
-        print(f"{tool}: stopped", file=sys.stderr)
-        status = 1
+        return ending.status_of(tool, main)
     except OSError as fault:
         print(f"{tool}: {fault}", file=sys.stderr)
-        status = 1
     except Exception:                   # a fault of the tool itself, for its report
         traceback.print_exc()
-        status = 1
-    try:
-        sys.stdout.flush()
-    except OSError:
-        status = status or 1
-    return status
+    return ending.FAULT

@@ -1,8 +1,8 @@
 """Names that a frame brings along, as they may be shown and kept."""
 
-MOST = 200                      # characters
+MOST, MOST_LINE = 200, 2000     # characters of a name, and of a line that says what is wrong
 
 
-def printable(text):
+def printable(text, most=MOST):
     """A name without what would steer a terminal, and not endless."""
-    return "".join(c if c.isprintable() else "?" for c in str(text)[:MOST])
+    return "".join(c if c.isprintable() else "?" for c in str(text)[:most])

@@ -43,7 +43,7 @@ def session(program, path):
     try:
         client = Client(path, program, workers=1, errors=None)
     except OSError as fault:
-        raise Fault(f"{program}: {fault.strerror}") from None
+        raise Fault(f"{fault.filename or program}: {fault.strerror}") from None
     try:
         with client:
             yield client

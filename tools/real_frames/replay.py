@@ -120,15 +120,19 @@ class Frame:
         notes = {MULTISAMPLED: texture.msSamp - 1} if texture.msSamp > 1 else {}
         return {**notes, **({IN_SRGB: 1} if texture.format.SRGBCorrected() else {})}
 
-    def list_targets(self):
-        """A line for each colour target, with its draws."""
+    def draws_of_targets(self):
+        """The first event and the last, and how many draws, of each colour target."""
         counts = {}
         for action in self.actions:
             if self.kind(action) == "draw":
                 for target in self.targets(action):
                     first, _, count = counts.get(target, (action.eventId, 0, 0))
                     counts[target] = first, action.eventId, count + 1
-        for target, (first, last, count) in counts.items():
+        return counts
+
+    def list_targets(self):
+        """A line for each colour target, with its draws."""
+        for target, (first, last, count) in self.draws_of_targets().items():
             texture = self.textures[target]
             shown = ", shown" if target == self.shown_target() else ""
             yield f"target {target}: {texture.width} by {texture.height}, {texture.format.Name()}, samples {texture.msSamp}, {count} draws, events {first} to {last}{shown}"

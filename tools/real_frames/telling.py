@@ -31,6 +31,16 @@ def saying(quiet):
     return (lambda line: None) if quiet else lambda line: print(line[:100], end=end, file=sys.stderr, flush=True)
 
 
+def target_of(frame):
+    """The target that is shown. One of a pixel isn't what is looked for: a Fault names the one with most draws."""
+    shown = frame.shown_target()
+    if frame.size(shown) == (1, 1):
+        counts = frame.draws_of_targets()
+        most = max(counts, key=lambda target: counts[target][2], default=shown)
+        raise Fault(f"the target that is shown, {shown}, has one pixel: --list tells the others, and --target {most} has the most draws")
+    return shown
+
+
 def written(capture):
     """A capture as text; a Fault where it is larger than one may be."""
     made = text(capture)

@@ -38,9 +38,9 @@ class Server(http.server.ThreadingHTTPServer):
     daemon_threads = True
 
     def __init__(self, session, capture, port=0, on_first_call=lambda: None):
+        self.blame = Blame(*session.words[:2])          # which server_close() asks, also where the port isn't to be had
         super().__init__(("127.0.0.1", port), Handler)
         self.runs, self.capture, self.sent, self.on_first_call = Runs(session), capture, Sent(), on_first_call
-        self.blame = Blame(*session.words[:2])
         self.token = secrets.token_urlsafe(32)
         self.host = f"127.0.0.1:{self.server_address[1]}"
         self.origin = f"http://{self.host}"

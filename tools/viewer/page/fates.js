@@ -3,8 +3,9 @@
 import { askSamples, sizeOf } from "./samples.js";
 
 // In the order of what counts at a pixel that several triangles meet; colours that differ in lightness too, so that nobody needs the hue
-const NAMES = ["not reached", "culled", "scissored", "depth failed", "drawn"], VERDICTS = [null, "culled", "scissored", "depthfailed", "drawn"];
-const COLOURS = [[20, 20, 20], [0, 96, 160], [240, 228, 66], [213, 94, 0], [150, 215, 255]];
+const NAMES = ["not reached", "culled", "scissored", "discarded", "depth failed", "drawn"];
+const VERDICTS = [null, "culled", "scissored", "discarded", "depthfailed", "drawn"];
+const COLOURS = [[20, 20, 20], [0, 96, 160], [240, 228, 66], [150, 0, 255], [213, 94, 0], [150, 215, 255]];
 // From dark to light, as often as it was drawn: the last stands for more too
 const HEAT = [[0, 0, 4], [42, 0, 184], [107, 38, 142], [151, 59, 97], [199, 62, 62], [255, 153, 85], [244, 208, 0], [255, 255, 215]];
 const DRAWN = VERDICTS.indexOf("drawn");

@@ -1,4 +1,5 @@
-// The triangles of a draw, as the capture's file has them: { interp, vertices: [[x, y, depth, [r, g, b, a]], ..], indices }, places in 1/65536 pixel.
+// The triangles of a draw, as the capture's file has them: { interp, vertices: [[x, y, depth, [r, g, b, a]], ..], indices }, places in 1/65536 pixel. Where interp is
+// "picture" there is its box too, picture: [left, top, width, height] in pixels, and what stands for colours is null.
 
 const PIXEL = 65_536, SNAP = 256;        // in 1/65536 pixel; corners are snapped to 1/256 pixel before anything is asked of a triangle
 

@@ -52,7 +52,8 @@ function entryRow(entry) {
   row.append(element("span", "number", String(event)), element("span", "number", triangle === null ? "–" : String(triangle)),
     element("span", "verdict", verdict), cell(source, depth?.source), cell(before, depth?.before), cell(after, depth?.after));
   row.title = `event ${event}${triangle === null ? "" : `, triangle ${triangle}`}: ${verdict}${same ? ", nothing changed" : ""}`
-    + (verdict === "depthfailed" ? `: the test didn't hold of depth ${depth.source} against ${depth.before}` : "");
+    + (verdict === "depthfailed" ? `: the test didn't hold of depth ${depth.source} against ${depth.before}` : "")
+    + (verdict === "discarded" ? ": the draw's picture has no colour there" : "");
   row.addEventListener("click", () => goToEntry(entry));
   return row;
 }

@@ -21,6 +21,7 @@ export function sumOf(entry, state, pixel) {
 function thrownAway({ verdict, depth }, state, { x, y }) {
   if (verdict === "culled") return `thrown away: cull is ${state.cull}, the front is ${state.ccw ? "counter-clockwise" : "clockwise"}, and this triangle shows its ${state.cull}`;
   if (verdict === "scissored") return `thrown away: ${x} ${y} is outside of the scissor rectangle ${rectangle(state.rect)}`;
+  if (verdict === "discarded") return `thrown away: the draw's picture has no colour at ${x} ${y}`;
   return `thrown away: the depth test (${compare(state.depth.func, depth.source, depth.before)}) doesn't hold`;
 }
 

@@ -50,12 +50,20 @@ function told(event) {
   if (event?.kind !== "draw") return "the last event is no draw";
   if (!mesh) return "the capture's file is too large to be read for them";
   const left = leftOver(mesh), much = countOf(mesh).toLocaleString("en");
-  return `${much}${mesh.interp === "flat" ? ", each of its first corner's colour" : ", linear"}${left ? `; ${left === 1 ? "a corner is" : "2 corners are"} left over` : ""}`;
+  return `${much}${coloured(mesh)}${left ? `; ${left === 1 ? "a corner is" : "2 corners are"} left over` : ""}`;
+}
+
+function coloured({ interp, picture }) {
+  if (interp !== "picture") return interp === "flat" ? ", each of its first corner's colour" : ", linear";
+  const [left, top, width, height] = picture;
+  return `, with a picture of ${width} by ${height} at ${left} ${top}`;
 }
 
 const vertexOf = i => vertexAt(mesh, 3 * Math.floor(i / ROWS) + i % ROWS - 1);
 
+// While another draw is read the rows of the one before may still be asked for
 function rowOf(i) {
+  if (!mesh) return element("div", "row vertex");
   const triangle = Math.floor(i / ROWS), row = element("div", `row vertex${i % ROWS ? "" : " triangle"}`);
   row.setAttribute("role", "option");
   row.setAttribute("aria-selected", i === marked);
@@ -64,10 +72,14 @@ function rowOf(i) {
     row.append(element("span", "number", String(triangle)), element("span", "what", frame.states.with ? tellTriangle(mesh, triangle, frame.states.with) : ""));
     return row;
   }
-  const number = vertexOf(i), [, , depth, [r, g, b, a]] = mesh.vertices[number], colour = { r, g, b, a };
+  const number = vertexOf(i), [, , depth, four] = mesh.vertices[number];
   row.append(element("span", "number", String(number)), ...placeOf(mesh, number).map(at => element("span", "at", String(+at.toFixed(5)))),
-    element("span", "cell", swatch(colour), figures(colour)), element("span", "deep", depth === null || !frame.hasDepth ? "" : String(depth)));
+    four ? cornerColour(four) : element("span", "cell"), element("span", "deep", depth === null || !frame.hasDepth ? "" : String(depth)));
   return row;
+}
+
+function cornerColour([r, g, b, a]) {
+  return element("span", "cell", swatch({ r, g, b, a }), figures({ r, g, b, a }));
 }
 
 // A corner is marked in the image, and a triangle outlined

@@ -23,7 +23,7 @@ const onOff = flag => flag === "1" ? "on" : "off";
 const letters = mask => ["R", "G", "B", "A"].filter((_, i) => mask >> i & 1).join("") || "nothing";
 
 const DETAILS = {
-  draw: ([count, interp]) => `${(+count).toLocaleString("en")} triangle${count === "1" ? "" : "s"}${interp === "linear" ? ", linear" : ""}`,
+  draw: ([count, interp]) => `${(+count).toLocaleString("en")} triangle${count === "1" ? "" : "s"}${{ linear: ", linear", picture: ", a picture" }[interp] ?? ""}`,
   raster: ([cull, ccw, scissor]) => `cull ${cull}${ccw === "1" ? ", front ccw" : ""}, scissor ${onOff(scissor)}`,
   scissor: rectangle,
   blend: words => `${words[0] === "1" ? equation(words.slice(1, 4)) : "off"}${words[7] === "15" ? "" : `, writes ${letters(+words[7])}`}`,

@@ -1,0 +1,146 @@
+"""compare: a capture drawn by framedbg and by the driver, event by event."""
+import collections
+import json
+import pathlib
+import time
+
+from explaining.printable import printable
+
+from . import junit, plants, reading
+from .blame import blamed
+from .driver import line_of, player_of
+from .exact import Exact, program_of
+from .faults import ALIKE, DIFFERS
+from .features import coarse
+from .judging import Judge
+from .kinds import counted, is_beyond, is_fault
+
+MOST_ENTRIES = 8                # of a history that are told
+
+
+class Told:
+    """What has come of the events so far: sums, and the first pixels that differ."""
+
+    def __init__(self, given, capture):
+        self.given, self.capture = given, capture
+        self.sums, self.changed, self.events, self.cases = collections.Counter(), 0, [], []
+        self.first = self.worst = self.shown = None     # (number, Difference); and of colours alone the Judgement
+
+    def note(self, one, seconds):
+        self.sums += one.counts
+        self.changed += one.changed
+        self.events.append({"event": one.number, "kind": one.event["kind"], "changed": one.changed, "differ": named(one.counts)})
+        beyond = [pixel for pixel in one.found if is_beyond(pixel.kind, self.given.tolerance)]
+        if one.found and not self.first:
+            self.first = one.number, one.found[0]
+        if beyond and not self.worst:
+            self.worst = one.number, beyond[0]
+        if not self.shown and any(not pixel.is_depth for pixel in beyond):
+            self.shown = one
+        failure = any(is_fault(kind, self.given.tolerance) for kind in one.counts)
+        self.cases.append(junit.Case(title(one), seconds, line(one) if failure else ""))
+
+    @property
+    def pick(self):
+        return self.worst or self.first
+
+    @property
+    def is_alike(self):
+        return not any(is_fault(kind, self.given.tolerance) for kind in +self.sums)
+
+
+def run(given):
+    capture, program = coarse(reading.read_capture(given.capture), given.bits), program_of(given.program)
+    player = player_of(given, capture["width"], capture["height"])
+    began, told, driver = time.monotonic(), Told(given, capture), player.named()
+    if not given.json:
+        print(f"driver  {line_of(driver)}")
+        print(f"frame   {printable(pathlib.Path(given.capture).name)}: {capture['width']} x {capture['height']}, {len(capture['events'])} events", flush=True)
+    with Exact(program, capture) as exact:
+        judged(exact, player, told)
+        entries = history(exact, told.pick)
+    seconds = time.monotonic() - began
+    answer = blamed(program, capture, told.shown, given.tolerance) if given.blame and told.shown else None
+    if given.json:
+        print(json.dumps(value_of(told, driver, entries, answer, seconds), indent=1))
+    else:
+        for text in closing(told, entries, answer, seconds):
+            print(text)
+    if given.junit:
+        reading.write(given.junit, junit.text_of(f"{pathlib.Path(given.capture).name} by {driver['renderer']}", told.cases))
+    return ALIKE if told.is_alike else DIFFERS
+
+
+def judged(exact, player, told):
+    given, at = told.given, time.monotonic()
+    for one in Judge(exact, player, told.capture, plants.change_of(given.plant), not given.going_on):
+        now = time.monotonic()
+        told.note(one, now - at)
+        at = now
+        if not given.json and (one.found or given.all):
+            print(line(one), flush=True)
+
+
+def history(exact, pick):
+    """What the event with a pixel that differs did to it."""
+    return exact.entries(pick[0], pick[1].x, pick[1].y) if pick else []
+
+
+# ---- What is told
+def title(one):
+    event = one.event
+    if event["kind"] != "draw":
+        return f"event {one.number}: {event['kind']}"
+    return f"event {one.number}: draw {len(event.get('indices', event['vertices'])) // 3} {event['interp']}"
+
+
+def line(one):
+    return f"{title(one)}, {counted_as(one.changed, 'pixel')} changed: {listed(one.counts) or 'alike'}"
+
+
+def counted_as(number, what):
+    return f"{number:,} {what}{'' if number == 1 else 's'}"
+
+
+def listed(counts):
+    return ", ".join(f"{count:,} {kind}" for kind, count in counted(counts).items())
+
+
+def named(counts):
+    return {kind.value: count for kind, count in counted(counts).items()}
+
+
+def words_of(four):
+    return " ".join(map(str, four))
+
+
+def pixel_of(pick):
+    number, one = pick
+    left_open = ", on an edge, which OpenGL leaves open" if one.is_left_open else ""
+    return f"event {number}, pixel {one.x} {one.y}, {one.kind}{left_open}: framedbg {words_of(one.exact)}, the driver {words_of(one.driver)}"
+
+
+def entry_of(entry):
+    """An entry of a history, as framedbg writes it."""
+    triangle = "-" if entry.triangle is None else entry.triangle
+    return " ".join([f"{entry.event} {triangle} {entry.verdict}", *map(words_of, (entry.source, entry.before, entry.after, entry.depths or ()))]).rstrip()
+
+
+def closing(told, entries, answer, seconds):
+    if told.pick:
+        yield f"first   {'beyond rounding: ' if told.worst else ''}{pixel_of(told.pick)}"
+        yield from (f"history {entry_of(entry)}" for entry in entries[:MOST_ENTRIES])
+    if answer:
+        yield f"blame   {answer.text}"
+    events, pixels = counted_as(len(told.events), "event"), counted_as(told.changed, "pixel")
+    yield f"in all  {events} judged, {pixels} changed: {listed(told.sums) or 'all alike'}; {seconds:.1f} s"
+
+
+def value_of(told, driver, entries, answer, seconds):
+    first = None
+    if told.pick:
+        number, one = told.pick
+        first = {"event": number, "pixel": [one.x, one.y], "kind": one.kind.value, "framedbg": list(one.exact), "driver": list(one.driver),
+                 "left_open_by_opengl": one.is_left_open, "history": list(map(entry_of, entries))}
+    value = {"driver": driver, "seconds": round(seconds, 2), "changed": told.changed, "sums": named(told.sums), "events": told.events, "first": first}
+    return value | ({"blame": answer.value} if answer else {})

@@ -1,0 +1,129 @@
+"""framedbg beside a driver, event by event: which pixels differ, and why."""
+import collections
+from dataclasses import dataclass, field
+
+from blaming.frame import Frame
+
+from .depths import Depths
+from .kinds import Difference, Kind
+from .reasons import Reasons, apart
+
+DRAWS = ("clear", "draw", "depth_clear")        # kinds of events that change pixels
+
+
+@dataclass(frozen=True)
+class Judgement:
+    """What an event was drawn like."""
+    number: int
+    event: dict
+    changed: int                # pixels whose colour it changed, as is right
+    found: list                 # a Difference each
+    image: bytes                # the driver's, after the event
+    counts: collections.Counter = field(default_factory=collections.Counter)
+
+
+def pixels_apart(width, one, other, size):
+    """The numbers of the pixels whose `size` bytes differ."""
+    if one == other:
+        return
+    stride = width * size
+    for start in range(0, len(one), stride):
+        row, beside = one[start:start + stride], other[start:start + stride]
+        if row != beside:
+            for at in range(0, stride, size):
+                if row[at:at + size] != beside[at:at + size]:
+                    yield (start + at) // size
+
+
+def same(event):
+    return event
+
+
+class Judge:
+    """Judges the events of a capture that draw, one after the other: `for judgement in Judge(exact, player, capture)`.
+
+    After each, framedbg's own pixels are put into the driver's target, so that the next is judged by itself; a depth that is off by 1 stays, as
+    a second pass by EQUAL is to meet its own. Not so where `is_alone` is false. `change` is a fault that is planted in the driver.
+    """
+
+    def __init__(self, exact, player, capture, change=same, is_alone=True):
+        self.exact, self.player, self.frame = exact, player, Frame(capture)
+        self.width, self.height = capture["width"], capture["height"]
+        self.change, self.is_alone = change, is_alone
+        size = self.width * self.height
+        self.right, self.shown = bytes(4 * size), bytes(4 * size)              # framedbg's colours, and the driver's, before the event
+        self.depths = Depths(exact, self.frame)
+        self.deep = self.driver_deep = self.depths.words
+
+    def __iter__(self):
+        self.player.restart()
+        for number, event in enumerate(self.frame.events, 1):
+            self.player.apply(self.change(event))
+            if event["kind"] in DRAWS:
+                yield self._judged(number, event)
+        self.player.check()
+
+    def _judged(self, number, event):
+        right, shown = self.exact.image(number), self.player.colours()
+        reasons = Reasons(self.exact, self.frame, number, self._there, self._is_alike) if event["kind"] == "draw" else None
+        found = list(self._colours(reasons, right, shown))
+        deep, driver_deep = self.deep, self.driver_deep
+        if self.frame.version == 2:
+            deep, driver_deep = self.depths.after(number), self.player.depths()
+            found += self._depths(reasons, deep, driver_deep, {(one.x, one.y) for one in found if one.kind not in (Kind.BY_1, Kind.BY_2)})
+        changed = sum(1 for _ in pixels_apart(self.width, self.right, right, 4))
+        told = Judgement(number, event, changed, found, shown, collections.Counter(one.kind for one in found))
+        self._go_on(right, shown, deep, driver_deep)
+        return told
+
+    def _go_on(self, right, shown, deep, driver_deep):
+        if self.is_alone:
+            is_far = deep != driver_deep and any(abs(a - b) > 1 for a, b in zip(deep, driver_deep))
+            if right != shown or is_far:
+                self.player.put(right, deep.tobytes() if is_far else None)
+            shown, driver_deep = right, deep if is_far else driver_deep
+        self.right, self.shown, self.deep, self.driver_deep = right, shown, deep, driver_deep
+
+    def _there(self, x, y):
+        at = 4 * (y * self.width + x)
+        return tuple(self.shown[at:at + 4])
+
+    def _is_alike(self, x, y):
+        at = y * self.width + x
+        return self.deep[at] == self.driver_deep[at]
+
+    # ---- Colours
+    def _colours(self, reasons, right, shown):
+        for pixel in pixels_apart(self.width, right, shown, 4):
+            y, x = divmod(pixel, self.width)
+            one, other = (tuple(image[4 * pixel:4 * pixel + 4]) for image in (right, shown))
+            gap = apart(one, other)
+            if gap == 1:
+                yield Difference(x, y, Kind.BY_1, one, other)
+            elif reasons:
+                kind, is_left_open = reasons.of(x, y, other)
+                yield Difference(x, y, kind, one, other, is_left_open)
+            else:
+                yield Difference(x, y, Kind.BY_2 if gap == 2 else Kind.BY_MORE, one, other)
+
+    # ---- Depths
+    def _depths(self, reasons, deep, driver_deep, told):
+        """Depths that differ and that the event wrote, on this side or on that, where no colour tells of it already."""
+        for pixel in pixels_apart(self.width, deep.tobytes(), driver_deep.tobytes(), 2):
+            y, x = divmod(pixel, self.width)
+            one, other = deep[pixel], driver_deep[pixel]
+            if (x, y) in told or one == self.deep[pixel] and other == self.driver_deep[pixel]:
+                continue
+            kind = Kind.DEPTH_BY_1 if abs(one - other) == 1 else Kind.DEPTH_BY_MORE
+            if kind == Kind.DEPTH_BY_MORE and reasons and (other == self.driver_deep[pixel] or one == self.deep[pixel]):
+                kind = self._by_test(reasons, x, y)
+            yield Difference(x, y, kind, (one,), (other,))
+
+    def _by_test(self, reasons, x, y):
+        """The kind of a pixel whose depth was written by one side alone."""
+        if not (reasons.depth["enable"] and reasons.depth["write"]):
+            return Kind.DEPTH_BY_MORE
+        entries = [entry for entry in reasons.entries(x, y) if entry.depths]
+        if not entries:
+            return Kind.COVERAGE
+        return Kind.DEPTH_TIE if any(map(reasons.is_tie_at(x, y), entries)) else Kind.DEPTH_TEST

@@ -1,0 +1,1 @@
+"""How a tool writes, and how it ends: the same for all of them."""
