@@ -3,9 +3,11 @@
 # make view     shows the sample capture in the browser, step by step
 # make page     makes out/framedbg.html, the viewer with the program inside, as one file for a browser; with CAPTURE=.. another with that capture inside
 # make release  makes out/framedbg-VERSION/, to hand out: the page, what make install puts somewhere as a tar file, the logic, and checksums
-# make test     checks documents and examples, and then the gate: every proof from nothing, the must-fail edits, the tests, the programs; and then
+# make d3d11    makes out/play_d3d11.exe, which draws captures by Direct3D 11 on Windows and compares them with what is right
+# make test     checks documents and examples beside the gate: every proof from nothing, the edits that must fail, the tests, the programs; and then
 #               what only the built program shows: its endings, its threads, its limits, each of its allocations refused, viewer, page, tools, its
-#               installation. tools/test_parts.txt has the parts; at the end stand their minutes, and what was passed over since something isn't there
+#               installation. checks/test_parts.txt has the parts; at the end stand their minutes, and what was passed over since something isn't there;
+#               with QUICK=1 what to run before a push, without wrong versions, the edits of edits/ and the second browser
 # make bench    measures the program beside a plain loop in C, and prints ratios; no part of the gate
 # make install  puts the program, its page, completions, viewer and documents below PREFIX; make uninstall takes them away
 
@@ -14,16 +16,16 @@ SAMPLE := examples/house.json
 PREFIX ?= /usr/local
 HOME_OF := $(DESTDIR)$(PREFIX)
 
-.PHONY: all bench demo install page program release test take-frames test-blame test-fdb test-frames test-page test-viewer try uninstall view wrong-pages wrong-viewers
+.PHONY: all bench d3d11 demo install page program release test take-frames test-blame test-driver test-fdb test-frames test-page test-viewer try uninstall view wrong-blame wrong-driver wrong-fdb wrong-frames wrong-pages wrong-viewers
 
 all: demo
 
 program:
-	@tools/build_program
+	@build/build_program
 
 # the same where it is missing alone
 $(PROGRAM):
-	@tools/build_program
+	@build/build_program
 
 demo: program
 	$(PROGRAM) run $(SAMPLE) < examples/house_find.session
@@ -43,57 +45,76 @@ view: program
 	tools/view $(SAMPLE)
 
 page: program
-	tools/build_page $(if $(CAPTURE),--capture '$(CAPTURE)')
+	build/build_page $(if $(CAPTURE),--capture '$(CAPTURE)')
 
 release: page
-	tools/release
+	build/release
 
 test-page: $(PROGRAM)
-	tools/test_page.py
+	tests/test_page.py
 
 test-blame: $(PROGRAM)
-	tools/test_blame.py
-	tools/test_night.py
-	tools/blame_mutations.py
+	tests/test_blame.py
+	tests/test_night.py
+
+wrong-blame: $(PROGRAM)
+	tests/wrong/blame_mutations.py
+
+# the player for Direct3D 11, a program for Windows: out/play_d3d11.exe
+d3d11:
+	build/build_d3d11
+
+test-driver: $(PROGRAM)
+	tests/test_driver.py
+	tests/test_d3d11.py
+
+wrong-driver: $(PROGRAM)
+	tests/wrong/driver_mutations.py
+	tests/wrong/d3d11_mutations.py
 
 test-fdb: $(PROGRAM)
-	tools/test_client.py
-	tools/test_fdb.py
-	tools/fdb_mutations.py
+	tests/test_endings.py
+	tests/test_client.py
+	tests/test_fdb.py
+
+wrong-fdb: $(PROGRAM)
+	tests/wrong/fdb_mutations.py
 
 test-frames: $(PROGRAM)
-	tools/test_captures.py
-	tools/test_real_frames.py
-	tools/test_foreign_frames.py
-	tools/test_old_frames.py
-	tools/real_frames_mutations.py
-	tools/check_old_frames
-	tools/check_real_hunt
+	tests/test_captures.py
+	tests/test_real_frames.py
+	tests/test_foreign_frames.py
+	tests/test_old_frames.py
+	checks/check_old_frames
+	checks/check_real_hunt
+
+wrong-frames: $(PROGRAM)
+	tests/wrong/real_frames_mutations.py
 
 # takes frames of running programs anew, and compares them with what RenderDoc tells of them; docs/REAL_FRAMES.md says what has to be there
 take-frames: $(PROGRAM)
-	tools/check_frames
+	checks/check_frames
 
 test-viewer: $(PROGRAM)
-	tools/test_explain.py
-	tools/test_mesh_to_capture.py
-	tools/test_viewer.py
+	tests/test_explain.py
+	tests/test_mesh_to_capture.py
+	tests/test_viewer.py
 
 wrong-viewers: $(PROGRAM)
-	tools/viewer_mutations.py
+	tests/wrong/viewer_mutations.py
 
 wrong-pages: $(PROGRAM)
-	tools/page_mutations.py
+	tests/wrong/page_mutations.py
 # ----
 
 bench: program
 	benches/measure.py
 
 test:
-	tools/run_tests
+	checks/run_tests $(if $(QUICK),--quick)
 
 install: program
-	tools/install '$(HOME_OF)'
+	build/install '$(HOME_OF)'
 
 uninstall:
-	tools/install --remove '$(HOME_OF)'
+	build/install --remove '$(HOME_OF)'

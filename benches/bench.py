@@ -8,11 +8,9 @@ import time
 from dataclasses import dataclass
 
 HERE = pathlib.Path(__file__).resolve().parent
-sys.path.append(str(HERE.parent / "tools"))
-
-import turns   # noqa: E402
-from framedbg_client.program import tried_program   # noqa: E402
-from turns import Taken   # noqa: E402
+import turns
+from framedbg_client.program import tried_program
+from turns import Taken
 
 PROGRAM = pathlib.Path(tried_program())
 ROUNDS = int(os.environ.get("ROUNDS", "5"))

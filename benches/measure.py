@@ -18,6 +18,8 @@ import pathlib
 import sys
 import tempfile
 
+import folders
+
 import drawing
 import few_tiles
 import frames

@@ -1,8 +1,8 @@
 #!/usr/bin/env python3
 """measure_viewer: how long the viewer takes to open a large capture, beside the program itself, to step, and to tell of a pixel.
 
-    tools/measure_viewer.py [EVENTS [SIDE]]
-    tools/measure_viewer.py --capture town.json
+    benches/measure_viewer.py [EVENTS [SIDE]]
+    benches/measure_viewer.py --capture town.json
 
 It tells too how many pictures a second there are in a film, and while the slider is dragged. It wants Chromium and chromedriver. Times are of this machine as
 it is just now: the least of some turns is told, and the middle one. On a busy machine the processor time of a film's picture says more: that of the program, the
@@ -16,6 +16,8 @@ import statistics
 import sys
 import tempfile
 import time
+
+import folders
 
 import browser
 from captures import clear, draw, factor, marker

@@ -2,14 +2,11 @@
 
 Their events are texts: one of them may stand in a capture a million times.
 """
-import pathlib
 import random
 import struct
-import sys
 
-sys.path.append(str(pathlib.Path(__file__).resolve().parent.parent / "tools"))
-import captures   # noqa: E402
-from captures import FARTHEST, PIXEL, compact   # noqa: E402
+import captures
+from captures import FARTHEST, PIXEL, compact
 
 BLENDED = compact(captures.blend(True, ("SRC_ALPHA", "INV_SRC_ALPHA", "ADD"), ("ONE", "INV_SRC_ALPHA", "ADD")))
 TESTED = compact(captures.depth(func="LESS_EQUAL"))

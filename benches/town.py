@@ -13,6 +13,8 @@ import argparse
 import random
 import sys
 
+import folders
+
 import scenes
 from scenes import FARTHEST, PIXEL, captures, compact
 

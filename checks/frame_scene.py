@@ -1,5 +1,5 @@
 #!/usr/bin/env python3
-"""frame_scene.py [SECONDS]: draws one and the same frame over and over in a window of its own, by OpenGL ES 3, for tools/check_frames.
+"""frame_scene.py [SECONDS]: draws one and the same frame over and over in a window of its own, by OpenGL ES 3, for checks/check_frames.
 
 In it is what other programs seldom have together: strips with restarts, fans, instances, both windings with each cull mode, a viewport smaller than the
 target, scissors, clears of a rectangle and of some channels, each comparison of depths, depth bias, blending, a shader that

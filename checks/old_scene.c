@@ -1,4 +1,4 @@
-/* old_scene [FRAMES]: draws a small window by OpenGL 1.5 without shaders: what tools/check_old_frames takes, turns into a capture and compares.
+/* old_scene [FRAMES]: draws a small window by OpenGL 1.5 without shaders: what checks/check_old_frames takes, turns into a capture and compares.
  *
  * Each draw has one colour, so that a pixel's colour tells which draws covered it; the kinds of primitives, of arrays, of matrices and of states that old
  * programs have stand beside each other. */

@@ -1,9 +1,9 @@
 #!/usr/bin/env python3
 """passed_over: what checks pass over because something isn't there, so that nobody takes it for checked.
 
-    tools/passed_over.py WHAT WHY     a check says what it passes over; with CI=true in the environment that is a failure
-    tools/passed_over.py --begin      forgets what was passed over
-    tools/passed_over.py --list       says what was passed over since then
+    checks/passed_over.py WHAT WHY     a check says what it passes over; with CI=true in the environment that is a failure
+    checks/passed_over.py --begin      forgets what was passed over
+    checks/passed_over.py --list       says what was passed over since then
 """
 import collections
 import os

@@ -1,10 +1,11 @@
-"""Runs programs with tools/refuse.c in them, which counts their allocations and starts of threads, and refuses those that it is told to."""
+"""Runs programs with checks/refuse.c in them, which counts their allocations and starts of threads, and refuses those that it is told to."""
 import os
 import pathlib
 import shutil
 import subprocess
 
-TOP = pathlib.Path(__file__).resolve().parent.parent
+from folders import TOP
+
 EXAMPLES = TOP / "examples"
 KIT = pathlib.Path(os.path.realpath(shutil.which("rt"))).parent.parent
 
@@ -15,7 +16,7 @@ class Runner:
     def __init__(self, room):
         self.library, self.told, self.runs = room / "refuse.so", room / "told", 0
         clang = [KIT / "toolchain/bin/clang", "-fuse-ld=lld"]
-        subprocess.run([*clang, "-O2", "-shared", "-nostdlib", "-fPIC", "-o", self.library, TOP / "tools/refuse.c"], check=True)
+        subprocess.run([*clang, "-O2", "-shared", "-nostdlib", "-fPIC", "-o", self.library, TOP / "checks/refuse.c"], check=True)
 
     def run(self, words, given=b"", memory=None, threads=None):
         """What a run gave, and how many allocations and threads it asked for. A plan is a number, with a + all from there on, with a dot all until it writes."""

@@ -1,4 +1,4 @@
-"""What the tests of blame stand on: small frames that are worked out by hand, and their pictures by tools/reference.py."""
+"""What the tests of blame stand on: small frames that are worked out by hand, and their pictures by build/reference.py."""
 import contextlib
 import functools
 import io
@@ -11,6 +11,8 @@ import tempfile
 import types
 import unittest
 
+from folders import TOOLS, TOP as ROOT
+
 import captures
 import reference
 from blaming import command_line, report, running, telling_json
@@ -18,8 +20,6 @@ from captures import PIXEL, clear, raster     # noqa: F401  the tests have the l
 from framedbg_client.program import tried_program
 from framedbg_client.replies import images_of
 
-TOOLS = pathlib.Path(__file__).resolve().parent
-ROOT = TOOLS.parent
 EXAMPLES = ROOT / "examples"
 HUNTS = EXAMPLES / "hunts"
 PROGRAM = tried_program()
@@ -36,6 +36,13 @@ def box(left, top, right, bottom, color, z=0, interp="flat"):
     """A rectangle of two triangles that run clockwise."""
     corners = [(left, top, color, z), (right, top, color, z), (right, bottom, color, z), (left, bottom, color, z)]
     return draw(*corners, interp=interp, indices=[0, 1, 2, 0, 2, 3])
+
+
+def painted(made, rng, left, top, width, height):
+    """The draw with a picture by chance, a third of it holes; what colours stand at its corners is passed over."""
+    texels = width * height
+    holes = [rng.random() < 0.3 for _ in range(texels)] if rng.random() < 0.7 else None
+    return made | {"interp": "picture", "picture": captures.picture(left, top, width, height, rng.randbytes(4 * texels), holes)}
 
 
 def blend(enable=True, rgb="SRC_ALPHA INV_SRC_ALPHA ADD", alpha="ONE INV_SRC_ALPHA ADD", mask=15):
@@ -63,7 +70,7 @@ def pam(made):
 
 
 def hunt_picture(name):
-    """The picture of a mended hunt, as tools/make_hunts.py wrote it by the reference."""
+    """The picture of a mended hunt, as build/make_hunts.py wrote it by the reference."""
     return images_of((HUNTS / f"{name}_mended_show.expected").read_bytes())[0]
 
 

@@ -16,12 +16,12 @@ import termios
 import time
 from unittest import mock
 
+from folders import TOOLS, TOP as ROOT
+
 import debugger.batch
 from debugger import command_line
 from framedbg_client.program import tried_program
 
-TOOLS = pathlib.Path(__file__).resolve().parent
-ROOT = TOOLS.parent
 EXAMPLES = ROOT / "examples"
 HUNTS = EXAMPLES / "hunts"
 PROGRAM = tried_program()

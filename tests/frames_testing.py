@@ -1,5 +1,4 @@
-"""What the tests of real frames stand on: a frame whose pictures tools/reference.py draws, in the place of one that RenderDoc replays."""
-import pathlib
+"""What the tests of real frames stand on: a frame whose pictures build/reference.py draws, in the place of one that RenderDoc replays."""
 from dataclasses import dataclass, field
 from types import SimpleNamespace
 
@@ -13,7 +12,6 @@ from real_frames.painter import Detail
 from real_frames.viewport import Viewport
 from real_frames.writer import Writer
 
-TOOLS = pathlib.Path(__file__).resolve().parent
 TARGET, OTHER = 7, 8
 WIDTH, HEIGHT = 24, 16
 OVER = ("SrcAlpha", "InvSrcAlpha", "Add"), ("One", "InvSrcAlpha", "Add")

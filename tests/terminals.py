@@ -10,14 +10,15 @@ import termios
 import time
 
 import passed_over
-from captures import compact, frame, marker
+from captures import PIXEL, compact, draw, frame, raster, vertex
 
 HEAD = b"P7\nWIDTH 1\nHEIGHT 1\nDEPTH 4\nMAXVAL 255\nTUPLTYPE RGB_ALPHA\nENDHDR\n"
 SHOWN = b"\x0a\x14\x1e\x28"
 WAITS, SPILLS = rb"framedbg: waiting for commands[^\n]+\n", rb"framedbg: the bytes of an image go to this terminal[^\n]+\n"
 ERASED = b"\r\x1b[K"
-EVENTS = 150_000        # markers: a move over them takes several parts
-LONG = compact(frame(2048, 2048, [marker("m")] * EVENTS, version=1)).encode()
+EVENTS = 400            # draws of the whole target under an empty scissor: a move over them takes several parts, and nothing is drawn
+WHOLE = draw([vertex(x, y, (9, 9, 9, 9)) for x, y in ((0, 0), (4096 * PIXEL, 0), (0, 4096 * PIXEL))])
+LONG = compact(frame(2048, 2048, [raster("none", scissor=True)] + [WHOLE] * (EVENTS - 1), version=1)).encode()
 SECONDS = 60
 
 

@@ -1,7 +1,7 @@
 #!/usr/bin/env python3
 """test_benches: the town that the benches draw, and how two programs are measured by turns. Nothing is measured, and no built program is needed.
 
-    tools/test_benches.py [TEST ..]
+    tests/test_benches.py [TEST ..]
 """
 import collections
 import contextlib
@@ -16,19 +16,17 @@ import tempfile
 import unittest
 from unittest import mock
 
-TOP = pathlib.Path(__file__).resolve().parent.parent
-BENCHES = TOP / "benches"
-sys.path.insert(0, str(BENCHES))
+from folders import BENCHES
 
-import few_tiles   # noqa: E402
-import scenes   # noqa: E402
-import table   # noqa: E402
-import town   # noqa: E402
-import turns   # noqa: E402
-from bench import Asked, Bench   # noqa: E402
-from turns import Taken, Work   # noqa: E402
+import few_tiles
+import scenes
+import table
+import town
+import turns
+from bench import Asked, Bench
+from turns import Taken, Work
 
-from reference import fault   # noqa: E402
+from reference import fault
 
 SMALL = 16
 STATES = {"raster", "scissor", "blend", "factor", "depth"}

@@ -1,10 +1,12 @@
 #!/usr/bin/env python3
 """test_blame: tries framedbg-blame: its parts, each kind of change, the hunts, its report, its statuses, and what the documents show of it.
 
-    tools/test_blame.py [TEST ..]
+    tests/test_blame.py [TEST ..]
 
 FRAMEDBG names another program.
 """
+import folders
+
 import passed_over
 from test_blame_documents import *  # noqa: F401, F403
 from test_blame_kinds import *      # noqa: F401, F403

@@ -10,6 +10,8 @@ import sys
 import tempfile
 import unittest
 
+import folders
+
 import slurm_testing
 from blame_testing import HUNTS, NAMES, PROGRAM, ROOT, TOOLS, Folder, hunt_picture, value_of
 
@@ -106,7 +108,7 @@ class Pages(unittest.TestCase):
             wanted = {option for option, _ in options(words) if option.startswith("--")} | {"--help"}
             for name in (f"{tool}.bash", f"_{tool}", f"{tool}.fish"):
                 text = (ROOT / "share" / name).read_text()
-                named = set(re.findall(r"(?<![\w-])(--[a-z]+)", text)) | {f"--{option}" for option in re.findall(r" -l (\w+)", text)}
+                named = set(re.findall(r"(?<![\w-])(--[a-z-]+)", text)) | {f"--{option}" for option in re.findall(r" -l ([\w-]+)", text)}
                 self.assertEqual(named, wanted, name)
 
     def test_bash_completes(self):
@@ -122,7 +124,7 @@ def options(words):
     with contextlib.redirect_stdout(told), contextlib.suppress(SystemExit):
         os.environ["COLUMNS"] = "300"
         words.words(["--help"])
-    rows = re.findall(r"^  (--?\w+|[A-Z]+)\b.*?\s{2,}(\S.*)$", told.getvalue(), re.M)
+    rows = re.findall(r"^  (--?[\w-]+|[A-Z]+)\b.*?\s{2,}(\S.*)$", told.getvalue(), re.M)
     return [(option, " ".join(text.split())) for option, text in rows if not option.startswith("-h")]
 
 

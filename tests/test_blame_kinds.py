@@ -1,7 +1,10 @@
 """Each kind of change of the table on a frame that is worked out by hand: it mends the bug exactly, and names its event. Pictures are the reference's."""
+import random
 import unittest
 
-from blame_testing import Folder, blend, box, capture, clear, depth, draw, raster
+import folders
+
+from blame_testing import Folder, blend, box, capture, clear, depth, draw, painted, raster
 
 from blaming.kinds import KINDS
 
@@ -91,6 +94,26 @@ class Kinds(Folder):
                 self.assertIn(number, [suspect.event for suspect in outcome.suspects[:3]])
                 mended = {one.change.kind for one in outcome.changes if one.left == 0}
                 self.assertTrue(mended & ALIKE.get(name, {name}), mended)
+
+    def test_draws_with_pictures(self):
+        """States, places and depths are changed as of other draws; colours that stand at corners are no candidates, and a picture is left as it is."""
+        rng, whole = random.Random(2), draw((0, 0, RED, 20000), (24, 0, RED, 20000), (24, 18, RED, 20000), (0, 18, RED, 20000), indices=[0, 1, 2, 0, 2, 3])
+        sheet = painted(whole, rng, 3, 2, 17, 14)
+        flag = painted(draw((2, 2, RED, 30000), (21, 4, RED, 30000), (5, 16, RED, 30000)), rng, 1, 1, 22, 16)
+        moved = lambda at, **members: flag | {"vertices": [vertex | (members if i == at else {}) for i, vertex in enumerate(flag["vertices"])]}
+        near = box(6, 5, 20, 16, GREEN, 10000)
+        for name, right, wrong, number in (
+            ("write mask", [*FIRST, blend(), sheet], [*FIRST, blend(mask=6), sheet], 3),
+            ("place of a vertex", [clear(*SKY), flag], [clear(*SKY), moved(1, x=15 << 16, y=9 << 16)], 2),
+            ("depth function", [*tested(depth())[:3], sheet, near], [*tested(depth("GREATER"))[:3], sheet, near], 3),
+            ("direction of triangles", [clear(*SKY), sheet], [clear(*SKY), sheet | {"indices": [0, 2, 1, 0, 2, 3]}], 2),
+        ):
+            with self.subTest(name):
+                outcome = self.found(capture(wrong, version=3), capture(right, version=3))
+                self.assertTrue(outcome.is_mended, [(one.change.says, one.left) for one in outcome.changes[:3]])
+                self.assertIn(number, [suspect.event for suspect in outcome.suspects[:3]])
+                self.assertIn(name, {one.change.kind for one in outcome.changes if one.left == 0})
+                self.assertFalse({"colour of a vertex", "interpolation"} & {one.change.kind for one in outcome.changes})
 
     def test_two_at_once(self):
         right, wrong = TWO

@@ -3,12 +3,16 @@ by the definitions pixel by pixel."""
 import json
 import random
 import struct
+import time
 import types
 import unittest
 import zlib
 
+import folders
+
+import captures
 import reference
-from blame_testing import EXAMPLES, Folder, blend, box, capture, clear, depth, draw, pam, raster
+from blame_testing import EXAMPLES, Folder, blend, box, capture, clear, depth, draw, painted, pam, raster
 
 from blaming import blending, clusters, comparing, corners, evidence, fragments, frame, kinds, pictures, searching, slips, windows
 from blaming.faults import Fault
@@ -65,6 +69,22 @@ class Pictures(Folder):
         self.assertEqual((three.samples, three.has_alpha), (bytes([0, 1, 2, 255, 3, 4, 5, 255]), False))
         for head in (b"P6\n2 1\n255\n", b"P6 # by hand\n2\n# wide\n1 255\n"):
             self.assertEqual(pictures.picture_of(head + samples[:6]).samples, three.samples)
+
+    def test_headers_without_end(self):
+        """A header of blanks and comments alone takes no longer than it is long."""
+        for data in (b"P6" + b" " * 200_000, b"P6" + b"#\n" * 100_000, b"P6" + b" #\n \n" * 40_000, b"P6 2" + b"\n#\n" * 60_000, b"P6 2 1 " + b"9" * 200_000):
+            began = time.process_time()
+            with self.assertRaises(Fault):
+                pictures.picture_of(data)
+            self.assertLess(time.process_time() - began, 5)
+
+    def test_another_size(self):
+        """It is told before the pixels are unpacked, of each kind of picture."""
+        for data in (png(2, 1, 2, b"\5"), b"P6 2 1 255\n", b"P7\nWIDTH 2\nHEIGHT 1\nDEPTH 3\nMAXVAL 255\nENDHDR\n"):
+            with self.assertRaisesRegex(Fault, "the capture's target is 1 by 2, the picture 2 by 1"):
+                pictures.picture_of(data, (1, 2))
+            with self.assertRaisesRegex(Fault, "cut or broken|shorter"):
+                pictures.picture_of(data, (2, 1))
 
     def test_what_is_no_picture(self):
         whole = png(2, 1, 2, b"\0abcdef")
@@ -145,6 +165,8 @@ class Frames(unittest.TestCase):
         color = lambda: [rng.randrange(256) for _ in range(4)]
         corner = lambda: (rng.randrange(-30, 90), rng.randrange(-30, 90), color(), rng.randrange(65536))
         made = [clear(*color()), depth("LESS_EQUAL"), {"kind": "scissor", "rect": [5, 3, 40, 44]}, {**raster("none"), "scissor": True}, blend()]
+        for left, top, width, height in ((0, 0, 48, 40), (7, 3, 9, 31), (20, 18, 60, 2)):
+            made.append(painted(box(0, 0, 48, 40, color(), rng.randrange(65536)), rng, left, top, width, height))
         for _ in range(6):
             made.insert(rng.randrange(1, len(made) + 1), draw(*[corner() for _ in range(6)], interp=rng.choice(("flat", "linear")), indices=[rng.randrange(6) for _ in range(12)]))
         return made
@@ -152,7 +174,7 @@ class Frames(unittest.TestCase):
     def test_windows(self):
         rng = random.Random(11)
         for _ in range(4):
-            made = capture(self.events(rng), 48, 40)
+            made = capture(self.events(rng), 48, 40, 3)
             whole = pictures.picture_of(pam(made)).samples
             for window in ((8, 5, 30, 21), (0, 0, 16, 40), (40, 36, 48, 40)):
                 shown = reference.json_of(frame.Frame(made).text(made["events"], window).encode())
@@ -252,6 +274,15 @@ class Evidence(unittest.TestCase):
         self.assertEqual(evidence.shown(frame.Frame(made), right[0]), {2, 5, 6})
         self.assertEqual(evidence.shown(frame.Frame(made), wrong[0].entries), {2, 3, 4, 5, 6})
 
+
+    def test_what_is_discarded(self):
+        """By the draw's own picture: no state is to blame for it, and its 0 0 0 0 is no colour that could be wanted."""
+        picture = captures.picture(0, 0, 24, 18, bytes(4 * 24 * 18), [True] * (24 * 18))
+        made = capture([raster("none"), blend(), depth(), box(1, 1, 23, 17, (5, 5, 5, 255)) | {"interp": "picture", "picture": picture}], version=3)
+        sample = evidence.Sample(0, 5, 3, (0, 0, 0, 0), self.history(made, 5, 3), 0)
+        self.assertEqual([entry.verdict for entry in sample.entries], ["discarded"])
+        suspects = evidence.suspects_of(frame.Frame(made), [sample], lambda one, other: one == other)
+        self.assertEqual([(suspect.event, dict(suspect.reasons)) for suspect in suspects], [(4, {"is discarded there": 1})])
 
     def test_states_of_many_draws(self):
         """Of five draws with a state one met the pixel, so that four fifths of eight tenths of its weight are lost; of two draws half of that."""

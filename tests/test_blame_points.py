@@ -2,18 +2,20 @@
 import random
 import unittest
 
+import folders
+
 import reference
-from blame_testing import Folder, blend, box, capture, clear, depth, draw, raster
+from blame_testing import Folder, blend, box, capture, clear, depth, draw, painted, raster
 
 from blaming import cells, comparing, fragments, frame, points
 
-WIDTH, HEIGHT = 20, 16
+WIDTH, HEIGHT, RED = 20, 16, (200, 40, 30, 255)
 EXACT = comparing.Comparison(b"")
 
 
 def colours_of(events):
     """All pixels of a picture by the reference, row by row."""
-    made = reference.Frame(capture(events, WIDTH, HEIGHT))
+    made = reference.Frame(capture(events, WIDTH, HEIGHT, 3))
     return [made.replay(len(events), x, y)[0][0] for y in range(HEIGHT) for x in range(WIDTH)]
 
 
@@ -22,14 +24,15 @@ def points_of(events, wanted):
     places = [(x, y, tuple(colour)) for (x, y), colour in zip(((x, y) for y in range(HEIGHT) for x in range(WIDTH)), wanted)]
     bad = [a != b for a, b in zip(colours_of(events), wanted)]
     some = lambda which: [place for place, is_bad in zip(places, bad) if is_bad == which]
-    return points.Points(frame.Frame(capture(events, WIDTH, HEIGHT)), some(True), some(False), EXACT)
+    return points.Points(frame.Frame(capture(events, WIDTH, HEIGHT, 3)), some(True), some(False), EXACT)
 
 
 def a_frame(rng):
     """Draws by chance with corners on pixels' centres too, between states of each kind."""
     colour = lambda: tuple(rng.randrange(256) for _ in range(4))
     place = lambda: rng.choice((rng.uniform(-6, 24), rng.randrange(-4, 22) + 0.5, rng.randrange(0, 18)))
-    mesh = lambda: draw(*[(place(), place(), colour(), rng.randrange(65536)) for _ in range(5)], interp=rng.choice(("flat", "linear")), indices=[rng.randrange(5) for _ in range(9)])
+    plain = lambda: draw(*[(place(), place(), colour(), rng.randrange(65536)) for _ in range(5)], interp=rng.choice(("flat", "linear")), indices=[rng.randrange(5) for _ in range(9)])
+    mesh = lambda: painted(plain(), rng, rng.randrange(9), rng.randrange(9), rng.randrange(1, 17), rng.randrange(1, 17)) if rng.random() < 0.4 else plain()
     states = [lambda: raster(rng.choice(("none", "front", "back")), rng.random() < 0.5, rng.random() < 0.4), lambda: {"kind": "scissor", "rect": [2, 3, rng.randrange(6, 20), 13]},
               lambda: blend(rng.random() < 0.7, f"{rng.choice(reference.FACTORS)} {rng.choice(reference.FACTORS)} {rng.choice(reference.OPERATIONS)}", mask=rng.randrange(16)),
               lambda: {"kind": "factor", "color": list(colour())}, lambda: depth(rng.choice(list(reference.PASSES)), rng.random() < 0.7, rng.random() < 0.7),
@@ -140,6 +143,20 @@ class Cells(Folder):
                 self.assertGreater(len(clauses), 20)
                 for clause in clauses:
                     self.assertTrue(any(all(cells.value(line, place) >= -cells.SLACK for line in lines) for lines in clause), (interp, state))
+
+    def test_corners_of_draws_with_pictures(self):
+        """Of a triangle whose texels say which pixels it covers; its holes say nothing."""
+        for seed in range(6):
+            rng = random.Random(seed)
+            corner = painted(draw((1, 1, RED), (18, 3, RED), (4, 15, RED), interp="flat"), rng, 2, 1, 17, 14)
+            right = [clear(9, 9, 9, 255), raster("none"), corner]
+            moved = corner["vertices"][1] | {"x": 12 << 16, "y": 6 << 16}
+            wrong = [*right[:-1], corner | {"vertices": [corner["vertices"][0], moved, corner["vertices"][2]]}]
+            cell = cells.Cell(points_of(wrong, colours_of(right)), len(wrong), 1)
+            clauses = list(cell.clauses(fragments.snapped(moved)))
+            self.assertGreater(len(clauses), 20)
+            for clause in clauses:
+                self.assertTrue(any(all(cells.value(line, (18 * 256, 3 * 256)) >= -cells.SLACK for line in lines) for lines in clause), seed)
 
     def test_clipping(self):
         square = [(0, 0), (8, 0), (8, 8), (0, 8)]

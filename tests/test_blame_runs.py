@@ -11,7 +11,11 @@ import time
 import unittest
 from unittest import mock
 
+import folders
+
 from blame_testing import HUNTS, NAMES, PROGRAM, TOOLS, Folder, blend, box, capture, clear, draw, hunt_picture, launched, pam, raster, reference, told, value_of
+
+from full_disk import LACKING, OF_NULL, full_device, made_device
 
 from blaming import trying
 from framedbg_client import Image, read_pam
@@ -229,6 +233,34 @@ class Called(Folder):
         self.assertEqual(pam(json.loads(kept.read_text())), pam(capture(RIGHT)))
         self.assertEqual(kept.stat().st_mode & 0o777, 0o644)
         self.assertEqual(told(*self.files(), "--write", self.folder / "nowhere/mended.json")[0], 3)
+
+    def test_write_through(self):
+        """What isn't a plain file stays what it is."""
+        there, link, device = self.folder / "there.json", self.folder / "link.json", self.folder / "device"
+        link.symlink_to(there.name)
+        device.symlink_to(self.enterContext(made_device(OF_NULL)) or self.skipTest(LACKING))
+        for kept in (link, device):
+            self.assertEqual(told(*self.files(), "--write", kept)[::2], (1, ""))
+            self.assertTrue(kept.is_symlink())
+        self.assertEqual(pam(json.loads(there.read_text())), pam(capture(RIGHT)))
+        with full_device() as full:
+            if full:
+                self.assertEqual(told(*self.files(), "--write", full)[::2], (3, f"framedbg-blame: {full}: No space left on device\n"))
+
+    def test_depths_of_version_1(self):
+        """They are passed over, whatever they are."""
+        wrong, right = (json.loads(json.dumps(capture(events, version=1))) for events in (WRONG, RIGHT))
+        for depths in ("deep", None, -1, [2]):
+            for event in wrong["events"]:
+                for vertex in event.get("vertices", ()):
+                    vertex["z"] = depths
+            status, lines, errors = told(self.written("wrong.json", wrong), self.written("wanted.pam", pam(right)))
+            self.assertEqual((status, errors), (1, ""), depths)
+            self.assertIn("mends   event 3, mask 15 in place of 6", lines)
+
+    def test_no_room_for_changed_captures(self):
+        with mock.patch.object(tempfile, "mkstemp", side_effect=OSError(28, "No space left on device", "/tmp/x")):
+            self.assertEqual(told(*self.files()), (3, [], "framedbg-blame: /tmp/x: No space left on device\n"))
 
     def test_nothing_stays(self):
         room = self.folder / "tmp"

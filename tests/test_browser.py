@@ -1,7 +1,7 @@
 #!/usr/bin/env python3
 """test_browser: a browser of the tests starts where one of its tries doesn't, and says why where none does.
 
-    tools/test_browser.py [TEST ..]
+    tests/test_browser.py [TEST ..]
 """
 import os
 import pathlib
@@ -9,6 +9,8 @@ import shutil
 import tempfile
 import unittest
 from unittest import mock
+
+import folders
 
 import browser
 import passed_over

@@ -1,7 +1,7 @@
 #!/usr/bin/env python3
 """test_check_gate: the gate's verdict is kept, and an edit that shows nothing fails it.
 
-    tools/test_check_gate.py [TEST ..]
+    tests/test_check_gate.py [TEST ..]
 """
 import os
 import pathlib
@@ -9,10 +9,13 @@ import subprocess
 import tempfile
 import unittest
 
-TOOL = pathlib.Path(__file__).resolve().parent / "check_gate"
+from folders import CHECKS, FOLDERS, TOOLS, TOP
+
+TOOL = CHECKS / "check_gate"
 REFUSED = "must-fail fd_snap/tie_goes_up: refused, as it must be: ./proofs/snap/Answers.antt:3:1: error: 1 is not 0"
 MISSING = REFUSED.replace("be:", "be (only because a proof file names what the edit took away, so this says little of the contract: change a value and keep the names):")
 BAD = "rt: must-fail fd_snap/tie_goes_up: BAD EDIT: an 'old:' text is in src/lib.rt 0 times, and not once"
+LEFT = "must-fail fd_snap/tie_goes_up: refused, as it must be: ./proofs/snap/Answers.antt:3:1: error: 2 declarations that depend on `first`, which was rejected, were not checked"
 LAST = "198 passed, 0 failed"
 
 
@@ -43,8 +46,24 @@ class ChecksTheGate(unittest.TestCase):
     def test_an_edit_that_takes_a_name_away(self):
         self.assertEqual(self.judged(REFUSED, MISSING, LAST), (1, [REFUSED, MISSING, LAST, f"check_gate: it shows nothing: {MISSING}"]))
 
+    def test_an_edit_of_which_declarations_were_not_checked(self):
+        self.assertEqual(self.judged(LEFT, LAST), (1, [LEFT, LAST, f"check_gate: it shows nothing: {LEFT}"]))
+
     def test_words_elsewhere_are_no_edit(self):
         self.assertEqual(self.judged("fd_snap: no BAD EDIT here", LAST)[0], 0)
+
+
+class TheRepository(unittest.TestCase):
+    """What the gate asks of the whole repository."""
+
+    def test_no_links(self):
+        """`rt ci` takes none below a folder of the top."""
+        links = [path.relative_to(TOP) for entry in TOP.iterdir() if entry.name not in (".git", "out") and not entry.is_symlink()
+                 for path in entry.rglob("*") if path.is_symlink()]
+        self.assertEqual(links, [])
+
+    def test_each_folder_finds_the_others(self):
+        self.assertEqual({(folder / "folders.py").read_text() for folder in FOLDERS if folder != TOOLS}, {(CHECKS / "folders.py").read_text()})
 
 
 if __name__ == "__main__":

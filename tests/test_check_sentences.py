@@ -1,7 +1,7 @@
 #!/usr/bin/env python3
 """test_check_sentences: how a page is cut into sentences, how their words are counted, and which pages are too long.
 
-    tools/test_check_sentences.py [TEST ..]
+    tests/test_check_sentences.py [TEST ..]
 """
 import pathlib
 import subprocess
@@ -9,9 +9,11 @@ import sys
 import tempfile
 import unittest
 
+from folders import CHECKS
+
 import prose
 
-TOOL = pathlib.Path(__file__).resolve().parent / "check_sentences"
+TOOL = CHECKS / "check_sentences"
 
 
 def counts(page):

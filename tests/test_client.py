@@ -1,10 +1,11 @@
 #!/usr/bin/env python3
-"""test_client: framedbg_client's values, against docs/FORMATS.md, tools/reference.py's images and the replies in examples/; its endings; docs/CLIENTS.md.
+"""test_client: framedbg_client's values, against docs/FORMATS.md, build/reference.py's images and the replies in examples/; its endings; docs/CLIENTS.md.
 
-    tools/test_client.py [TEST ..]
+    tests/test_client.py [TEST ..]
 
 FRAMEDBG names another program.
 """
+import json
 import os
 import pathlib
 import re
@@ -17,9 +18,12 @@ import unittest
 import zlib
 from unittest import mock
 
+from folders import TOP
+
 from fdb_testing import EXAMPLES, PROGRAM, ROOT, TOOLS, stand_in
 
 import framedbg_client
+import reference
 from framedbg_client import (At, Bad, Bye, Client, Colour, Depths, DepthState, Ended, Entry, Event, Fault, Garbled, Pixel, Refusal, Refused, Reply, State, Stopped,
                              read_pam)
 from framedbg_client import program as client_program
@@ -51,6 +55,8 @@ class Values(unittest.TestCase):
             Entry(11, 3, "culled", Colour(190, 60, 50, 128), Colour(60, 130, 60, 255), Colour(60, 130, 61, 255))])
         entry = Reply("history 1", ("9 57 depthfailed 59 67 75 255 71 77 84 255 71 77 84 254 45215 65534 65535",)).value.entries[0]
         self.assertEqual((entry.depths, entry.after, entry.is_drawn), (Depths(45215, 65534, 65535), Colour(71, 77, 84, 254), False))
+        entry = Reply("history 1", ("3 0 discarded 0 0 0 0 100 100 100 100 100 100 100 100 500 65535 65535",)).value.entries[0]
+        self.assertEqual((entry.verdict, entry.source, entry.is_drawn), ("discarded", Colour(0, 0, 0, 0), False))
 
     def test_states(self):
         state = State("none", True, False, (-3, 4, 116, 30), True, ("SRC_ALPHA", "INV_SRC_ALPHA", "ADD"), ("ONE", "ZERO", "MAX"), 12, Colour(1, 2, 3, 4))
@@ -98,7 +104,7 @@ class Images(unittest.TestCase):
 
 
 def shown_house():
-    """The image that tools/reference.py made of the house."""
+    """The image that build/reference.py made of the house."""
     replies = (EXAMPLES / "house_show.expected").read_bytes()
     head, _, rest = replies.partition(b"\npam ")
     size, _, rest = rest.partition(b"\n")
@@ -154,6 +160,30 @@ class Asked(unittest.TestCase):
             places = [(x, y) for y in range(64) for x in range(96)]
             self.assertEqual([pixel.colour for pixel in frame.pixels(places)], [image.pixel(x, y) for x, y in places])
 
+    def test_depths_of_an_area(self):
+        """More lines than a pipe holds, in one go; and what is no depth."""
+        wanted = reference.Frame(json.loads((EXAMPLES / "crossing.json").read_text()))
+        with client(EXAMPLES / "crossing.json") as frame:
+            for position in (0, 2, 3):
+                frame.goto(position)
+                depths = [wanted.replay(position, x, y)[0][1] for y in range(3, 9) for x in range(2, 14)]
+                self.assertEqual(frame.depths(2, 3, 14, 9), depths)
+            self.assertEqual((frame.depths(4, 4, 4, 9), frame.position), ([], 3))
+        with client(EXAMPLES / "crowd.json") as frame:
+            self.assertEqual(len(frame.depths(0, 0, 256, 200)), 256 * 200)
+            self.assertEqual(frame.goto(1), 1)
+        with client() as frame:
+            with self.assertRaises(Garbled):
+                frame.depths(0, 0, 2, 2)
+            for _ in range(2):
+                with self.assertRaises(Garbled):
+                    frame.depths(0, 0, 1, 1)
+        with client(EXAMPLES / "crossing.json") as frame:
+            frame.connection.process.kill()
+            for _ in range(2):
+                with self.assertRaises(Ended):
+                    frame.depths(0, 0, 2, 2)
+
     def test_refusals(self):
         with client() as frame:
             for line, reply in (("back", Refused(2, "at start")), ("goto 14", Refused(3, "no such position")), ("off 0", Refused(4, "no such event")), ("on 8", Refused(5, "already so")),
@@ -180,6 +210,29 @@ class Asked(unittest.TestCase):
             self.assertEqual((frame.restart(), frame.goto(13)), (0, 13))
         self.assertIsNotNone(frame.connection.process.returncode)
 
+    def test_a_capture_that_is_not_there(self):
+        """It is told at once, and not at the first call."""
+        with tempfile.TemporaryDirectory() as folder:
+            for path, fault in ((pathlib.Path(folder) / "no.json", FileNotFoundError), (folder, IsADirectoryError)):
+                with self.assertRaises(fault) as seen:
+                    client(path)
+                self.assertEqual(str(seen.exception.filename), str(path))
+
+    def test_what_is_off_is_a_copy(self):
+        with client() as frame:
+            before = frame.off
+            frame.switch(8, False)
+            self.assertEqual((before, frame.off, hasattr(frame.off, "add")), (set(), {8}, False))
+            with self.assertRaises(AttributeError):
+                frame.off = set()
+
+    def test_a_name_of_any_bytes(self):
+        with tempfile.TemporaryDirectory() as folder:
+            path = os.path.join(folder, os.fsdecode(b"caf\xe9.json"))
+            shutil.copy(HOUSE, path)
+            with client(path) as frame:
+                self.assertEqual(frame.goto(3), 3)
+
     def test_another_run(self):
         with client(workers=2) as frame:
             frame.goto(12)
@@ -202,7 +255,7 @@ class Asked(unittest.TestCase):
     def test_want_of_memory(self):
         with tempfile.TemporaryDirectory() as folder:
             environment = {"ASKED": f"{folder}/asked", "MOST": "2", "END": "state"}
-            with mock.patch.dict(os.environ, environment), Client("x.json", stand_in(folder)) as frame:
+            with mock.patch.dict(os.environ, environment), Client(HOUSE, stand_in(folder)) as frame:
                 self.assertEqual((frame.goto(3), frame.position), (2, 2))
                 with self.assertRaisesRegex(Ended, r"framedbg: memory \(status 5\)"):
                     frame.state()
@@ -225,7 +278,7 @@ class Asked(unittest.TestCase):
                     path.write_text("#!/bin/sh\n")
                     path.chmod(0o755)
                     self.assertEqual(client_program.find_program(), str(path))
-        self.assertEqual(client_program.PLACES, (TOOLS.parent / "crates/framedbg/out/framedbg", TOOLS.parent.parent.parent / "bin/framedbg"))
+        self.assertEqual(client_program.PLACES, (TOP / "crates/framedbg/out/framedbg", TOP.parent.parent / "bin/framedbg"))
 
 
 class Page(unittest.TestCase):

@@ -1,9 +1,9 @@
 #!/usr/bin/env python3
 """test_explain: what is explained stands where it says, and whether a capture is accepted is never told otherwise than by framedbg.
 
-    tools/test_explain.py [--seed N] [--cases N] [TEST ..]
+    tests/test_explain.py [--seed N] [--cases N] [TEST ..]
 
-Captures are changed by chance, as values and as bytes: all are compared with tools/reference.py, and some with the program (FRAMEDBG names another).
+Captures are changed by chance, as values and as bytes: all are compared with build/reference.py, and some with the program (FRAMEDBG names another).
 """
 import copy
 import json
@@ -16,13 +16,15 @@ import sys
 import tempfile
 import unittest
 
+from folders import TOOLS, TOP
+
+import captures
 import reference
 from explaining import json_text
 from explaining.verdict import explained
 from framedbg_client.program import tried_program
 
-TOOLS = pathlib.Path(__file__).resolve().parent
-EXAMPLES = TOOLS.parent / "examples"
+EXAMPLES = TOP / "examples"
 PROGRAM = tried_program()
 
 SEED, CASES, RUN_CASES = 20, 3000, 150
@@ -33,7 +35,10 @@ FRAME = {"format": "framedbg", "version": 2, "width": 4, "height": 4, "events": 
     {"kind": "factor", "color": [0, 0, 0, 0]}, {"kind": "draw", "interp": "flat", "vertices": [CORNER] * 3, "indices": [0, 1, 2]},
     {"kind": "draw", "interp": "linear", "vertices": []}, {"kind": "marker", "name": "a name"}, {"kind": "depth", "enable": True, "write": True, "func": "LESS"},
     {"kind": "depth_clear", "depth": 65535}]}
-WORDS = ["framedbg", "clear", "draw", "depth", "flat", "ADD", "SRC_COLOR", "ONE", "less", "LESS", "", "a" * 65, "\u00e9" * 33, "\n", "\x7f", "none", "\u2028"]
+BOX = captures.picture(1, 0, 3, 2, bytes(range(24)), [0, 0, 1, 0, 0, 1])
+WITH_PICTURES = {**FRAME, "version": 3, "events": [{"kind": "draw", "interp": "picture", "picture": BOX, "vertices": [captures.corner(0, 0, 9)] * 3, "indices": [0, 1, 2]}]
+                 + FRAME["events"][4:]}
+WORDS = ["AAAA", "AAAA" * 8, "A" * 31 + "=", BOX["texels"][:-1] + "\n", "JA==", "JB==", "J===", "====", "JA", "picture", "framedbg", "clear", "draw", "depth", "flat", "ADD", "SRC_COLOR", "ONE", "less", "LESS", "", "a" * 65, "\u00e9" * 33, "\n", "\x7f", "none", "\u2028"]
 NUMBERS = [-1, 0, 1, 2, 3, 15, 16, 255, 256, 65535, 65536, 16384, 16385, 1 << 30, (1 << 30) + 1, -(1 << 30) - 1, (1 << 31) - 1, 1 << 31, -(1 << 31) - 1, (1 << 32) - 1,
            1 << 32, (1 << 63) - 1, 1 << 63, 1 << 64, 10 ** 400, -10 ** 400, 1.0, 0.5, 1e308]
 PIECES = [b"\\ud800", b"\\udc00\\ud800", b"\\ud83d\\ude00", b"\xff", b"\xef\xbb\xbf", b"\xed\xa0\x80", b"-0", b"1e400", b"1e-400", b"01", b"1.", b"+1", b".5", b"1E5",
@@ -50,8 +55,8 @@ def places(value, path=()):
 
 def changed(dice):
     """A capture with a value changed, taken away or set beside."""
-    frame = copy.deepcopy(FRAME)
-    frame["version"] = dice.choice([1, 2, 2, 2])
+    frame = copy.deepcopy(dice.choice([FRAME, FRAME, WITH_PICTURES]))
+    frame["version"] = dice.choice([1, 2, 2, 2, 3]) if frame["version"] == 2 else dice.choice([3, 3, 3, 3, 2])
     for _ in range(dice.randint(0, 2)):
         path = dice.choice(list(places(frame))[1:] or [()])
         if not path:
@@ -146,6 +151,33 @@ class Explained(unittest.TestCase):
         twice = text.replace('"mask": 15', '"mask": 3,\n   "mask": 16', 1)      # of equal names the last counts
         line = twice[:twice.index('"mask": 16')].count("\n") + 1
         self.assertTrue(explained(twice.encode())[2].startswith(f"line {line}, column 12: event 4 (blend), mask: a whole number from 0 to 15 is wanted, not 16"))
+
+    def test_it_points_into_a_picture(self):
+        def change(name, value, of=BOX):
+            event = WITH_PICTURES["events"][0] | {"picture": of | {name: value}}
+            text = explained(json.dumps({**WITH_PICTURES, "events": [event]}).encode())[2]
+            return text.partition("event 1 (draw), picture, ")[2]
+        self.assertEqual(change("left", 16384), "left: a whole number from 0 to 16383 of pixels is wanted, not 16384")
+        self.assertEqual(change("height", 0), "height: a whole number from 1 to 16384 is wanted, not 0")
+        self.assertEqual(change("texels", None), "texels: a text in base64 is wanted, of 24 bytes, not null")
+        self.assertEqual(change("holes", None), "holes: a text in base64 is wanted, of 1 byte, not null")
+        self.assertEqual(change("texels", "AAAA"), "texels: 24 bytes in base64 are wanted, four for each of 3 by 2 texels; the text has 3")
+        self.assertEqual(change("holes", "AAA="), "holes: 1 byte in base64 is wanted, a bit for each of 3 by 2 texels; the text has 2")
+        none_of = "which is none of base64's (A to Z, a to z, 0 to 9, + and /)"
+        self.assertEqual(change("texels", "A" * 9 + "\n" + "A" * 22), f"texels: character 9 of the text is '\\n', {none_of}")
+        self.assertEqual(change("texels", "AA==" + "A" * 28), f"texels: character 2 of the text is '=', {none_of}")
+        self.assertEqual(change("texels", "A" * 31 + "_"), f"texels: character 31 of the text is '_', {none_of}")
+        for text in ("A" * 31, "A" * 30 + "=", "J===", "===="):
+            self.assertEqual(change("texels", text), f"texels: the text's {len(text)} characters aren't padded by = to whole fours, as base64 is", text)
+        self.assertEqual(change("holes", "JB=="), "holes: behind the last byte of the text stand bits that aren't zero: base64 spells these bytes with another last letter before =")
+        self.assertEqual(change("more", 1), "")
+        told = lambda **members: explained(json.dumps({**WITH_PICTURES, **members}).encode())[2].partition(": ")[2]
+        draw = WITH_PICTURES["events"][0]
+        self.assertEqual(told(version=2), 'event 1 (draw), interp: "picture" comes with version 3: one of flat, linear is wanted')
+        self.assertEqual(told(events=[draw | {"interp": "pictures"}]), 'event 1 (draw), interp: one of flat, linear, picture is wanted (picture?), not the text "pictures"')
+        self.assertEqual(told(events=[draw | {"picture": "no"}]), 'event 1 (draw), picture: an object is wanted, not the text "no"')
+        self.assertEqual(told(events=[draw | {"vertices": [{"x": 0, "y": 0}]}]), "event 1 (draw), vertex 0: the member z is missing: a whole number from 0 to 65535 is wanted")
+        self.assertEqual(told(version=4), "version: 1, 2 or 3 is wanted, not 4")
 
     def test_it_names_the_call(self):
         told = lambda event, source: explained(json.dumps({**FRAME, "events": [{**event, "source": source}]}).encode())[2].partition(": ")[2]

@@ -1,11 +1,13 @@
 #!/usr/bin/env python3
 """test_fdb: tries fdb: its words and scripts without a terminal, and its prompt at one; and each session of it that the documents show.
 
-    tools/test_fdb.py [TEST ..]
+    tests/test_fdb.py [TEST ..]
 
 FRAMEDBG names another program.
 """
 import unittest
+
+import folders
 
 from test_fdb_batch import *        # noqa: F401, F403
 from test_fdb_documents import *    # noqa: F401, F403

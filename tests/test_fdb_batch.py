@@ -1,5 +1,5 @@
 """fdb without a terminal: its words, its breakpoints, its scripts and their statuses. What is expected comes from docs/FORMATS.md, from the replies in
-examples/, which tools/reference.py made, and from captures that are worked out by hand here."""
+examples/, which build/reference.py made, and from captures that are worked out by hand here."""
 import base64
 import contextlib
 import io
@@ -15,10 +15,13 @@ import tempfile
 import unittest
 import zlib
 
+import folders
+
 from fdb_testing import EXAMPLES, FDB, HUNTS, PROGRAM, batch, launched, stand_in
+from full_disk import LACKING, OF_NULL, made_device
 from test_client import sessions, shown_house
 
-from debugger import command_line, drawing, picturing
+from debugger import command_line, drawing
 from debugger.faults import Failed, Slip
 from debugger.frame import Frame
 from debugger.screen import Screen
@@ -27,6 +30,7 @@ from debugger.telling import PLAIN
 from debugger.words import WORDS
 from framedbg_client import Client, Image, read_pam
 from framedbg_client.replies import lines_of
+from writing import files
 
 HOUSE = EXAMPLES / "house.json"
 # Two clears of a target of 4 by 2, and between them a draw that colours two of its pixels; the third clear has the second one's colour
@@ -133,8 +137,39 @@ class Breakpoints(Folder):
                                      "no breakpoints", "breakpoint 4: event 1"])
         self.assertEqual(self.told(["b 4", "b 4"]), ["breakpoint 1: event 4"] * 2)
 
+    def test_conditions(self):
+        """The pixel becomes 10 20 30 40, 200 100 50 255, and 1 2 3 4."""
+        for condition, wanted in (("red > 9", [1, 3]), ("red >= 200", [3]), ("red < 10", [4]), ("green <= 20", [1, 4]), ("blue = 3", [4]), ("blue == 3", [4]), ("alpha != 255", [1, 4]),
+                                  ("red > 200", []), ("depth > 0", [])):
+            ends = [line for line in self.stops([f"b pixel 1 0 if {condition}", *["c"] * (len(wanted) + 1)]) if line.startswith("at")]
+            self.assertEqual(ends, [f"at {event}" for event in [*wanted, 6]], condition)
+            ends = [line for line in self.stops([f"watch 1 0 if {condition}", *["rc"] * (len(wanted) + 1)], at="6") if line.startswith("at")]
+            self.assertEqual(ends, [f"at {event}" for event in [*reversed(wanted), 0]], condition)
+        told = self.told(["b pixel 1 0 if red > 99", "c"], "--at", "0")
+        self.assertEqual(told, ["breakpoint 1: pixel 1 0 if red > 99"] * 2 + ["pixel 1 0 from 10 20 30 40 to 200 100 50 255", "at 3", "3 on draw 2 flat"])
+
+    def test_a_condition_of_a_depth(self):
+        capture = {"format": "framedbg", "version": 2, "width": 1, "height": 1, "events": [
+            *({"kind": "depth_clear", "depth": depth} for depth in (100, 65535, 7)), {"kind": "marker", "name": "the end"}]}
+        path = self.written("depths.json", json.dumps(capture))
+        self.assertEqual([line for line in self.stops(["watch 0 0 if depth < 100", "c"], capture=path) if line[0] == "a"], ["at 3"])
+
+    def test_once(self):
+        told = self.told(["tbreak 2", "tb clear", "i b", "c", "i b", "c", "i b", "c"], "--at", "0")
+        self.assertEqual(told, ["breakpoint 1: event 2 (once)", "breakpoint 2: each clear (once)", "breakpoint 1: event 2 (once)", "breakpoint 2: each clear (once)",
+                                "breakpoint 2: each clear (once)", "at 1", "1 on clear 10 20 30 40", "breakpoint 1: event 2 (once)",
+                                "breakpoint 1: event 2 (once)", "at 2", told[10], "no breakpoints", "no breakpoint after 2", "at 6", told[-1]])
+        self.assertEqual(self.told(["b 2", "tbreak 2", "i b"]), ["breakpoint 1: event 2"] * 3)
+
+    def test_disabled(self):
+        self.assertEqual(self.stops(["b 2", "b 5", "disable 1", "c", "g 0", "disable", "c", "g 0", "enable 1", "c", "enable", "c"]),
+                         ["at 5", "at 0", "no breakpoint after 0", "at 6", "at 0", "at 2", "at 5"])
+        self.assertEqual(self.told(["b 2", "disable", "i b", "delete", "b 2"]), ["breakpoint 1: event 2", "breakpoint 1: event 2 (disabled)", "breakpoint 2: event 2"])
+
     def test_what_is_no_breakpoint(self):
-        for line in ("b", "b 7", "b 0", "b drow", "b pixel 1", "b 1 2", "watch 1", "watch x y", "delete 1", "delete x"):
+        for line in ("tbreak", "tbreak 7", "disable 1", "enable x", "disable 1 2", "b pixel 1 0 if", "b pixel 1 0 if red", "b pixel 1 0 if red > x", "b pixel 1 0 if red > 256",
+                     "b pixel 1 0 if rot > 2", "b pixel 1 0 if red ~ 2", "b pixel 1 if red > 2", "watch 1 0 if red > 2 3",
+                     "b", "b 7", "b 0", "b drow", "b pixel 1", "b 1 2", "watch 1", "watch x y", "delete 1", "delete x"):
             self.assertEqual(batch(self.steps(), [line])[0], 1, line)
         self.assertEqual(self.told(["b pixel 4 0", "watch 0 2", "i b"]), ["refused 6 no such pixel"] * 2 + ["no breakpoints"])
 
@@ -170,6 +205,18 @@ class Answers(Folder):
         self.assertEqual([line for line in told if line.startswith("depth")], ["depth 1 1 GREATER set by 8", "depth 1 1 LESS set by 4", "depth 1 1 LESS set by 4"])
         self.assertEqual(self.told(["g 2", "i"])[2], "raster none 0 0 set by 2")       # what the event here has just set
 
+    def test_draws_with_pictures(self):
+        """What a picture discards is told as framedbg tells it, and is no change: neither a watched pixel nor `last` stops there."""
+        tested, blended = EXAMPLES / "picture_tested.json", EXAMPLES / "picture_blended.json"
+        expected = (EXAMPLES / "picture_tested.expected").read_text().splitlines()
+        at = [i for i, line in enumerate(expected) if line == "history 3"][1]
+        self.assertEqual(self.told(["who 0 1"], capture=tested), expected[at:at + 4])
+        self.assertEqual(self.told(["l 3 4"], capture=tested), ["3 on draw 1 picture", "4 on draw 1 flat"])
+        self.assertEqual(self.told(["last 1 1", "g 3", "last 1 0"], capture=blended)[0], "at 1")
+        self.assertEqual(self.told(["last 0 1"], capture=tested), ["at 2", "2 on draw 2 flat", expected[at + 1]])
+        stops = [line for line in self.told(["watch 1 1", "c", "c"], "--at", "0", capture=blended) if line.startswith(("at", "pixel", "no "))]
+        self.assertEqual(stops, ["pixel 1 1 from 0 0 0 0 to 100 100 100 100", "at 1", "no breakpoint after 1", "at 3"])
+
     def test_a_later_event_hides_an_earlier_one(self):
         told = self.told(["i"], capture=HUNTS / "island.json")
         self.assertEqual(told[:2], ["raster none 0 1 set by 11", "scissor 82 4 116 30 set by 10"])
@@ -190,6 +237,14 @@ class Answers(Folder):
                 self.assertEqual(client.off, {2, 3}, line)
             session.execute("on 3 2")
             self.assertEqual(client.off, set())
+
+    def test_undone(self):
+        told = [line for line in self.told(["g 3", "off 4 5", "g 6", "p 1 0", "undo", "i off", "undo", "i off", "undo", "step", "undo"], "--at", "1") if not line.startswith(tuple("123456"))]
+        self.assertEqual(told, ["at 3", "at 3", "at 6", "pixel 1 2 3 4", "at 3", "at 3", "all events are on", "at 1", "at 2", "at 1"])
+        self.assertEqual(batch(self.steps(), ["p 1 0", "undo"])[2], "fdb: standard input:2: there is nothing to take back\n")
+        script = self.written("go.fdb", "g 2\ng 4\noff 5\n")
+        told = self.told(["g 1", f"source {script}", "undo", "i off", "undo"])
+        self.assertEqual([line for line in told if line.startswith("a")][-3:], ["at 1", "all events are on", "at 6"])
 
     def test_differences(self):
         self.assertEqual(self.told(["d 1 3", "d 3 1", "d 6 4", "s"]), [
@@ -215,7 +270,7 @@ class Answers(Folder):
             self.assertTrue(told[0].startswith(word.usage) and word.short in told[1], told)
         for name in ("step", "back", "goto", "pixel", "history", "state", "events", "show", "quit"):
             self.assertIn("framedbg's own", self.told([f"help {name}"])[0])
-        for name in ("s", "rs", "n", "rn", "c", "rc", "b", "watch", "g", "who", "last", "first", "p", "i", "l", "off", "on", "d", "look", "save", "source", "expect", "help"):
+        for name in ("s", "rs", "n", "rn", "c", "rc", "b", "watch", "g", "tbreak", "disable", "enable", "undo", "who", "last", "first", "p", "i", "l", "off", "on", "d", "look", "save", "source", "expect", "help"):
             self.assertIn(name, WORDS.named)
 
     def test_slips(self):
@@ -233,7 +288,13 @@ class Pictures(Folder):
         self.assertEqual(self.told([f"save {png}", f"save {pam}"], capture=HOUSE), [f"saved {png}", f"saved {pam}"])
         self.assertEqual(pam.read_bytes(), shown_house())
         self.assertEqual(png.read_bytes(), read_pam(shown_house()).png())
-        self.assertEqual(stat.S_IMODE(png.stat().st_mode), 0o666 & ~picturing.umask())
+        self.assertEqual(stat.S_IMODE(png.stat().st_mode), 0o666 & ~files.umask())
+
+    def test_a_device_stays(self):
+        path = self.folder / "device.png"
+        path.symlink_to(self.enterContext(made_device(OF_NULL)) or self.skipTest(LACKING))
+        self.assertEqual(self.told([f"save {path}"]), [f"saved {path}"])
+        self.assertEqual((path.is_symlink(), stat.S_ISCHR(path.stat().st_mode)), (True, True))
 
     def test_nothing_is_lost(self):
         path = self.written("kept.png", "before")
@@ -360,7 +421,7 @@ class Scripts(Folder):
         self.assertEqual(batch(self.steps(), ["quit", "nonsense"])[:2], (0, ["bye"]))
 
     def test_each_hunt(self):
-        """The scripts that find the bugs expect what tools/reference.py worked out for the plain sessions, but who set a state."""
+        """The scripts that find the bugs expect what build/reference.py worked out for the plain sessions, but who set a state."""
         hunts = sorted(path.stem.removesuffix("_find") for path in HUNTS.glob("*_find.session"))
         self.assertEqual(len(hunts), 9)
         for path in [EXAMPLES / "house_find", *(HUNTS / f"{name}_find" for name in hunts)]:
@@ -392,7 +453,8 @@ class Endings(Folder):
     def test_captures(self):
         refused = self.written("refused.json", "[]")
         self.assertEqual(batch(refused, ["s"]), (2, [], "framedbg: capture refused 3 not a capture\n"))
-        self.assertEqual(batch(self.folder / "none.json", ["s"]), (3, [], "framedbg: cannot read capture\n"))
+        self.assertEqual(batch(self.folder / "none.json", ["s"]), (3, [], f"fdb: {self.folder / 'none.json'}: No such file or directory\n"))
+        self.assertEqual(batch(self.folder, ["s"]), (3, [], f"fdb: {self.folder}: Is a directory\n"))
         self.assertEqual(batch(self.steps(), [], "--at", "7"), (1, [], "fdb: no such position\n"))
         self.assertEqual(batch(EXAMPLES / "no_events.json", ["l", "i off", "s", "rc", "c", "n"])[1:],
                          (["all events are on", "refused 1 at end", "refused 2 at start", "refused 1 at end"], "fdb: standard input:6: no draw or clear after 0\n"))

@@ -5,6 +5,8 @@ import re
 import subprocess
 import unittest
 
+import folders
+
 from fdb_testing import EXAMPLES, HUNTS, ROOT, Terminal
 
 from debugger import command_line

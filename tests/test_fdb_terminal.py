@@ -7,6 +7,8 @@ import subprocess
 import time
 import unittest
 
+import folders
+
 from fdb_testing import EXAMPLES, PATIENCE, Terminal, plain, stand_in
 from test_fdb_batch import Folder, cells, unsixeled
 from test_client import shown_house

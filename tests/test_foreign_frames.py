@@ -10,13 +10,15 @@ import pathlib
 import subprocess
 import sys
 import tempfile
+import time
 import types
 import unittest
 from unittest import mock
 
-from frames_testing import TOOLS
+from folders import TESTS, TOOLS
 
-from real_frames import module
+from real_frames import module, telling
+from real_frames.fault import Fault
 
 MEMBERS = {"State": "rasterizer outputMerger", "Rasterizer": "state viewports scissors", "BlendState": "blendFactor blends",
            "RasterizerState": "frontCCW depthClip depthBias slopeScaledDepthBias depthBiasClamp fillMode cullMode",
@@ -84,7 +86,7 @@ class Foreign(unittest.TestCase):
         with tempfile.TemporaryDirectory() as folder:
             path = pathlib.Path(folder)
             (path / "frame.rdc").write_bytes(content)
-            (path / "renderdoc.py").write_text(f"import sys\nsys.path.insert(0, {str(TOOLS)!r})\nfrom test_foreign_frames import stand_in\nglobals().update(vars(stand_in()))\n")
+            (path / "renderdoc.py").write_text(f"import sys\nsys.path.insert(0, {str(TESTS)!r})\nfrom test_foreign_frames import stand_in\nglobals().update(vars(stand_in()))\n")
             environment = {"PATH": "/nowhere", "PYTHONPATH": folder, "PYTHONDONTWRITEBYTECODE": "1", "DISPLAY": display, "API": api, "SUPPORT": support, "REPLAY": replay}
             told = subprocess.run([sys.executable, TOOLS / "renderdoc_to_capture", path / "frame.rdc"], env=environment, capture_output=True, text=True, timeout=60)
             return told.returncode, told.stdout, told.stderr.replace(folder, "")
@@ -152,11 +154,51 @@ class Foreign(unittest.TestCase):
             for one, lines in zip(taken, listed):
                 pathlib.Path(one.path).write_text(lines)
             take.TOOLS = pathlib.Path(tools)
-            kinds = types.SimpleNamespace(NewCapture=1, RegisterAPI=2, Disconnected=3)
+            kinds = types.SimpleNamespace(NewCapture=1, RegisterAPI=2, Disconnected=3, NewChild=4)
             messages = iter([types.SimpleNamespace(type=1, newCapture=one) for one in taken])
             control = types.SimpleNamespace(ReceiveMessage=lambda _: next(messages), TriggerCapture=lambda count: None, CycleActiveWindow=lambda: None)
-            path = take.frame_of(types.SimpleNamespace(TargetControlMessageType=kinds), control, types.SimpleNamespace(seconds=0, patience=30))
+            path = take.frame_of(types.SimpleNamespace(TargetControlMessageType=kinds), [control], types.SimpleNamespace(seconds=0, patience=30))
             self.assertEqual((path, os.listdir(folder)), (taken[2].path, ["frame2.rdc"]))
+
+    def test_a_shown_target_of_one_pixel(self):
+        sizes, counts = {7: (1, 1), 8: (640, 480), 9: (64, 64)}, {7: (1, 2, 1), 8: (3, 90, 40), 9: (91, 99, 6)}
+        frame = types.SimpleNamespace(shown_target=lambda: 7, size=sizes.get, draws_of_targets=lambda: counts)
+        with self.assertRaisesRegex(Fault, "the target that is shown, 7, has one pixel: --list tells the others, and --target 8 has the most draws"):
+            telling.target_of(frame)
+        frame.shown_target = lambda: 9
+        self.assertEqual(telling.target_of(frame), 9)
+
+    def watched(self, take, *programs, seconds=0, patience=5):
+        """What comes of programs that tell their messages one by one, and then nothing; those behind the first are its children, by their number."""
+        kinds = types.SimpleNamespace(NewCapture=1, RegisterAPI=2, Disconnected=3, NewChild=4, Noop=5)
+        def control(messages):
+            rest = iter(messages)
+            return types.SimpleNamespace(ReceiveMessage=lambda _: next(rest, types.SimpleNamespace(type=5)), TriggerCapture=lambda count: None, CycleActiveWindow=lambda: None)
+        controls = [control(messages) for messages in programs]
+        renderdoc = types.SimpleNamespace(TargetControlMessageType=kinds, CreateTargetControl=lambda host, ident, *_: controls[ident])
+        with mock.patch.object(take, "is_of_nothing", lambda path: False):
+            return take.frame_of(renderdoc, controls[:1], types.SimpleNamespace(seconds=seconds, patience=patience))
+
+    def test_what_renderdoc_does_not_take_is_said_at_once(self):
+        take = self.take_frame()
+        take.STILL = .2
+        use = lambda presenting, supported: types.SimpleNamespace(type=2, apiUse=types.SimpleNamespace(name="OpenGL", presenting=presenting, supported=supported))
+        began = time.monotonic()
+        with self.assertRaisesRegex(Fault, "no frame can be taken: the program presents by OpenGL, which RenderDoc does not take"):
+            self.watched(take, [use(True, False)], patience=60)
+        self.assertLess(time.monotonic() - began, 20)
+        frame = types.SimpleNamespace(type=1, newCapture=types.SimpleNamespace(path="a.rdc"))
+        nothing = [types.SimpleNamespace(type=5)] * 12
+        self.assertEqual(self.watched(take, [use(True, False), use(True, True), *nothing, frame]), "a.rdc")       # by another in time
+        self.assertEqual(self.watched(take, [use(False, False), *nothing, frame]), "a.rdc")                     # a context that only asks
+
+    def test_what_a_script_starts_is_followed(self):
+        take = self.take_frame()
+        child, over = types.SimpleNamespace(type=4, newChild=types.SimpleNamespace(ident=1)), types.SimpleNamespace(type=3)
+        frame = types.SimpleNamespace(type=1, newCapture=types.SimpleNamespace(path="b.rdc"))
+        self.assertEqual(self.watched(take, [child, over], [frame]), "b.rdc")
+        with self.assertRaisesRegex(Fault, "ended before its frame was taken; it uses no OpenGL"):
+            self.watched(take, [child, over], [over])
 
     def test_renderdoc_has_these_members(self):
         """Its own module, where it is here: no state of Direct3D can be made without a frame, but its types can be looked at."""

@@ -1,9 +1,9 @@
 #!/usr/bin/env python3
 """test_fuzz_captures: the captures of fuzz_captures tell a wrong reading from the right one, and a run of it tells a wrong program.
 
-    tools/test_fuzz_captures.py [TEST ..]
+    tests/test_fuzz_captures.py [TEST ..]
 
-Each wrong reading is tools/reference.py with one change: a limit off by one, two faults in the other order, a rule of JSON left out.
+Each wrong reading is build/reference.py with one change: a limit off by one, two faults in the other order, a rule of JSON left out.
 """
 import pathlib
 import subprocess
@@ -11,16 +11,18 @@ import tempfile
 import types
 import unittest
 
+from folders import BUILD, CHECKS
+
 import reference
 from fuzzing import cases, limits
 
-TOOLS = pathlib.Path(__file__).resolve().parent
 SEED, MOST_CASES = 3, 12000
 WRONG = [
     # limits
-    ("1, 16384)", "1, 16383)"), ("1, 16384)", "1, 16385)"), ("1, 16384)", "0, 16384)"), ('capture.get("version"), 1, 2)', 'capture.get("version"), 1, 3)'),
-    ('capture.get("version"), 1, 2)', 'capture.get("version"), 0, 2)'), ("whole(n, 0, 255)", "whole(n, 0, 256)"), ("whole(n, 0, 255)", "whole(n, -1, 255)"),
-    ("whole(n, 0, 255)", "whole(n, 1, 255)"),
+    ("capture.get(name), 1, 16384)", "capture.get(name), 1, 16383)"), ("capture.get(name), 1, 16384)", "capture.get(name), 1, 16385)"),
+    ("capture.get(name), 1, 16384)", "capture.get(name), 0, 16384)"), ('capture.get("version"), 1, 3)', 'capture.get("version"), 1, 4)'),
+    ('capture.get("version"), 1, 3)', 'capture.get("version"), 0, 3)'), ('capture.get("version"), 1, 3)', 'capture.get("version"), 1, 2)'),
+    ("whole(n, 0, 255)", "whole(n, 0, 256)"), ("whole(n, 0, 255)", "whole(n, -1, 255)"), ("whole(n, 0, 255)", "whole(n, 1, 255)"),
     ("-2**30, 2**30)", "-2**30, 2**30 + 1)"), ("-2**30, 2**30)", "-2**30, 2**30 - 1)"), ("-2**30, 2**30)", "-2**30 - 1, 2**30)"),
     ("-2**31, 2**31 - 1)", "-2**31, 2**31)"), ("-2**31, 2**31 - 1)", "-2**31 - 1, 2**31 - 1)"), ("-2**31, 2**31 - 1)", "-2**31, 2**31 - 2)"),
     ('e.get("mask"), 0, 15)', 'e.get("mask"), 0, 16)'), ('e.get("depth"), 0, 65535)', 'e.get("depth"), 0, 65536)'),
@@ -40,6 +42,12 @@ WRONG = [
     ("len(value) == 3", "len(value) >= 3"),
     ('len(e["rect"]) == 4', 'len(e["rect"]) >= 4'), ("isinstance(e.get(name), bool)", 'type(e.get(name)) in (bool, int)'), ("version == 1 or whole", "whole"),
     ('"none", "front", "back")', '"none", "front", "back", "")'),
+    # pictures
+    ("0, 16383)", "0, 16384)"), ("0, 16383)", "0, 16382)"), ("0, 16383)", "-1, 16383)"), ('"texels"), 4 * texels)', '"texels"), 3 * texels)'),
+    ("len(value) == -(-length // 3) * 4 and len(bytes_of(value) or b\"\") == length", "bytes_of(value) is not None"),
+    ("data if base64.b64encode(data).decode() == text else None", "data"), ("-(-texels // 8)", "texels // 8"),
+    ('"holes" not in value or', ""), ('"holes" not in value', 'value.get("holes") is None'), ('version == 3 and e.get("interp")', 'version > 1 and e.get("interp")'),
+    ("(painted or is_color", "(is_color"), ("is_picture(e.get(\"picture\")) if painted", "True if painted"),
     ("return type(value) is int and", "return type(value) in (int, bool) and"), ("    return dict(members)", "    return dict(reversed(members))"),
     # JSON
     (' and text != "-0"', ""), ("if math.isinf(float(text)):", "if math.isinf(float(text)) and text[0] != '-':"),
@@ -60,8 +68,8 @@ WRONG_WHERE_LONG = [
 
 
 def reading(old, new):
-    """What tools/reference.py would say of captures with a piece of it exchanged."""
-    source = (TOOLS / "reference.py").read_text()
+    """What build/reference.py would say of captures with a piece of it exchanged."""
+    source = (BUILD / "reference.py").read_text()
     assert source.count(old) >= 1, old
     module = types.ModuleType("wrong")
     exec(compile(source.replace(old, new, 1), "wrong", "exec"), module.__dict__)
@@ -105,7 +113,7 @@ class Runs(unittest.TestCase):
             program.write_text(f"#!/bin/sh\n{body}\n")
             program.chmod(0o755)
             options = ["--count", str(count), "--seed", "1", "--program", program, "--keep", kept, "--workers", "1"]
-            ran = subprocess.run([TOOLS / "fuzz_captures", *options], capture_output=True, text=True)
+            ran = subprocess.run([CHECKS / "fuzz_captures", *options], capture_output=True, text=True)
             return ran.returncode, ran.stdout, {path.name: path.read_bytes() for path in kept.glob("*")} if kept.exists() else {}
 
     def test_a_wrong_program_is_seen(self):

@@ -12,6 +12,8 @@ import tempfile
 import unittest
 from unittest import mock
 
+from folders import TOOLS
+
 from explaining.verdict import explained
 from framedbg_client import read_pam
 from framedbg_client.program import tried_program
@@ -19,7 +21,6 @@ from meshes import gltf, model, obj, ply, text
 from meshes.frame import BUGS, Look, capture
 from meshes.model import Fault
 
-TOOLS = pathlib.Path(__file__).resolve().parent
 PROGRAM = tried_program()
 
 # A cube, and a smaller one on top of it that is of glass

@@ -1,7 +1,7 @@
 #!/usr/bin/env python3
 """test_night: tries framedbg-night on this machine, and on a Slurm that it starts: what differs, what fails, what is killed, and what goes on.
 
-    tools/test_night.py [TEST ..]
+    tests/test_night.py [TEST ..]
 
 FRAMEDBG names another program.
 """
@@ -11,6 +11,7 @@ import json
 import os
 import pathlib
 import pty
+import random
 import re
 import signal
 import subprocess
@@ -20,9 +21,11 @@ import time
 import unittest
 import xml.etree.ElementTree
 
+import folders
+
 import passed_over
 import slurm_testing
-from blame_testing import PROGRAM, TOOLS, blend, box, capture, clear, pam
+from blame_testing import PROGRAM, TOOLS, blend, box, capture, clear, painted, pam
 
 from framedbg_client import read_pam
 
@@ -34,6 +37,7 @@ DIFFER = 14 * 11         # the pixels of the glass
 DEADLY = """#!/bin/sh
 for last; do :; done
 echo "$last" >> ROOM/asked
+if [ -e ROOM/slow ] && [ "$1" = image ]; then echo $$ $PPID >> ROOM/running; exec sleep 60; fi
 if [ ! -e ROOM/cured ] && grep -q deadly "$last"; then kill -9 $PPID; sleep 5; fi
 exec REAL "$@"
 """
@@ -55,9 +59,9 @@ class Night(unittest.TestCase):
         self.put("glass", WRONG)
         self.put("of the town/glass & <more>", WRONG)
 
-    def put(self, name, events, right=RIGHT, picture=".pam"):
-        (self.folder / f"{name}.json").write_text(json.dumps(capture(events)))
-        data = pam(capture(right))
+    def put(self, name, events, right=RIGHT, picture=".pam", version=2):
+        (self.folder / f"{name}.json").write_text(json.dumps(capture(events, version=version)))
+        data = pam(capture(right, version=version))
         if picture:
             (self.folder / f"{name}{picture}").write_bytes(data if picture == ".pam" else read_pam(data).png())
 
@@ -87,7 +91,7 @@ class Reports:
     def test_what_differs(self):
         self.put("alone", RIGHT, picture=None)
         self.put("small", WRONG, picture=".png")
-        status, lines, errors = self.night(*self.words)
+        status, lines, errors = self.night(*self.words, "--allow-missing")
         self.assertEqual((status, errors), (1, ""), lines)
         self.assertEqual(lines[0], "5 captures: 1 alike, 3 differ, 0 failed, 1 without a picture; 4 done now")
         self.assertEqual(lines[1:4], [f"{name}: {DIFFER} of 432 pixels differ: event 3; mended by event 3, mask 15 in place of 6" for name in ("glass", "of the town/glass & <more>", "small")])
@@ -95,6 +99,17 @@ class Reports:
         suite = self.suite()
         self.assertEqual([suite.get(name) for name in ("tests", "failures", "errors", "skipped")], ["5", "3", "0", "1"])
         self.assertIn("who     event 3", suite.find("testcase[@name='glass']/failure").text)
+
+    def test_draws_with_pictures(self):
+        """What is discarded differs from nothing; a mask under them is found as under other draws."""
+        sheet = painted(box(2, 2, 14, 12, RED), random.Random(4), 3, 2, 9, 9)
+        under = lambda mask: [clear(*SKY), blend(mask=mask), sheet]
+        for name, mask in (("fine", 15), ("glass", 6), ("of the town/glass & <more>", 6)):
+            self.put(name, under(mask), under(15), version=3)
+        status, lines, errors = self.night(*self.words)
+        self.assertEqual((status, errors), (1, ""), lines)
+        self.assertEqual(lines[0], "3 captures: 1 alike, 2 differ, 0 failed, 0 without a picture; 3 done now")
+        self.assertTrue(lines[1].endswith("event 2; mended by event 2, mask 15 in place of 6"), lines)
 
     def test_what_is_killed(self):
         """It is told, the others are done, and the same command does it again, and no other."""
@@ -110,6 +125,15 @@ class Reports:
         self.assertEqual((status, lines[0]), (1, "4 captures: 1 alike, 3 differ, 0 failed, 0 without a picture; 1 done now"))
         self.assertEqual(self.asked(), {"mortal"})
         self.assertEqual(self.verdicts()["mortal"], ["failure"])
+
+    def test_names_of_any_bytes(self):
+        for name in (os.fsdecode(b"caf\xe9"), "-o", "two\nlines", "\u2028"):
+            self.put(name, WRONG)
+        status, lines, errors = self.night(*self.words)
+        self.assertEqual((status, errors, lines[0]), (1, "", "7 captures: 1 alike, 6 differ, 0 failed, 0 without a picture; 7 done now"))
+        self.assertEqual([line.partition(":")[0] for line in lines[1:-1]], ["-o", "caf\\xe9", "glass", "of the town/glass & <more>", "two\\nlines", "\\u2028"])
+        self.assertIn("caf\\xe9", self.verdicts())
+        self.assertIn("caf\\xe9", (self.folder / "night/night.html").read_text())
 
 
 class Here(Reports, Night):
@@ -161,6 +185,68 @@ class Here(Reports, Night):
         from blaming import pictures
         read = pictures.picture_of(png)
         return sum(read.pixel(i)[:3] == (255, 255, 255) for i in range(24 * 18))
+
+    def test_what_is_missing(self):
+        """A capture without a picture is told, and no captures at all: neither is a night in which all is alike."""
+        self.put("glass", RIGHT)
+        self.put("of the town/glass & <more>", RIGHT)
+        self.put("alone", RIGHT, picture=None)
+        status, lines, _ = self.night()
+        self.assertEqual((status, lines[:2]), (4, ["4 captures: 3 alike, 0 differ, 0 failed, 1 without a picture; 3 done now", "alone: no picture of this name"]))
+        status, lines, _ = self.night("--allow-missing")
+        self.assertEqual((status, len(lines)), (0, 2))
+        self.folder = self.room / "empty"
+        self.folder.mkdir()
+        self.assertEqual([self.night(*words)[0] for words in ((), ("--allow-missing",))], [4, 0])
+        self.folder = self.room / "one"
+        self.folder.mkdir()
+        self.put("fine", RIGHT)
+        self.assertEqual(self.night()[1][0], "1 capture: 1 alike, 0 differ, 0 failed, 0 without a picture; 1 done now")
+
+    def refused(self, *words):
+        before = {path: path.read_bytes() for path in self.room.rglob("*") if path.is_file()}
+        status, lines, errors = self.night(*words)
+        self.assertEqual((status, lines, errors.count("\n")), (2, [], 1), errors)
+        self.assertEqual({path: path.read_bytes() for path in self.room.rglob("*") if path.is_file()}, before)
+
+    def test_files_of_the_user(self):
+        """A folder `night` of captures, results among captures, or above them: nothing is written there."""
+        (self.folder / "night").mkdir()
+        self.put("night/glass", RIGHT)
+        self.refused()
+        self.refused("--results", self.folder)
+        self.refused("--results", self.room)
+        self.refused("--results", self.folder / "of the town")
+        self.assertEqual(self.night("--results", self.room / "results")[1][0], "4 captures: 2 alike, 2 differ, 0 failed, 0 without a picture; 4 done now")
+        (self.room / ".framedbg-night").touch()
+        self.refused("--results", self.room)
+
+    def test_a_capture_among_results(self):
+        self.assertEqual(self.night()[0], 1)
+        kept = self.folder / "night/glass.json"
+        kept.write_text(json.dumps(capture(RIGHT)))
+        before = kept.read_bytes()
+        status, lines, _ = self.night()
+        self.assertEqual((status, kept.read_bytes()), (4, before))
+        self.assertIn(f"glass: {kept}: no result of framedbg-night: it isn't written over", lines)
+
+    def test_ended_by_another(self):
+        """The jobs end with it, and what they have started."""
+        (self.room / "slow").touch()
+        words = [sys.executable, TOOLS / "framedbg-night", self.folder, "--program", self.program, "--processes", "2"]
+        signal.signal(signal.SIGINT, signal.default_int_handler)
+        for number in (signal.SIGTERM, signal.SIGINT):
+            running = self.room / "running"
+            running.unlink(missing_ok=True)
+            with subprocess.Popen(words, stdout=subprocess.PIPE, stderr=subprocess.PIPE) as run:
+                while not (running.exists() and len(running.read_text().splitlines()) == 2) and run.poll() is None:
+                    time.sleep(0.01)
+                run.send_signal(number)
+                out, errors = run.communicate(timeout=50)
+            self.assertEqual((run.returncode, out, errors), (130, b"", b"framedbg-night: interrupted: the same command goes on from here\n"))
+            for process in map(int, running.read_text().split()):
+                with self.assertRaises(ProcessLookupError):
+                    os.kill(process, 0)
 
     def test_elsewhere(self):
         status, lines, _ = self.night("--results", self.room / "elsewhere")

@@ -1,7 +1,7 @@
 #!/usr/bin/env python3
 """test_old_frames: the converter of apitrace's traces without apitrace: its calls are made here, and what has to come of them is worked out from OpenGL's definitions.
 
-tools/check_old_frames tries the whole on a program that is traced anew.
+checks/check_old_frames tries the whole on a program that is traced anew.
 """
 import io
 import json
@@ -14,7 +14,9 @@ import tempfile
 import types
 import unittest
 
-from frames_testing import TOOLS, image_of
+from folders import TOOLS
+
+from frames_testing import image_of
 
 import reference
 from old_frames import calls, draws, matrices, retrace, settings, shapes, words
@@ -483,7 +485,8 @@ class Tool(unittest.TestCase):
 
     def test_what_is_wrong_is_a_line(self):
         scene = self.scene()
-        for told, what in ((self.run_tool(scene, "--frame", "2"), "it has frames 0 to 1, and no 2"), (self.run_tool(scene), "glretrace gave 0 of 4 pictures"),
+        for told, what in ((self.run_tool(scene, "--frame", "2"), "it has frames 0 to 1, and no 2"), (self.run_tool(scene), "glretrace gave 0 of 4 pictures"), (self.run_tool(scene), "or take_frame --zink"),
+                           (self.asked("/nowhere", "/nowhere/\x1b[2Jgame.trace"), "/nowhere/?[2Jgame.trace: No such file"),
                            (self.run_tool(Trace()("glFlush").swap()), "frame 0 draws nothing on its window"), (self.run_tool(Trace()("glFlush")), "no frame of it ends"),
                            (self.run_tool(scene, info="error"), "no trace of apitrace's"), (self.asked("/nowhere", "/nowhere/game.trace"), "No such file"),
                            (self.run_tool(scene, pictures=self.pictures()[:-5]), "glretrace gave 3 of 4"), (self.run_tool(scene, "--draws", "900..", pictures=self.pictures()), "between the events")):

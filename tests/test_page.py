@@ -1,7 +1,7 @@
 #!/usr/bin/env python3
 """test_page: tries the page alone, opened from the disk: the viewer's own tests over it, and its answers beside those of the program.
 
-    tools/test_page.py [TEST ..]
+    tests/test_page.py [TEST ..]
 
 It makes the page, and wants Chromium and chromedriver; Firefox is tried too where it is installed. FRAMEDBG names another program. With another kit
 than the one it was tried with, a page that can't be made is told and passed over.
@@ -17,6 +17,8 @@ import time
 import unittest
 from unittest import mock
 
+from folders import TOP
+
 import blame_testing
 import browser
 import passed_over
@@ -25,14 +27,14 @@ import test_viewer_answers
 import test_viewer_blame
 import test_viewer_maps
 import test_viewer_page
-from viewer_testing import DEPTH, EXAMPLES, PROGRAM, TOOLS, capture_of, image, png
+from viewer_testing import DEPTH, EXAMPLES, PROGRAM, capture_of, image, png
 from viewer import image as viewer_image
 from viewer.session import Session
 from page import kit, module, packing, runs
 
 HOUSE, CHAIN = EXAMPLES / "house.json", EXAMPLES / "hunts/chain.json"
 FOLDER = tempfile.TemporaryDirectory()
-OBJECTS, PAGE, PACKED = TOOLS.parent / "out/page", pathlib.Path(FOLDER.name) / "framedbg.html", pathlib.Path(FOLDER.name) / "framedbg_house.html"
+OBJECTS, PAGE, PACKED = TOP / "out/page", pathlib.Path(FOLDER.name) / "framedbg.html", pathlib.Path(FOLDER.name) / "framedbg_house.html"
 SEED, RUNS = 1, 60
 SMALL = 64 << 20        # bytes of memory, for a page that wants more
 # Calls of the page's own run, with a window of the images: what each is answered with
@@ -84,6 +86,7 @@ return JSON.parse(new TextDecoder().decode(capture.bytesOf(capture.events, windo
 """
 GEOMETRY = {"both factors of blending", "direction of triangles", "a triangle too many", "indices left out", "indices doubled", "indices exchanged", "an index that is wrong",
             "a triangle that is missing", "colour of a vertex", "place of a vertex", "depth of a vertex"}      # kinds that the page doesn't try
+RED = (200, 40, 30, 255)
 WITHOUT = "delete WebAssembly.Suspending; WebAssembly.validate = () => false;"
 
 
@@ -295,7 +298,7 @@ class Alone(Opened):
                            'line 3, column 3: event 2 is {"kind":"clear","color":[1,2,300,4]}'),
                           ('{"events":[], "format":"framedbg","version":1,"width":4,"height":4,"x":[{"events":[9]}],"events":[{"kind":"marker","name":"],\\"{"},7]}',
                            "event 2 is 7"),
-                          ('{"format":"framedbg","version":3,"width":4,"height":4,"events":[]}', "version is 3"), ('{"format":"framedbg","version":1,"height":0,"events":[]}', "width is missing, height is 0")):
+                          ('{"format":"framedbg","version":4,"width":4,"height":4,"events":[]}', "version is 4"), ('{"format":"framedbg","version":1,"height":0,"events":[]}', "width is missing, height is 0")):
             self.drop("wrong.json", text.encode())
             self.browser.until("return document.getElementById('notice').innerText.includes(arguments[0])", why)
             self.assertEqual(self.text("#notice button"), "Close")
@@ -506,7 +509,7 @@ class Blamed(Opened):
 
     def test_the_hunts_are_mended(self):
         """As docs/HUNTS.md says of framedbg-blame, but for the one whose indices are wrong: there the event is named."""
-        table = re.findall(r"^\| `(\w+)` \| ([\d,]+) \| (\d+) \| event (\d+), (.+?) \| 0 \|$", (TOOLS.parent / "docs/HUNTS.md").read_text(), re.M)
+        table = re.findall(r"^\| `(\w+)` \| ([\d,]+) \| (\d+) \| event (\d+), (.+?) \| 0 \|$", (TOP / "docs/HUNTS.md").read_text(), re.M)
         self.assertEqual([name for name, *_ in table], list(blame_testing.NAMES))
         self.show(HOUSE)
         for name, differ, _, event, change in table:
@@ -575,12 +578,25 @@ class Blamed(Opened):
         """What is drawn on it is what the whole target has there, by the reference."""
         self.plain()
         left, top, right, bottom = 5, 4, 18, 12
-        for name in ("rectangle of the scissor", "interpolation", "depth writes"):
-            made = blame_testing.capture(test_blame_kinds.CASES[name][0])
+        sheet = lambda *place: blame_testing.painted(blame_testing.box(0, 0, 24, 18, RED), random.Random(1), *place)
+        painted = [blame_testing.clear(9, 9, 9, 255), sheet(0, 0, 24, 18), sheet(7, 2, 3, 13), sheet(16, 10, 40, 40), sheet(0, 0, 5, 18)]
+        named = {name: test_blame_kinds.CASES[name][0] for name in ("rectangle of the scissor", "interpolation", "depth writes")}
+        for name, events in (named | {"pictures": painted}).items():
+            made = blame_testing.capture(events, version=3)
             window = self.browser.within(WINDOWED, json.dumps(made), {"left": left, "top": top, "right": right, "bottom": bottom})
             rows = blame_testing.pam(made).partition(b"ENDHDR\n")[2]
             cut = b"".join(rows[4 * (made["width"] * y + left):4 * (made["width"] * y + right)] for y in range(top, bottom))
             self.assertEqual((window["width"], window["height"], blame_testing.pam(window).partition(b"ENDHDR\n")[2]), (13, 8, cut), name)
+
+    def test_draws_with_pictures(self):
+        """A write mask under a picture with holes; what the picture discards, and how the draw is coloured, is changed by nothing."""
+        self.show(HOUSE)
+        sheet = blame_testing.painted(blame_testing.box(0, 0, 24, 18, RED), random.Random(3), 3, 2, 17, 14)
+        below = blame_testing.box(0, 0, 24, 18, RED)       # so that pixels are wrong at which the picture has no texel
+        right, wrong = ([blame_testing.clear(9, 9, 9, 255), blame_testing.blend(mask=mask), below, sheet] for mask in (15, 6))
+        self.put("sheet.json", blame_testing.capture(wrong, version=3))
+        found, is_wanted = self.found(blame_testing.pam(blame_testing.capture(right, version=3)))
+        self.assertEqual((found["changes"][0]["event"], found["changes"][0]["change"], is_wanted), (2, "mask 15 in place of 6", True))
 
     def test_a_stop_of_the_search(self):
         """One change is never drawn: the search waits for it, until it is stopped. Then it may begin anew."""

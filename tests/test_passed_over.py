@@ -1,7 +1,7 @@
 #!/usr/bin/env python3
 """test_passed_over: what is passed over is said, listed, and a failure where CI=true.
 
-    tools/test_passed_over.py [TEST ..]
+    tests/test_passed_over.py [TEST ..]
 """
 import os
 import pathlib
@@ -11,7 +11,9 @@ import sys
 import tempfile
 import unittest
 
-TOOL = pathlib.Path(__file__).resolve().parent / "passed_over.py"
+from folders import CHECKS
+
+TOOL = CHECKS / "passed_over.py"
 TESTS = """
 import unittest
 import passed_over
@@ -39,17 +41,17 @@ class PassedOver(unittest.TestCase):
     def setUp(self):
         folder = tempfile.TemporaryDirectory()
         self.addCleanup(folder.cleanup)
-        self.tools = pathlib.Path(folder.name) / "tools"
-        self.tools.mkdir()
-        shutil.copy(TOOL, self.tools)
+        self.checks = pathlib.Path(folder.name) / "checks"
+        self.checks.mkdir()
+        shutil.copy(TOOL, self.checks)
 
     def ran(self, file, *words, ci=None):
         environment = {name: value for name, value in os.environ.items() if name != "CI"} | ({"CI": ci} if ci else {})
-        ran = subprocess.run([sys.executable, self.tools / file, *words], env=environment, capture_output=True, text=True, check=False)
+        ran = subprocess.run([sys.executable, self.checks / file, *words], env=environment, capture_output=True, text=True, check=False)
         return ran.returncode, ran.stdout
 
     def some(self, holds, skips):
-        (self.tools / "tests.py").write_text(TESTS.format(holds=holds, skips=skips))
+        (self.checks / "tests.py").write_text(TESTS.format(holds=holds, skips=skips))
 
     def listed(self):
         return self.ran("passed_over.py", "--list")[1].splitlines()

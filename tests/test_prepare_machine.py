@@ -1,7 +1,7 @@
 #!/usr/bin/env python3
 """test_prepare_machine: what isn't there is installed, by an apt-get that does it, fails or hangs, and only by root.
 
-    tools/test_prepare_machine.py [TEST ..]
+    tests/test_prepare_machine.py [TEST ..]
 """
 import pathlib
 import re
@@ -10,8 +10,9 @@ import subprocess
 import tempfile
 import unittest
 
-TOOLS = pathlib.Path(__file__).resolve().parent
-LISTED = [line.split()[0] for line in (TOOLS / "machine_packages.txt").read_text().splitlines() if line and not line.startswith("#")]
+from folders import CHECKS
+
+LISTED = [line.split()[0] for line in (CHECKS / "machine_packages.txt").read_text().splitlines() if line and not line.startswith("#")]
 NEEDED = ("bash", "env", "dirname", "sed", "awk", "grep", "timeout", "sleep", "cat", "id")
 DPKG_QUERY = '#!/bin/bash\nwhile read -r name; do echo "$name installed"; done < {0}/packages\n'
 APT_GET = """#!/bin/bash
@@ -44,7 +45,7 @@ class PreparesMachine(unittest.TestCase):
 
     def run_it(self, *words, seconds="60", most=60):
         environment = {"PATH": str(self.bin), "PREPARE_SECONDS": seconds}
-        ran = subprocess.run([TOOLS / "prepare_machine", *words], env=environment, capture_output=True, text=True, timeout=most, check=False)
+        ran = subprocess.run([CHECKS / "prepare_machine", *words], env=environment, capture_output=True, text=True, timeout=most, check=False)
         asked = (self.room / "asked").read_text().splitlines() if (self.room / "asked").exists() else []
         return ran.returncode, ran.stdout + ran.stderr, asked
 
@@ -95,7 +96,7 @@ class PreparesMachine(unittest.TestCase):
         self.assertEqual(self.run_it("--frob")[0], 1)
 
     def test_each_package_says_what_for(self):
-        lines = [line for line in (TOOLS / "machine_packages.txt").read_text().splitlines() if line and not line.startswith("#")]
+        lines = [line for line in (CHECKS / "machine_packages.txt").read_text().splitlines() if line and not line.startswith("#")]
         for line in lines:
             self.assertRegex(line, re.compile(r"[a-z0-9.+-]+ +\w.+"))
         self.assertEqual(len(set(LISTED)), len(LISTED))

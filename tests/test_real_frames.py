@@ -1,7 +1,7 @@
 #!/usr/bin/env python3
-"""test_real_frames: the converter of RenderDoc's frames without RenderDoc. A frame that tools/reference.py draws stands in for one that is replayed.
+"""test_real_frames: the converter of RenderDoc's frames without RenderDoc. A frame that build/reference.py draws stands in for one that is replayed.
 
-tools/check_frames tries the whole on frames of running programs.
+checks/check_frames tries the whole on frames of running programs.
 """
 import math
 import os
@@ -15,7 +15,9 @@ import tempfile
 import unittest
 from unittest import mock
 
-from frames_testing import ADDED, Asked, HEIGHT, OTHER, OVER, TOOLS, Unblended, WIDTH, Action, StandIn, clear, clip_space, converted, draw, image, image_of, quad, state, TARGET
+from folders import CHECKS, TOOLS
+
+from frames_testing import ADDED, Asked, HEIGHT, OTHER, OVER, Unblended, WIDTH, Action, StandIn, clear, clip_space, converted, draw, image, image_of, quad, state, TARGET
 
 import reference
 from real_frames import clipping, coverage, grid, module, planes, shaders, sources, states, topology, unblended
@@ -776,10 +778,10 @@ class Machines(unittest.TestCase):
             self.assertEqual(process.stdout.read(), b"")
 
     def test_help_and_wrong_words(self):
-        for tool in ("renderdoc_to_capture", "take_frame", "compare_coverage", "compare_history"):
-            told = subprocess.run([sys.executable, TOOLS / tool, "--help"], capture_output=True, text=True)
+        for tool in (TOOLS / "renderdoc_to_capture", TOOLS / "take_frame", CHECKS / "compare_coverage", CHECKS / "compare_history"):
+            told = subprocess.run([sys.executable, tool, "--help"], capture_output=True, text=True)
             self.assertEqual((told.returncode, told.stderr), (0, ""), tool)
-            self.assertTrue(told.stdout.startswith(f"usage: {tool}"), tool)
+            self.assertTrue(told.stdout.startswith(f"usage: {tool.name}"), tool)
         for words in (["renderdoc_to_capture", "--draws", "9..3", "a.rdc"], ["renderdoc_to_capture", "--draws", "9", "a.rdc"], ["take_frame", "--seconds", "-1", "true"],
                       ["take_frame", "--set", "NAME", "true"]):
             told = subprocess.run([sys.executable, TOOLS / words[0], *words[1:]], capture_output=True, text=True)

@@ -1,10 +1,12 @@
 #!/usr/bin/env python3
 """test_viewer: tries the viewer: its server's doors, its run, and the page in a real browser (where Chromium and chromedriver are installed).
 
-    tools/test_viewer.py [TEST ..]
+    tests/test_viewer.py [TEST ..]
 
 FRAMEDBG names another program, EXAMPLES another folder of examples.
 """
+import folders
+
 import passed_over
 from test_viewer_answers import *   # noqa: F401, F403
 from test_viewer_blame import *     # noqa: F401, F403

@@ -8,6 +8,7 @@ import unittest
 from unittest import mock
 
 import browser
+import captures
 import reference
 from viewer_hands import Hands
 from viewer_testing import HOUSE, PROGRAM, Viewer, asked, capture_of, file_of, replies, vertices
@@ -125,6 +126,24 @@ class Answers(Hands):
             self.comes(self.sum, [*(f"{name} {value}, as blending is off → {value}" for name, value in zip("RGBA", (9, 8, 7, 6))), "the depth test (1000 < 65535) holds: 1000 is stored"])
             self.click_pixel(6, 2, 8)
             self.comes(self.sum, ["thrown away: 6 2 is outside of the scissor rectangle 0 0 to 4 8"])
+
+    def test_why_a_pixel_was_discarded(self):
+        """By a hole of the draw's picture, and beyond it; where there is a texel the sum takes that for the source."""
+        box = captures.picture(0, 0, 2, 2, bytes([9, 8, 7, 6] * 4), [0, 1, 0, 0])
+        blend = {"kind": "blend", "enable": True, "rgb": ["ONE", "ONE", "ADD"], "alpha": ["ONE", "ONE", "ADD"], "mask": 15}
+        corners = [captures.corner(x << 16, y << 16, 0) for x, y in ((0, 0), (16, 0), (0, 16))]
+        with tempfile.TemporaryDirectory() as folder:
+            self.shows(capture_of(8, 8, [captures.clear(1, 1, 1, 1), blend, captures.picture_draw(corners, box)], 3), folder)
+            self.click_pixel(0, 0, 8)
+            self.comes(self.sum, [f"{name} {value} × 255/255 + 1 × 255/255 = {value + 1}.00 → {value + 1}" for name, value in zip("RGBA", (9, 8, 7, 6))])
+            self.click_pixel(1, 0, 8)
+            self.comes(self.sum, ["thrown away: the draw's picture has no colour at 1 0"])
+            self.click_pixel(4, 4, 8)
+            self.comes(self.sum, ["thrown away: the draw's picture has no colour at 4 4"])
+            self.browser.press("t")
+            self.reads("#mesh-told", "1, with a picture of 2 by 2 at 0 0")
+            self.comes(self.corners, ["0 clockwise: front, area 128", "0 0 0 0", "1 16 0 0", "2 0 16 0"])
+            self.assertEqual(self.browser.run("return document.querySelector('[data-number=\"3\"] .what').innerText"), "1 triangle, a picture")
 
     def test_a_sum_knows_the_state_before(self):
         """A draw's state is the one before it, also where another is marked in the table."""

@@ -6,6 +6,8 @@ import threading
 import time
 import unittest
 
+import folders
+
 import browser
 from framedbg_client import Image, read_pam
 from framedbg_client.replies import images_of

@@ -4,6 +4,8 @@ import pathlib
 import tempfile
 import unittest
 
+import folders
+
 import browser
 from viewer_hands import Hands
 from viewer_testing import HOUSE, WINDOW, Viewer, file_of, image

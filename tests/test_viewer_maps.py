@@ -8,13 +8,14 @@ import unittest
 from unittest import mock
 
 import browser
+import captures
 import reference
 from page import runs as chance
 from viewer_hands import Hands
 from viewer_testing import HOUSE, RED, Viewer, capture_of, file_of, vertices
 from viewer.runs import Runs
 
-RANKS = ["not reached", "culled", "scissored", "depthfailed", "drawn"]
+RANKS = ["not reached", "culled", "scissored", "discarded", "depthfailed", "drawn"]
 # What a person sees who lacks one of the three kinds of cones, from linear red, green, blue (Machado, Oliveira and Fernandes 2009)
 BLIND = {"none": ((1, 0, 0), (0, 1, 0), (0, 0, 1)), "red": ((0.152286, 1.052583, -0.204868), (0.114503, 0.786281, 0.099216), (-0.003882, -0.048116, 1.051998)),
          "green": ((0.367322, 0.860646, -0.227968), (0.280085, 0.672501, 0.047413), (-0.011820, 0.042940, 0.968881)),
@@ -86,7 +87,10 @@ class Maps(Hands):
         states = [raster, {"kind": "scissor", "rect": [3, 2, width - 4, height - 3]}, {"kind": "depth", "enable": True, "write": True, "func": "LESS"}]
         corners = lambda count: [{"x": dice.randrange(-4, width + 4) << 16, "y": dice.randrange(-4, height + 4) << 16, "z": dice.randrange(60000), "color": chance.colour(dice)} for _ in range(count)]
         draws = [{"kind": "draw", "interp": "flat", "vertices": corners(3 * dice.randrange(3, 12))} for _ in range(4)]
-        return {"width": width, "height": height, "version": 2, "events": [{"kind": "clear", "color": [9, 9, 9, 255]}, *states, *draws]}
+        texels = 20 * 16
+        for draw in draws[::3]:
+            draw |= {"interp": "picture", "picture": captures.picture(4, 3, 20, 16, dice.randbytes(4 * texels), [dice.random() < 0.3 for _ in range(texels)])}
+        return {"width": width, "height": height, "version": 3, "events": [{"kind": "clear", "color": [9, 9, 9, 255]}, *states, *draws]}
 
     def test_verdicts_and_overdraw(self):
         """At each position, by the definitions; with their counts."""
@@ -94,13 +98,13 @@ class Maps(Hands):
         capture = self.capture_by_chance(dice, width, height)
         frame, places = reference.Frame(capture), [(x, y) for y in range(height) for x in range(width)]
         with tempfile.TemporaryDirectory() as folder:
-            self.shows(capture_of(width, height, capture["events"], 2), folder)
+            self.shows(capture_of(width, height, capture["events"], 3), folder)
             for position in (8, 7, 5, 1, 4):
                 self.browser.click(self.row(position) + " .number")
                 self.at(position)
                 entries = [frame.replay(position, x, y)[1] for x, y in places]
                 fates = [max([RANKS.index(entry[2]) for entry in some if entry[0] == position], default=0) for some in entries]
-                self.shows_values("v", fates, ["not reached", "culled", "scissored", "depth failed", "drawn"])
+                self.shows_values("v", fates, ["not reached", "culled", "scissored", "discarded", "depth failed", "drawn"])
                 times = [min(sum(entry[2] == "drawn" and entry[1] != "-" for entry in some), 7) for some in entries]
                 self.shows_values("o", times, ["not drawn", "drawn once", *(f"drawn {n} times" for n in range(2, 7)), "drawn 7 times and more"])
             self.browser.press("o")

@@ -5,6 +5,8 @@ import tempfile
 import unittest
 from unittest import mock
 
+import folders
+
 import browser
 from viewer_hands import Hands
 from viewer_testing import DEPTH, EXAMPLES, HOLDING, STOPPING, WINDOW, Viewer, image, png, program_of, replies

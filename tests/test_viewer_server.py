@@ -15,8 +15,11 @@ import time
 import unittest
 from unittest import mock
 
+from folders import TOOLS
+
+import captures
 from page import runs as chance
-from viewer_testing import EXAMPLES, HOLDING, PROGRAM, TOOLS, Viewer, capture_of, file_of, image, program_of, replies
+from viewer_testing import EXAMPLES, HOLDING, PROGRAM, Viewer, capture_of, file_of, image, program_of, replies
 from viewer import image as viewer_image, nearby as viewer_nearby, session as viewer_session
 from viewer.capture import Capture
 from viewer.doors import MAX_BODY
@@ -128,6 +131,21 @@ class Run(unittest.TestCase):
             for body in (b"10", b"0", b"14", b"4294967296"):
                 self.assertIsNone(draw(body), body)
 
+    def test_draws_with_pictures(self):
+        """The box of the picture, and no colours, of a file that is too large to be read but for its pictures."""
+        corners = [captures.corner(x << 16, y << 16, 5) for x, y in ((0, 0), (9, 0), (0, 9))]
+        large = captures.picture_draw(corners, captures.picture(0, 0, 4096, 2048, bytes(1 << 25)), [0, 1, 2])
+        small = captures.picture_draw([{**corner, "color": None} for corner in corners], captures.picture(3, 1, 2, 2, bytes(16), [0, 0, 0, 1]))
+        with tempfile.TemporaryDirectory() as folder:
+            capture = Capture(file_of(folder, capture_of(64, 48, [large, small], 3)))
+            told = {"interp": "picture", "vertices": [[0, 0, 5, None], [9 << 16, 0, 5, None], [0, 9 << 16, 5, None]]}
+            self.assertEqual(capture.draw(1), {**told, "indices": [0, 1, 2], "picture": [0, 0, 4096, 2048]})
+            self.assertEqual(capture.draw(2), {**told, "indices": None, "picture": [3, 1, 2, 2]})
+            self.assertEqual(capture.triangle(2, 0), [[0, 0], [9, 0], [0, 9]])
+            self.assertEqual((capture.boxes_between(0, 1), capture.boxes_between(1, 2)), ([(0, 0, 9, 9)], [(3, 1, 5, 3)]))
+            away = captures.picture_draw(corners, captures.picture(20, 0, 2, 2, bytes(16)))
+            self.assertEqual(Capture(file_of(folder, capture_of(64, 48, [away], 3))).boxes_between(0, 1), [])
+
     def test_a_session_is_answered_as_framedbg_answers_it(self):
         for line in (EXAMPLES / "sessions.txt").read_text().splitlines():
             name, capture = line.split()
@@ -182,6 +200,19 @@ class Refusals(unittest.TestCase):
             run = subprocess.run([VIEW, "--no-browser", "--program", PROGRAM, file], capture_output=True, text=True, timeout=30)
             self.assertEqual((run.returncode, run.stderr), (1, "view: framedbg: capture refused 8 bad field 2 (status 2)\n"
                              "line 3, column 32: event 2 (clear), color 2: a whole number from 0 to 255 is wanted, not 300\n"))
+
+
+    def test_what_can_not_be_served(self):
+        """A line, and no traceback: a port that is another's, or none, and a capture that can't be read."""
+        with socket.socket() as other, tempfile.TemporaryDirectory() as folder:
+            other.bind(("127.0.0.1", 0))
+            other.listen()
+            number = other.getsockname()[1]
+            for words, status, said in (([HOUSE, "--port", str(number)], 1, f"view: port {number}: Address already in use\n"),
+                                        ([folder], 1, f"view: {folder}: Is a directory\n"), ([f"{folder}/a\x1b[2J"], 1, f"view: {folder}/a\\x1b[2J: No such file or directory\n"),
+                                        ([HOUSE, "--port", "70000"], 2, "a number from 0 to 65535 is wanted\n"), ([HOUSE, "--port", "-1"], 2, "a number from 0 to 65535 is wanted\n")):
+                run = subprocess.run([VIEW, "--no-browser", "--program", PROGRAM, *words], capture_output=True, text=True, timeout=30)
+                self.assertEqual((run.returncode, run.stdout, run.stderr[-len(said):], "Traceback" in run.stderr), (status, "", said, False))
 
 
 class ChangedRows(unittest.TestCase):
@@ -265,11 +296,11 @@ class NearPictures(unittest.TestCase):
         dice, near = random.Random(11), 0
         with tempfile.TemporaryDirectory() as folder:
             for _ in range(24):
-                events = [event for event in (chance.event(dice, 32, 28, 2) for _ in range(60)) if event["kind"] != "clear" or dice.random() < 0.2]
+                events = [event for event in (chance.event(dice, 32, 28, 3) for _ in range(60)) if event["kind"] != "clear" or dice.random() < 0.2]
                 for event in events:
                     if event["kind"] == "draw" and dice.random() < 0.8:
                         self.make_small(dice, event)
-                near += self.walk(file_of(folder, capture_of(32, 28, events, 2)), len(events), dice, 40)
+                near += self.walk(file_of(folder, capture_of(32, 28, events, 3)), len(events), dice, 40)
         self.assertGreater(near, 200)
 
     def test_a_switch_in_the_same_call(self):

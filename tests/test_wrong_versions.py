@@ -1,7 +1,7 @@
 #!/usr/bin/env python3
 """test_wrong_versions: a list of wrong versions tells of each whether it was seen, in its order, and fails where one wasn't or can't be tried.
 
-    tools/test_wrong_versions.py [TEST ..]
+    tests/test_wrong_versions.py [TEST ..]
 """
 import os
 import pathlib
@@ -14,13 +14,15 @@ import tempfile
 import time
 import unittest
 
+from folders import CHECKS, TESTS, TOP, WRONG
+
 from wrong_versions import exchanged
 
-TOOLS = pathlib.Path(__file__).resolve().parent
 # A tool, what tries it, and a list of its wrong versions
 TOOL = "ONE, TWO = 1, 2\nNAP = 0\n"
-TESTS = """
+TRIED = """
 import os, pathlib, time, unittest
+import folders
 import passed_over, tool
 
 TOP = pathlib.Path(__file__).parent.parent
@@ -94,6 +96,7 @@ if __name__ == "__main__":
 """
 LIST = """#!/usr/bin/env python3
 \"\"\"tool_mutations: wrong versions of a tool.\"\"\"
+import folders
 from wrong_versions import Version, try_all
 
 try_all(__doc__, [Version(name, "tools/tool.py", text, instead, "test_tool.py", *more) for name, text, instead, *more in [{lines}]], {{"HASTE": "1"}})
@@ -111,12 +114,14 @@ class Lists(unittest.TestCase):
         folder = tempfile.TemporaryDirectory()
         self.addCleanup(folder.cleanup)
         self.top = pathlib.Path(folder.name)
-        self.tools = self.top / "tools"
-        self.tools.mkdir()
-        for name in ("wrong_versions.py", "wrong_copies.py", "passed_over.py"):
-            shutil.copy(TOOLS / name, self.tools)
-        for name, text in (("tool.py", TOOL), ("test_tool.py", TESTS)):
-            (self.tools / name).write_text(text)
+        self.tools, self.wrong = self.top / "tools", self.top / "tests/wrong"
+        for folder in ("checks", "tests/wrong", "tools"):
+            (self.top / folder).mkdir(parents=True)
+        own = [CHECKS / "folders.py", CHECKS / "passed_over.py", TESTS / "folders.py"]
+        for file in [*own, *(WRONG / name for name in ("folders.py", "wrong_copies.py", "wrong_versions.py"))]:
+            shutil.copy(file, self.top / file.relative_to(TOP), follow_symlinks=False)
+        for name, text in (("tools/tool.py", TOOL), ("tests/test_tool.py", TRIED)):
+            (self.top / name).write_text(text)
         (self.tools / "tool.py").chmod(0o755)
         for name in ("docs", ".git", "out/made"):
             (self.top / name).mkdir(parents=True)
@@ -124,9 +129,9 @@ class Lists(unittest.TestCase):
 
     def begun(self, *lines, words=(), ci=None, **more):
         """A list of these lines."""
-        (self.tools / "tool_mutations.py").write_text(LIST.format(lines="".join(f"{line!r}, " for line in lines)))
+        (self.wrong / "tool_mutations.py").write_text(LIST.format(lines="".join(f"{line!r}, " for line in lines)))
         environment = {name: value for name, value in os.environ.items() if name != "CI"} | ({"CI": ci} if ci else {}) | more
-        return subprocess.Popen([sys.executable, self.tools / "tool_mutations.py", *words], env=environment, stdout=subprocess.PIPE, stderr=subprocess.PIPE, text=True,
+        return subprocess.Popen([sys.executable, self.wrong / "tool_mutations.py", *words], env=environment, stdout=subprocess.PIPE, stderr=subprocess.PIPE, text=True,
                                 preexec_fn=lambda: signal.signal(signal.SIGINT, signal.SIG_DFL))       # whoever runs the tests may ignore it
 
     def ran(self, *lines, **how):
@@ -135,7 +140,7 @@ class Lists(unittest.TestCase):
             said, errors = run.communicate(timeout=120)
         return run.returncode, re.sub(r"in \d+\.\d minutes", "in N minutes", said).splitlines(), errors
 
-    def end(self, seen, of, at_once=os.cpu_count()):
+    def end(self, seen, of, at_once=len(os.sched_getaffinity(0))):
         return f"tool_mutations: {seen} of {of} wrong versions were seen, in N minutes, {at_once} at once"
 
     def test_all_are_seen(self):
@@ -160,7 +165,7 @@ class Lists(unittest.TestCase):
             self.assertEqual(os.listdir(room), ["late"])
 
     def test_what_takes_too_long_is_not_seen(self):
-        file = self.tools / "wrong_copies.py"
+        file = self.wrong / "wrong_copies.py"
         file.write_text(exchanged(file.read_text(), "SECONDS = 900", "SECONDS = 8"))
         self.assertEqual(self.ran(napping(30, "test_numbers"), ONE)[1], ["nap: BROKEN", "one: seen", self.end(1, 2)])
 

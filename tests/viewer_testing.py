@@ -8,6 +8,8 @@ import subprocess
 import threading
 import zlib
 
+from folders import TOP
+
 import captures
 from captures import PIXEL, clear, depth, depth_clear, draw, raster, scissor
 from framedbg_client import read_pam
@@ -17,9 +19,8 @@ from viewer.capture import Capture
 from viewer.server import Server
 from viewer.session import Session
 
-TOOLS = pathlib.Path(__file__).resolve().parent
 PROGRAM = tried_program()
-EXAMPLES = pathlib.Path(os.environ.get("EXAMPLES", TOOLS.parent / "examples")).resolve()
+EXAMPLES = pathlib.Path(os.environ.get("EXAMPLES", TOP / "examples")).resolve()
 HOUSE = EXAMPLES / "house.json"
 
 

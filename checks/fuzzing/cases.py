@@ -17,17 +17,25 @@ EVERY_KIND = captures.frame(4, 4, [
     captures.blend(True, ("ONE", "SRC_COLOR", "ADD"), ("ONE", "ZERO", "MIN")), captures.factor(0, 255, 0, 0),
     captures.draw([CORNER] * 3, "flat", [0, 1, 2]), captures.draw([], "linear"), captures.marker("a name"), captures.depth(), captures.depth_clear(FARTHEST)])
 OF_VERSION_1 = EVERY_KIND | {"version": 1, "events": EVERY_KIND["events"][:8]}
-MOST_EVENTS, MOST_CORNERS = 10, 4
+PICTURES = [captures.picture(1, 0, 3, 3, bytes(range(36)), [1, 0, 0, 0, 1, 0, 0, 0, 1]), captures.picture(0, 3, 2, 1, bytes(range(248, 256)))]
+OF_VERSION_3 = EVERY_KIND | {"version": 3, "events": [captures.picture_draw([captures.corner(PIXEL, -PIXEL, 9)] * 3, box, [0, 2, 1]) for box in PICTURES]
+                             + EVERY_KIND["events"][5:]}
+MOST_EVENTS, MOST_CORNERS, MOST_TEXELS = 10, 4, 200
 
 
 def member(members, name):
     return next((value for known, value in members if known == name), [])
 
 
+def has_large_picture(event):
+    picture = member(event, "picture")
+    return isinstance(picture, Members) and len(member(picture, "texels")) > MOST_TEXELS
+
+
 def thinned(tree):
-    """A capture with no more than a few events, vertices and indices."""
+    """A capture with no more than a few events, vertices and indices, and with small pictures alone."""
     events = member(tree, "events")
-    del events[MOST_EVENTS:]
+    events[:] = [event for event in events if not has_large_picture(event)][:MOST_EVENTS]
     for event in events:
         vertices, indices = member(event, "vertices"), member(event, "indices")
         del vertices[MOST_CORNERS:]
@@ -40,7 +48,7 @@ def seeds():
     plain = trees.Writer(random.Random(0))
     plain.space = plain.escape = 0
     examples = [plain.written(thinned(trees.read(path.read_text()))) for path in sorted(EXAMPLES.glob("**/*.json"))]
-    return list(dict.fromkeys(examples)) + [json.dumps(frame) for frame in (EVERY_KIND, OF_VERSION_1) for _ in range(16)]
+    return list(dict.fromkeys(examples)) + [json.dumps(frame) for frame in (EVERY_KIND, OF_VERSION_1, OF_VERSION_3, OF_VERSION_3) for _ in range(16)]
 
 
 SEEDS = seeds()

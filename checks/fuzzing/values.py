@@ -1,17 +1,17 @@
 """Changes of a capture as a tree: members, types, numbers, texts, nesting, counts. Each takes a list with the tree in it, and dice."""
-from captures import (CULLS, FACTORS, FARTHEST, FUNCTIONS, INTERPOLATIONS, KINDS, LEAST_EDGE, MOST_CORNERS, MOST_EDGE, MOST_NAME, MOST_POSITION, MOST_SIDE,
-                      OPERATIONS)
+from captures import (CULLS, FACTORS, FARTHEST, FUNCTIONS, INTERPOLATIONS, KINDS, LEAST_EDGE, MOST_CORNER, MOST_CORNERS, MOST_EDGE, MOST_NAME, MOST_POSITION,
+                      MOST_SIDE, OPERATIONS, PICTURE)
 
 from .trees import Members, Written, arrays, copied, is_array, objects, places
 
 NAMES = ["format", "version", "width", "height", "events", "kind", "color", "cull", "front_ccw", "scissor", "rect", "enable", "rgb", "alpha", "mask", "interp",
-         "vertices", "indices", "x", "y", "z", "name", "write", "func", "depth", "new"]
-SPELLED = [*map(list, (KINDS, INTERPOLATIONS, CULLS, FACTORS, OPERATIONS, FUNCTIONS)), ["framedbg"]]
+         "vertices", "indices", "x", "y", "z", "name", "write", "func", "depth", "picture", "left", "top", "texels", "holes", "new"]
+SPELLED = [*map(list, (KINDS, (*INTERPOLATIONS, PICTURE), CULLS, FACTORS, OPERATIONS, FUNCTIONS)), ["framedbg"]]
 WORDS = sum(SPELLED, [])
 CHARACTERS = ["\0", "\x01", "\x1f", " ", "\x7e", "\x7f", "\x80", "\u07ff", "\u0800", "\ud7ff", "\ue000", "\ufeff", "\uffff", "\U00010000", "\U0010ffff", "\ud800",
               "\udfff", "\u2028", "\n", '"', "\\", "/", "\b", "a", "\u00e9", "\u20ac"]
 LIMITS = [0, 1, 2, 3, 15, 255, MOST_SIDE, 2048, FARTHEST, MOST_CORNERS, MOST_POSITION, 2**29, 2**31 - 1, 2**31, 2**32 - 1, 2**53, 2**63 - 1, 2**63, 2**64 - 1]
-LEAST_AND_MOST = {"version": (1, 2), "width": (1, MOST_SIDE), "height": (1, MOST_SIDE), "x": (-MOST_POSITION, MOST_POSITION), "y": (-MOST_POSITION, MOST_POSITION),
+LEAST_AND_MOST = {"version": (1, 2, 3), "width": (1, MOST_SIDE), "height": (1, MOST_SIDE), "left": (0, MOST_CORNER), "top": (0, MOST_CORNER), "x": (-MOST_POSITION, MOST_POSITION), "y": (-MOST_POSITION, MOST_POSITION),
                   "z": (0, FARTHEST), "mask": (0, 15), "depth": (0, FARTHEST), "color": (0, 255), "rect": (LEAST_EDGE, MOST_EDGE)}
 NUMERALS = ["-0", "-0", "-0.0", "0.0", "-0e0", "0e400", "0E-400", "-0e99999999999999999999", "1e-400", "1e308", "1.7976931348623157e308", "1.7976931348623158e308",
             "1.7976931348623159e308", "1e309", "-1e400", "1e99999999999999999999", "-1e-99999999999999999999", "1" * 309, "-" + "9" * 400, "0." + "0" * 400 + "1",
@@ -45,6 +45,22 @@ def a_name(dice):
         return f"a{character}b"
     size = len(character.encode("utf-8", "surrogatepass"))
     return character * (most // size) + "a" * (most % size)
+
+
+def nearly_base64(text, dice):
+    """A text in base64 of another length, without its padding, with bits behind its last byte, or with characters that are none of its own."""
+    at = dice.randrange(len(text) + 1)
+    how = dice.randrange(10)
+    if how < 5:
+        return [text + "AAAA", text[:-4], text[4:], text.rstrip("="), ""][how]
+    if how == 5:
+        return text[:at] + dice.choice("AAAA - _ = \n é ~".split(" ")) + text[at:]
+    if how == 6:
+        return text[:at] + dice.choice(["-", "_", "=", "\n", " ", "/", "+", "\0", "\u00c1"]) + text[at + 1:]
+    if how == 7:
+        return text[:-2] + dice.choice(["==", "A=", "AA", "B=", "g=", "Q="])
+    stem, padding = text.rstrip("="), "=" * text.count("=")
+    return stem[:-1] + dice.choice("ABCDEQgw/+") + padding if how == 8 else Written('"' + "".join(f"\\u{ord(character):04x}" for character in text) + '"')
 
 
 def a_text(dice):
@@ -184,6 +200,8 @@ def nearly(name, value, dice):
     if isinstance(value, Written):
         return Written(dice.choice(LEAST_AND_MOST.get(name, LIMITS)) + dice.choice([-1, 0, 1])) if dice.random() < 0.7 else a_number(dice)
     if isinstance(value, str):
+        if name in ("texels", "holes"):
+            return nearly_base64(value, dice) if dice.random() < 0.8 else dice.choice(OTHER_TYPES)
         return a_name(dice) if name == "name" else dice.choice(alike(value)) if dice.random() < 0.5 else a_text(dice)
     if is_array(value) and value and dice.random() < 0.7:
         return dice.choice([value[1:], value[:-1], value + value[:1], value + [copied(dice.choice(value))], []])
@@ -204,7 +222,7 @@ def other_version(root, dice):
     for members in objects(root):
         for member in members:
             if member[0] == "version":
-                member[1] = Written(dice.choice(["1", "2", "2", "3", "0"]))
+                member[1] = Written(dice.choice(["1", "2", "2", "3", "3", "4", "0"]))
 
 
 CHANGES = [*[by_name] * 14, other_root, other_value, other_number, fraction, other_text, swapped, member_renamed, member_dropped, member_doubled, member_added,

@@ -3,6 +3,8 @@
 
 Each is a copy of a file of benches/ with one text exchanged, and the test that has to fail on it, and to pass on the file as it is.
 """
+import folders
+
 from wrong_versions import Version, try_all
 
 TOWN, TURNS, BENCH, FEW, SCENES, MEASURE, TABLE = "town.py", "turns.py", "bench.py", "few_tiles.py", "scenes.py", "measure.py", "table.py"

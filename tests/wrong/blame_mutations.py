@@ -3,6 +3,8 @@
 
 Each is a copy with one text exchanged, and the test that has to fail on it, and to pass on what is there. Those of Slurm want it.
 """
+import folders
+
 import slurm_testing
 from wrong_versions import Version, try_all
 
@@ -12,10 +14,10 @@ POINTS = "test_blame_points.py"
 MUTATIONS = [
     # pictures and comparisons
     ("pictures: a PNG's sums aren't looked at", "pictures.py", "if struct.unpack(\">I\", summed)[0] != zlib.crc32(name + body):", "if False:", PARTS, "Pictures.test_what_is_no_picture"),
-    ("pictures: Paeth takes the corner before the pixel above", "pictures.py", "else b if towards_b <= towards_c else c", "else b if towards_b < towards_c else c", PARTS, "Pictures"),
-    ("pictures: a mean that is rounded up", "pictures.py", "+ over >> 1) & 255", "+ over + 1 >> 1) & 255", PARTS, "Pictures"),
+    ("pictures: Paeth takes the corner before the pixel above", "unfiltering.py", "else over if down <= towards_corner else corner", "else over if down < towards_corner else corner", PARTS, "Pictures"),
+    ("pictures: a mean that is rounded up", "unfiltering.py", "+ over >> 1) & 255", "+ over + 1 >> 1) & 255", PARTS, "Pictures"),
     ("pictures: each PNG has an alpha", "pictures.py", "return Picture(width, height, bytes(four), False)", "return Picture(width, height, bytes(four), True)", PARTS, "Pictures"),
-    ("pictures: a PPM's comment is a number", "pictures.py", 'rb"P6(?:\\s+|\\s*#[^\\n]*\\n)+?(\\d+)', 'rb"P6(?:\\s+)+?(\\d+)', PARTS, "Pictures.test_pam_and_ppm"),
+    ("pictures: a PPM's comment is a number", "pictures.py", 'rb"\\s+|#[^\\n]*\\n")', 'rb"\\s+|#")', PARTS, "Pictures.test_pam_and_ppm"),
     ("pictures: a picture that is cut", "pictures.py", "if len(samples) < channels * width * height:", "if False:", PARTS, "Pictures.test_what_is_no_picture"),
     ("comparison: forgets blue", "comparing.py", "for channel in self.looked_at:\n            either", "for channel in [c for c in self.looked_at if c != 2]:\n            either", PARTS, "Comparisons.test_each_channel"),
     ("comparison: forgets the alpha", "comparing.py", "if tolerance[c] < 255]", "if tolerance[c] < 255 and c < 3]", PARTS, "Comparisons.test_each_channel"),
@@ -28,6 +30,14 @@ MUTATIONS = [
     ("clusters: pixels of one corner alone", "clusters.py", "cells.setdefault((x // 16, y // 16), []).append(pixel)", "cells.setdefault(0, []).append(pixel)\n    return pixels[:most]", PARTS, "Clusters.test_spread"),
     # windows
     ("windows: a scissor that stays where it was", "frame.py", "by = (left, top, left, top)", "by = (0, 0, 0, 0)", PARTS, "Frames.test_windows"),
+    ("windows: a picture's rows from its own left", "painting.py", "self.place(left, y) for y", "self.place(self.left, y) for y", PARTS, "Frames.test_windows"),
+    ("windows: a picture stays where it was", "painting.py", "picture(left - window[0], top - window[1],", "picture(left, top,", PARTS, "Frames.test_windows"),
+    ("windows: holes of a picture are lost", "painting.py", "None if self.holes is None else [", "None if True else [", PARTS, "Frames.test_windows"),
+    ("points: holes are drawn", "painting.py", "None if number is None or self.is_hole(number) else", "None if number is None else", POINTS, "Worked.test_colours_after_a_change"),
+    ("points: what a picture doesn't put out is black", "points.py", "(is_clockwise, texel, depth)) for point, is_clockwise, texel, depth in told if texel]",
+     "(is_clockwise, texel or (0, 0, 0, 0), depth)) for point, is_clockwise, texel, depth in told]", POINTS, "Worked.test_colours_after_a_change"),
+    ("cells: holes say where a corner lies", "cells.py", " or self.is_discarded(point):", ":", POINTS, "Cells.test_corners_of_draws_with_pictures"),
+    ("evidence: what is discarded may be wanted", "evidence.py", "entry.verdict != DISCARDED and ", "", PARTS, "Evidence.test_what_is_discarded"),
     ("windows: triangles that end on its edge", "frame.py", "max(x) >= box[0] and min(x) <= box[2]", "max(x) >= box[0] and min(x) <= box[2] - (40 << 16)", PARTS, "Frames.test_windows"),
     ("windows: rows of another width", "windows.py", "depth * (y * width + left):depth * (y * width + right)", "depth * (y * width + left):depth * (y * width + right) - depth", PARTS, "Frames.test_windows"),
     ("windows: vertices out of bounds", "windows.py", "return window if frame.can_have(window) else None", "return window", PARTS, "Frames.test_where_a_window_lies"),
@@ -62,6 +72,11 @@ MUTATIONS = [
     ("states: of many the first", "frame.py", "key=lambda numbers: min(abs(by - number) for by in numbers)", "key=min", PARTS, "Frames.test_ways_to_set_a_state"),
     ("states: a source makes another one", "frame.py", " for name, what in event.items() if name != \"source\"}, sort_keys=True)", " for name, what in event.items()}, sort_keys=True)", PARTS, "Frames.test_ways_to_set_a_state"),
     ("lists: alike from the first one that is", "frame.py", "most - start)", "most)", PARTS, "Frames.test_differing_part"),
+    ("pictures: unpacked before their size is looked at", "pictures.py", "    check_size(width, height, size)\n    channels", "    channels", PARTS, "Pictures.test_another_size"),
+    ("pictures: a sum carries into the next byte", "unfiltering.py", "b\"\\x7f\" * length", "b\"\\xff\" * length", PARTS, "Pictures.test_png_of_each_filter_and_kind"),
+    ("pictures: sums of two pixels alone", "unfiltering.py", "    while step < length:\n", "    if step < length:\n", PARTS, "Pictures.test_png_of_each_filter_and_kind"),
+    ("pictures: colours beside the palette", "pictures.py", "    if max(indices) >= count:\n", "    if False:\n", PARTS, "Pictures.test_what_is_no_picture"),
+    ("frames: version 1 has depths", "frame.py", "    if capture[\"version\"] == 1:\n", "    if False:\n", RUNS, "Called.test_depths_of_version_1"),
     # suspects and changes
     ("suspects: what shows at right pixels is suspected as much", "evidence.py", "CLEARED = 0.9 ", "CLEARED = 0.0 ", PARTS, "Evidence.test_what_shows_where_all_is_right"),
     ("changes: no scissor round what differs", "states.py", "[all_, *boxes[:MOST_VALUES]] if boxes", "[] if boxes", RUNS, "Findings.test_a_scissor_that_is_missing"),
@@ -98,7 +113,7 @@ MUTATIONS = [
     # runs
     ("runs: status 0 where pixels differ", "running.py", "ALIKE, NAMED = 0, 1", "ALIKE, NAMED = 0, 0", RUNS, "Called.test_json"),
     ("runs: nobody is somebody", "running.py", "NAMED if outcome.suspects else NOBODY", "NAMED", RUNS, "Called.test_nobody"),
-    ("runs: pictures of any size", "running.py", "if (wanted.width, wanted.height) != (frame.width, frame.height):", "if False:", RUNS, "Called.test_what_is_at_fault"),
+    ("runs: pictures of any size", "pictures.py", "    if size not in (None, (width, height)):\n", "    if False:\n", RUNS, "Called.test_what_is_at_fault"),
     ("runs: the wrong capture is kept", "running.py", "frame.text(outcome.changes[0].change.events)", "frame.text(frame.events)", RUNS, "Called.test_write"),
     ("runs: temporary files stay", "trying.py", "        self.room.cleanup()\n", "        self.room._finalizer.detach()\n", RUNS, "Called.test_nothing_stays"),
     ("runs: no end", "trying.py", "return time.monotonic() > self.deadline or", "return", RUNS, "Called.test_a_budget"),
@@ -106,7 +121,9 @@ MUTATIONS = [
     ("runs: progress without a terminal", "progress.py", "not is_quiet and self.stream.isatty()", "not is_quiet", RUNS, "Called.test_json"),
     ("runs: a silent program is waited for", "trying.py", "for run in list(self.runs) if fault else ():", "for run in ():", RUNS, "Called.test_interrupted"),
     ("runs: who is ended leaves what it has", "running.py", "    signal.signal(signal.SIGTERM, signal.default_int_handler)\n", "", RUNS, "Called.test_interrupted"),
-    ("runs: a Ctrl-C is a traceback", "running.py", "    except KeyboardInterrupt:\n        return told(\"interrupted\", INTERRUPTED)\n", "", RUNS, "Called.test_interrupted"),
+    ("runs: no room is a traceback", "running.py", "    except OSError as fault:\n        return told(", "    except ImportError as fault:\n        return told(", RUNS, "Called.test_no_room_for_changed_captures"),
+    ("runs: a link becomes a file", "running.py", "files.keep(path, f\"{text}\\n\".encode())", "files.replace(path, f\"{text}\\n\".encode())", RUNS, "Called.test_write_through"),
+    ("runs: a late Ctrl-C ends it at once", "writing/ending.py", "        hear_interrupts()\n", "", RUNS, "Called.test_interrupted"),
     # the night
     ("night: done is done, whatever the capture is now", "nights/folder.py", "kept.get(\"key\") == key_of(case, how)", "True", NIGHT, "Here.test_what_is_done"),
     ("night: the picture may change", "nights/folder.py", "for path in (case.capture, case.picture):", "for path in (case.capture,):", NIGHT, "Here.test_what_is_done"),
@@ -115,14 +132,26 @@ MUTATIONS = [
     ("night: half a result is one", "nights/folder.py", "except (OSError, ValueError):\n            return None", "except (OSError, ValueError):\n            return {\"differ\": 0, \"report\": [], \"seconds\": 0}", NIGHT, "Here.test_half_a_result"),
     ("night: a job that is lost is alike", "nights/night.py", "    if result is None:\n", "    if False:\n", NIGHT, "Here.test_what_is_killed"),
     ("night: a job that is killed isn't told", "nights/local.py", "failed[jobs[job].name] = why", "pass", NIGHT, "Here.test_captures_that_are_refused"),
-    ("night: what fails is no failure", "nights/night.py", "return FAILED if count[\"failed\"] else DIFFERS", "return DIFFERS", NIGHT, "Here.test_captures_that_are_refused"),
+    ("night: what fails is no failure", "nights/night.py", "FAILED if count[\"failed\"] or is_missing else", "FAILED if is_missing else", NIGHT, "Here.test_captures_that_are_refused"),
     ("night: its own results are captures", "nights/folder.py", " and not path.resolve().is_relative_to(results.resolve())", "", NIGHT, "Here.test_what_is_done"),
     ("night: captures of the folder alone", "nights/folder.py", "folder.rglob(\"*.json\")", "folder.glob(\"*.json\")", NIGHT, "Here.test_what_differs"),
-    ("night: names as they are in the page", "nights/page.py", "<h2 id=\"{anchor(one)}\">{escape(one.name)}</h2>", "<h2 id=\"{anchor(one)}\">{one.name}</h2>", NIGHT, "Here.test_the_page"),
+    ("night: names as they are in the page", "nights/page.py", "<h2 id=\"{anchor(one)}\">{escape(one.shown)}</h2>", "<h2 id=\"{anchor(one)}\">{one.name}</h2>", NIGHT, "Here.test_the_page"),
     ("night: the wanted picture is the one that is drawn", "nights/job.py", "(\"wanted\", outcome.wanted)", "(\"wanted\", outcome.drawn)", NIGHT, "Here.test_the_page"),
     ("night: nothing is white", "nights/job.py", "= b\"\\xff\\xff\\xff\\xff\"", "= b\"\\xf0\\xff\\xff\\xff\"", NIGHT, "Here.test_the_page"),
     ("night: errors are failures", "nights/junit.py", "\"failed\": \"error\"", "\"failed\": \"failure\"", NIGHT, "Here.test_what_is_killed"),
     ("night: a bar that is full at once", "nights/night.py", "full = WIDE * done // self.total", "full = WIDE", NIGHT, "Here.test_the_bar"),
+    ("night: a folder of the user's own is written to", "nights/folder.py", "if self.folder.is_dir() and any(self.folder.iterdir()):", "if False:", NIGHT, "Here.test_files_of_the_user"),
+    ("night: results above the captures", "nights/folder.py", "if captures.resolve().is_relative_to(self.folder.resolve()):", "if False:", NIGHT, "Here.test_files_of_the_user"),
+    ("night: a capture among the results is written over", "nights/folder.py", "if path.exists() and not is_result(path):", "if False:", NIGHT, "Here.test_a_capture_among_results"),
+    ("night: what has no picture is alike", "nights/night.py", 'is_missing = (count["no picture"] or not report)', "is_missing = (not report)", NIGHT, "Here.test_what_is_missing"),
+    ("night: no captures are alike", "nights/night.py", 'is_missing = (count["no picture"] or not report)', 'is_missing = count["no picture"]', NIGHT, "Here.test_what_is_missing"),
+    ("night: nothing may be missing", "nights/night.py", "(count[\"no picture\"] or not report) and not given.allow_missing", "(count[\"no picture\"] or not report)", NIGHT, "Here.test_what_is_missing"),
+    ("night: a name that begins with a hyphen is a word", "nights/night.py", 'f"--job={case.name}"]', '"--job", case.name]', NIGHT, "Here.test_names_of_any_bytes"),
+    ("night: names are UTF-8", "nights/page.py", "<h2 id=\"{anchor(one)}\">{escape(one.shown)}</h2>", "<h2 id=\"{anchor(one)}\">{one.name.encode() and one.shown}</h2>", NIGHT, "Here.test_names_of_any_bytes"),
+    ("night: a capture's name is framedbg's word as it is", "framedbg_client/program.py", "    try:\n        path.encode()\n", "    try:\n        pass\n", NIGHT, "Here.test_names_of_any_bytes"),
+    ("night: its jobs go on", "nights/local.py", "            running.end()\n", "", NIGHT, "Here.test_ended_by_another"),
+    ("slurm: a name with a line end is two", "nights/slurm.py", "json.dumps([case.name for case in some])", "json.dumps([line for case in some for line in case.name.splitlines()])", NIGHT,
+     "OnSlurm.test_names_of_any_bytes"),
     ("slurm: a job that is lost is alike", "nights/night.py", "    if result is None:\n", "    if False:\n", NIGHT, "OnSlurm.test_a_job_that_is_lost"),
     ("slurm: each array is the first", "nights/slurm.py", "some = cases[start:start + MOST_TASKS]", "some = cases[:MOST_TASKS]", NIGHT, "OnSlurm.test_several_arrays"),
     ("slurm: a task too few", "nights/slurm.py", "--array=0-{count - 1}", "--array=0-{max(0, count - 2)}", NIGHT, "OnSlurm.test_what_differs"),

@@ -3,9 +3,11 @@
 
 Each is a copy with one text exchanged, and the test that has to fail on it, and to pass on what is there.
 """
+import folders
+
 from wrong_versions import Version, try_all
 
-CLIENT, FDB = "test_client.py", "test_fdb.py"
+CLIENT, FDB, ENDINGS = "test_client.py", "test_fdb.py", "test_endings.py"
 
 MUTATIONS = [
     # the client
@@ -20,6 +22,9 @@ MUTATIONS = [
     ("client: an image that is cut", "framedbg_client/image.py", "if len(samples) != 4 * width * height:", "if False:", CLIENT, "Images.test_what_is_no_image"),
     ("client: red and blue exchanged", "framedbg_client/image.py", "self.samples[channel::4]", "self.samples[2 - channel::4]", CLIENT, "Images.test_png"),
     ("client: rows of the image one pixel off", "framedbg_client/image.py", "4 * (y * self.width + x)", "4 * (y * (self.width + 1) + x)", CLIENT, "Asked.test_images_and_many_pixels"),
+    ("client: depths column by column", "framedbg_client/client.py", "for y in range(top, bottom) for x in range(left, right)]\n        self", "for x in range(left, right) for y in range(top, bottom)]\n        self", CLIENT, "Asked.test_depths_of_an_area"),
+    ("client: a channel for a depth", "framedbg_client/client.py", "depths.append(int(words[5]))", "depths.append(int(words[4]))", CLIENT, "Asked.test_depths_of_an_area"),
+    ("client: lines before their replies", "framedbg_client/connection.py", "        writer.start()\n", "        writer.run()\n", CLIENT, "Asked.test_depths_of_an_area"),
     ("client: refusals are values", "framedbg_client/client.py", "if isinstance(reply.value, (Refused, Bad)):", "if isinstance(reply.value, Bad):", CLIENT, "Asked.test_refusals"),
     ("client: flags that were refused", "framedbg_client/client.py", 'if text.startswith(("at ", "stopped ")):', 'if True:', CLIENT, "Asked.test_refusals"),
     ("client: a stopped move has arrived", "framedbg_client/client.py", 'return self.value(f"goto {position}", At, Stopped).position', 'self.value(f"goto {position}", At, Stopped); return position', CLIENT, "Asked.test_want_of_memory"),
@@ -29,6 +34,10 @@ MUTATIONS = [
     ("client: two lines for one", "framedbg_client/client.py", 'if b"\\n" in data:', "if False:", CLIENT, "Asked.test_refusals"),
     ("client: the path before what was built", "framedbg_client/program.py", "next((str(place) for place in PLACES if place.is_file()), None) or shutil.which(\"framedbg\")",
      "shutil.which(\"framedbg\") or next((str(place) for place in PLACES if place.is_file()), None)", CLIENT, "Asked.test_where_the_program_is"),
+    ("client: a capture that isn't there is told later", "framedbg_client/client.py", "        check_readable(capture)\n", "", CLIENT, "Asked.test_a_capture_that_is_not_there"),
+    ("client: a folder is a capture", "framedbg_client/client.py", "    if stat.S_ISDIR(os.stat(capture).st_mode):\n", "    if not os.stat(capture):\n", CLIENT, "Asked.test_a_capture_that_is_not_there"),
+    ("client: what is off changes under one's hands", "framedbg_client/client.py", "self._told_off = frozenset(self._off)", "self._told_off = self._off", CLIENT, "Asked.test_what_is_off_is_a_copy"),
+    ("client: what was off stays so", "framedbg_client/client.py", "            self._told_off = None\n\n    def _set", "\n    def _set", CLIENT, "Asked.test_what_is_off_is_a_copy"),
     # moves and breakpoints
     ("moves: two for one", "debugger/moving.py", "min(frame.position + by, len(frame))", "min(frame.position + by + 1, len(frame))", FDB, "Moves.test_steps"),
     ("moves: depth clears are passed over", "debugger/frame.py", '("draw", "clear", "depth_clear")', '("draw", "clear")', FDB, "Moves.test_draws_and_clears"),
@@ -46,6 +55,16 @@ MUTATIONS = [
     ("breakpoints: the history is asked for each time", "debugger/frame.py", "if (x, y, wanted) not in self.histories:", "if True:", FDB, "Breakpoints.test_by_history_and_not_by_steps"),
     ("breakpoints: kinds that are off", "debugger/breakpoints.py", "if frame.kind(event) == self.kind and frame.is_on(event)", "if frame.kind(event) == self.kind", FDB, "Breakpoints.test_kinds"),
     ("breakpoints: a number given twice", "debugger/breakpoints.py", "self.given += 1\n            known = self.given", "known = len(self.numbered) + 1", FDB, "Breakpoints.test_several_at_once"),
+    ("breakpoints: conditions always hold", "debugger/breakpoints.py", "if self.condition is None or self.condition.holds(change)]", "if True]", FDB, "Breakpoints.test_conditions"),
+    ("breakpoints: conditions of what was before", "debugger/conditions.py", "getattr(change.after, self.channel)", "getattr(change.before, self.channel)", FDB, "Breakpoints.test_conditions"),
+    ("breakpoints: above is at least", "debugger/conditions.py", '">": operator.gt', '">": operator.ge', FDB, "Breakpoints.test_conditions"),
+    ("breakpoints: no condition of a depth", "debugger/frame.py", "last.depths.after if last.depths else None))", "None))", FDB, "Breakpoints.test_a_condition_of_a_depth"),
+    ("breakpoints: once is for ever", "debugger/moving.py", "    session.breakpoints.delete(session.breakpoints.once.intersection(given for given, _ in stops))\n", "", FDB, "Breakpoints.test_once"),
+    ("breakpoints: all are once", "debugger/breakpoints.py", "            if once:\n", "            if True:\n", FDB, "Breakpoints.test_once"),
+    ("breakpoints: what is disabled stops", "debugger/breakpoints.py", " if number not in self.disabled]", "]", FDB, "Breakpoints.test_disabled"),
+    ("answers: undo leaves the switches", "debugger/switching.py", "client.switch(event, event not in off)", "pass", FDB, "Answers.test_undone"),
+    ("answers: undo is undone", "debugger/session.py", 'if name != "undo":', "if True:", FDB, "Answers.test_undone"),
+    ("answers: undo of a script by lines", "debugger/session.py", "self.past[known:] = [before]", "self.past.append(before)", FDB, "Answers.test_undone"),
     # answers
     ("answers: set by the first event", "debugger/frame.py", "range(bisect.bisect_right(events, position) - 1, -1, -1)", "range(bisect.bisect_right(events, position))", FDB, "Answers.test_states_and_who_set_them"),
     ("answers: set by an event that is off", "debugger/frame.py", " if self.is_on(events[at])), None)", "), None)", FDB, "Answers.test_states_and_who_set_them"),
@@ -61,7 +80,7 @@ MUTATIONS = [
     ("answers: the first of several beginnings", "debugger/words.py", "if len(begun) == 1 and", "if begun and", FDB, "Answers.test_slips"),
     # pictures
     ("pictures: the file is emptied first", "debugger/picturing.py", '    image = session.frame.client.value("show", Image)\n    try:', '    path.write_bytes(b"")\n    image = session.frame.client.value("show", Image)\n    try:', FDB, "Pictures.test_nothing_is_lost"),
-    ("pictures: a file that nobody else reads", "debugger/picturing.py", "        os.chmod(name, 0o666 & ~umask())\n", "", FDB, "Pictures.test_saved"),
+    ("pictures: a file that nobody else reads", "writing/files.py", "        os.chmod(name, 0o666 & ~umask())\n", "", FDB, "Pictures.test_saved"),
     ("pictures: rows shown twice", "debugger/drawing.py", "zip(rows[::2], [*rows[1::2], None] if len(rows) % 2 else rows[1::2])", "zip(rows[::2], rows[::2])", FDB, "Pictures.test_half_blocks"),
     ("pictures: the upper colour below", "debugger/drawing.py", "48;2;{';'.join(map(str, lower[column]))}", "48;2;{r};{g};{b}", FDB, "Pictures.test_half_blocks"),
     ("pictures: centre not in the middle", "debugger/drawing.py", "at - length // 2", "at - length", FDB, "Pictures.test_views"),
@@ -82,6 +101,22 @@ MUTATIONS = [
     ("endings: status 0 after a failed script", "debugger/batch.py", 'getattr(fault, "status", FAULT)', "0", FDB, "Scripts.test_expectations"),
     ("endings: another run at the end", "debugger/ending.py", "position = session.frame.position", "position = len(session.frame)", FDB, "Endings.test_another_run"),
     ("endings: words at fault are status 2", "debugger/command_line.py", "self.exit(1,", "self.exit(2,", FDB, "Endings.test_words"),
+    # how each tool writes and ends
+    ("writing: a full disk is a traceback", "writing/ending.py", "        except OSError as fault:\n            raise Unwritable(fault) from None\n", "        finally:\n            pass\n", ENDINGS, "Tools.test_a_full_disk"),
+    ("writing: a full disk is a fault of the words", "writing/ending.py", "WRITING, INTERRUPTED = 1, 3, 130", "WRITING, INTERRUPTED = 1, 1, 130", ENDINGS, "Tools.test_a_full_disk"),
+    ("writing: what is buffered is lost", "writing/ending.py", "        sys.stdout.flush()\n        return status\n", "        return status\n", ENDINGS, "Tools.test_a_full_disk"),
+    ("writing: nobody says that standard output is closed", "writing/ending.py", "    if 1 in closed:\n", "    if False:\n", ENDINGS, "Tools.test_standard_output_that_is_closed"),
+    ("writing: a file takes the place of what is closed", "writing/ending.py", "enumerate(OPENED) if is_closed(number)", "enumerate(OPENED) if number == 1 and is_closed(number)", ENDINGS,
+     "Endings.test_nothing_takes_the_place_of_what_is_closed"),
+    ("writing: who has gone is told", "writing/ending.py", "return WRITING if is_left else", "return", ENDINGS, "Tools.test_a_reader_that_goes"),
+    ("writing: an early Ctrl-C is a traceback", "writing/ending.py", "    signal.signal(signal.SIGINT, leave)\n", "    pass\n", ENDINGS, "Tools.test_an_early_interrupt"),
+    ("writing: any Python", "writing/ending.py", "if sys.version_info < LEAST:", "if False:", ENDINGS, "Tools.test_an_old_python"),
+    ("writing: a terminal is told at the end", "writing/ending.py", "line_buffering=raw.isatty()", "line_buffering=False", ENDINGS, "Endings.test_a_terminal_is_told_line_by_line"),
+    ("writing: the status of sys.exit is lost", "writing/ending.py", "return end.code or 0", "return 0", ENDINGS, "Endings.test_statuses"),
+    ("writing: a device becomes a file", "writing/files.py", "    if is_other(path):\n", "    if False:\n", ENDINGS, "Files.test_pipes_and_devices_stay"),
+    ("writing: a link becomes a file", "writing/files.py", "replace(os.path.realpath(path), data)", "replace(os.path.abspath(path), data)", ENDINGS, "Files.test_links_stay"),
+    ("writing: some of it goes through a pipe", "writing/files.py", "    while rest:\n", "    if rest:\n", ENDINGS, "Files.test_pipes_and_devices_stay"),
+    ("writing: half a file stays", "writing/files.py", "        os.unlink(name)\n        raise\n", "        raise\n", ENDINGS, "Files.test_whole_or_not_at_all"),
     # the terminal
     ("terminal: colours in spite of NO_COLOR", "debugger/screen.py", ' and not environment.get("NO_COLOR")', "", FDB, "Prompts.test_colours"),
     ("terminal: colours where it is dumb", "debugger/screen.py", 'in ("", "dumb")', 'in ("",)', FDB, "Prompts.test_colours"),

@@ -3,10 +3,13 @@
 
 Each is a copy of a tool with one text exchanged, and the test that has to fail on it, and to pass on the tool as it is.
 """
+import folders
+
 from wrong_versions import Version, try_all
 
-NOTE, RUN, PREPARE, GATE, PROSE, SENTENCES = "passed_over.py", "run_tests", "prepare_machine", "check_gate", "prose.py", "check_sentences"
-LOOP, COPIES, BROWSER = "wrong_versions.py", "wrong_copies.py", "browser.py"
+NOTE, RUN, PREPARE, GATE = "checks/passed_over.py", "checks/run_tests", "checks/prepare_machine", "checks/check_gate"
+PROSE, SENTENCES = "checks/prose.py", "checks/check_sentences"
+LOOP, COPIES, BROWSER = "tests/wrong/wrong_versions.py", "tests/wrong/wrong_copies.py", "tests/browser.py"
 TESTS = {NOTE: "test_passed_over.py", RUN: "test_run_tests.py", PREPARE: "test_prepare_machine.py", GATE: "test_check_gate.py", PROSE: "test_check_sentences.py",
          SENTENCES: "test_check_sentences.py", LOOP: "test_wrong_versions.py", COPIES: "test_wrong_versions.py", BROWSER: "test_browser.py"}
 MUTATIONS = [   # name, tool, text, what stands there instead, test
@@ -20,16 +23,28 @@ MUTATIONS = [   # name, tool, text, what stands there instead, test
     ("noted: tests that fail are passed", NOTE, "sys.exit(not ran.wasSuccessful())", "sys.exit(0)", "PassedOver.test_tests_that_ran_are_counted"),
     ("run: on behind a fault", RUN, "        if failed:\n            break", "        pass", "RunsTests.test_the_first_that_fails_is_the_last"),
     ("run: a fault is no fault", RUN, "for part, status in failed.items()) or 0)", "for part, status in failed.items()) and 0)", "RunsTests.test_the_first_that_fails_is_the_last"),
-    ("run: one after another", RUN, "ThreadPoolExecutor(os.cpu_count())", "ThreadPoolExecutor(1)", "RunsTests.test_some_at_once"),
-    ("run: lines of one between those of another", RUN, "ended = run(part, told)", "ended = run(part)", "RunsTests.test_some_at_once"),
-    ("run: what is run beside others can't fail", RUN, "for part, (status, _) in ended.items() if status}", "for part, (status, _) in ended.items() if status and len(parts) == 1}", "RunsTests.test_all_at_once_end_where_one_fails"),
+    ("run: one after another", RUN, "ThreadPoolExecutor(len(os.sched_getaffinity(0)) + 1)", "ThreadPoolExecutor(1)", "RunsTests.test_some_at_once"),
+    ("run: lines of one between those of another", RUN, "part.command.split()], part, told)", "part.command.split()], part)", "RunsTests.test_some_at_once"),
+    ("run: what is run beside others can't fail", RUN, "for part, (status, _) in ended.items() if status}", "for part, (status, _) in ended.items() if status and len(step.parts) == 1}", "RunsTests.test_all_at_once_end_where_one_fails"),
     ("run: no minutes", RUN, '*took.items(), ("in all"', '("in all"', "RunsTests.test_all_in_their_order"),
     ("run: no list", RUN, '    subprocess.run([sys.executable, PASSED_OVER, "--list"], check=True)', "    pass", "RunsTests.test_what_was_passed_over_is_listed_last"),
     ("run: nothing is forgotten", RUN, '    subprocess.run([sys.executable, PASSED_OVER, "--begin"], check=True)', "    pass", "RunsTests.test_what_was_passed_over_is_listed_last"),
     ("run: all words name all parts", RUN, "any(word in line for word in words)", "True", "RunsTests.test_words"),
+    ("run: beside others on any processor", RUN, '"taskset", "-c", str(max(os.sched_getaffinity(0)))', '"env"', "RunsTests.test_it_asks_for_one_processor"),
+    ("run: beside others all at once", RUN, "        ended[part] = run_beside(part, ASIDE)\n", "        threading.Thread(target=run_beside, args=(part, ASIDE)).start()\n        ended[part] = (0, 0)\n", "RunsTests.test_in_turn_beside_another"),
+    ("run: beside others on behind a fault", RUN, "        if ended[part][0]:\n            break\n", "", "RunsTests.test_one_beside_another_fails"),
+    ("run: before others", RUN, "        return dict(zip(step.parts, pool.map(call, step.parts))) | beside.result()", "        return beside.result() | dict(zip(step.parts, pool.map(call, step.parts)))", "RunsTests.test_in_turn_beside_another"),
+    ("run: what others are run beside can't fail", RUN, "    return ran.returncode, time", "    return 0, time", "RunsTests.test_the_other_fails"),
+    ("run: what others are run beside has to be there", RUN, "        return 1, time", "        return 0, time", "RunsTests.test_the_other_fails"),
+    ("run: nothing beside nothing", RUN, "    yield from (Step([part], []) for part in beside)\n", "", "RunsTests.test_beside_nothing"),
+    ("run: always quick", RUN, "if not (is_quick and ", "if not (", "RunsTests.test_quick"),
+    ("run: never quick", RUN, "if not (is_quick and ", "if not (False and ", "RunsTests.test_quick"),
+    ("run: long ones say nothing", RUN, "(some > LONG and", "(some > LONG * 1000 and", "RunsTests.test_long_ones_say_so"),
+    ("run: all are long", RUN, "(some > LONG and", "(some > 0 and", "RunsTests.test_long_ones_say_so"),
     ("gate: a fault is no fault", GATE, "if gate.returncode or empty:", "if empty:", "ChecksTheGate.test_a_gate_that_fails"),
     ("gate: edits that can't be applied pass", GATE, '"BAD EDIT"', '"no such words"', "ChecksTheGate.test_an_edit_that_cannot_be_applied"),
     ("gate: edits that take names away pass", GATE, '"says little of the contract"', '"no such words"', "ChecksTheGate.test_an_edit_that_takes_a_name_away"),
+    ("gate: declarations that weren't checked pass", GATE, '"which was rejected, were not checked"', '"no such words"', "ChecksTheGate.test_an_edit_of_which_declarations_were_not_checked"),
     ("gate: an edit that shows nothing is no fault", GATE, "if gate.returncode or empty:", "if gate.returncode:", "ChecksTheGate.test_an_edit_that_takes_a_name_away"),
     ("gate: any line is an edit", GATE, '.startswith(EDIT) and', '.startswith("") and', "ChecksTheGate.test_words_elsewhere_are_no_edit"),
     ("gate: silent", GATE, '            print(line, end="", flush=True)', "            pass", "ChecksTheGate.test_a_gate_that_passes"),
@@ -97,4 +112,4 @@ MUTATIONS = [   # name, tool, text, what stands there instead, test
 
 
 if __name__ == "__main__":
-    try_all(__doc__, [Version(name, f"tools/{tool}", old, new, TESTS[tool], test) for name, tool, old, new, test in MUTATIONS])
+    try_all(__doc__, [Version(name, tool, old, new, TESTS[tool], test) for name, tool, old, new, test in MUTATIONS])

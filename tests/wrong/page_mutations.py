@@ -4,6 +4,8 @@
 Each is a copy of the viewer and the page with one text exchanged, and the test that has to fail on it, and to pass on the page as it is. They want Chromium,
 and the page made once (make page).
 """
+import folders
+
 import browser
 from wrong_versions import TOP, Version, try_all
 
@@ -85,6 +87,10 @@ MUTATIONS = [   # name, file, text, what stands there instead, test
     ("worked out: the factor of the frame", "page/worked.js", 'factor = capture.setter(event, "factor") === number ? colour : ', "factor = ", KINDS),
     ("worked out: clears as they were", "page/worked.js", "event === number ? named(colour) : source", "source", "BlamedInChromium.test_a_clear_below_glass"),
     ("capture: the first that set a state", "page/capture.js", "this.events.findLastIndex(({ kind }, i)", "this.events.findIndex(({ kind }, i)", HUNTS),
+    ("capture: a picture that stays where it was", "page/capture.js", "left: x - window.left", "left: x", "BlamedInChromium.test_a_window"),
+    ("capture: rows of a picture from its left", "page/capture.js", "(y - top + row) * width + x - left)", "(y - top + row) * width)", "BlamedInChromium.test_a_window"),
+    ("capture: holes of a picture from the largest bit", "page/capture.js", "<< (to & 7)", "<< (7 - to & 7)", "BlamedInChromium.test_a_window"),
+    ("evidence: what is discarded sets a state", "page/evidence.js", "discarded: [],", "", "BlamedInChromium.test_draws_with_pictures"),
     ("capture: a scissor that stays where it was", "page/capture.js", "edge - (i % 2 ? top : left)", "edge", "BlamedInChromium.test_a_window"),
     ("capture: triangles that end on the window's edge", "page/capture.js", "Math.min(...x) <= right", "Math.min(...x) <= right - 12", "BlamedInChromium.test_a_window"),
     ("viewer: the outline stays", "viewer/page/picture.js", "    this.setOutline(null);\n    this.setMark(null);\n", "    this.setMark(null);\n", ANOTHER),
@@ -97,5 +103,6 @@ MUTATIONS = [   # name, file, text, what stands there instead, test
 
 if __name__ == "__main__":
     missing = "Chromium and chromedriver aren't installed" if not browser.is_installed() else "" if (TOP / "out/page/stamp").exists() else "the page isn't made"
-    try_all(__doc__, [Version(name, f"tools/{file}", old, new, "test_page.py", test if "." in test else f"InChromium.{test}", missing)
+    try_all(__doc__, [Version(name, ("build/" if file.startswith("page/") else "tools/") + file, old, new,
+                              "test_page.py", test if "." in test else f"InChromium.{test}", missing)
                       for name, file, old, new, test in MUTATIONS], {"PATIENCE": "10"})

@@ -3,6 +3,8 @@
 
 Each is a copy with one text exchanged, and the test that has to fail on it, and to pass on what is there.
 """
+import folders
+
 from wrong_versions import Version, try_all
 
 MUTATIONS = [   # name, file, text, what stands there instead, test
@@ -23,6 +25,13 @@ MUTATIONS = [   # name, file, text, what stands there instead, test
     ("foreign: no replay is a replay", "replay.py", "        if result != rd.ResultCode.Succeeded:\n            hint", "        if False:\n            hint", "Foreign"),
     ("take: a frame of one pixel is a frame", "../take_frame", "if not is_of_nothing(path):", "if True:", "Foreign"),
     ("take: any target of one pixel", "../take_frame", ' and line.endswith(", shown")', "", "Foreign"),
+    ("take: what RenderDoc doesn't take is waited for", "../take_frame", "if self.refused and time.monotonic() - self.refused >= STILL:", "if False:", "Foreign"),
+    ("take: a context that only asks is one that shows", "../take_frame", "        if use.presenting:\n            self.refused", "        if True:\n            self.refused", "Foreign"),
+    ("take: the first context is the one", "../take_frame", "self.refused = None if use.supported else", "self.refused = self.refused if use.supported else", "Foreign"),
+    ("take: nobody follows a script", "../take_frame", "                if child:\n", "                if False:\n", "Foreign"),
+    ("take: a program that has ended is waited for", "../take_frame", "                self.controls.remove(control)\n", "                pass\n", "Foreign"),
+    ("take: a target of one pixel is taken", "telling.py", "if frame.size(shown) == (1, 1):", "if False:", "Foreign"),
+    ("take: the first target has the most draws", "telling.py", "key=lambda target: counts[target][2]", "key=lambda target: -target", "Foreign"),
     ("take: others stay", "../take_frame", "            os.unlink(other)\n", "            pass\n", "Foreign"),
     ("take: those that were there go", "../take_frame", "frames_at(out) - there - {path}", "frames_at(out) - {path}", "Foreign"),
     ("take: what isn't wanted stays", "../take_frame", "            os.unlink(path)\n", "", "Foreign"),
@@ -117,7 +126,7 @@ MUTATIONS = [   # name, file, text, what stands there instead, test
     ("gather: draws of all targets", "gather.py", "return self.target in self.frame.targets(action)", "return True", "Frames.test_other_targets_copies_and_dispatches_are_counted"),
     ("gather: a fault names no event", "gather.py", 'raise Fault(f"event {action.eventId}, {self.frame.name(action)}: {fault}") from None', "raise", "Frames.test_a_fault_names_its_event"),
     ("names: they steer the terminal", "names.py", 'c if c.isprintable() else "?"', "c", "Names"),
-    ("names: endless", "names.py", "str(text)[:MOST]", "str(text)", "Names"),
+    ("names: endless", "names.py", "str(text)[:most]", "str(text)", "Names"),
     ("reel: each picture by itself", "reel.py", "exchanged(self.last[start:end], picture[start:end])", "exchanged(b'', picture[start:end])", "Reels"),
     ("reel: a change ends too early", "reel.py", "    return start, high\n", "    return start, low\n", "Reels"),
     ("reel: a change begins too late", "reel.py", "    start, low, high = low, low, len(other)\n", "    start, low, high = high, low, len(other)\n", "Reels"),
@@ -137,6 +146,8 @@ MUTATIONS = [   # name, file, text, what stands there instead, test
 
 
 OLD = [
+    ("old: file names steer the terminal", "apitrace_to_capture", "{printable(fault, MOST_LINE)}", "{fault}", "Tool.test_what_is_wrong_is_a_line"),
+    ("old: nobody says what to try", "old_frames/retrace.py", "{said(process)}{TRY}", "{said(process)}", "Tool.test_what_is_wrong_is_a_line"),
     ("matrices: the other way round", "old_frames/matrices.py", "return tuple(sum(first[4 * k + row] * second[4 * column + k] for k in range(4))", "return tuple(sum(second[4 * k + row] * first[4 * column + k] for k in range(4))", "Matrices"),
     ("matrices: turned the other way", "old_frames/matrices.py", "math.sin(math.radians(angle))", "-math.sin(math.radians(angle))", "Matrices"),
     ("matrices: near and far exchanged", "old_frames/matrices.py", "-2 * far * near / (far - near)", "2 * far * near / (far - near)", "Matrices"),
@@ -192,6 +203,15 @@ EMITTERS = [
     ("C: half a character at the end", "share/framedbg_capture.h", "if (bytes + wide > FRAMEDBG_MOST_NAME) break;", "if (bytes >= FRAMEDBG_MOST_NAME) break;", "test_hostile_words_in_c"),
     ("C: y upside down", "share/framedbg_capture.h", "(view->y_down ? 1 : -1)", "(view->y_down ? -1 : 1)", "test_the_examples_make_one_capture"),
     ("C: depth rounded down", "share/framedbg_capture.h", "lround(depth * FRAMEDBG_FARTHEST)", "(long)(depth * FRAMEDBG_FARTHEST)", "test_hostile_words_in_c"),
+    ("C: a rest of three bytes unpadded", "share/framedbg_capture.h", "i <= count ? letters", "i < 4 ? letters", "test_every_length_of_a_picture"),
+    ("C: holes from the largest bit", "share/framedbg_capture.h", "<< i % 8)", "<< (7 - i % 8))", "test_every_length_of_a_picture"),
+    ("C: pictures in version 2", "share/framedbg_capture.h", "if (c->version < 3) return FRAMEDBG_NO_PICTURES;", "", "test_hostile_words_in_c"),
+    ("C: a picture that begins too far", "share/framedbg_capture.h", "p->left >= FRAMEDBG_MOST_SIDE", "p->left > FRAMEDBG_MOST_SIDE", "test_hostile_words_in_c"),
+    ("Rust: a rest of three bytes as it stands", "share/framedbg_capture.rs", "<< (8 * (3 - some.len()))", "", "test_the_example_in_rust"),
+    ("Rust: holes from the largest bit", "share/framedbg_capture.rs", "u8::from(hole) << bit", "u8::from(hole) << (7 - bit)", "test_the_example_in_rust"),
+    ("Python: pictures in version 2", "tools/captures.py", "version = 3 if any", "version = 2 if any", "test_hostile_words_in_python"),
+    ("Python: holes from the largest bit", "tools/captures.py", "bool(truth) << place % 8", "bool(truth) << 7 - place % 8", "test_the_decal_is_where_it_was_put"),
+    ("Python: a picture of any length", "tools/captures.py", "if len(rgba) != 4 * width * height:", "if False:", "test_hostile_words_in_python"),
     ("Rust: the source stays", "share/framedbg_capture.rs", "self.source.take()", "self.source", "test_the_example_in_rust"),
     ("Rust: depth of OpenGL as it is", "share/framedbg_capture.rs", "z / w * 0.5 + 0.5", "z / w", "test_the_example_in_rust"),
     ("Python: y upside down", "tools/captures.py", "(-1 if y_up else 1)", "(1 if y_up else -1)", "test_places"),
@@ -201,8 +221,25 @@ EMITTERS = [
 ]
 
 
+PICTURED = [    # name, file, text, what stands there instead, test
+    ("pictures: one layer of two", "pictured.py", "counted.update(range(y * width + x0, y * width + x1))", "counted |= Counter(range(y * width + x0, y * width + x1))",
+     "Frames.test_two_layers_of_one_draw"),
+    ("pictures: what has no source is left as it is", "pictured.py", "            self.put(pieces, shown.replaced, {}, {**source, \"baked\": \"after\"})\n", "",
+     "Frames.test_what_blending_can_t_say_is_replaced"),
+    ("pictures: what is replaced is blended", "pictured.py", "            self.log.set(states.plain(), source)\n", "", "Frames.test_what_blending_can_t_say_is_replaced"),
+    ("pictures: what is unchanged was never discarded", "pictured.py", "if before == after and self.may_be_discarded(at):", "if False:", "Frames.test_discarded_pixels_leave_no_depth"),
+    ("pictures: a picture of colours has a flat draw", "pictured.py", "if len(colours) == 1 and len(sources) == len(layers) else None", "if colours else None", "Frames.test_blended_draws"),
+    ("pictures: what was there is forgotten", "pictured.py", "if any(self.picture):", "if False:", "Frames.test_what_was_there_before"),
+    ("sources: any alpha", "solving.py", "key=lambda alpha: abs(alpha - guess[3])", "key=lambda alpha: -alpha", "Solving.test_the_guess_s_alpha_is_kept"),
+    ("sources: alpha comes out by itself", "solving.py", "        if self.over(source, before, layers)[3] != after[3]:\n            return None\n", "", "Solving.test_a_source_is_found_where_there_is_one"),
+    ("sources: no neighbours", "solving.py", "NEIGHBOURS = (0, 1, -1, 2, -2)", "NEIGHBOURS = (0,)", "Solving.test_a_source_is_found_where_there_is_one"),
+    ("sources: rounded down", "solving.py", "+ 127) // 255", ") // 255", "Solving.test_a_source_is_found_where_there_is_one"),
+]
+
+
 if __name__ == "__main__":
     try_all(__doc__, [*(Version(name, f"tools/real_frames/{file}", old, new, "test_foreign_frames.py" if test == "Foreign" else "test_real_frames.py", test)
                         for name, file, old, new, test in MUTATIONS),
+                      *(Version(name, f"tools/real_frames/{file}", old, new, "test_pictured_frames.py", test) for name, file, old, new, test in PICTURED),
                       *(Version(name, f"tools/{file}", old, new, "test_old_frames.py", test) for name, file, old, new, test in OLD),
                       *(Version(name, file, old, new, "test_captures.py", f"Emitters.{test}") for name, file, old, new, test in EMITTERS)])

@@ -3,6 +3,8 @@
 
 Each is a copy of the tools with one text exchanged, and the test that has to fail on it, and to pass on the tools as they are. Those of the page want Chromium.
 """
+import folders
+
 import browser
 from wrong_versions import Version, try_all
 
@@ -12,6 +14,10 @@ KINDS = {"door": ("viewer/", "test_viewer.py"), "server": ("viewer/", "test_view
          "blame": ("viewer/", "test_viewer.py"), "explain": ("", "test_explain.py"), "mesh": ("", "test_mesh_to_capture.py")}
 MUTATIONS = [   # name, file, text, what stands there instead, test
     ("door: any address", "server.py", '("127.0.0.1", port)', '("", port)', "Doors.test_loopback"),
+    ("view: a port that is another's is a traceback", "viewer/server.py", "        self.blame = Blame(*session.words[:2])", "        setattr(self, \"blame\" if port == 0 else \"none\", Blame(*session.words[:2]))",
+     "Refusals.test_what_can_not_be_served"),
+    ("view: any number is a port", "view", "and int(text) <= MOST_PORT", "", "Refusals.test_what_can_not_be_served"),
+    ("view: a capture that can't be read has no name", "view", "        check_readable(args.capture)\n", "", "Refusals.test_what_can_not_be_served"),
     ("door: any host", "doors.py", 'if headers.get_all("Host", []) != [host]:', "if False:", "Doors.test_host"),
     ("door: host without port", "doors.py", 'headers.get_all("Host", []) != [host]', 'not (headers.get("Host") or "").startswith("127.0.0.1")', "Doors.test_host"),
     ("door: any origin", "doors.py", 'if headers.get_all("Origin", [origin]) != [origin]:', "if False:", "Doors.test_origin"),
@@ -73,6 +79,13 @@ MUTATIONS = [   # name, file, text, what stands there instead, test
     ("server: the event before it", "capture.py", "range(first + 1, last + 1)", "range(first, last)", "NearPictures.test_they_are_the_program_s"),
     ("server: a clear writes nothing", "capture.py", '"depth", "depth_clear"}', '"depth", "depth_clear", "clear"}', "NearPictures.test_they_are_the_program_s"),
     ("server: states are drawn", "capture.py", '"scissor", "blend",', '"scissor",', "NearPictures.test_few_lines_are_asked"),
+    ("server: pictures are too large", "capture.py", "TEXTS.sub(rb'\"\\1\"\\2\"\"', self.path.read_bytes())", "self.path.read_bytes()", "Run.test_draws_with_pictures"),
+    ("server: a picture without its last column", "capture.py", "min(box[2], left + width)", "min(box[2], left + width - 1)", "Run.test_draws_with_pictures"),
+    ("server: corners of pictures want colours", "capture.py", "None if has_picture else vertex", "vertex", "Run.test_draws_with_pictures"),
+    ("page: discarded behind depth failed", "page/fates.js", '"discarded", "depthfailed", "drawn"', '"depthfailed", "discarded", "drawn"', "MapsInChromium.test_verdicts_and_overdraw"),
+    ("page: a hole is told as a depth", "page/sum.js", 'verdict === "discarded"', 'verdict === "thrown"', "AnswersInChromium.test_why_a_pixel_was_discarded"),
+    ("page: a picture has the first corner's colour", "page/triangles.js", 'if (interp !== "picture")', "if (true)", "AnswersInChromium.test_why_a_pixel_was_discarded"),
+    ("page: a picture is not told in the list", "page/words.js", 'picture: ", a picture"', 'picture: ""', "AnswersInChromium.test_why_a_pixel_was_discarded"),
     ("server: what is off is drawn", "capture.py", "            if number in off:\n                continue\n", "", "NearPictures.test_few_lines_are_asked"),
     ("server: boxes of another file", "capture.py", "if self.stamp is None or self.stamp_now() != self.stamp:", "if self.stamp is None:", "NearPictures.test_another_file"),
     ("server: lines without end", "session.py", '            self._keep_room(len(lines) + lines.count(b"show") * self.nearby.most)\n', "", "NearPictures.test_a_run_without_lines_left"),

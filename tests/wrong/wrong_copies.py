@@ -9,10 +9,11 @@ import subprocess
 import sys
 import tempfile
 
+from folders import TOP
+
 import passed_over
 
-TOP = pathlib.Path(__file__).resolve().parent.parent
-COPIED = ("benches", "share", "tools")      # what may be exchanged; the rest of a copy leads to the repository
+COPIED = ("benches", "build", "checks", "share", "tests", "tools")      # what may be exchanged; the rest of a copy leads to the repository
 SECONDS = 900       # for the run of a test
 RUNNING = set()     # the numbers of those that haven't ended
 
@@ -42,7 +43,7 @@ def copy():
         (room / "out").mkdir()
         for entry in [*TOP.iterdir(), *TOP.glob("out/*")]:
             if entry.parent == TOP and entry.name in COPIED:
-                shutil.copytree(entry, room / entry.name, copy_function=twin)
+                shutil.copytree(entry, room / entry.name, symlinks=True, copy_function=twin)
             elif entry not in (TOP / "out", TOP / ".git", passed_over.NOTED):
                 (room / entry.relative_to(TOP)).symlink_to(entry)
         yield room
@@ -89,11 +90,11 @@ def run(words, more):
 
 
 def tried(file, tests, more, change=None):
-    """The verdict of tests of a file of tools/, and what they said, in a copy where the text of a file may be another one. Those that can't begin are tried once more."""
+    """The verdict of tests of a file of tests/, and what they said, in a copy where the text of a file may be another one. Those that can't begin are tried once more."""
     with copy() as room:
         if change:
             exchange(room / change[0], change[1])
-        words = [sys.executable, room / "tools" / file, "-f", *tests]
+        words = [sys.executable, room / "tests" / file, "-f", *tests]
         status, said = run(words, more)
         if has_not_begun(said):
             status, said = run(words, more)

@@ -1,6 +1,6 @@
 """Wrong versions of what a check looks at: a check that lets one pass checks nothing.
 
-A check tries its own by all_seen. Those of the tools stand in lists, such as tools/gate_mutations.py, which try_all goes through.
+A check tries its own by all_seen. Those of the tools stand in lists, such as tests/wrong/gate_mutations.py, which try_all goes through.
 """
 import argparse
 import collections
@@ -40,7 +40,7 @@ class Version(NamedTuple):
     file: str           # from the top of the repository
     text: str           # which stands there once
     instead: str
-    tests: str          # a file of tools/
+    tests: str          # a file of tests/
     test: str           # of that file, which has to fail
     missing: str = ""   # why it can't be tried here
 
@@ -123,7 +123,7 @@ def try_all(about, versions, more=None):
     asked, tool = argparse.ArgumentParser(description=about, formatter_class=argparse.RawDescriptionHelpFormatter), pathlib.Path(sys.argv[0]).stem
     asked.add_argument("words", metavar="WORD", nargs="*", help="tried is what has one of them in its name; without any, all")
     asked.add_argument("--list", action="store_true", help="name them, and say which text doesn't stand once in its file, or which test there isn't")
-    asked.add_argument("--at-once", type=at_least_one, default=os.cpu_count() or 1, metavar="N", help="how many are tried at once [%(default)s]")
+    asked.add_argument("--at-once", type=at_least_one, default=len(os.sched_getaffinity(0)), metavar="N", help="how many are tried at once [%(default)s]")
     given = asked.parse_args()
     wanted = List(tool, [version for version in versions if not given.words or any(word in version.name for word in given.words)], more or {})
     if not wanted.versions:

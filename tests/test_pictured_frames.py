@@ -1,0 +1,138 @@
+#!/usr/bin/env python3
+"""test_pictured_frames: frames as captures of version 3. After each draw the capture's image is the frame's picture, byte for byte; the frame is drawn by
+build/reference.py, which stands in for RenderDoc."""
+import random
+import unittest
+
+import folders
+
+import captures
+import reference
+from frames_testing import ADDED, OVER, TARGET, StandIn, clear, draw, quad, state
+from real_frames.gather import Gatherer, Wanted
+from real_frames.losses import Losses
+from real_frames.pictured import PicturedWriter
+from real_frames.solving import Blending
+
+RED, GREEN, BLUE, GREY = (255, 0, 0, 255), (0, 255, 0, 255), (0, 0, 255, 255), (90, 100, 110, 255)
+TESTED = (True, True, "LESS")
+TINTED = ("DstCol", "Zero", "Add"), ("One", "Zero", "Add")
+
+
+def converted(frame, wanted=Wanted()):
+    losses = Losses()
+    gatherer = Gatherer(frame, TARGET, losses, wanted)
+    records = gatherer.gather()
+    return PicturedWriter(gatherer.size, records, losses).capture()
+
+
+def image_at(capture, position):
+    frame = reference.Frame(capture)
+    frame.position = position
+    return frame.pam().partition(b"ENDHDR\n")[2]
+
+
+def corners(*four):
+    """A quad whose corners have a colour each."""
+    (a, b, c, d) = ((x, y, .5, colour) for (x, y), colour in zip(((2, 1), (21, 3), (20, 15), (1, 13)), four))
+    return [(a, b, c), (a, c, d)]
+
+
+class Frames(unittest.TestCase):
+    def same(self, frame, capture):
+        """At each draw of the frame."""
+        self.assertIsNone(reference.fault(captures.text(capture).encode()))
+        for action in frame.actions:
+            events = [number for number, event in enumerate(capture["events"], 1) if event["source"]["event"] == action.eventId]
+            if events:
+                frame.go(action.eventId)
+                self.assertEqual(image_at(capture, events[-1]), frame.picture(TARGET), action.name)
+
+    def colours(self, capture):
+        return [event["source"]["colours"] for event in capture["events"] if "colours" in event["source"]]
+
+    def test_draws_that_replace(self):
+        frame = StandIn(clear(2, GREY, 1.0), draw(5, quad(3, 2, 15, 12, .5, RED), state(depth=TESTED)),
+                        draw(9, corners(RED, GREEN, BLUE, GREY), state(depth=TESTED)),
+                        draw(14, corners(GREY, BLUE, RED, GREEN), state(depth=(True, False, "LESS_EQUAL"), scissor=[0, 3, 24, 9])),
+                        draw(15, quad(0, 0, 24, 16, .1, BLUE), state(mask=5)))
+        capture = converted(frame)
+        self.same(frame, capture)
+        self.assertEqual([event["interp"] for event in capture["events"] if event["kind"] == "draw"], ["flat", "picture", "picture", "picture"])
+        self.assertTrue(all(set(told) == {"known"} for told in self.colours(capture)), self.colours(capture))
+
+    def test_blended_draws(self):
+        see = lambda colour, alpha: (*colour[:3], alpha)
+        sheet = corners(see(RED, 200), see(GREEN, 90), see(BLUE, 30), see(GREY, 0))
+        premultiplied, brighter = [(("One", "InvSrcAlpha", "Add"),) * 2, (("One", "One", "Maximum"),) * 2]
+        for blend in (OVER, ADDED, TINTED, premultiplied, brighter):
+            frame = StandIn(clear(2, GREY, 1.0), draw(4, corners(BLUE, RED, GREY, GREEN)), draw(5, sheet, state(blend=blend)),
+                            draw(6, quad(5, 2, 12, 12, .5, see(RED, 77)), state(blend=blend)))
+            self.same(frame, converted(frame))
+
+    def test_two_layers_of_one_draw(self):
+        glass = quad(3, 2, 15, 12, .5, (60, 20, 90, 100)) + quad(8, 5, 22, 15, .5, (60, 20, 90, 100))
+        frame = StandIn(clear(2, GREY, 1.0), draw(5, glass, state(blend=OVER)))
+        self.same(frame, converted(frame))
+
+    def test_what_blending_can_t_say_is_replaced(self):
+        """What the frame has isn't what its blending gives: a pixel's colour goes down where it is added to."""
+        frame = StandIn(clear(2, GREY, 1.0), draw(5, corners(RED, GREEN, BLUE, GREY)),
+                        draw(7, quad(3, 2, 15, 12, .5, (9, 9, 9, 0)), state(blend=ADDED, depth=TESTED)))
+        frame.actions[2].truth[1] = frame.actions[2].truth[1] | {"rgb": ["ONE", "ONE", "REV_SUBTRACT"]}
+        capture = converted(frame)
+        self.same(frame, capture)
+        baked = [event["interp"] for event in capture["events"] if event["source"].get("baked") == "after"]
+        self.assertEqual(baked, ["picture"])
+        self.assertEqual(capture["losses"][0]["what"], "pixels whose blending gives no source")
+
+    def test_discarded_pixels_leave_no_depth(self):
+        """Holes where nothing changed: what comes later and lies behind shows there."""
+        hole = draw(5, quad(3, 2, 15, 12, .3, GREY), state(depth=TESTED, discards=True))
+        hole.truth[-1] = captures.draw(hole.truth[-1]["vertices"][:3], "linear")        # the shader discards the second triangle
+        frame = StandIn(clear(2, BLUE, 1.0), hole, draw(6, quad(0, 0, 24, 16, .6, RED), state(depth=TESTED)))
+        capture = converted(frame)
+        self.same(frame, capture)
+        self.assertIn("holes", next(event for event in capture["events"] if event["kind"] == "draw")["picture"])
+
+    def test_what_was_there_before(self):
+        wide = [captures.vertex(x << 16, y << 16, colour, 0) for x, y, colour in ((0, 0, RED), (30, 0, GREEN), (0, 20, BLUE))]
+        before = [captures.raster("none"), captures.draw(wide, "linear")]
+        frame = StandIn(draw(5, quad(3, 2, 15, 12, .5, (1, 2, 3, 100)), state(blend=OVER)), before=before)
+        self.same(frame, converted(frame))
+
+
+class Solving(unittest.TestCase):
+    def test_a_source_is_found_where_there_is_one(self):
+        """By chance: what one source makes of a pixel another one that is near a guess makes too."""
+        rng = random.Random(7)
+        byte = lambda: rng.choice((0, 255, rng.randrange(256)))
+        for _ in range(400):
+            factors = lambda: [rng.choice(reference.FACTORS), rng.choice(reference.FACTORS), rng.choice(reference.OPERATIONS)]
+            alpha = [rng.choice(captures.ALPHA_FACTORS), rng.choice(captures.ALPHA_FACTORS), rng.choice(reference.OPERATIONS)]
+            blend, factor = captures.blend(rng.random() < .9, factors(), alpha, rng.choice((15, 15, rng.randrange(16)))), tuple(byte() for _ in range(4))
+            source, before, layers = tuple(byte() for _ in range(4)), tuple(byte() for _ in range(4)), rng.choice((1, 1, 2))
+            held = {"blend": (int(blend["enable"]), tuple(blend["rgb"]), tuple(blend["alpha"]), blend["mask"]), "factor": factor}
+            after = before
+            for _ in range(layers):
+                after = reference.blend(held, source, after)
+            made = Blending(blend, factor)
+            self.assertEqual(made.over(source, before, layers), after)
+            self.assertEqual(made.source(source, before, after, layers), source)
+            guess = tuple(min(max(value + rng.randrange(-3, 4), 0), 255) for value in source)
+            found = made.source(guess, before, after, layers)
+            self.assertIsNotNone(found, (blend, factor, source, before, layers))
+            self.assertEqual(made.over(found, before, layers), after)
+
+    def test_the_guess_s_alpha_is_kept(self):
+        made = Blending(captures.blend(True, ["SRC_ALPHA", "INV_SRC_ALPHA", "ADD"], ["ZERO", "ONE", "ADD"]), (255,) * 4)
+        self.assertEqual(made.source((40, 20, 30, 128), (100, 100, 100, 7), (55, 60, 65, 7), 1)[1:], (20, 30, 128))
+
+    def test_none(self):
+        added = captures.blend(True, ["ONE", "ONE", "ADD"], ["ONE", "ONE", "ADD"])
+        self.assertIsNone(Blending(added, (0,) * 4).source((0, 0, 0, 0), (9, 9, 9, 9), (8, 9, 9, 9), 1))
+        self.assertIsNone(Blending(captures.blend(False, mask=14), (0,) * 4).source((0, 0, 0, 0), (9, 9, 9, 9), (8, 9, 9, 9), 1))
+
+
+if __name__ == "__main__":
+    unittest.main()
