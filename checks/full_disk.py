@@ -7,7 +7,7 @@ import tempfile
 
 NUMBERS = os.makedev(1, 7)      # of /dev/full
 OF_NULL = os.makedev(1, 3)      # of /dev/null
-LACKING = "no device that is full: there is no /dev/full, and none can be made"
+LACKING = "no device of its own: none can be made here"
 
 
 def is_full(path):
