@@ -1,5 +1,5 @@
 -- A clear on a tile whose pixels are all alike.
-use Rattle.std.proofs.Common.{◌≡◌, true, List, [], ◌∷◌, ◌++◌, ℕ, arith}
+use Rattle.std.proofs.Common.{◌≡◌, Bool, true, List, [], ◌∷◌, ◌++◌, ℕ, arith}
 use Rattle.std.proofs.lemmas.List.{length_push}
 use Rattle.fd_blend.specs.declared.channel.Colour.{Colour}
 use Rattle.fd_blend.specs.Channel.{fresh}
@@ -16,7 +16,7 @@ use Rattle.fd_draw.specs.Writing.{keep_each}
 use Rattle.fd_draw.proofs.Painting.{PaintsIn}
 use Rattle.fd_draw.proofs.PixelTests.{Paints-filled}
 
-module _ (t : TileImage) (colour : Colour) (depth : ℕ) (frames : List (List KeptPixel)) (filled : IsTileImage t) (flat : IsFlat t.place t.rows colour)
+module _ (fresh_below : Bool) (t : TileImage) (colour : Colour) (depth : ℕ) (frames : List (List KeptPixel)) (filled : IsTileImage t) (flat : IsFlat t.place t.rows colour)
     (deep : IsFlat t.place t.depths depth) where
   abbrev frame : List KeptPixel
   frame = alike t.place (colour, depth)
@@ -26,9 +26,9 @@ module _ (t : TileImage) (colour : Colour) (depth : ℕ) (frames : List (List Ke
       cc (value_in-same t.place t.rows colour fresh x y filled.colours flat held, value_in-same t.place t.depths depth 65535 x y filled.depths deep held)
 
   -- all of it is kept in a frame that was empty
-  kept_alike : PaintsIn (λ _ _. true) as_it_is keep_each t (without_room (frames ++ [] ∷ [])) t (without_room (frames ++ frame ∷ []))
+  kept_alike : PaintsIn (λ _ _. true) as_it_is keep_each t (without_room fresh_below (frames ++ [] ∷ [])) t (without_room fresh_below (frames ++ frame ∷ []))
   kept_alike = grind (arith, older-push, length_push, top-push, pixel_is, kept_at-alike, Inside-alike)
 
-  pub Paints-alike : (clear : Clear) → Paints (λ _ _. cleared clear) keep_each t (without_room (frames ++ [] ∷ [])) (with_cleared clear t)
-      (without_room (frames ++ frame ∷ []))
+  pub Paints-alike : (clear : Clear) → Paints (λ _ _. cleared clear) keep_each t (without_room fresh_below (frames ++ [] ∷ [])) (with_cleared clear t)
+      (without_room fresh_below (frames ++ frame ∷ []))
   Paints-alike clear = Paints-filled clear kept_alike

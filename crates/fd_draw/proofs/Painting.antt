@@ -41,6 +41,7 @@ module _ {A B : ℕ → ℕ → Pixel → Pixel} {R S : ℕ → ℕ → Pixel �
         filled = second.filled;
         below = second.below ∙ first.below;
         begun = second.begun;
+        opening = second.opening ∙ first.opening;
         some = λ before. second.some (first.some before);
         pixels = λ x y held. second.pixels x y (onto x y held) ∙ ap (λ c. B x y c) (first.pixels x y held);
         kept = λ x y held. second.kept x y (onto x y held)
@@ -137,6 +138,7 @@ module _ {y first last : ℕ} {t : TileImage} (is : HasSpan first last y t) (old
     filled = is.filled;
     below = older-push (older u.frames) (top u.frames ++ kept_row first y old);
     begun = begun;
+    opening = refl;
     some = λ _. omega (arith, length_push (older u.frames) (top u.frames ++ kept_row first y old));
     pixels = λ x z held. grind arith;
     kept = λ x z held. rw (top-push (older u.frames) (top u.frames ++ kept_row first y old)) (kept_at-append (top u.frames) (kept_row first y old) x z

@@ -46,15 +46,15 @@ module _ (t t' : TileImage) (u u' : Undo) (to : ℕ) (few : to ≤ length u.fram
   }
 
 -- ---- at once to the start, where nothing was drawn on the tile
-module _ (t t' : TileImage) (u u' : Undo) (blank : t' ≡ record (painted t.place (λ _ _. fresh_pixel)) { made = false }) (cleared : u' ≡ without_room []) where
+module _ (t t' : TileImage) (u u' : Undo) (blank : t' ≡ record (painted t.place (λ _ _. fresh_pixel)) { made = false }) (cleared : u' ≡ without_room u.opens_fresh []) where
   pub IsOwner-renewed : IsOwner t' u'
   IsOwner-renewed = grind arith
 
   opening : pixels_of t' ≡ over_place t.place (λ _ _. fresh_pixel)
   opening = ap pixels_of blank ∙ pixels_painted t.place (λ _ _. fresh_pixel)
 
-  pub OpensFresh-renewed : (opens_fresh : Bool) → OpensFresh opens_fresh t' u'
-  OpensFresh-renewed opens_fresh = λ _. rw cleared (opening ∙ rw blank refl)
+  pub OpensFresh-renewed : OpensFresh t' u'
+  OpensFresh-renewed = λ _. rw cleared (opening ∙ rw blank refl)
 
-  pub history_of-renewed : OpensFresh true t u → history_of t' u' ≡ first_frames 0 (history_of t u)
-  history_of-renewed fresh = rw cleared (ap (λ rows. opened rows []) (opening ∙ sym (fresh refl)))
+  pub history_of-renewed : OpensFresh t u → u.opens_fresh ≡ true → history_of t' u' ≡ first_frames 0 (history_of t u)
+  history_of-renewed fresh told = rw cleared (ap (λ rows. opened rows []) (opening ∙ sym (fresh told)))

@@ -31,8 +31,6 @@ pub struct Refused;
 pub struct Owner {
     tile: Tile,
     undo: UndoStack,
-    // whether nothing was drawn on the tile at position 0
-    opens_fresh: bool,
     refusals: u64,
     refused_at: Option<u32>,
 }
@@ -45,7 +43,7 @@ impl Model for Owner {
 
     ghost view = { λ o. record { place = o.tile.place; history = history_of o.tile o.undo; refusals = o.refusals; refused_at = o.refused_at } };
 
-    ghost invariant = { λ o. IsOwner o.tile o.undo × OpensFresh o.opens_fresh o.tile o.undo };
+    ghost invariant = { λ o. IsOwner o.tile o.undo × OpensFresh o.tile o.undo };
 }
 
 impl Owner {
@@ -53,11 +51,12 @@ impl Owner {
     pub fn of(alloc: Global, tile: Tile) -> Owner
         ensures { result ≡ record { place = tile.place; history = record { opening = pixels_of tile; frames = [] }; refusals = 0; refused_at = None } }
     {
-        let (opens_fresh, _place) = (tile.is_fresh(), tile.place());
+        let _place = tile.place();
+        let mut undo = UndoStack::new(alloc);
+        undo.tell_opening(tile.is_fresh());
         Owner {
             tile,
-            undo: UndoStack::new(alloc),
-            opens_fresh,
+            undo,
             refusals: 0,
             refused_at: None,
         }
@@ -261,7 +260,7 @@ impl Owner {
         requires { to ≤ position self.old.history }
         ensures { self.new ≡ gone_back_to to self.old }
     {
-        if to == 0 && self.opens_fresh {
+        if to == 0 && self.undo.opens_fresh() {
             self.undo.clear();
             self.tile.renew();
             return;
@@ -298,7 +297,6 @@ impl Owner {
         ensures { self.new ≡ forgotten self.old }
     {
         self.undo.forget();
-        self.opens_fresh = false;
     }
 }
 
@@ -342,8 +340,9 @@ fn make_room(demand: Demand, tile: &mut Tile, undo: &mut UndoStack) -> Result<()
     ensures same { tile.new ≡ record tile.old { made = tile.new.made } }
     ensures kept { tile.old.made ≡ true → tile.new.made ≡ true }
     ensures frames { undo.new.frames ≡ undo.old.frames }
+    ensures opening { undo.new.opens_fresh ≡ undo.old.opens_fresh }
     ensures made { OnOk result (0 < demand.pixels → tile.new.made ≡ true) }
-    ensures room { OnOk result (undo.new ≡ record { frames = undo.old.frames; frame_left = true; spans_left = demand.spans; pixels_left = demand.pixels }) }
+    ensures room { OnOk result (undo.new ≡ record { frames = undo.old.frames; opens_fresh = undo.old.opens_fresh; frame_left = true; spans_left = demand.spans; pixels_left = demand.pixels }) }
     ensures free { demand.spans ≡ 0 → demand.pixels ≡ 0 → length undo.old.frames + 1 < 2 ^ 64 → IsOk result }
     ensures wanted { OnErr result (length undo.old.frames < 4294967295 → Wanted) }
 {

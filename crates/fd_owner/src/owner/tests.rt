@@ -302,7 +302,7 @@ fn an_event_switched_off_adds_an_image_and_keeps_nothing(rt: HostRuntime) -> Res
     Ok(())
 }
 
-/// An owner holds no whole copy of an image: there is no field but these five.
+/// An owner holds no whole copy of an image: there is no field but these four.
 #[test]
 fn an_owner_has_no_further_field(rt: HostRuntime) -> Result<(), Fail> {
     let alloc = rt.alloc();
@@ -310,14 +310,11 @@ fn an_owner_has_no_further_field(rt: HostRuntime) -> Result<(), Fail> {
     let Owner {
         tile,
         undo,
-        opens_fresh,
         refusals,
         refused_at,
     } = &owner;
     let tile: &Tile = tile;
     let undo: &UndoStack = undo;
-    let opens_fresh: &bool = opens_fresh;
-    assert!(rt; !*opens_fresh);
     assert_eq!(rt; tile.place().width, 1);
     assert_eq!(rt; undo.frames(), 0);
     assert_eq!(rt; (*refusals, *refused_at), (0, None));

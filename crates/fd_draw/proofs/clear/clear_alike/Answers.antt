@@ -12,7 +12,7 @@ returns-clause-drawn c = λ _ state.
     let frames : List (List KeptPixel) = c.args.undo.now.frames in
     let q : Pixel = (c.in-Some-Some.colour, c.in-Some-Some.depth) in
     let stack : c.push_alike.new.self
-    ≡ without_room (c.args.undo.now.frames ++ alike c.args.tile.now.place (c.in-Some-Some.colour, c.in-Some-Some.depth) ∷ []) =
-    c.in_ok-push_alike.ensures.ok ∙ ap (λ p. without_room (frames ++ alike p q ∷ [])) c.place.ensures.value in
-    let painted = Paints-alike t c.in-Some-Some.colour c.in-Some-Some.depth frames c.place.ensures.filled c.in-Some-Some.ensures c.in-Some-Some.ensures' in
+    ≡ without_room c.args.undo.now.opens_fresh (c.args.undo.now.frames ++ alike c.args.tile.now.place (c.in-Some-Some.colour, c.in-Some-Some.depth) ∷ []) =
+    c.in_ok-push_alike.ensures.ok ∙ ap (λ p. without_room c.args.undo.now.opens_fresh (frames ++ alike p q ∷ [])) c.place.ensures.value in
+    let painted = Paints-alike c.args.undo.now.opens_fresh t c.in-Some-Some.colour c.in-Some-Some.depth frames c.place.ensures.filled c.in-Some-Some.ensures c.in-Some-Some.ensures' in
     grind arith

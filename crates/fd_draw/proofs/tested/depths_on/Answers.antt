@@ -1,4 +1,4 @@
-use Rattle.std.proofs.Common.{◌≡◌, ℕ, ◌+◌, ◌-◌, ◌<◌, ◌≤◌, ◌++◌, ◌∙◌, List, [], ◌∷◌, length, take, drop, get_or, map, arith}
+use Rattle.std.proofs.Common.{◌≡◌, ℕ, ◌∙◌, List, [], ◌∷◌, length, take, drop, arith}
 use Rattle.std.proofs.lemmas.List.{length-take}
 use Rattle.fd_draw.proofs.PixelTests.{depths_at}
 use Rattle.fd_draw.proofs.tested.depths_on.Goals as goal

@@ -1,5 +1,4 @@
-use Rattle.std.proofs.Common.{◌≡◌, ℕ, ◌+◌, ◌-◌, ◌<◌, ◌≤◌, ◌∙◌, true, false, length, take, ap, arith}
-use Rattle.std.proofs.lemmas.List.{length-take, get_or-take}
+use Rattle.std.proofs.Common.{◌≡◌, ◌-◌, false, arith}
 use Rattle.fd_draw.specs.Primitive.{is_tested_by, triangle_of}
 use Rattle.fd_draw.proofs.PixelTests.{Paints-untested, depths_found}
 use Rattle.fd_draw.proofs.tested.draw_span.Goals as goal

@@ -1,4 +1,4 @@
-use Rattle.std.proofs.Common.{◌≡◌, ◌+◌, ◌-◌, ◌∙◌, Bool, true, false, Option, Some, None, sym, refl, ap, arith, length, get_or, bit_and}
+use Rattle.std.proofs.Common.{◌≡◌, ◌+◌, ◌-◌, ◌∙◌, Bool, true, false, Option, Some, None, sym, refl, ap, arith, length, get_or}
 use Rattle.std.specs.Prelude.{not, ◌&&◌, is_some, is_none}
 use Rattle.std.proofs.lemmas.Nat.{and_le_l}
 use Rattle.std.proofs.lemmas.List.{get_or_default}

@@ -1,5 +1,4 @@
 use Rattle.std.proofs.Common.{◌∙◌, ap, sym, rules, Option}
-use Rattle.std.specs.Prelude.{Some}
 use Rattle.fd_blend.specs.Blend.{blend}
 use Rattle.fd_blend.specs.Row.{blended_row}
 use Rattle.fd_events.specs.Image.{source_from}

@@ -1,8 +1,6 @@
-use Rattle.std.proofs.Common.{◌≡◌, ◌∙◌, Option, sym, ap, arith}
-use Rattle.fd_events.specs.Draw.{Triangle}
+use Rattle.std.proofs.Common.{◌∙◌, Option, sym, ap, arith}
 use Rattle.fd_events.specs.Picture.{Painting}
 use Rattle.fd_events.proofs.Triangles.{triangle_with}
-use Rattle.fd_draw.specs.Triangles.{triangle_at}
 use Rattle.fd_draw.proofs.Triangles.{triangle_found}
 use Rattle.fd_draw.proofs.write.draw_found.Goals as goal
 

@@ -1,4 +1,4 @@
-use Rattle.std.proofs.Common.{◌≡◌, ◌≤◌, ◌∙◌, ap, length, take, drop, arith}
+use Rattle.std.proofs.Common.{◌≡◌, ◌≤◌, ◌∙◌, sym, ap, length, take, drop, arith}
 use Rattle.fd_tile.specs.Tile.{TileImage}
 use Rattle.fd_undo.specs.Undo.{Undo}
 use Rattle.fd_undo.proofs.Backs.{all_restored-made}
@@ -28,9 +28,10 @@ invariant_of-self-2 c =
     let u' = c.undo_to.new.self in
     let made = ap (λ (v : TileImage). v.made) c.undo_to.ensures.tile ∙ all_restored-made (drop c.args.to u.frames) t in (
       IsOwner-back t t' u u' c.args.to (few d) c.undo_to.ensures.tile (left d) made c.self.invariant.0,
-      OpensFresh-kept c.self.inside.opens_fresh t t' u u'
+      OpensFresh-kept t t' u u'
           (ap (λ (h : History). h.opening) (history_of-back t t' u u' c.args.to (few d) c.undo_to.ensures.tile (left d)))
-          (placed t t' u u' c.args.to (few d) c.undo_to.ensures.tile (left d)) c.self.invariant.1,
+          (placed t t' u u' c.args.to (few d) c.undo_to.ensures.tile (left d)) (ap (λ (v : Undo). v.opens_fresh) c.undo_to.ensures.frames)
+          c.self.invariant.1,
     )
 
 pub returns : goal.returns
@@ -51,13 +52,13 @@ invariant_of-self c =
     let t = c.self.inside.tile in
     grind (arith, IsOwner-renewed, OpensFresh-renewed)
 
-pub returns-then-self : goal.returns-then-self
-returns-then-self c =
+pub returns-then-opens_fresh : goal.returns-then-opens_fresh
+returns-then-opens_fresh c =
     let t = c.self.inside.tile in
     let t' = c.renew.new.self in
     let u = c.self.inside.undo in
     let u' = c.clear.new.self in
     let place = ap (λ (v : TileImage). v.place) c.renew.ensures in
-    let history = history_of-renewed t t' u u' c.renew.ensures c.clear.ensures (λ _. c.self.invariant.1 c.if-self.true) in
+    let history = history_of-renewed t t' u u' c.renew.ensures c.clear.ensures c.self.invariant.1 (sym c.opens_fresh.ensures ∙ c.if-opens_fresh.true) in
     let to : c.args.to ≡ 0 = c.if-to-eq0.true in
     rw (← c.self.view_is, to) (cc (place, history))

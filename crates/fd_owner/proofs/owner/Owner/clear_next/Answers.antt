@@ -30,12 +30,12 @@ at c = position_seen c.self.inside.tile c.self.inside.undo _ (ap (λ (s : Shown)
 
 painted : (c : In-Ok) → c.in-Ok.drawn ≡ true
     → Paints (pixel_past c.args.table.now (k c)) (kept_past c.args.table.now (k c)) c.self.inside.tile
-    (without_room (c.self.inside.undo.frames ++ [] ∷ [])) c.clear_alike.new.tile c.clear_alike.new.undo
+    (without_room c.self.inside.undo.opens_fresh (c.self.inside.undo.frames ++ [] ∷ [])) c.clear_alike.new.tile c.clear_alike.new.undo
 painted c drawn =
     let table : Table = c.args.table.now in
     let t : TileImage = c.self.inside.tile in
     let u : Undo = c.self.inside.undo in
-    Paints-past table (k c) c.event.result.now (state_at table (k c)) t c.clear_alike.new.tile (without_room (u.frames ++ [] ∷ [])) c.clear_alike.new.undo
+    Paints-past table (k c) c.event.result.now (state_at table (k c)) t c.clear_alike.new.tile (without_room u.opens_fresh (u.frames ++ [] ∷ [])) c.clear_alike.new.undo
     (ap (event_at table) (sym c.requires.next) ∙ c.event.ensures) (rw c.requires.next at c.requires.on) refl
     (c.clear_alike.ensures.drawn (c.in-Ok.is ∙ ap Ok drawn) (state_at table (k c)))
 
@@ -44,7 +44,7 @@ history : (c : In-Ok) → c.in-Ok.drawn ≡ true
     ≡ extend c.args.table.now c.self.inside.tile.place (history_of c.self.inside.tile c.self.inside.undo)
 history c drawn =
     let u : Undo = c.self.inside.undo in
-    history_of-step c.args.table.now (k c) c.self.inside.tile c.clear_alike.new.tile u (without_room (u.frames ++ [] ∷ [])) c.clear_alike.new.undo
+    history_of-step c.args.table.now (k c) c.self.inside.tile c.clear_alike.new.tile u (without_room u.opens_fresh (u.frames ++ [] ∷ [])) c.clear_alike.new.undo
     c.place-place.ensures.filled c.self.invariant.0 (at c) refl (painted c drawn)
 
 pub invariant_of-self : goal.invariant_of-self
@@ -56,12 +56,11 @@ invariant_of-self c =
     let fits : position c.args.self.now.history + 1 < 2 ^ 32 = omega (arith, c.requires.next, c.ranges.number.fits) in
     let t' = c.clear_alike.new.tile in
     let u' = c.clear_alike.new.undo in
-    let fresh = c.self.inside.opens_fresh in
-    either {X = IsOwner t' u' × OpensFresh fresh t' u'} c.in-Ok.drawn
+    either {X = IsOwner t' u' × OpensFresh t' u'} c.in-Ok.drawn
     (λ drawn. (
-      IsOwner-step c.args.table.now (k d) t t' u (without_room (u.frames ++ [] ∷ [])) u' c.place-place.ensures.filled c.self.invariant.0 (at d) refl
+      IsOwner-step c.args.table.now (k d) t t' u (without_room u.opens_fresh (u.frames ++ [] ∷ [])) u' c.place-place.ensures.filled c.self.invariant.0 (at d) refl
           (painted d drawn) fits (λ _. c.clear_alike.ensures.alike (c.in-Ok.is ∙ ap Ok drawn)),
-      OpensFresh-kept fresh t t' u u' (ap (λ (h : History). h.opening) (history d drawn)) (painted d drawn).placed c.self.invariant.1,
+      OpensFresh-kept t t' u u' (ap (λ (h : History). h.opening) (history d drawn)) (painted d drawn).placed (painted d drawn).opening c.self.invariant.1,
     ))
     (λ none.
     let same = c.clear_alike.ensures.not (c.in-Ok.is ∙ ap Ok none) in

@@ -72,8 +72,9 @@ invariant_of-self-2 c =
       IsOwner-step c.args.table.now c.position-position.result c.make_room.new.tile c.draw_past.new.tile u c.begin.new.self c.draw_past.new.undo
           (filled at.After-make_room) (owner at.After-make_room u refl) (here at.After-make_room) (begun at.After-begin) c.draw_past.ensures.painted fits
           (λ not. inl (ap (λ (v : Undo). top v.frames) (c.draw_past.ensures.not_made not) ∙ ap top (begun at.After-begin) ∙ top-push u.frames [])),
-      OpensFresh-kept c.self.inside.opens_fresh c.self.inside.tile c.draw_past.new.tile u c.draw_past.new.undo
-          (ap (λ (h : History). h.opening) told) (c.draw_past.ensures.painted.placed ∙ stays at.After-make_room) c.self.invariant.1,
+      OpensFresh-kept c.self.inside.tile c.draw_past.new.tile u c.draw_past.new.undo
+          (ap (λ (h : History). h.opening) told) (c.draw_past.ensures.painted.placed ∙ stays at.After-make_room)
+          (c.draw_past.ensures.painted.opening ∙ ap (λ (v : Undo). v.opens_fresh) c.begin.ensures ∙ c.make_room.ensures.opening) c.self.invariant.1,
     )
 
 pub returns-clause-ok : goal.returns-clause-ok

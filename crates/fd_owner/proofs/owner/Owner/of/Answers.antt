@@ -1,4 +1,4 @@
-use Rattle.std.proofs.Common.{◌∙◌, ap, arith}
+use Rattle.std.proofs.Common.{◌∙◌, sym, ap, arith}
 use Rattle.std.proofs.lemmas.List.Elements.{All-nil}
 use Rattle.fd_tile.specs.Tile.{fresh_pixel, pixels_of}
 use Rattle.fd_undo.specs.Frame.{all_restored, IsAlike}
@@ -10,7 +10,8 @@ use Rattle.fd_owner.proofs.owner.Owner.of.Goals as goal
 pub invariant_of-result : goal.invariant_of-result
 invariant_of-result c =
     let t = c.args.tile in (
-      rw c.new.ensures (record { inside = All-nil (λ frame. Inside t.place frame); alike = λ _. All-nil (λ frame. IsAlike t.place frame); fits = omega arith }),
-      λ yes. ap (λ (v : Undo). pixels_of (all_restored v.frames t)) c.new.ensures
-          ∙ pixels_alike t fresh_pixel c.place-place.ensures.filled (c.is_fresh-opens_fresh.ensures.colours yes) (c.is_fresh-opens_fresh.ensures.depths yes),
+      rw (c.tell_opening.ensures, c.new-undo.ensures) (record { inside = All-nil (λ frame. Inside t.place frame); alike = λ _. All-nil (λ frame. IsAlike t.place frame); fits = omega arith }),
+      λ yes. let told = sym (ap (λ (v : Undo). v.opens_fresh) c.tell_opening.ensures) ∙ yes in
+          ap (λ (v : Undo). pixels_of (all_restored v.frames t)) (c.tell_opening.ensures ∙ ap (λ (v : Undo). record v { opens_fresh = c.is_fresh.result }) c.new-undo.ensures)
+          ∙ pixels_alike t fresh_pixel c.place-place.ensures.filled (c.is_fresh.ensures.colours told) (c.is_fresh.ensures.depths told),
     )

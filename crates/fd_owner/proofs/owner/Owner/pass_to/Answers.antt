@@ -3,6 +3,7 @@ use Rattle.fd_owner.specs.History.{position}
 use Rattle.fd_owner.specs.Owner.{history_of}
 use Rattle.fd_owner.specs.Shown.{Shown}
 use Rattle.fd_owner.proofs.Pictures.{length-frames_seen, OpensFresh-kept}
+use Rattle.fd_undo.specs.Undo.{Undo}
 use Rattle.fd_undo.proofs.Backs.{all_restored-append, all_restored-empty}
 use Rattle.fd_owner.proofs.Histories.{position_extend_to}
 use Rattle.fd_owner.proofs.PassedForward.{gone_on}
@@ -20,8 +21,8 @@ invariant_of-self c =
     let far = rw (← c.self.view_is) at c.requires.far in
     let n = c.args.to - length u.frames in (
       rw c.pass_to.ensures (gone_on c.args.table.now t c.place-place.ensures.filled u c.self.invariant.0 c.args.to on c.ranges.to.fits far).0,
-      OpensFresh-kept c.self.inside.opens_fresh t t u c.pass_to.new.self
-          (rw (c.pass_to.ensures, all_restored-append u.frames (replicate n []) t, all_restored-empty n t) refl) refl c.self.invariant.1,
+      OpensFresh-kept t t u c.pass_to.new.self
+          (rw (c.pass_to.ensures, all_restored-append u.frames (replicate n []) t, all_restored-empty n t) refl) refl (ap (λ (v : Undo). v.opens_fresh) c.pass_to.ensures) c.self.invariant.1,
     )
 
 pub returns : goal.returns

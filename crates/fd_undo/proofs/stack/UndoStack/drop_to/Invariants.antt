@@ -1,3 +1,4 @@
+use Rattle.std.proofs.Common.{◌≡◌}
 use Rattle.fd_undo.specs.Stack.{all_stored, HaveFrames}
 use Rattle.fd_undo.proofs.Backs.{IsLeft}
 use Rattle.fd_undo.proofs.stack.UndoStack.drop_to.Given as goal
@@ -5,6 +6,7 @@ use Rattle.fd_undo.proofs.stack.UndoStack.drop_to.Given as goal
 abbrev pub invariant-loop-self : goal.invariant-loop-self
 invariant-loop-self l = record {
   have : HaveFrames l.self-inside.full.items;
+  fresh : l.self-inside.opens_fresh ≡ l.fn.self.opens_fresh;
   left : IsLeft l.to l.fn.self.frames (all_stored l.self-inside.full.items l.self-inside.last) l.self-inside.count l.self-inside.recorded;
 }
 
