@@ -8,7 +8,7 @@ use Rattle.std.proofs.lemmas.Bool.Decides.{nat_tests}
 use Rattle.std.proofs.KnownBytes.{Appends-nil, Appends-trans}
 use Rattle.arrayvec.specs.ArrayVec.{ArrayVec}
 use Rattle.fd_events.specs.Table.{Table}
-use Rattle.fd_session.specs.Machine.{State, opening}
+use Rattle.fd_frame.specs.State.{State, opening}
 use Rattle.fd_words.specs.declared.command.Command.TheVariants.{Quit}
 use Rattle.fd_words.specs.declared.ending.Ending.{Ending}
 use Rattle.fd_words.specs.declared.ending.Ending.TheVariants.{Done, Write, TooMuch}

@@ -5,7 +5,7 @@ use Rattle.fd_words.specs.Limits.{most_reply_bytes}
 use Rattle.fd_snap.specs.Limits.{most_pixels}
 use Rattle.fd_pam.specs.Pam.{header, tuples, pam, pam_len}
 use Rattle.fd_pam.proofs.Pams.{body_short, length-body, length-header}
-use Rattle.fd_session.specs.Machine.{State}
+use Rattle.fd_frame.specs.State.{State}
 use Rattle.fd_cli.specs.Show.{show_text}
 use Rattle.fd_words.specs.Text.{number_line}
 

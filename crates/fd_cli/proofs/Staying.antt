@@ -3,7 +3,7 @@ use Rattle.std.proofs.Common.{◌≡◌, ℕ, zero, suc, List, Bool, true, false
 use Rattle.fd_events.specs.declared.event.Event.{Event}
 use Rattle.fd_events.specs.Table.{Table, with_flag}
 use Rattle.fd_session.specs.declared.answer.Answer.TheVariants.{Moved, Stopped, Refused}
-use Rattle.fd_session.specs.Machine.{State}
+use Rattle.fd_frame.specs.State.{State}
 use Rattle.fd_words.specs.declared.command.Command.{Command}
 use Rattle.fd_words.specs.declared.command.Command.TheVariants.{Step, Back, Goto, On, Off, Pixel, History}
 use Rattle.fd_words.specs.declared.command.CommandFault.{CommandFault}

@@ -10,7 +10,8 @@ use Rattle.fd_history.specs.History.{history_at}
 use Rattle.fd_session.specs.declared.answer.Answer.{Answer}
 use Rattle.fd_session.specs.declared.answer.Answer.TheVariants.{Moved, Stopped, Refused}
 use Rattle.fd_session.specs.declared.answer.SessionFault.TheVariants.{AtEnd, AtStart, NoSuchPosition, NoSuchEvent, AlreadySo, NoSuchPixel, Memory}
-use Rattle.fd_session.specs.Machine.{State, with_flag_at, Switches}
+use Rattle.fd_frame.specs.State.{State, with_flag_at}
+use Rattle.fd_session.specs.Machine.{Switches}
 use Rattle.fd_words.specs.declared.command.Command.{Command}
 use Rattle.fd_words.specs.declared.command.Command.TheVariants.{Step, Back, Goto, On, Off, Pixel, History, State as ShowState, Show}
 use Rattle.fd_words.specs.declared.command.CommandFault.{CommandFault}

@@ -23,7 +23,8 @@ use Rattle.fd_capture.specs.Spelling.{interp_text}
 use Rattle.fd_capture.proofs.VersionOnes.{reads_same}
 use Rattle.fd_pam.specs.Pam.{header, pam_len, tuple}
 use Rattle.fd_session.specs.declared.answer.SessionFault.{SessionFault}
-use Rattle.fd_session.specs.Machine.{State, opening, ShowsPixel, ShowsDepth, ShowsHistory}
+use Rattle.fd_frame.specs.State.{State, opening}
+use Rattle.fd_session.specs.Machine.{ShowsPixel, ShowsDepth, ShowsHistory}
 use Rattle.fd_words.specs.declared.command.Command.{Command}
 use Rattle.fd_words.specs.declared.command.Command.TheVariants.{Pixel, History, State as ShowState, Events, Show}
 use Rattle.fd_words.specs.declared.command.CommandFault.{CommandFault}

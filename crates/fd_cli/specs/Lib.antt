@@ -1,13 +1,13 @@
 pub mod Show
 pub mod ReplyText
 pub mod Run
-pub mod Opening
 pub mod Serving
 pub mod Progress
-pub mod Listing
-pub mod Counting
+pub mod Imaging
 pub mod Transcript
 pub mod Output
-pub mod Program
+pub mod Performing
+pub mod Waiting
+pub mod CommandLine
 pub mod VersionOne
 pub mod VersionTwo

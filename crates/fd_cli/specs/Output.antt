@@ -3,7 +3,7 @@ use Rattle.std.specs.Prelude.{◌≡◌, ℕ, ◌==◌, Bool, true, false, List,
 use Rattle.std.specs.List.{slice_split}
 use Rattle.fd_events.specs.Table.{Table}
 use Rattle.fd_capture.specs.Capture.{capture_of}
-use Rattle.fd_session.specs.Machine.{opening}
+use Rattle.fd_frame.specs.State.{opening}
 use Rattle.fd_words.specs.declared.command.Command.{Command}
 use Rattle.fd_words.specs.declared.command.Command.TheVariants.{Quit}
 use Rattle.fd_words.specs.declared.command.CommandFault.{CommandFault}

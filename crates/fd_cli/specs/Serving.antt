@@ -3,7 +3,7 @@ use Rattle.std.specs.Prelude.{◌≡◌, ◌≢◌, ℕ, ◌<◌, ◌≤◌, Lis
 use Rattle.std.specs.List.{AllByRecursion}
 use Rattle.fd_words.specs.Limits.{most_reply_bytes}
 use Rattle.fd_events.specs.Table.{Table}
-use Rattle.fd_session.specs.Machine.{State, opening}
+use Rattle.fd_frame.specs.State.{State, opening}
 use Rattle.fd_words.specs.declared.command.Command.{Command}
 use Rattle.fd_words.specs.declared.command.Command.TheVariants.{Quit}
 use Rattle.fd_words.specs.declared.command.CommandFault.{CommandFault}
@@ -12,7 +12,7 @@ use Rattle.fd_words.specs.declared.ending.Ending.TheVariants.{Done, Read, Write,
 use Rattle.fd_words.specs.Line.{Cuts, command_of}
 use Rattle.fd_cli.specs.Run.{Answers, Run}
 use Rattle.fd_device.specs.Transfer.{Puts}
-use Rattle.fd_cli.specs.Opening.{OfCapture}
+use Rattle.fd_listing.specs.Opening.{OfCapture}
 
 -- The input was cut into these lines and this rest, no bound was passed, and the lines, none of them a quit, were answered with this text.
 pub record Answered (table : Table) (input text : List ℕ) (lines : List (List ℕ)) (rest : List ℕ) (state : State) : Type 0 where

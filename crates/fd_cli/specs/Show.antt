@@ -1,7 +1,7 @@
 -- Promised. The reply to `show`.
 use Rattle.std.specs.Prelude.{ℕ, List, ◌++◌, codes}
 use Rattle.fd_pam.specs.Pam.{pam, pam_len}
-use Rattle.fd_session.specs.Machine.{State}
+use Rattle.fd_frame.specs.State.{State}
 use Rattle.fd_words.specs.Text.{number_line}
 
 -- the image file's length on a line, and then the file

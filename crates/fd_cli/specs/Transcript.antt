@@ -6,7 +6,7 @@ use Rattle.fd_events.specs.Image.{colour_at, stored_at}
 use Rattle.fd_history.specs.History.{history_at}
 use Rattle.fd_session.specs.declared.answer.SessionFault.{SessionFault}
 use Rattle.fd_session.specs.declared.answer.SessionFault.TheVariants.{AtEnd, AtStart, NoSuchPosition, NoSuchEvent, AlreadySo, NoSuchPixel}
-use Rattle.fd_session.specs.Machine.{State, at_position, with_flag_at}
+use Rattle.fd_frame.specs.State.{State, at_position, with_flag_at}
 use Rattle.fd_words.specs.declared.command.Command.{Command}
 use Rattle.fd_words.specs.declared.command.Command.TheVariants.{Step, Back, Goto, On, Off, Pixel, History, State as ShowState, Events, Show, Quit}
 use Rattle.fd_words.specs.declared.command.CommandFault.{CommandFault}

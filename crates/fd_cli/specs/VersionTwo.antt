@@ -19,7 +19,8 @@ use Rattle.fd_pam.specs.Pam.{header, pam_len, tuple}
 use Rattle.fd_session.specs.declared.answer.Answer.{Answer}
 use Rattle.fd_session.specs.declared.answer.SessionFault.{SessionFault}
 use Rattle.fd_session.specs.declared.answer.SessionFault.TheVariants.{NoSuchPixel, Memory}
-use Rattle.fd_session.specs.Machine.{State, opening, Steps, GoesBack, Jumps, Switches, RefusesHistory}
+use Rattle.fd_frame.specs.State.{State, opening}
+use Rattle.fd_session.specs.Machine.{Steps, GoesBack, Jumps, Switches, RefusesHistory}
 use Rattle.fd_words.specs.declared.command.Command.{Command}
 use Rattle.fd_words.specs.declared.command.Command.TheVariants.{Step, Back, Goto, On, Off, Pixel, History, State as ShowState, Events, Show, Quit}
 use Rattle.fd_words.specs.declared.command.CommandFault.{CommandFault}

@@ -1,13 +1,13 @@
 //! The image of a capture at a position.
 ghost use Rattle.std.specs.Prelude.{◌≤◌, ℕ, List};
 ghost use Rattle.std.specs.Io.KnownBytes.{Appends};
-ghost use Rattle.fd_cli.specs.Counting.{CountsWriter, EndsFlushed};
-ghost use Rattle.fd_cli.specs.Opening.{RefusesTooLong};
-ghost use Rattle.fd_cli.specs.Listing.{ShowsState, ImagesTable, WritesImage};
+ghost use Rattle.fd_listing.specs.Counting.{CountsWriter, EndsFlushed};
+ghost use Rattle.fd_listing.specs.Opening.{RefusesTooLong};
+ghost use Rattle.fd_cli.specs.Imaging.{ShowsState, ImagesTable, WritesImage};
 
-use crate::opening::open;
 use fd_device::Sink;
 use fd_events::EventTable;
+use fd_listing::open;
 use fd_pam::{PamFault, pam_len, write};
 use fd_session::{Answer, Picture, SessionFault};
 use fd_words::Ending;

@@ -1,7 +1,7 @@
 //! A run, byte by byte of its input.
 ghost use Rattle.std.specs.Prelude.{◌≡◌, ◌<◌, ◌+◌, ◌^◌, ◌⊎◌, ℕ, [], ◌∷◌, Err, OnOk, IfErr};
 ghost use Rattle.fd_words.specs.Limits.{most_reply_bytes};
-ghost use Rattle.fd_cli.specs.Counting.{CountsReader, CountsWriter, StaysFlushed, EndsFlushed};
+ghost use Rattle.fd_listing.specs.Counting.{CountsReader, CountsWriter, StaysFlushed, EndsFlushed};
 
 use crate::reply::answer;
 use arrayvec::ArrayVec;

@@ -1,15 +1,16 @@
 //! A run of commands on a capture.
 ghost use Rattle.std.specs.Prelude.{◌≡◌, ◌≤◌, ℕ, List, length};
 ghost use Rattle.std.specs.Io.KnownBytes.{Consumes, Appends};
-ghost use Rattle.fd_cli.specs.Opening.{RefusesTooLong};
+ghost use Rattle.fd_listing.specs.Opening.{RefusesTooLong};
 ghost use Rattle.fd_cli.specs.Serving.{Serves, ServesCapture};
-ghost use Rattle.fd_cli.specs.Counting.{CountsReader, CountsWriter, EndsFlushed};
+ghost use Rattle.fd_cli.specs.Waiting.{Reading, WaitsFor, WaitsAbout};
+ghost use Rattle.fd_listing.specs.Counting.{CountsReader, CountsWriter, EndsFlushed};
 
-use crate::opening::open;
 use crate::progress::{MAX_BYTES, Progress};
 use arrayvec::ArrayVec;
-use fd_device::{Sink, Source};
+use fd_device::{Sink, Source, fill_beside};
 use fd_events::EventTable;
+use fd_listing::open;
 use fd_session::Session;
 use fd_words::Ending;
 use std::alloc::Global;
@@ -28,6 +29,7 @@ fn serve_table<T: Threads + Sync, R: Source, W: Sink>(
     ensures serves { (taken : List ℕ) × (written : List ℕ) × Consumes (R.remaining source.old) (R.remaining source.new) taken
         × Appends (W.contents sink.old) (W.contents sink.new) written
         × (length taken ≤ 268435457) × Serves table taken written result (R.has_ended source.new) }
+    ensures waits { (reads : List (Reading R W)) × WaitsFor (record { contents = W.contents; is_flushed = W.is_flushed }) table sink.old source.old source.new reads }
     ensures read { CountsReader result (R.failure_count source.old) (R.failure_count source.new) }
     ensures write { CountsWriter result (W.failure_count sink.old) (W.failure_count sink.new) }
     ensures flushed { EndsFlushed result (W.is_flushed sink.old) (W.is_flushed sink.new) }
@@ -45,7 +47,7 @@ fn serve_table<T: Threads + Sync, R: Source, W: Sink>(
     let mut buffer = [0u8; 4096];
     loop {
         let room = buffer.len().min((MAX_BYTES + 1 - progress.bytes) as usize);
-        let Ok(count) = source.fill(&mut buffer[..room]) else {
+        let Ok(count) = fill_beside(source, sink, &mut buffer[..room]) else {
             return Ending::Read;
         };
         if count == 0 {
@@ -74,6 +76,8 @@ pub fn serve<T: Threads + Sync, R: Source, W: Sink>(
     ensures serves { (taken : List ℕ) × (written : List ℕ) × Consumes (R.remaining source.old) (R.remaining source.new) taken
         × Appends (W.contents sink.old) (W.contents sink.new) written
         × (length taken ≤ 268435457) × ServesCapture capture.now taken written result (R.has_ended source.new) }
+    // Before each read all lines that ended were answered, and the answers passed on.
+    ensures waits { WaitsAbout (record { contents = W.contents; is_flushed = W.is_flushed }) capture.now sink.old source.old source.new }
     ensures too_long { RefusesTooLong capture.now result }
     // The reader or the writer failed only where its count of failures tells so.
     ensures read { CountsReader result (R.failure_count source.old) (R.failure_count source.new) }

@@ -11,9 +11,11 @@ use std::test::Fail;
 use std::thread::Threads;
 
 mod captures;
+mod command_line;
 mod devices;
 mod failing_devices;
-mod programs;
+mod image_files;
+mod performing;
 
 /// What these lines of input write, whatever the number of workers.
 fn expect_replies<T: Abort + Threads + Sync + AllocGlobal>(

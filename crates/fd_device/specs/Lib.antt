@@ -1,3 +1,4 @@
 mod Asking
+pub mod Beside
 pub mod Device
 pub mod Transfer

@@ -11,7 +11,7 @@ use Rattle.std.proofs.Math.Seq.{take-add, take-length}
 use Rattle.fd_blend.specs.declared.channel.Colour.{Colour}
 use Rattle.fd_events.specs.Image.{image_at, colour_at}
 use Rattle.fd_events.proofs.Images.{length-image_at}
-use Rattle.fd_session.specs.Machine.{State}
+use Rattle.fd_frame.specs.State.{State}
 use Rattle.fd_snap.specs.Limits.{most_pixels}
 use Rattle.fd_pam.specs.Limits.{most_tuple_bytes}
 use Rattle.fd_pam.specs.Pam.{header, tuple, tuples}

@@ -3,7 +3,7 @@ use Rattle.std.specs.Prelude.{ℕ, ◌+◌, ◌*◌, List, [], ◌∷◌, ◌++�
 use Rattle.std.specs.List.{flat_map}
 use Rattle.fd_blend.specs.declared.channel.Colour.{Colour}
 use Rattle.fd_events.specs.Image.{image_at}
-use Rattle.fd_session.specs.Machine.{State}
+use Rattle.fd_frame.specs.State.{State}
 
 -- the seven lines of the header
 unfoldable pub header : ℕ → ℕ → List ℕ

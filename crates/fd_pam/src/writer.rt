@@ -10,7 +10,7 @@ ghost use Rattle.fd_pam.specs.Writes.{Writes, CountsWrite};
 use arrayvec::ArrayVec;
 use fd_blend::Colour;
 use fd_device::{Failed, Sink, send};
-use fd_session::Shows;
+use fd_frame::Shows;
 use itoa::Buffer;
 use std::alloc::{AllocError, Global};
 use thiserror::Error;

@@ -1,7 +1,8 @@
 -- Working. That going back undoes a step, and switching back a switch.
 use Rattle.std.specs.Prelude.{◌≡◌, ℕ, Bool, not, Ok}
 use Rattle.fd_session.specs.declared.answer.Answer.TheVariants.{Moved}
-use Rattle.fd_session.specs.Machine.{State, Steps, GoesBack, Switches}
+use Rattle.fd_frame.specs.State.{State}
+use Rattle.fd_session.specs.Machine.{Steps, GoesBack, Switches}
 
 -- Stepping over an event and back leaves the state as it was: the table with its flags, and the position.
 abbrev pub BackUndoesStep : Type 0

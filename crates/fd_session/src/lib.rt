@@ -3,9 +3,9 @@
 
 pub use answer::{Answer, SessionFault};
 pub use fd_crew::MOST_WORKERS;
+pub use fd_frame::Shows;
 pub use picture::Picture;
 pub use session::Session;
-pub use shows::Shows;
 
 mod answer;
 mod estimate;
@@ -15,7 +15,6 @@ mod picture;
 mod redraw;
 mod rows;
 mod session;
-mod shows;
 mod switch;
 #[cfg(test)]
 mod tests;

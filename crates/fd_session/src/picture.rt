@@ -6,11 +6,11 @@ use crate::answer::{Answer, SessionFault};
 use crate::estimate::Area;
 use crate::moves::{Drive, Pace, Way, common_position, go_forward, open};
 use crate::rows::row_from;
-use crate::shows::Shows;
 use fd_blend::Colour;
 use fd_crew::Free;
 use fd_device::Progress;
 use fd_events::EventTable;
+use fd_frame::Shows;
 use fd_owner::Owner;
 use fd_tile::Grid;
 use std::alloc::{AllocError, Global};
@@ -33,7 +33,7 @@ impl Model for Picture {
     ghost use Rattle.std.specs.Prelude.{◌≤◌, true};
     ghost use Rattle.fd_crew.specs.Lanes.{opening_position};
     ghost use Rattle.fd_session.specs.Held.{HoldsAll};
-    ghost use Rattle.fd_session.specs.Machine.{State};
+    ghost use Rattle.fd_frame.specs.State.{State};
 
     ghost Value = { State };
 
@@ -43,7 +43,8 @@ impl Model for Picture {
 }
 
 impl Picture {
-    ghost use Rattle.fd_session.specs.Machine.{opening, at_position, Jumps, OnWant};
+    ghost use Rattle.fd_frame.specs.State.{opening, at_position};
+    ghost use Rattle.fd_session.specs.Machine.{Jumps, OnWant};
 
     /// The image at position 0, which is drawn by at most so many workers. On want of memory the table is handed back.
     pub fn start(

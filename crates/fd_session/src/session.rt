@@ -6,11 +6,11 @@ use crate::estimate::Area;
 use crate::moves::{Drive, Pace, Way, common_position, go_forward, open};
 use crate::redraw::go_again;
 use crate::rows::{owner_of, row_from};
-use crate::shows::Shows;
 use fd_blend::Colour;
 use fd_crew::{Free, Gate, run_back};
 use fd_device::{Progress, Untold};
 use fd_events::{EventTable, Pipeline};
+use fd_frame::Shows;
 use fd_history::{Entry, history};
 use fd_owner::Owner;
 use fd_tile::Grid;
@@ -34,7 +34,7 @@ impl Model for Session {
     ghost use Rattle.std.specs.Prelude.{◌≤◌, false};
     ghost use Rattle.fd_crew.specs.Lanes.{opening_position};
     ghost use Rattle.fd_session.specs.Held.{HoldsAll};
-    ghost use Rattle.fd_session.specs.Machine.{State};
+    ghost use Rattle.fd_frame.specs.State.{State};
 
     ghost Value = { State };
 
@@ -53,8 +53,10 @@ impl Session {
     ghost use Rattle.fd_events.specs.Limits.{most_triangles, most_events};
     ghost use Rattle.fd_events.specs.Table.{state_at, flag_at};
     ghost use Rattle.fd_session.specs.Held.{Stands};
-    ghost use Rattle.fd_session.specs.Machine.{State, opening, at_position, with_flag_at, Steps, GoesBack, Jumps, RefusesSwitch, Switches, ShowsPixel};
-    ghost use Rattle.fd_session.specs.Machine.{ShowsDepth, ShowsFlag, ShowsHistory, IsState, OnMemory, Passes, OnWant};
+    ghost use Rattle.fd_frame.specs.State.{State, opening, at_position, with_flag_at};
+    ghost use Rattle.fd_session.specs.Machine.{Steps, GoesBack, Jumps, RefusesSwitch, Switches, ShowsPixel};
+    ghost use Rattle.fd_frame.specs.State.{IsState};
+    ghost use Rattle.fd_session.specs.Machine.{ShowsDepth, ShowsFlag, ShowsHistory, OnMemory, Passes, OnWant};
 
     /// A session at position 0, whose moves have at most so many workers. On want of memory the table is handed back.
     pub fn start(

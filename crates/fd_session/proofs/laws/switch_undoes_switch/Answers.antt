@@ -1,6 +1,6 @@
 use Rattle.std.proofs.Common.{◌≡◌, ◌∙◌, ap, ℕ, not}
 use Rattle.fd_events.specs.Table.{Table}
-use Rattle.fd_session.specs.Machine.{State, with_flag_at}
+use Rattle.fd_frame.specs.State.{State, with_flag_at}
 use Rattle.fd_session.proofs.Switching.{flag_back}
 use Rattle.fd_session.proofs.laws.switch_undoes_switch.Goals as goal
 

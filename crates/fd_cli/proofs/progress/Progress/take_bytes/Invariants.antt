@@ -1,5 +1,5 @@
 use Rattle.std.proofs.Common.{◌≡◌, take, Ok}
-use Rattle.fd_cli.specs.Counting.{StaysFlushed}
+use Rattle.fd_listing.specs.Counting.{StaysFlushed}
 use Rattle.fd_cli.specs.Progress.{CanCount, Advances}
 use Rattle.fd_cli.proofs.progress.Progress.take_bytes.Given as goal
 

@@ -1,5 +1,5 @@
 use Rattle.std.proofs.Common.{◌∙◌, ap, length, arith, true, sym}
-use Rattle.fd_session.specs.Machine.{State, at_position, opening}
+use Rattle.fd_frame.specs.State.{State, at_position, opening}
 use Rattle.fd_session.proofs.Frames.{held_back}
 use Rattle.fd_session.proofs.picture.Picture.draw.Goals as goal
 

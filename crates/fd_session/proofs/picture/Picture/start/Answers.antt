@@ -1,5 +1,5 @@
 use Rattle.std.proofs.Common.{ap, true}
-use Rattle.fd_session.specs.Machine.{at_position, opening}
+use Rattle.fd_frame.specs.State.{at_position, opening}
 use Rattle.fd_session.proofs.picture.Picture.start.Goals as goal
 
 pub invariant_of-result : goal.invariant_of-result

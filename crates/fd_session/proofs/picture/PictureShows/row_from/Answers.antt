@@ -1,7 +1,7 @@
 use Rattle.std.proofs.Common.{◌≡◌, subst, length, map, true}
 use Rattle.std.specs.List.{range_with_len}
 use Rattle.fd_events.specs.Image.{colour_at}
-use Rattle.fd_session.specs.Machine.{State}
+use Rattle.fd_frame.specs.State.{State}
 use Rattle.fd_session.proofs.picture.PictureShows.row_from.Goals as goal
 
 pub returns-clause-colours : goal.returns-clause-colours

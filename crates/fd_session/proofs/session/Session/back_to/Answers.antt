@@ -3,7 +3,7 @@ use Rattle.fd_tile.specs.Grid.{TargetSize}
 use Rattle.fd_events.specs.Table.{Table}
 use Rattle.fd_owner.specs.Shown.{Shown}
 use Rattle.fd_crew.specs.Lanes.{opening_position}
-use Rattle.fd_session.specs.Machine.{State}
+use Rattle.fd_frame.specs.State.{State}
 use Rattle.fd_session.specs.Held.{StandsFrom, HoldsAll}
 use Rattle.fd_session.proofs.Frames.{no_lower, all_above, left_down, held_back}
 use Rattle.fd_session.proofs.session.Session.back_to.Goals as goal

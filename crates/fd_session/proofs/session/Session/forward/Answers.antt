@@ -1,7 +1,7 @@
 use Rattle.std.proofs.Common.{◌≡◌, ℕ, List, All, ◌∙◌, sym, ap, subst, length, arith, false}
 use Rattle.std.specs.Result.{result_unwrap_or}
 use Rattle.fd_crew.specs.Lanes.{opening_position}
-use Rattle.fd_session.specs.Machine.{State, at_position, opening}
+use Rattle.fd_frame.specs.State.{State, at_position, opening}
 use Rattle.fd_owner.specs.Shown.{Shown}
 use Rattle.fd_tile.specs.Grid.{tile_count}
 use Rattle.fd_session.specs.Held.{Stands}

@@ -1,7 +1,7 @@
 use Rattle.std.proofs.Common.{◌∙◌, ap, sym, length, arith, false}
 use Rattle.fd_events.specs.Table.{with_flag}
 use Rattle.fd_crew.specs.Lanes.{opening_position}
-use Rattle.fd_session.specs.Machine.{at_position, opening}
+use Rattle.fd_frame.specs.State.{at_position, opening}
 use Rattle.fd_session.proofs.Frames.{held_at, held_back}
 use Rattle.fd_session.proofs.Switching.{events_with, size_with, table_with, all_before}
 use Rattle.fd_session.proofs.session.Session.set_on.Goals as goal

@@ -1,5 +1,5 @@
 use Rattle.std.proofs.Common.{ap, false}
-use Rattle.fd_session.specs.Machine.{at_position, opening}
+use Rattle.fd_frame.specs.State.{at_position, opening}
 use Rattle.fd_session.proofs.session.Session.start.Goals as goal
 
 pub invariant_of-result : goal.invariant_of-result

@@ -5,9 +5,11 @@ use Rattle.fd_device.specs.Transfer.{Puts, CountsFailure}
 use Rattle.fd_words.specs.declared.ending.Ending.{Ending}
 use Rattle.fd_words.specs.declared.request.Request.{Request}
 use Rattle.fd_words.specs.declared.request.Request.TheVariants.{Run, Image, Events}
-use Rattle.fd_cli.specs.Counting.{CountsReader, CountsWriter, EndsFlushed}
-use Rattle.fd_cli.specs.Listing.{WritesImage, ListsEvents}
-use Rattle.fd_cli.specs.Opening.{RefusesTooLong}
+use Rattle.fd_listing.specs.Counting.{CountsReader, CountsWriter, EndsFlushed}
+use Rattle.fd_listing.specs.Listing.{ListsEvents}
+use Rattle.fd_cli.specs.Imaging.{WritesImage}
+use Rattle.fd_listing.specs.Opening.{RefusesTooLong}
+use Rattle.fd_cli.specs.declared.performing.Devices.{Devices}
 use Rattle.fd_cli.specs.Output.{Outputs}
 use Rattle.fd_words.specs.Report.{status_of, report_of}
 use Rattle.fd_cli.specs.Serving.{ServesCapture}
@@ -27,24 +29,35 @@ pub record DeviceShown : Type 0 where
 abbrev pub shown : Option (List ℕ) → ℕ → DeviceShown
 shown bytes failures = record { bytes = bytes; failures = failures }
 
+-- what the devices of the program show, and whether all that its output took was passed on
+pub record DevicesShown : Type 0 where
+  pub input : DeviceShown
+  pub output : DeviceShown
+  pub errors : DeviceShown
+  pub flushed : Bool
+
+-- as the source, the sink and the errors are shown
+abbrev pub devices_shown : {R W E : Type 0} → (R → DeviceShown) → (W → DeviceShown) → (E → DeviceShown) → (W → Bool) → Devices R W E → DevicesShown
+devices_shown input output errors flushed devices =
+    record { input = input devices.source; output = output devices.sink; errors = errors devices.errors; flushed = flushed devices.sink }
+
 -- From bytes to bytes: some of the input was taken and some output written, as the request has it; a reader or a writer failed only where the ending says so;
 -- all that was written was passed on unless the writer failed; the errors were told the ending's line, or a front of it where that device failed; and the
 -- status is the ending's.
-pub record Performs (request : Request) (capture : List ℕ) (input_old input_new output_old output_new errors_old errors_new : DeviceShown)
-    (flushed_old flushed_new ended : Bool) (status : ℕ) : Type 0 where
+pub record Performs (request : Request) (capture : List ℕ) (old new : DevicesShown) (ended : Bool) (status : ℕ) : Type 0 where
   pub ending : Ending
   pub taken : List ℕ
   pub written : List ℕ
   pub count : ℕ
   pub told : Bool
-  pub consumed : Consumes input_old.bytes input_new.bytes taken
-  pub appended : Appends output_old.bytes output_new.bytes written
+  pub consumed : Consumes old.input.bytes new.input.bytes taken
+  pub appended : Appends old.output.bytes new.output.bytes written
   pub does : Does request capture taken written ending ended
   pub too_long : RefusesTooLong capture ending
-  pub reads : CountsReader ending input_old.failures input_new.failures
-  pub writes : CountsWriter ending output_old.failures output_new.failures
-  pub passed_on : EndsFlushed ending flushed_old flushed_new
-  pub says : Puts errors_old.bytes errors_new.bytes 0 count (report_of ending) told
-  pub tells : CountsFailure errors_old.failures errors_new.failures told
+  pub reads : CountsReader ending old.input.failures new.input.failures
+  pub writes : CountsWriter ending old.output.failures new.output.failures
+  pub passed_on : EndsFlushed ending old.flushed new.flushed
+  pub says : Puts old.errors.bytes new.errors.bytes 0 count (report_of ending) told
+  pub tells : CountsFailure old.errors.failures new.errors.failures told
   pub breaks_off : told ≡ false → count < length (report_of ending)
   pub ends : status ≡ status_of ending

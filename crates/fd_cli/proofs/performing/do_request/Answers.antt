@@ -1,7 +1,7 @@
 use Rattle.std.proofs.Common.{[], refl}
 use Rattle.std.proofs.KnownBytes.{Consumes-nil}
 use Rattle.fd_cli.proofs.Outputs.{serve_writes_output}
-use Rattle.fd_cli.proofs.program.do_request.Goals as goal
+use Rattle.fd_cli.proofs.performing.do_request.Goals as goal
 
 pub returns-in-Run-clause-does : goal.returns-in-Run-clause-does
 returns-in-Run-clause-does g c =

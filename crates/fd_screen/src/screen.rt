@@ -1,5 +1,6 @@
 //! Replies that may go to a terminal, and what somebody there is told beside them.
 ghost use Rattle.std.specs.Prelude.{◌≡◌};
+ghost use Rattle.fd_screen.specs.Within.{replies_of};
 
 use fd_device::{Failed, Progress, Sink};
 use std::io::Write;
@@ -20,7 +21,7 @@ const ERASE_LINE: &[u8] = b"\r\x1b[K";
 /// A sink of replies. Where they go to a terminal, each image is announced before its bytes; where errors do, they show how far a long
 /// move has come, in one line that is taken away before the reply.
 #[derive(Drop)]
-pub(crate) struct Screen<S, E> {
+pub struct Screen<S, E> {
     replies: S,
     errors: E,
     announces_images: bool,
@@ -32,8 +33,8 @@ pub(crate) struct Screen<S, E> {
 
 impl<S: Sink, E: Write> Screen<S, E> {
     /// Replies of which none has begun.
-    pub(crate) fn new(replies: S, errors: E, announces_images: bool, shows_moves: bool) -> Self
-        ensures { result.replies ≡ replies }
+    pub fn new(replies: S, errors: E, announces_images: bool, shows_moves: bool) -> Self
+        ensures { replies_of result ≡ replies }
     {
         Screen {
             replies,

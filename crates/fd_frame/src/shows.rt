@@ -8,7 +8,7 @@ use fd_events::EventTable;
 
 /// A frame at a position, whose image is read row by row.
 pub trait Shows {
-    ghost use Rattle.fd_session.specs.Machine.{State};
+    ghost use Rattle.fd_frame.specs.State.{State};
 
     /// The table, and the position.
     ghost state: { Self → State };

@@ -1,15 +1,16 @@
-//! The program, once its words and its capture are read.
+//! What is asked for about a capture, once words and capture are read.
 ghost use Rattle.std.specs.Prelude.{◌≡◌, ℕ, List};
 ghost use Rattle.std.specs.Io.KnownBytes.{Consumes, Appends};
-ghost use Rattle.fd_cli.specs.Counting.{CountsReader, CountsWriter, EndsFlushed};
-ghost use Rattle.fd_cli.specs.Opening.{RefusesTooLong};
+ghost use Rattle.fd_listing.specs.Counting.{CountsReader, CountsWriter, EndsFlushed};
+ghost use Rattle.fd_listing.specs.Opening.{RefusesTooLong};
 ghost use Rattle.fd_words.specs.Request.{AsksWorkers};
-ghost use Rattle.fd_cli.specs.Program.{Does, Performs, shown};
+ghost use Rattle.fd_cli.specs.Performing.{Does, Performs, shown, devices_shown};
+ghost use Rattle.fd_cli.specs.Waiting.{WaitsAbout};
 
 use crate::imaging::image;
-use crate::list::list_events;
 use crate::serving::serve;
 use fd_device::{Sink, Source};
+use fd_listing::list_events;
 use fd_words::{Ending, Request};
 use std::alloc::Global;
 use std::thread::Threads;
@@ -35,6 +36,7 @@ fn do_request<T: Threads + Sync, R: Source, W: Sink>(
     ensures does { (taken : List ℕ) × (written : List ℕ) × Consumes (R.remaining source.old) (R.remaining source.new) taken
         × Appends (W.contents sink.old) (W.contents sink.new) written
         × Does request capture.now taken written result (R.has_ended source.new) }
+    ensures waits { WaitsAbout (record { contents = W.contents; is_flushed = W.is_flushed }) capture.now sink.old source.old source.new }
     ensures too_long { RefusesTooLong capture.now result }
     ensures read { CountsReader result (R.failure_count source.old) (R.failure_count source.new) }
     ensures write { CountsWriter result (W.failure_count sink.old) (W.failure_count sink.new) }
@@ -49,7 +51,7 @@ fn do_request<T: Threads + Sync, R: Source, W: Sink>(
 
 /// Does what is asked for about a capture, tells the ending, and gives the exit status.
 ///
-/// This is the whole program behind its words: what it writes is a function of the capture's bytes and of the input's, whatever the number of workers, up to
+/// This is the program behind its words: what it writes is a function of the capture's bytes and of the input's, whatever the number of workers, up to
 /// the first reply that tells of a want of memory.
 pub fn perform<T: Threads + Sync, R: Source, W: Sink, E: Sink>(
     rt: &T,
@@ -59,11 +61,11 @@ pub fn perform<T: Threads + Sync, R: Source, W: Sink, E: Sink>(
     devices: &mut Devices<R, W, E>,
 ) -> u8
     requires { AsksWorkers request }
-    ensures { Performs request capture.now
-        (shown (R.remaining devices.old.source) (R.failure_count devices.old.source)) (shown (R.remaining devices.new.source) (R.failure_count devices.new.source))
-        (shown (W.contents devices.old.sink) (W.failure_count devices.old.sink)) (shown (W.contents devices.new.sink) (W.failure_count devices.new.sink))
-        (shown (E.contents devices.old.errors) (E.failure_count devices.old.errors)) (shown (E.contents devices.new.errors) (E.failure_count devices.new.errors))
-        (W.is_flushed devices.old.sink) (W.is_flushed devices.new.sink) (R.has_ended devices.new.source) result }
+    ensures performs { let seen = devices_shown (λ r. shown (R.remaining r) (R.failure_count r)) (λ w. shown (W.contents w) (W.failure_count w))
+        (λ e. shown (E.contents e) (E.failure_count e)) W.is_flushed in
+        Performs request capture.now (seen devices.old) (seen devices.new) (R.has_ended devices.new.source) result }
+    // Before each read all lines that ended were answered, and the answers passed on.
+    ensures waits { WaitsAbout (record { contents = W.contents; is_flushed = W.is_flushed }) capture.now devices.old.sink devices.old.source devices.new.source }
 {
     let ending = do_request(
         rt,

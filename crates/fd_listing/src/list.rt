@@ -2,11 +2,11 @@
 ghost use Rattle.std.specs.Prelude.{◌≡◌, ◌<◌, ◌+◌, ◌^◌, ℕ, List, is_ok, OnOk, true};
 ghost use Rattle.std.specs.Io.KnownBytes.{Appends};
 ghost use Rattle.fd_words.specs.Limits.{most_reply_bytes};
-ghost use Rattle.fd_cli.specs.Opening.{RefusesTooLong};
-ghost use Rattle.fd_cli.specs.Listing.{WritesText, ListsEvents};
+ghost use Rattle.fd_listing.specs.Opening.{RefusesTooLong};
+ghost use Rattle.fd_listing.specs.Listing.{WritesText, ListsEvents};
 ghost use Rattle.fd_words.specs.Text.{event_list};
 ghost use Rattle.fd_device.specs.Transfer.{Puts, CountsFailure};
-ghost use Rattle.fd_cli.specs.Counting.{CountsWriter, EndsFlushed};
+ghost use Rattle.fd_listing.specs.Counting.{CountsWriter, EndsFlushed};
 
 use crate::opening::open;
 use fd_device::{Failed, Sink};

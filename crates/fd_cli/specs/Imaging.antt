@@ -1,24 +1,12 @@
--- Promised. What the calls that write one text have written, by how they end.
+-- Promised. What a call that writes an image has written, by how it ends.
 use Rattle.std.specs.Prelude.{◌≡◌, ℕ, ◌<◌, ◌≤◌, List, [], ◌++◌, length, Option, Some, None}
 use Rattle.fd_events.specs.Table.{Table}
 use Rattle.fd_pam.specs.Pam.{pam}
-use Rattle.fd_session.specs.Machine.{State, opening, at_position}
+use Rattle.fd_frame.specs.State.{State, opening, at_position}
 use Rattle.fd_words.specs.declared.ending.Ending.{Ending}
 use Rattle.fd_words.specs.declared.ending.Ending.TheVariants.{Done, NoSuchPosition, Write, Memory}
-use Rattle.fd_cli.specs.Opening.{OfCapture}
-use Rattle.fd_words.specs.Text.{event_list}
-
--- The whole text was written, or a front of it.
-abbrev pub WritesText : List ℕ → List ℕ → Ending → Type 0
-WritesText text written Done = written ≡ text
-WritesText text written (Write sent) = (unsent : List ℕ) × (written ++ unsent ≡ text) × (sent ≡ length written)
-WritesText text written other = ⊥
-
--- The list of a capture's events at position 0, all of them switched on as captures give them.
-abbrev pub ListsEvents : List ℕ → List ℕ → Ending → Type 0
-ListsEvents capture written ending = OfCapture capture ending (written ≡ []) (λ table. WritesText (event_list table 0) written ending)
-
--- ---- an image
+use Rattle.fd_listing.specs.Opening.{OfCapture}
+use Rattle.fd_listing.specs.Listing.{WritesText}
 
 -- The image file of what a state shows was written, or memory was wanted before the first byte.
 abbrev pub ShowsState : State → List ℕ → Ending → Type 0

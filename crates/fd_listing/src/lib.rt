@@ -1,0 +1,10 @@
+//! A capture's table, and the list of its events.
+#![tactic(auto)]
+
+pub use list::list_events;
+pub use opening::open;
+
+mod list;
+mod opening;
+#[cfg(test)]
+mod tests;
