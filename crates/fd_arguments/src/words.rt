@@ -9,7 +9,7 @@ use fd_crew::MOST_WORKERS;
 use std::alloc::{AllocError, Global};
 
 /// The version, and the program logic that it is proved with, as `rt version` says it behind the name of the kit.
-const VERSION: &str = "0.4.0 (proved with logic dac8208d650f15bf)";
+const VERSION: &str = "0.5.0 (proved with logic dac8208d650f15bf)";
 
 /// What stands behind the help of the program.
 const STATUSES: &str =

@@ -18,7 +18,7 @@ use clap::error::ErrorKind;
 use fd_arguments::read_arguments;
 use fd_device::{Failed, Sink, Source, send};
 use fd_words::Ending;
-use std::alloc::Global;
+use std::alloc::{AllocError, Global};
 use std::convert::AsStr;
 use std::thread::Threads;
 
@@ -101,10 +101,21 @@ fn write_help<R: Source, W: Sink, E: Sink>(text: &[u8], devices: &mut Devices<R,
     ending.status()
 }
 
+/// What is wrong with the words, or the help that they ask for. Where a capture's name stands in a subcommand's place, the words that list it are told too.
+fn explained<S: AsStr>(alloc: Global, error: &Error, words: &[S]) -> Result<String, AllocError> {
+    let word = words.get(1).map_or("", |word| word.as_str());
+    if error.kind() == ErrorKind::InvalidSubcommand && word.ends_with(".json") {
+        format!(in alloc; "{error}\n\ndid you mean: framedbg events {word}\n")
+    } else {
+        format!(in alloc; "{error}")
+    }
+}
+
 /// Says what is wrong with the words, or gives the help that they ask for, and gives the status.
-fn explain<R: Source, W: Sink, E: Sink>(
+fn explain<S: AsStr, R: Source, W: Sink, E: Sink>(
     alloc: Global,
     error: &Error,
+    words: &[S],
     devices: &mut Devices<R, W, E>,
 ) -> u8
     ensures { let seen = devices_shown (λ r. shown (R.remaining r) (R.failure_count r)) (λ w. shown (W.contents w) (W.failure_count w))
@@ -116,7 +127,7 @@ fn explain<R: Source, W: Sink, E: Sink>(
     if kind == ErrorKind::OutOfMemory {
         return end_before(&Ending::Memory, devices);
     }
-    let Ok(text) = format!(in alloc; "{error}") else {
+    let Ok(text) = explained(alloc, error, words) else {
         return end_before(&Ending::Memory, devices);
     };
     match kind {
@@ -162,7 +173,7 @@ pub fn program<T: Threads + Sync, S: AsStr, F: Files, R: Source, W: Sink, E: Sin
 {
     let arguments = match read_arguments(alloc, words) {
         Ok(arguments) => arguments,
-        Err(error) => return explain(alloc, &error, devices),
+        Err(error) => return explain(alloc, &error, words, devices),
     };
     match files.read(alloc, arguments.capture) {
         Ok(capture) => perform(rt, alloc, arguments.request, &capture, devices),

@@ -97,6 +97,17 @@ fn words_that_ask_for_no_capture(rt: HostRuntime) {
     }
 }
 
+/// Whoever names a capture alone is told what lists it.
+#[test]
+fn a_capture_without_a_subcommand(rt: HostRuntime) {
+    for (word, is_told) in [("a b.json", true), ("look", false), ("json", false)] {
+        let (status, _, told) = ended(&rt, &["framedbg", word]);
+        assert_eq!(rt; status, 1);
+        let end = b"\ndid you mean: framedbg events a b.json\n";
+        assert_eq!(rt; told.as_slice().ends_with(end), is_told);
+    }
+}
+
 #[test]
 fn words_that_cannot_be_had(rt: HostRuntime) -> Result<(), Fail> {
     for (fault, status, report) in [
