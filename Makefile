@@ -83,6 +83,7 @@ wrong-fdb: $(PROGRAM)
 test-frames: $(PROGRAM)
 	tests/test_captures.py
 	tests/test_real_frames.py
+	tests/test_converters.py
 	tests/test_foreign_frames.py
 	tests/test_old_frames.py
 	checks/check_old_frames

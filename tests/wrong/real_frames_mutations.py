@@ -235,11 +235,19 @@ PICTURED = [    # name, file, text, what stands there instead, test
     ("sources: no neighbours", "solving.py", "NEIGHBOURS = (0, 1, -1, 2, -2)", "NEIGHBOURS = (0,)", "Solving.test_a_source_is_found_where_there_is_one"),
     ("sources: rounded down", "solving.py", "+ 127) // 255", ") // 255", "Solving.test_a_source_is_found_where_there_is_one"),
 ]
+CONVERTERS = [
+    ("corners: cut from the viewport's middle", "clipping.py", "return kept + sides(0, viewport.left + across, across)", "return kept + sides(0, 0, across)", "Corners"),
+    ("corners: those of y up from below", "clipping.py", "-down if viewport.y_up else down", "down", "Corners"),
+    ("corners: a line's width leads out", "placing.py", "return min(max(x, -GUARD), GUARD), min(max(y, -GUARD), GUARD), z", "return x, y, z", "Corners"),
+    ("reading: what is refused is written", "telling.py", "    if done.returncode:\n        said", "    if False:\n        said", "Reading"),
+    ("reading: the path is that of nothing", "telling.py", "        file.flush()\n", "", "Reading"),
+]
 
 
 if __name__ == "__main__":
     try_all(__doc__, [*(Version(name, f"tools/real_frames/{file}", old, new, "test_foreign_frames.py" if test == "Foreign" else "test_real_frames.py", test)
                         for name, file, old, new, test in MUTATIONS),
                       *(Version(name, f"tools/real_frames/{file}", old, new, "test_pictured_frames.py", test) for name, file, old, new, test in PICTURED),
+                      *(Version(name, f"tools/real_frames/{file}", old, new, "test_converters.py", test) for name, file, old, new, test in CONVERTERS),
                       *(Version(name, f"tools/{file}", old, new, "test_old_frames.py", test) for name, file, old, new, test in OLD),
                       *(Version(name, file, old, new, "test_captures.py", f"Emitters.{test}") for name, file, old, new, test in EMITTERS)])

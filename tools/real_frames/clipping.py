@@ -1,20 +1,23 @@
-"""Triangles, lines and points in clip space, cut to what a capture can say: in front of the eye, and within 16,384 pixels either way."""
+"""Triangles, lines and points in clip space, cut to what a capture can say: in front of the eye, and within 16,384 pixels of the target's corner."""
+from captures import MOST_SIDE
 
-GUARD = 16000.0                 # pixels from the viewport's middle; a capture takes 16,384
+GUARD = MOST_SIDE - 0.25        # pixels from the upper left corner of the target, whose last centre lies at 16,383.5; a little is left for rounding
 LEAST_W = 1e-6
+
+
+def sides(axis, middle, half):
+    """Two half spaces: what lies within the guard, of an axis on which clip space has its middle at one place and reaches so far from it."""
+    return [lambda v: (GUARD - middle) * v[3] - half * v[axis], lambda v: (GUARD + middle) * v[3] + half * v[axis]]
 
 
 def planes(viewport, clip_depth):
     """The half spaces that hold what can be drawn, each as a function that is at least zero inside."""
-    spread_x = GUARD / max(abs(viewport.width) / 2, 1e-9)
-    spread_y = GUARD / max(abs(viewport.height) / 2, 1e-9)
     kept = [lambda v: v[3] - LEAST_W]
     if clip_depth:
         kept.append((lambda v: v[2]) if viewport.half_depth else (lambda v: v[2] + v[3]))
         kept.append(lambda v: v[3] - v[2])
-    kept += [lambda v: v[3] * spread_x - v[0], lambda v: v[3] * spread_x + v[0],
-             lambda v: v[3] * spread_y - v[1], lambda v: v[3] * spread_y + v[1]]
-    return kept
+    across, down = viewport.width / 2, viewport.height / 2
+    return kept + sides(0, viewport.left + across, across) + sides(1, viewport.top + down, -down if viewport.y_up else down)
 
 
 def cut(polygon, plane):
@@ -34,10 +37,10 @@ def cut(polygon, plane):
 
 def clip(corners, kept_planes):
     """Gives the clipped triangle as a list of triangles, and whether anything was cut."""
-    sides = [[plane(v) < 0 for v in corners] for plane in kept_planes]
-    if not any(any(side) for side in sides):
+    outside = [[plane(v) < 0 for v in corners] for plane in kept_planes]
+    if not any(any(side) for side in outside):
         return [tuple(corners)], False
-    if any(all(side) for side in sides):
+    if any(all(side) for side in outside):
         return [], True
     polygon = list(corners)
     for plane in kept_planes:
@@ -50,9 +53,9 @@ def clip(corners, kept_planes):
 def clip_line(ends, kept_planes):
     """Gives the two ends of the part that is left, or nothing."""
     for plane in kept_planes:
-        sides = [plane(end) >= 0 for end in ends]
-        if not any(sides):
+        inside = [plane(end) >= 0 for end in ends]
+        if not any(inside):
             return ()
-        if not all(sides):
+        if not all(inside):
             ends = cut(ends, plane)[:2]
     return tuple(ends)

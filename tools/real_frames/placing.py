@@ -4,7 +4,7 @@ from dataclasses import dataclass
 
 from captures import PIXEL
 
-from .clipping import clip, clip_line, planes
+from .clipping import GUARD, clip, clip_line, planes
 from .raster import CENTRE, snap
 
 WHOLE = 256                     # a pixel after snapping
@@ -89,8 +89,13 @@ def quad(ends, width=1):
         ends = (x - half, y, z), (x + half, y, z)
     (ax, ay, az), (bx, by, bz) = ends
     dx, dy = (0, half) if abs(bx - ax) >= abs(by - ay) else (half, 0)
-    a, b, c, d = (ax - dx, ay - dy, az), (bx - dx, by - dy, bz), (bx + dx, by + dy, bz), (ax + dx, ay + dy, az)
+    a, b, c, d = (guarded(*corner) for corner in ((ax - dx, ay - dy, az), (bx - dx, by - dy, bz), (bx + dx, by + dy, bz), (ax + dx, ay + dy, az)))
     return [a, b, c], [a, c, d]
+
+
+def guarded(x, y, z):
+    """A corner that a line's width brings out of what a capture takes, moved to its border: both lie far beside the target."""
+    return min(max(x, -GUARD), GUARD), min(max(y, -GUARD), GUARD), z
 
 
 def turned(corners, raster):

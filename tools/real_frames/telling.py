@@ -1,9 +1,13 @@
 """What both converters take as words, write, and tell on standard error."""
+import subprocess
 import sys
+import tempfile
 
 from captures import MOST_BYTES, text
+from framedbg_client import find_program
 
 from .fault import Fault
+from .names import MOST_LINE, printable
 
 ALL = (0, 1 << 62)
 
@@ -42,11 +46,30 @@ def target_of(frame):
 
 
 def written(capture):
-    """A capture as text; a Fault where it is larger than one may be."""
+    """A capture as text, which framedbg has read; a Fault where it is larger than one may be, or refused."""
     made = text(capture)
     if len(made.encode()) > MOST_BYTES:
         raise Fault(f"the capture has {len(made)} bytes, and {MOST_BYTES} are the most: take a part by --draws A..B, or less --detail")
+    have_it_read(made)
     return made
+
+
+def have_it_read(made):
+    """Has framedbg read a capture. What it refuses is a Fault of the converter, and not written."""
+    program = find_program()
+    if not program:
+        print("there is no framedbg here, so none has read this capture", file=sys.stderr)
+        return
+    with tempfile.NamedTemporaryFile("w", suffix=".json", encoding="utf-8") as file:
+        file.write(made)
+        file.flush()
+        try:
+            done = subprocess.run([program, "events", file.name], stdin=subprocess.DEVNULL, stdout=subprocess.DEVNULL, stderr=subprocess.PIPE)
+        except OSError as fault:
+            raise Fault(f"{program}: {fault.strerror}") from None
+    if done.returncode:
+        said = printable(done.stderr.decode(errors="replace").strip(), MOST_LINE) or f"{program} ended with status {done.returncode}"
+        raise Fault(f"framedbg doesn't take what was made of the frame, so nothing is written: {said}")
 
 
 def tell(quiet, writer, losses, seconds):
