@@ -121,6 +121,19 @@ class Foreign(unittest.TestCase):
             self.assertEqual((read.scissor, read.depth, read.blend_factor, read.raster), ([10, 20, 110, 70], (True, False, Word.Less), (0, .5, 1, 1), raster))
             self.assertEqual(pipelines.width_of(types.SimpleNamespace(GetPrimitiveTopology=lambda: None), raster), 1.0)
 
+    def test_what_a_pass_of_vulkan_clears(self):
+        """RenderDoc's name of it has `C=` only where there are depths too."""
+        with mock.patch.dict(sys.modules, {"renderdoc": stand_in()}):
+            sys.modules.pop("real_frames.clears", None)
+            from real_frames import clears
+            self.addCleanup(sys.modules.pop, "real_frames.clears", None)
+        begins, other = (types.SimpleNamespace(flags=getattr(clears.rd.ActionFlags, name)) for name in ("BeginPass", "EndPass"))
+        for words, wanted in (("Clear", (True, False)), ("C=Clear, D=Clear", (True, True)), ("C=Clear, DS=Load", (True, False)), ("C=Load, DS=Clear", (False, True)),
+                              ("D=Clear", (False, True)), ("Load", (False, False)), ("Don't Care", (False, False)), ("C=Load, D=Load, S=Clear", (False, False)), ("-", (False, False))):
+            for name in ("vkCmdBeginRenderPass", "vkCmdBeginRendering"):
+                self.assertEqual(clears.pass_clears(begins, f"{name}({words})"), wanted, words)
+        self.assertEqual(clears.pass_clears(other, "vkCmdEndRenderPass(Clear)"), (False, False))
+
     def test_one_frame_is_left(self):
         """Those that were there before stay, and what was written beside the one that is told goes."""
         take = self.take_frame()

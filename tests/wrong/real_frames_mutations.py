@@ -19,6 +19,7 @@ MUTATIONS = [   # name, file, text, what stands there instead, test
     ("points: not at whole pixels", "placing.py", "math.floor(place) + 0.5 if width % 2 else math.floor(place + 0.5)", "place", "Placing"),
     ("rows: as with y down", "placing.py", "return lowered(shapes) if state.viewport.rows_from_below else shapes", "return shapes", "Placing.test_rows_whose_middles_lie_on_an_edge_of_gl"),
     ("rows: those of Direct3D as OpenGL's", "pipelines.py", "half_depth=True, rows_from_below=False)", "half_depth=True, rows_from_below=True)", "Foreign"),
+    ("clears: a pass of colours alone clears nothing", "clears.py", r'r"\((C=)?Clear\b"', r'r"\(C=Clear\b"', "Foreign"),
     ("direct3d: y grows down in clip space", "pipelines.py", "y_up=True, half_depth=True", "y_up=False, half_depth=True", "Foreign"),
     ("direct3d: depths of OpenGL", "pipelines.py", "y_up=True, half_depth=True", "y_up=True, half_depth=False", "Foreign"),
     ("foreign: opened where it can't be replayed", "replay.py", "if self.file.LocalReplaySupport() != rd.ReplaySupport.Supported:", "if False:", "Foreign"),

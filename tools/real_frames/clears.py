@@ -10,10 +10,10 @@ COLOUR, DEPTH = 1, 2                    # Vulkan's aspects
 
 
 def pass_clears(action, name):
-    """(colour, depth) of what the beginning of a Vulkan pass clears."""
+    """(colour, depth) of what the beginning of a Vulkan pass clears. Its name says `C=` only where there are depths too."""
     if not action.flags & rd.ActionFlags.BeginPass:
         return False, False
-    return "C=Clear" in name, bool(re.search(r"\bDS?=Clear", name))
+    return bool(re.search(r"\((C=)?Clear\b", name)), bool(re.search(r"\bDS?=Clear", name))
 
 
 def of(frame, action, width, height):
