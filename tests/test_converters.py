@@ -1,15 +1,20 @@
 #!/usr/bin/env python3
-"""test_converters: what both converters of real frames see to: corners that a capture takes, of a target of any size, and a capture that framedbg reads."""
+"""test_converters: what both converters of real frames see to: corners that a capture takes, of a target of any size, a capture that framedbg reads, and nothing
+of what others print."""
 import contextlib
 import dataclasses
 import io
+import json
+import os
 import pathlib
+import subprocess
+import sys
 import tempfile
 import types
 import unittest
 from unittest import mock
 
-import folders
+from folders import CHECKS, TESTS, TOOLS
 
 import captures
 from captures import MOST_POSITION
@@ -95,6 +100,85 @@ class Reading(unittest.TestCase):
 
     def test_none(self):
         self.assertEqual(self.written(self.right, None), (captures.text(self.right), "there is no framedbg here, so none has read this capture\n"))
+
+
+LOUD = f"""
+import os, runpy, sys, types
+sys.path[:0] = [{str(TESTS)!r}, {str(CHECKS)!r}]
+import folders
+from frames_testing import StandIn, clear, draw, quad, state, OVER, TARGET
+
+class Frame(StandIn):
+    actions = [clear(2, (9, 9, 9, 255), 1.0), draw(5, quad(3, 2, 15, 12, .5, (200, 0, 0, 90)), state(blend=OVER))]
+    textures = {{TARGET: types.SimpleNamespace(resourceId=TARGET)}}
+
+    def __init__(self, path):
+        super().__init__(*self.actions)
+        self.controller = self
+
+    def __enter__(self):
+        return self
+
+    def __exit__(self, *_):
+        os.write(1, b"NOISE ")
+
+    def shown_target(self):
+        return TARGET
+
+    def list_targets(self):
+        yield "target 7"
+
+    def go(self, event):
+        os.write(1, b"NOISE ")
+        os.system("printf NOISE")
+        super().go(event)
+
+    def marked(self, target, kind):
+        os.write(1, b"NOISE ")
+        return bytes(24 * 16)
+
+    def PixelHistory(self, *_):
+        os.write(1, b"NOISE ")
+        return []
+
+sys.modules["renderdoc"] = types.SimpleNamespace(CompType=types.SimpleNamespace(Typeless=0), DebugOverlay=types.SimpleNamespace(Drawcall=0, Depth=0), Subresource=lambda *_: 0)
+sys.modules["real_frames.replay"] = types.SimpleNamespace(Frame=Frame)
+os.write(1, b"HERE ")
+sys.argv = sys.argv[1:]
+runpy.run_path(sys.argv[0], run_name="__main__")
+"""
+
+
+class Prints(unittest.TestCase):
+    """What RenderDoc's module prints by the descriptor of standard output, or a process of it, goes to standard error."""
+
+    def run_loud(self, *words):
+        told = subprocess.run([sys.executable, "-c", LOUD, *map(str, words)], env={**os.environ, "DISPLAY": ":none"}, capture_output=True, text=True, timeout=60)
+        self.assertIn("NOISE", told.stderr)
+        self.assertTrue(told.stdout.startswith("HERE "), told.stderr)       # before the tool begins it is as it was
+        return told.returncode, told.stdout.removeprefix("HERE "), told.stderr
+
+    def test_the_converter_and_the_comparisons(self):
+        self.assertEqual(self.run_loud(TOOLS / "renderdoc_to_capture", "--list", "frame.rdc")[:2], (0, "target 7\n"))
+        with tempfile.TemporaryDirectory() as folder:
+            status, made, told = self.run_loud(TOOLS / "renderdoc_to_capture", "--quiet", "frame.rdc")
+            self.assertEqual((status, [event["kind"] for event in json.loads(made)["events"]][-1]), (0, "draw"), told)
+            path = pathlib.Path(folder, "frame.json")
+            path.write_text(made)
+            for name in ("compare_coverage", "compare_history"):
+                status, lines, told = self.run_loud(CHECKS / name, "--program", tried_program(), "frame.rdc", path)
+                self.assertNotIn("NOISE", lines)
+                self.assertTrue(lines if pathlib.Path(tried_program()).exists() else "No such file" in told, told)
+
+    def test_another_python_s_output_is_the_tool_s(self):
+        with tempfile.TemporaryDirectory() as folder:
+            python = pathlib.Path(folder, "python3")
+            python.write_text("#!/bin/sh\necho made\n")
+            python.chmod(0o755)
+            script = (f"import sys\nsys.path.insert(0, {str(TOOLS)!r})\nfrom real_frames import module\nmodule.is_here = lambda: False\nmodule.SYSTEM_S_PYTHON = {str(python)!r}\n"
+                      "module.guarded('tool', module.run_by_its_python)")
+            told = subprocess.run([sys.executable, "-c", script], capture_output=True, text=True, timeout=60)
+        self.assertEqual((told.returncode, told.stdout, told.stderr), (0, "made\n", ""))
 
 
 if __name__ == "__main__":

@@ -241,6 +241,8 @@ CONVERTERS = [
     ("corners: those of y up from below", "clipping.py", "-down if viewport.y_up else down", "down", "Corners"),
     ("corners: a line's width leads out", "placing.py", "return min(max(x, -GUARD), GUARD), min(max(y, -GUARD), GUARD), z", "return x, y, z", "Corners"),
     ("reading: what is refused is written", "telling.py", "    if done.returncode:\n        said", "    if False:\n        said", "Reading"),
+    ("prints: into the capture", "module.py", "    os.dup2(2, 1)\n", "", "Prints.test_the_converter_and_the_comparisons"),
+    ("prints: another Python's output is lost", "module.py", "            os.dup2(sys.stdout.fileno(), 1)\n", "            pass\n", "Prints.test_another_python_s_output_is_the_tool_s"),
     ("reading: the path is that of nothing", "telling.py", "        file.flush()\n", "", "Reading"),
 ]
 

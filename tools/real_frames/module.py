@@ -28,6 +28,8 @@ def run_by_its_python():
     other = os.path.realpath(SYSTEM_S_PYTHON)
     if os.path.realpath(sys.executable) != other and os.access(other, os.X_OK):
         sys.stdout.flush()
+        if sys.stdout.fileno() != 1:        # it is kept apart
+            os.dup2(sys.stdout.fileno(), 1)
         os.execv(SYSTEM_S_PYTHON, [SYSTEM_S_PYTHON, *sys.argv])
     return False
 
@@ -38,7 +40,7 @@ def guarded(tool, main):
     child = os.fork()
     if child == 0:
         end_with_parent()
-        os._exit(status_of(tool, main))
+        os._exit(status_of(tool, lambda: kept_apart(main)))
     try:
         status = os.waitpid(child, 0)[1]
     except KeyboardInterrupt:           # the child has it too
@@ -46,6 +48,14 @@ def guarded(tool, main):
     if os.WIFSIGNALED(status):
         sys.exit(f"{tool}: {ENDED} by {signal.Signals(os.WTERMSIG(status)).name}; try again")
     sys.exit(os.waitstatus_to_exitcode(status))
+
+
+def kept_apart(main):
+    """Runs a tool whose standard output is its own: what RenderDoc, a driver or its compiler of shaders prints there goes to standard error."""
+    sys.stdout.flush()
+    sys.stdout = ending.outlet(os.dup(1), sys.stdout)
+    os.dup2(2, 1)
+    return main()
 
 
 def status_of(tool, main):
