@@ -102,10 +102,7 @@ class Foreign(unittest.TestCase):
 
     def test_the_states_of_direct3d(self):
         """y is up in clip space and rows count from the top; depths go from 0 to w; counter-clockwise is so on the target; edges along a row are as framedbg has them."""
-        with mock.patch.dict(sys.modules, {"renderdoc": stand_in()}):
-            sys.modules.pop("real_frames.pipelines", None)
-            from real_frames import pipelines
-            self.addCleanup(sys.modules.pop, "real_frames.pipelines", None)
+        pipelines = self.beside_a_stand_in("pipelines")
         raster = types.SimpleNamespace(frontCCW=True, depthClip=False, depthBias=3, slopeScaledDepthBias=1.5, depthBiasClamp=.25, fillMode=Word.Solid, cullMode=Word.Back)
         depth = types.SimpleNamespace(depthEnable=True, depthWrites=False, depthFunction=Word.Less, stencilEnable=True)
         output = types.SimpleNamespace(depthStencilState=depth, blendState=types.SimpleNamespace(blendFactor=(0, .5, 1, 1)))
@@ -121,12 +118,32 @@ class Foreign(unittest.TestCase):
             self.assertEqual((read.scissor, read.depth, read.blend_factor, read.raster), ([10, 20, 110, 70], (True, False, Word.Less), (0, .5, 1, 1), raster))
             self.assertEqual(pipelines.width_of(types.SimpleNamespace(GetPrimitiveTopology=lambda: None), raster), 1.0)
 
+    def beside_a_stand_in(self, name):
+        """A module of real_frames that needs RenderDoc's."""
+        for one in [one for one in sys.modules if one.startswith("real_frames.")]:
+            if hasattr(sys.modules[one], "rd"):
+                del sys.modules[one]
+        with mock.patch.dict(sys.modules, {"renderdoc": stand_in()}):
+            made = importlib.import_module(f"real_frames.{name}")
+        self.addCleanup(sys.modules.pop, made.__name__, None)
+        return made
+
+    def test_a_target_of_floats_is_a_loss(self):
+        replay = self.beside_a_stand_in("replay")
+        frame, names = replay.Frame("frame.rdc"), replay.rd.CompType
+        kind = lambda word: types.SimpleNamespace(compType=getattr(names, word), SRGBCorrected=lambda: word == "UNormSRGB")
+        frame.textures = {number: types.SimpleNamespace(msSamp=1, format=kind(word)) for number, word in enumerate(("Float", "UNorm", "UNormSRGB"))}
+        self.assertEqual([list(frame.notes(number)) for number in range(3)], [[replay.OF_FLOATS], [], [replay.IN_SRGB]])
+
+    def test_what_was_there_before_is_in_no_history(self):
+        histories = self.beside_a_stand_in("histories")
+        capture = {"events": [{"source": {"event": 4, "name": "before"}}, {"source": {"event": 5, "name": "draw()", "primitives": [[0, 3]]}}]}
+        entries = [types.SimpleNamespace(event=number, triangle=0, verdict="drawn", after=(number, 2, 3, 4)) for number in (1, 2)]
+        self.assertEqual(histories.by_framedbg(types.SimpleNamespace(history=lambda x, y: entries), capture, 7, 8), [(5, 3, "drawn", (2, 2, 3, 4))])
+
     def test_what_a_pass_of_vulkan_clears(self):
         """RenderDoc's name of it has `C=` only where there are depths too."""
-        with mock.patch.dict(sys.modules, {"renderdoc": stand_in()}):
-            sys.modules.pop("real_frames.clears", None)
-            from real_frames import clears
-            self.addCleanup(sys.modules.pop, "real_frames.clears", None)
+        clears = self.beside_a_stand_in("clears")
         begins, other = (types.SimpleNamespace(flags=getattr(clears.rd.ActionFlags, name)) for name in ("BeginPass", "EndPass"))
         for words, wanted in (("Clear", (True, False)), ("C=Clear, D=Clear", (True, True)), ("C=Clear, DS=Load", (True, False)), ("C=Load, DS=Clear", (False, True)),
                               ("D=Clear", (False, True)), ("Load", (False, False)), ("Don't Care", (False, False)), ("C=Load, D=Load, S=Clear", (False, False)), ("-", (False, False))):

@@ -7,8 +7,9 @@ import unittest
 import folders
 
 import captures
+import frames_testing
 import reference
-from frames_testing import ADDED, OVER, TARGET, StandIn, clear, draw, quad, state
+from frames_testing import ADDED, OVER, TARGET, Action, StandIn, clear, draw, quad, state
 from real_frames.gather import Gatherer, Wanted
 from real_frames.losses import Losses
 from real_frames.pictured import PicturedWriter
@@ -99,7 +100,38 @@ class Frames(unittest.TestCase):
         wide = [captures.vertex(x << 16, y << 16, colour, 0) for x, y, colour in ((0, 0, RED), (30, 0, GREEN), (0, 20, BLUE))]
         before = [captures.raster("none"), captures.draw(wide, "linear")]
         frame = StandIn(draw(5, quad(3, 2, 15, 12, .5, (1, 2, 3, 100)), state(blend=OVER)), before=before)
+        for capture in (converted(frame), frames_testing.converted(frame)):
+            self.assertEqual([(event["source"]["event"], event["source"]["name"]) for event in capture["events"] if event["kind"] == "draw"], [(0, "before"), (5, "draw()")])
         self.same(frame, converted(frame))
+        later = StandIn(draw(2, quad(1, 1, 9, 9, .5, RED), targets=(8,)), *frame.actions, before=before)
+        self.assertEqual([event["source"]["event"] for event in converted(later)["events"] if event["source"]["name"] == "before" and event["kind"] == "draw"], [2])
+
+    def test_what_the_first_draw_paints_over_is_not_written(self):
+        before, whole = [captures.clear(7, 8, 9, 255)], quad(-1, -1, 30, 20, .5, RED)
+        is_kept = lambda frame: ["before" in [event["source"]["name"] for event in make(frame)["events"]] for make in (converted, frames_testing.converted)]
+        for first in (state(), state(depth=(True, True, "ALWAYS")), state(("back", False)), state(scissor=[0, 0, 24, 16])):
+            frame = StandIn(draw(5, whole, first), draw(6, quad(3, 2, 9, 12, .5, (1, 2, 3, 100)), state(blend=OVER)), before=before)
+            self.assertEqual(is_kept(frame), [False, False])
+            self.same(frame, converted(frame))
+        for triangles, first in ((whole[:1], state()), (quad(0, 0, 24, 15, .5, RED), state()), (quad(1, 0, 24, 16, .5, RED), state()), (whole, state(blend=OVER)), (whole, state(mask=7)),
+                                 (whole, state(depth=TESTED)), (whole, state(discards=True)), (whole, state(("back", True))), (whole, state(scissor=[0, 0, 24, 15]))):
+            self.assertEqual(is_kept(StandIn(draw(5, triangles, first), before=before)), [True, True], first)
+
+    def test_a_copy_onto_the_target(self):
+        """It brings what differs, in its own name."""
+        frame = StandIn(clear(2, GREY, 1.0), Action(5, "copy", "glBlitFramebuffer()", draw(0, quad(5, 5, 12, 12, .5, GREEN)).truth), draw(6, quad(4, 2, 9, 9, .5, BLUE)))
+        capture = converted(frame)
+        self.same(frame, capture)
+        copy, = [event for event in capture["events"] if event["kind"] == "draw" and event["source"]["event"] == 5]
+        self.assertEqual((copy["source"]["name"], copy["picture"]["left"], copy["picture"]["width"]), ("glBlitFramebuffer()", 5, 7))
+
+    def test_what_is_told_of_textures_is_true(self):
+        frame = StandIn(clear(2, GREY, 1.0), draw(5, quad(3, 2, 15, 12, .5, RED)))
+        frame.reads_textures = lambda action: True
+        note = lambda capture: next(loss for loss in capture["losses"] if loss["what"] == "draws that read textures").get("note")
+        self.assertEqual(note(converted(frame)), "what they gave is told pixel by pixel")
+        self.assertEqual(note(frames_testing.converted(frame)), "colours are fitted to the frame's pictures")
+        self.assertEqual(note(frames_testing.converted(frame, wanted=Wanted(with_colours=False), colours="distinct")), None)
 
 
 class Solving(unittest.TestCase):

@@ -6,11 +6,13 @@ from . import unblended
 from .asked import MOST_OF_A_DRAW, pixels_to_ask
 from .fault import Fault
 from .losses import Losses
+from .names import BEFORE
 from .placing import placed
 from .records import ClearRecord, DrawRecord, MarkerRecord, PictureRecord
 from .reel import Reel
 
-MULTISAMPLED, IN_SRGB = "samples of each pixel beyond the first", "target in sRGB"
+MULTISAMPLED, IN_SRGB, OF_FLOATS = "samples of each pixel beyond the first", "target in sRGB", "target of floats: what lies beyond 0 to 1 is cut off, and the rest rounded to bytes"
+READS_TEXTURES = "draws that read textures"
 
 
 @dataclass(frozen=True)
@@ -81,19 +83,19 @@ class Gatherer:
         onto = self.frame.copied_onto(action) == self.target
         self.losses.add("copies and resolves onto the target" if onto else "copies and resolves onto other textures")
         if onto:
-            self.frame.go(action.eventId)
-            self.lay(action)
+            name = self.frame.name(action)
+            self.lay(action.eventId, name, f"{action.eventId} {name}")
 
-    def lay(self, action):
-        """What is on the target where the frame stands, as a picture."""
+    def lay(self, event, name, label):
+        """What is on the target after an event, as a picture."""
+        self.frame.go(event)
         if self.wanted.with_colours:
-            self.records.append(PictureRecord(action.eventId, zlib.compress(self.frame.picture(self.target), 1)))
+            self.records.append(PictureRecord(event, name, zlib.compress(self.frame.picture(self.target), 1), label))
         self.touched = True
 
     def lay_what_was_there(self, action):
         if not self.touched:
-            self.frame.go(self.before)
-            self.lay(action)
+            self.lay(self.before, BEFORE, f"the picture before {action.eventId}")
 
     # Clears.
 
@@ -173,7 +175,7 @@ class Gatherer:
         if len(self.frame.targets(action)) > 1:
             self.losses.add("further colour targets of draws", count=len(self.frame.targets(action)) - 1)
         if self.frame.reads_textures(action):
-            self.losses.add("draws that read textures", "colours are fitted to what RenderDoc drew")
+            self.losses.add(READS_TEXTURES)
 
     def take_pictures(self, record):
         blend = record.state.blend

@@ -1,6 +1,7 @@
 """Pixel histories, by RenderDoc and by framedbg, in the same words: (RenderDoc's event, primitive or None, verdict, colour after)."""
 import renderdoc as rd
 
+from .names import BEFORE
 from .pictures import WHOLE
 from .states import byte
 
@@ -21,6 +22,8 @@ def by_framedbg(session, capture, x, y):
     found = []
     for told in session.history(x, y):
         source = capture["events"][told.event - 1].get("source", {})
+        if source.get("name") == BEFORE:
+            continue            # no call of the frame's
         primitive = None if told.triangle is None or "primitives" not in source else source["primitives"][told.triangle][1]
         entry = (source.get("event"), primitive, told.verdict, tuple(told.after))
         if primitive is None and found and found[-1][:3] == entry[:3]:

@@ -7,6 +7,8 @@ import captures
 from captures import FARTHEST, MOST_TRIANGLES, PIXEL, label
 
 from . import states
+from .discards import LEFT_OUT
+from .gather import READS_TEXTURES
 from .solving import Blending
 from .sources import Pixel, source_of, times_drawn
 from .viewport import meet
@@ -21,12 +23,18 @@ class PicturedWriter(Writer):
         return super().capture() | {"version": 3}
 
     def lay(self, record):
-        """The picture that was there, as one."""
-        source = {"event": record.event, "name": "before"}
-        self.add(captures.marker(f"the picture before {record.event}"), source)
-        self.picture = zlib.decompress(record.picture)
-        if any(self.picture):
-            self.replace({at: tuple(self.picture[4 * at:4 * at + 4]) for at in range(self.width * self.height)}, source)
+        """Of the picture that was there what differs from what is here."""
+        picture = zlib.decompress(record.picture)
+        sources = differing(self.picture, picture, ())
+        self.picture = picture
+        if sources and not self.is_painted_over():
+            self.replace(sources, self.begin_picture(record))
+
+    def note(self):
+        if READS_TEXTURES in self.losses.counts:
+            self.losses.notes[READS_TEXTURES] = "what they gave is told pixel by pixel"
+        for what in [what for what, note in self.losses.notes.items() if note == LEFT_OUT]:
+            self.losses.notes[what] = "what fails it is a hole where the picture is as it was"
 
     def draw(self, record):
         if record.depth_alone or not record.after or self.is_distinct:

@@ -35,6 +35,8 @@ class MarkerRecord:
 
 @dataclass
 class PictureRecord:
-    """What lies on the target before an event."""
+    """What lies on the target after an event: one before the first that is carried over, or a copy onto it."""
     event: int
-    picture: bytes
+    name: str
+    picture: bytes                                  # packed by zlib
+    label: str                                      # of its marker

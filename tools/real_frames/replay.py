@@ -5,7 +5,7 @@ import renderdoc as rd
 
 from . import clears, pipelines, vertices
 from .fault import Fault
-from .gather import IN_SRGB, MULTISAMPLED
+from .gather import IN_SRGB, MULTISAMPLED, OF_FLOATS
 from .names import printable
 from .pictures import WHOLE, Pictures
 from .states import byte
@@ -118,6 +118,7 @@ class Frame:
         """What is lost of a target as a whole, with how many."""
         texture = self.textures[target]
         notes = {MULTISAMPLED: texture.msSamp - 1} if texture.msSamp > 1 else {}
+        notes.update({OF_FLOATS: 1} if texture.format.compType == rd.CompType.Float else {})
         return {**notes, **({IN_SRGB: 1} if texture.format.SRGBCorrected() else {})}
 
     def draws_of_targets(self):

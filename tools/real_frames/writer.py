@@ -6,6 +6,8 @@ import captures
 from captures import FARTHEST, MOST_CORNERS, MOST_TRIANGLES, PIXEL, label
 
 from . import grid, states
+from .gather import READS_TEXTURES
+from .painted_over import paints_all
 from .painter import Detail, Painter, distinct
 from .pieces import Piece, place
 from .raster import DepthTarget
@@ -43,13 +45,18 @@ class Writer:
         self.events = []
         self.log = states.StateLog(self.events)
         self.picture = bytes(self.width * self.height * 4)
-        self.draws = 0
+        self.draws = self.place = 0
 
     def capture(self):
         writers = {MarkerRecord: self.mark, ClearRecord: self.clear, PictureRecord: self.lay, DrawRecord: self.draw}
-        for record in self.records:
+        for self.place, record in enumerate(self.records):
             writers[type(record)](record)
+        self.note()
         return {**captures.head(self.width, self.height), "depth_scale": {"low": self.scale.low, "high": self.scale.high}, "losses": self.losses.entries(), "events": self.events}
+
+    def note(self):
+        if not self.is_distinct and READS_TEXTURES in self.losses.counts:
+            self.losses.notes[READS_TEXTURES] = "colours are fitted to the frame's pictures"
 
     def mark(self, record):
         until = {} if record.until is None else {"until": record.until}
@@ -88,12 +95,24 @@ class Writer:
 
     def lay(self, record):
         """The picture that was there, in rectangles."""
-        source = {"event": record.event, "name": "before"}
-        self.add(captures.marker(f"the picture before {record.event}"), source)
+        self.picture = zlib.decompress(record.picture)
+        if self.is_painted_over():
+            return
+        source = self.begin_picture(record)
         for event in (states.raster("none", False, False), states.plain(), states.depth(False, True, "LESS")):
             self.log.set(event, source)
-        self.picture = zlib.decompress(record.picture)
         self.rectangles(grid.cells(self.picture, self.width, self.height), FARTHEST, source)
+
+    def begin_picture(self, record):
+        """The marker of a picture; gives its source."""
+        source = {"event": record.event, "name": record.name}
+        self.add(captures.marker(label(record.label)), source)
+        return source
+
+    def is_painted_over(self):
+        """Whether the next draw leaves nothing to be seen of the picture at hand."""
+        later = next((record for record in self.records[self.place + 1:] if not isinstance(record, MarkerRecord)), None)
+        return isinstance(later, DrawRecord) and paints_all(later, self.width, self.height)
 
     def rectangles(self, boxes, depth, source):
         """Draws of two triangles for each (box, colours of its four corners)."""

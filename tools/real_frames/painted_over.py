@@ -1,0 +1,20 @@
+"""Whether a draw paints each pixel of the target anew, so that nothing which lay there before shows after it."""
+from .raster import Triangle, snap
+
+
+def replaces(state):
+    """Whether it shows wherever its triangles are, and nothing of what was there."""
+    is_tested = state.depth["enable"] and state.depth["func"] != "ALWAYS"
+    return not (state.blend["enable"] or state.blend["mask"] != 15 or state.discards or is_tested)
+
+
+def paints_all(record, width, height):
+    if not (record.after and replaces(record.state)):
+        return False
+    rows, raster = [0] * height, record.state.raster
+    for _, corners in record.shapes:
+        shape = Triangle([(snap(x), snap(y)) for x, y, _ in corners])
+        if not shape.is_culled(raster["cull"], raster["front_ccw"]):
+            for y, x0, x1 in shape.spans(width, height, record.state.rectangle()):
+                rows[y] |= (1 << x1) - (1 << x0)
+    return all(row == (1 << width) - 1 for row in rows)
