@@ -20,7 +20,7 @@ import captures
 from captures import MOST_POSITION
 from frames_testing import state
 from framedbg_client.program import tried_program
-from real_frames import telling
+from real_frames import after, telling
 from real_frames.fault import Fault
 from real_frames.placing import placed
 from real_frames.raster import Triangle, snap
@@ -101,6 +101,20 @@ class Reading(unittest.TestCase):
     def test_none(self):
         self.assertEqual(self.written(self.right, None), (captures.text(self.right), "there is no framedbg here, so none has read this capture\n"))
 
+    def test_what_fits_of_a_frame_is_told(self):
+        """Markers and state before a draw go with it; a draw of two events fits where both do."""
+        draw = lambda event: [{**captures.marker(f"{event} draw()"), "source": {"event": event}}] + [
+            {**captures.draw([captures.vertex(0, 0, (1, 2, 3, 4), 0)] * 3), "source": {"event": event, "primitives": [[0, 0]]}}] * 2
+        capture = captures.frame(1, 1, [{**captures.clear(1, 2, 3, 4), "source": {"event": 2}}, *draw(5), *draw(8), *draw(13)])
+        upto = [len(captures.text(dict(capture, events=capture["events"][:end]))) for end in (1, 4, 7, 10)]
+        for most, wanted in ((upto[3] - 1, "2 of its 3 draws fit, up to 8, and --draws ..8 takes these"), (upto[2], "2 of its 3 draws fit, up to 8, and --draws ..8 takes these"),
+                             (upto[2] - 1, "1 of its 3 draws fit, up to 5, and --draws ..5 takes these"), (upto[1], "1 of its 3 draws fit, up to 5, and --draws ..5 takes these"),
+                             (upto[1] - 1, "its first draw doesn't fit")):
+            with mock.patch.object(telling, "MOST_BYTES", most):
+                self.assertEqual(str(self.written(capture, None)[0]), f"the capture has {upto[3]} bytes, and {most} are the most: {wanted}")
+        with mock.patch.object(telling, "MOST_BYTES", upto[3]):
+            self.assertEqual(self.written(capture, None)[0], captures.text(capture))
+
 
 LOUD = f"""
 import os, runpy, sys, types
@@ -169,6 +183,39 @@ class Prints(unittest.TestCase):
                 status, lines, told = self.run_loud(CHECKS / name, "--program", tried_program(), "frame.rdc", path)
                 self.assertNotIn("NOISE", lines)
                 self.assertTrue(lines if pathlib.Path(tried_program()).exists() else "No such file" in told, told)
+
+    def test_pictures_are_compared_pixel_by_pixel(self):
+        """Of 384 pixels one is changed in each of two texels, by 3 and by 250; of planes with another colour the 120 of the draw."""
+        if not pathlib.Path(tried_program()).exists():
+            self.skipTest("framedbg isn't built")
+        with tempfile.TemporaryDirectory() as folder:
+            path = pathlib.Path(folder, "frame.json")
+            capture = json.loads(self.run_loud(TOOLS / "renderdoc_to_capture", "--quiet", "frame.rdc")[1])
+            compared = lambda *more: (path.write_text(json.dumps(capture)), self.run_loud(CHECKS / "compare_pictures", "--program", tried_program(), *more, "frame.rdc", path))[1]
+            self.assertEqual(compared()[:2], (0, "2 clear(): 0 pixels differ\n5 draw(): 0 pixels differ\npictures: 0 pixels differ in all, after 0 of 2 draws, clears and copies\n"))
+            capture["events"].append({**captures.blend(False), "source": {"event": 5, "name": "draw()"}})
+            box = captures.picture(7, 9, 2, 1, bytes([77, 6, 6, 205, 6, 6, 255, 255]))
+            corners = [captures.corner(x << 16, y << 16, 0) for x, y in ((7, 9), (9, 9), (9, 10), (7, 10))]
+            capture["events"].append({**captures.picture_draw(corners, box, [0, 1, 3, 1, 2, 3]), "source": {"event": 5, "name": "draw()"}})
+            status, lines, told = compared()
+            self.assertEqual(status, 1)
+            self.assertEqual(lines.splitlines()[1:], ["5 draw(): 2 pixels differ, by 249 at most, first 7 9", "pictures: 2 pixels differ in all, after 1 of 2 draws, clears and copies"])
+            self.assertIn("compare_pictures: more than 0 pixels differ", told)
+            self.assertEqual(compared("--may-differ", "2")[0], 0)
+            self.assertEqual(compared("--most", "1")[1].splitlines()[0], "5 draw(): 2 pixels differ, by 249 at most, first 7 9")
+
+    def test_draws_that_are_there_for_their_depths_are_not_compared(self):
+        event = lambda number, kind="draw", **more: {"kind": kind, "source": {"event": number, "name": "draw()", **more}}
+        capture = {"events": [event(3, depth_alone=True), event(4, name="before"), event(5, "marker"), event(5), event(5), event(9, "clear"), event(12, "blend")]}
+        self.assertEqual(list(after.positions_of(capture).items()), [(5, 5), (9, 6)])
+
+    def test_pictures_and_planes(self):
+        for words, version in (([], 3), (["--pictures"], 3), (["--planes"], 2), (["--detail", "8"], 2), (["--colours", "distinct"], 2), (["--planes", "--detail", "8"], 2)):
+            self.assertEqual(json.loads(self.run_loud(TOOLS / "renderdoc_to_capture", "--quiet", *words, "frame.rdc")[1])["version"], version, words)
+        for words in (["--pictures", "--planes"], ["--pictures", "--detail", "8"], ["--pictures", "--colours", "distinct"]):
+            told = subprocess.run([sys.executable, TOOLS / "renderdoc_to_capture", *words, "frame.rdc"], capture_output=True, text=True, timeout=60)
+            self.assertEqual((told.returncode, told.stdout), (2, ""), words)
+            self.assertIn("argument --pl" if "--planes" in words else "argument --pictures: not with", told.stderr)
 
     def test_another_python_s_output_is_the_tool_s(self):
         with tempfile.TemporaryDirectory() as folder:

@@ -778,7 +778,7 @@ class Machines(unittest.TestCase):
             self.assertEqual(process.stdout.read(), b"")
 
     def test_help_and_wrong_words(self):
-        for tool in (TOOLS / "renderdoc_to_capture", TOOLS / "take_frame", CHECKS / "compare_coverage", CHECKS / "compare_history"):
+        for tool in (TOOLS / "renderdoc_to_capture", TOOLS / "take_frame", CHECKS / "compare_coverage", CHECKS / "compare_history", CHECKS / "compare_pictures"):
             told = subprocess.run([sys.executable, tool, "--help"], capture_output=True, text=True)
             self.assertEqual((told.returncode, told.stderr), (0, ""), tool)
             self.assertTrue(told.stdout.startswith(f"usage: {tool.name}"), tool)

@@ -252,6 +252,13 @@ CONVERTERS = [
     ("reading: what is refused is written", "telling.py", "    if done.returncode:\n        said", "    if False:\n        said", "Reading"),
     ("prints: into the capture", "module.py", "    os.dup2(2, 1)\n", "", "Prints.test_the_converter_and_the_comparisons"),
     ("prints: another Python's output is lost", "module.py", "            os.dup2(sys.stdout.fileno(), 1)\n", "            pass\n", "Prints.test_another_python_s_output_is_the_tool_s"),
+    ("sizes: a draw fits where its first part does", "telling.py", '        ends[event["source"]["event"]] = room\n', '        ends.setdefault(event["source"]["event"], room)\n', "Reading"),
+    ("sizes: the ends of lines take no room", "telling.py", "room -= len(line.encode()) + 2 ", "room -= len(line.encode()) ", "Reading"),
+    ("words: planes are the usual", "../renderdoc_to_capture", "(Writer if wanted.planes else PicturedWriter)", "(PicturedWriter if wanted.pictures else Writer)", "Prints.test_pictures_and_planes"),
+    ("compared: the depths before a part", "after.py", ' and not source.get("depth_alone")', "", "Prints.test_draws_that_are_there_for_their_depths_are_not_compared"),
+    ("compared: an event's first draw", "after.py", "            found[source[\"event\"]] = position\n", "            found.setdefault(source[\"event\"], position)\n", "Prints.test_pictures_are_compared_pixel_by_pixel"),
+    ("compared: the first of some draws", "../../checks/compare_pictures", "found[(len(found) - 1) % step::step]", "found[::step]", "Prints.test_pictures_are_compared_pixel_by_pixel"),
+    ("compared: any number may differ", "../../checks/compare_pictures", "if sum(counts) > wanted.may_differ:", "if False:", "Prints.test_pictures_are_compared_pixel_by_pixel"),
     ("reading: the path is that of nothing", "telling.py", "        file.flush()\n", "", "Reading"),
 ]
 

@@ -9,6 +9,7 @@ from captures import FARTHEST, MOST_TRIANGLES, PIXEL, label
 from . import states
 from .discards import LEFT_OUT
 from .gather import READS_TEXTURES
+from .painter import STRAYS
 from .solving import Blending
 from .sources import Pixel, source_of, times_drawn
 from .viewport import meet
@@ -55,7 +56,7 @@ class PicturedWriter(Writer):
             self.put(pieces, shown.replaced, {}, {**source, "baked": "after"})
         strays = differing(self.picture, after, layers)
         if strays:
-            self.losses.add("pixels that changed where no triangle of the draw passes", "replaced by what the frame has there", len(strays))
+            self.losses.add(STRAYS, "replaced by what the frame has there", len(strays))
             self.replace(strays, {**source, "baked": "after"})
         self.picture = after
 

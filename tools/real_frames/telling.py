@@ -3,7 +3,7 @@ import subprocess
 import sys
 import tempfile
 
-from captures import MOST_BYTES, text
+from captures import MOST_BYTES, compact, joined
 from framedbg_client import find_program
 
 from .fault import Fault
@@ -47,11 +47,26 @@ def target_of(frame):
 
 def written(capture):
     """A capture as text, which framedbg has read; a Fault where it is larger than one may be, or refused."""
-    made = text(capture)
-    if len(made.encode()) > MOST_BYTES:
-        raise Fault(f"the capture has {len(made)} bytes, and {MOST_BYTES} are the most: take a part by --draws A..B, or less --detail")
+    lines = [compact(event) for event in capture["events"]]
+    made = joined(capture, lines)
+    size = len(made.encode())
+    if size > MOST_BYTES:
+        raise Fault(f"the capture has {size} bytes, and {MOST_BYTES} are the most: {what_fits(capture, lines)}")
     have_it_read(made)
     return made
+
+
+def what_fits(capture, lines):
+    """The draws up to which a frame fits, for a Fault."""
+    room, ends = MOST_BYTES + 2 - len(joined(capture, []).encode()), {}
+    draws = list(dict.fromkeys(event["source"]["event"] for event in capture["events"] if "primitives" in event["source"]))
+    for event, line in zip(capture["events"], lines):
+        room -= len(line.encode()) + 2          # a comma and the end of the line, which the last has not
+        ends[event["source"]["event"]] = room
+    fitting = [draw for draw in draws if ends[draw] >= 0]
+    if not fitting:
+        return "its first draw doesn't fit"
+    return f"{len(fitting)} of its {len(draws)} draws fit, up to {fitting[-1]}, and --draws ..{fitting[-1]} takes these"
 
 
 def have_it_read(made):

@@ -133,6 +133,7 @@ class Writer:
         if view != [0, 0, self.width, self.height]:
             source["viewport"] = view
         if record.depth_alone:
+            source["depth_alone"] = True
             self.log.set(states.plain(0), source)
         else:
             self.draws += 1
