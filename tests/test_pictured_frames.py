@@ -9,7 +9,7 @@ import folders
 import captures
 import frames_testing
 import reference
-from frames_testing import ADDED, OVER, TARGET, Action, StandIn, clear, draw, quad, state
+from frames_testing import ADDED, OVER, TARGET, Action, Asked, StandIn, Unblended, clear, draw, quad, state
 from real_frames.gather import Gatherer, Wanted
 from real_frames.losses import Losses
 from real_frames.pictured import PicturedWriter
@@ -70,6 +70,31 @@ class Frames(unittest.TestCase):
             frame = StandIn(clear(2, GREY, 1.0), draw(4, corners(BLUE, RED, GREY, GREEN)), draw(5, sheet, state(blend=blend)),
                             draw(6, quad(5, 2, 12, 12, .5, see(RED, 77)), state(blend=blend)))
             self.same(frame, converted(frame))
+
+    def test_how_colours_are_known(self):
+        """By the draw alone, as far as it tells them; else they are worked out from the picture, and where histories were asked for, known at the pixels that these tell."""
+        glass, box = (60, 20, 90, 100), (3, 2, 15, 12)
+        told = lambda frame, wanted=Wanted(): self.colours(converted(frame, wanted))
+        of = lambda kind, *draws: kind(clear(2, GREY, 1.0), *draws)
+        for blend, wanted in ((OVER, "known"), (ADDED, "known"), (TINTED, "worked out"), ((("One", "One", "Minimum"),) * 2, "worked out"), ((("SrcAlpha", "One", "Add"), ("Zero", "One", "Add")), "worked out")):
+            self.assertEqual(told(of(StandIn, draw(5, quad(*box, .5, glass), state(blend=blend)))), [{wanted: 120}], blend)
+        self.assertEqual(told(of(StandIn, draw(5, quad(*box, .5, glass))), Wanted(with_alone=False)), [{"known": 120}])
+        self.assertEqual(told(of(StandIn, draw(5, quad(*box, .5, glass), state(blend=OVER))), Wanted(with_alone=False)), [{"worked out": 120}])
+        for dark in (glass[:3], (0, 0, 0)):         # divided by so little an alpha, a byte isn't known
+            self.assertEqual(told(of(StandIn, draw(5, quad(*box, .5, (*dark, 30)), state(blend=OVER)))), [{"worked out": 120}])
+        asked = of(Asked, draw(5, quad(*box, .5, glass), state(blend=OVER)))
+        capture = converted(asked)
+        self.same(asked, capture)
+        self.assertEqual(self.colours(capture), [{"known": len(asked.questions), "worked out": 120 - len(asked.questions)}])
+        self.assertEqual({tuple(vertex["color"]) for vertex in capture["events"][-1]["vertices"]}, {glass})
+        unblended = of(Unblended, draw(5, quad(*box, .5, glass), state(blend=OVER)))
+        self.assertEqual(tuple(converted(unblended)["events"][-1]["vertices"][0]["color"][:3]), glass[:3])
+
+    def test_what_is_empty_over_black_is_no_black(self):
+        frame = StandIn(clear(2, (0, 0, 0, 255), 1.0), draw(5, quad(3, 2, 15, 12, .5, (0, 0, 0, 0)), state(blend=OVER)))
+        capture = converted(frame)
+        self.same(frame, capture)
+        self.assertEqual({tuple(vertex["color"]) for vertex in capture["events"][-1]["vertices"]}, {(0, 0, 0, 0)})
 
     def test_two_layers_of_one_draw(self):
         glass = quad(3, 2, 15, 12, .5, (60, 20, 90, 100)) + quad(8, 5, 22, 15, .5, (60, 20, 90, 100))
@@ -155,6 +180,22 @@ class Solving(unittest.TestCase):
             found = made.source(guess, before, after, layers)
             self.assertIsNotNone(found, (blend, factor, source, before, layers))
             self.assertEqual(made.over(found, before, layers), after)
+
+    def test_an_interval_holds_what_trying_finds(self):
+        """By chance: a channel's nearest value by its equation is as near as the nearest of all 256."""
+        rng = random.Random(8)
+        byte = lambda: rng.choice((0, 255, rng.randrange(256)))
+        for _ in range(1500):
+            rgb = [*(rng.choice([name for name in reference.FACTORS if "SRC_COLOR" not in name]) for _ in range(2)), rng.choice(("ADD", "SUBTRACT", "REV_SUBTRACT"))]
+            made = Blending(captures.blend(True, rgb, mask=rng.choice((15, 15, 9))), tuple(byte() for _ in range(4)))
+            self.assertTrue(made.is_straight)
+            before, guess = tuple(byte() for _ in range(4)), tuple(byte() for _ in range(4))
+            after = rng.choice((made.over(guess, before, 1), tuple(byte() for _ in range(4))))
+            channel = rng.randrange(3)
+            found, tried = (way(channel, guess, (before, after), 1) for way in (made.straight, made.tried))
+            self.assertEqual(found is None, tried is None, (rgb, guess, before, after, channel))
+            if found is not None:
+                self.assertEqual(abs(found - guess[channel]), abs(tried - guess[channel]), (rgb, guess, before, after, channel))
 
     def test_the_guess_s_alpha_is_kept(self):
         made = Blending(captures.blend(True, ["SRC_ALPHA", "INV_SRC_ALPHA", "ADD"], ["ZERO", "ONE", "ADD"]), (255,) * 4)

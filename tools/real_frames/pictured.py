@@ -1,7 +1,6 @@
 """Records of a frame as a capture of version 3: the colours of a draw are those that its shader gave, pixel by pixel, as far as they can be had. What comes out
 of framedbg after each draw is the frame's own picture, byte for byte: a pixel for which no source is found is replaced by a draw behind."""
 import zlib
-from collections import Counter
 
 import captures
 from captures import FARTHEST, MOST_TRIANGLES, PIXEL, label
@@ -9,13 +8,12 @@ from captures import FARTHEST, MOST_TRIANGLES, PIXEL, label
 from . import states
 from .discards import LEFT_OUT
 from .gather import READS_TEXTURES
+from .layers import Layers
 from .painter import STRAYS
-from .solving import Blending
-from .sources import Pixel, source_of, times_drawn
+from .shown import SOURCE, Shown, words_of
 from .viewport import meet
 from .writer import Writer
 
-KNOWN, WORKED_OUT, REPLACED = "known", "worked out", "replaced"
 OVER_ALL = (states.raster("none", False, False), states.plain(), states.depth(False, True, "LESS"))
 
 
@@ -26,7 +24,7 @@ class PicturedWriter(Writer):
     def lay(self, record):
         """Of the picture that was there what differs from what is here."""
         picture = zlib.decompress(record.picture)
-        sources = differing(self.picture, picture, ())
+        sources = differing(self.picture, picture, self.width)
         self.picture = picture
         if sources and not self.is_painted_over():
             self.replace(sources, self.begin_picture(record))
@@ -43,18 +41,17 @@ class PicturedWriter(Writer):
             return
         source = self.begin(record)
         kept, pieces = self.depth.kept(), self.passing(record)
-        layers, after = layers_of(pieces, self.width), record.after.picture()
+        layers, after = Layers(pieces, self.width, self.height), record.after.picture()
         shown = Shown(record, layers, self.picture, after)
         if record.state.depth["enable"] and record.state.depth["write"]:
             self.leave(kept, shown.holes)
         record.left_out += len(shown.holes)
-        told = {**source, **({"left_out": record.left_out} if record.left_out else {}), "colours": dict(shown.counted)}
-        self.put(pieces, shown.sources, layers, told)
+        self.put_shown(pieces, shown, {**source, **({"left_out": record.left_out} if record.left_out else {}), "colours": dict(shown.counted)})
         if shown.replaced:
             self.losses.add("pixels whose blending gives no source", "replaced by what the frame has there", len(shown.replaced))
             self.log.set(states.plain(), source)
-            self.put(pieces, shown.replaced, {}, {**source, "baked": "after"})
-        strays = differing(self.picture, after, layers)
+            self.put(pieces, picture_of(shown.replaced, self.width), {**source, "baked": "after"})
+        strays = differing(self.picture, after, self.width, layers.counts)
         if strays:
             self.losses.add(STRAYS, "replaced by what the frame has there", len(strays))
             self.replace(strays, {**source, "baked": "after"})
@@ -82,13 +79,18 @@ class PicturedWriter(Writer):
             y, x = divmod(at, self.width)
             self.depth.writable(y)[x] = kept[y][x]
 
-    def put(self, pieces, sources, layers, source):
-        """The triangles of a draw with a source for some of the pixels at which they pass, the others being holes. One colour at all of them is a flat draw."""
-        if not sources:
-            return
-        colours = set(sources.values())
-        flat = colours.pop() if len(colours) == 1 and len(sources) == len(layers) else None
-        box = None if flat else picture_of(sources, self.width)
+    def put_shown(self, pieces, shown, source):
+        """The triangles of a draw with the source of each pixel that has one, the others being holes. One source at all of them is a flat draw."""
+        count, flat = shown.sources()
+        left, top, right, bottom = shown.layers.box
+        if count and flat and count == shown.layers.total:
+            self.put(pieces, None, source, flat)
+        elif count:
+            holes = [kind != SOURCE for kind in shown.kinds] if count < len(shown.kinds) else None
+            self.put(pieces, captures.picture(left, top, right - left, bottom - top, shown.texels.tobytes(), holes), source)
+
+    def put(self, pieces, box, source, flat=None):
+        """The triangles of a draw with a picture, or in one colour."""
         for start in range(0, len(pieces), MOST_TRIANGLES):
             part = pieces[start:start + MOST_TRIANGLES]
             corners = [corner for piece in part for corner in piece.corners]
@@ -108,66 +110,25 @@ class PicturedWriter(Writer):
         self.add(captures.picture_draw(corners, box, [0, 1, 3, 1, 2, 3]), source)
 
 
-class Shown:
-    """Of the pixels at which a draw passes those that have a source, those for which none is found, and those that were discarded."""
-
-    def __init__(self, record, layers, before, after):
-        self.sources, self.replaced, self.holes, self.counted = {}, {}, set(), Counter()
-        self.record, self.times = record, times_drawn(record.state.depth)
-        self.blending = Blending(record.state.blend, (record.state.factor or {}).get("color", (255,) * 4))
-        self.alone = zlib.decompress(record.alone) if record.alone else None
-        self.guesses = {}
-        for at, count in layers.items():
-            self.look(at, count, tuple(before[4 * at:4 * at + 4]), tuple(after[4 * at:4 * at + 4]))
-
-    def look(self, at, layers, before, after):
-        if before == after and self.may_be_discarded(at):
-            self.holes.add(at)
-            return
-        guess = self.guess(at, layers, before, after)
-        found = self.blending.source(guess, before, after, layers)
-        self.counted[REPLACED if found is None else KNOWN if found == guess else WORKED_OUT] += 1
-        if found is None:
-            self.replaced[at] = after
-        else:
-            self.sources[at] = found
-
-    def may_be_discarded(self, at):
-        """Whether nothing speaks for it that an unchanged pixel was drawn: where the shader may discard, the draw alone left nothing there."""
-        return self.record.state.discards and not (self.alone and any(self.alone[4 * at:4 * at + 4]))
-
-    def guess(self, at, layers, before, after):
-        """What is known of the source: of a draw that replaces what it left, else what the draw alone tells."""
-        if not self.blending.enable:
-            return after
-        alone = tuple(self.alone[4 * at:4 * at + 4]) if self.alone else after
-        key = layers, alone, before, after
-        if key not in self.guesses:
-            told = source_of(self.record.state.blend, self.times, Pixel(*key)) or after
-            self.guesses[key] = tuple(min(max(round(value), 0), 255) for value in told)
-        return self.guesses[key]
-
-
-def layers_of(pieces, width):
-    """How many triangles pass at each pixel where one does."""
-    counted = Counter()
-    for piece in pieces:
-        for y, x0, x1 in piece.passed:
-            counted.update(range(y * width + x0, y * width + x1))
-    return counted
-
-
-def differing(before, after, layers):
-    """The pixels that changed where no triangle passes."""
-    was, now = memoryview(before).cast("I"), memoryview(after).cast("I")
-    return {at: tuple(after[4 * at:4 * at + 4]) for at, (one, other) in enumerate(zip(was, now)) if one != other and at not in layers}
+def differing(before, after, width, counts=None):
+    """{place: colour} of the pixels that changed where no triangle passes."""
+    found, was, now = {}, words_of(before), words_of(after)
+    for start in range(0, len(now), width):
+        row = now[start:start + width]
+        if was[start:start + width] != row:
+            found.update((at, after[4 * at:4 * at + 4]) for at, one, other in zip(range(start, start + width), was[start:start + width], row)
+                         if one != other and not (counts and counts[at]))
+    return found
 
 
 def picture_of(sources, width):
     """The picture with a source for some pixels of the target, and holes at all others of its box."""
-    rows, columns = [at // width for at in sources], [at % width for at in sources]
+    rows, columns = {at // width for at in sources}, {at % width for at in sources}
     left, top, right, bottom = min(columns), min(rows), max(columns) + 1, max(rows) + 1
-    places = [y * width + x for y in range(top, bottom) for x in range(left, right)]
-    rgba = b"".join(bytes(sources.get(at, (0, 0, 0, 0))) for at in places)
-    holes = None if len(places) == len(sources) else [at not in sources for at in places]
-    return captures.picture(left, top, right - left, bottom - top, rgba, holes)
+    across, down = right - left, bottom - top
+    texels, holes = bytearray(4 * across * down), bytearray(b"\1") * (across * down)
+    for at, colour in sources.items():
+        place = (at // width - top) * across + at % width - left
+        texels[4 * place:4 * place + 4] = bytes(colour)
+        holes[place] = 0
+    return captures.picture(left, top, across, down, bytes(texels), holes if any(holes) else None)

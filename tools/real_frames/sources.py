@@ -9,6 +9,7 @@ from dataclasses import dataclass
 ONE_ON_ZEROS = {"ONE", "INV_DEST_COLOR", "INV_DEST_ALPHA"}
 LEAST_SHARE = 0.05              # of the source in what is seen, from which it can be worked out
 NEAR = 2                        # bytes
+LEAST_ALPHA = 0.25              # by which a byte may be divided, and is within 2 of what was multiplied
 STRICT = {"LESS", "GREATER", "NOT_EQUAL", "NEVER"}
 
 
@@ -133,6 +134,19 @@ def source_of(blend, times, pixel):
     if share <= 1e-6:
         return 0, 0, 0, 255 * alpha
     return tuple(min(undone(destination, times, pixel, channel) / share, 255) for channel in range(3)) + (255 * alpha,)
+
+
+def tells(blend, times, pixel):
+    """Whether the draw alone tells the source, so that source_of makes no part of it up; where it was multiplied by alpha, within 2 bytes."""
+    source, _, operation = blend["rgb"]
+    if operation == "MAX":
+        return blend["alpha"][2] == "MAX"
+    if operation not in ("ADD", "SUBTRACT") or source not in ("ONE", "SRC_ALPHA", "INV_DEST_COLOR", "INV_DEST_ALPHA"):
+        return False
+    if not any(pixel.alone):
+        return bool(blend["mask"] & 8) and blend["alpha"][0] in ONE_ON_ZEROS and blend["alpha"][2] == "ADD"
+    alpha = alpha_by_itself(blend, pixel.layers * times, pixel.alone)
+    return alpha is not None and (source != "SRC_ALPHA" or alpha >= LEAST_ALPHA)
 
 
 def undone(destination, times, pixel, channel):
