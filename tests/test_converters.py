@@ -144,6 +144,8 @@ class Frame(StandIn):
 
     def go(self, event):
         os.write(1, b"NOISE ")
+        if os.environ.get("INTERRUPTED"):
+            os.kill(os.getpid(), 2)
         os.system("printf NOISE")
         super().go(event)
 
@@ -216,6 +218,40 @@ class Prints(unittest.TestCase):
             told = subprocess.run([sys.executable, TOOLS / "renderdoc_to_capture", *words, "frame.rdc"], capture_output=True, text=True, timeout=60)
             self.assertEqual((told.returncode, told.stdout), (2, ""), words)
             self.assertIn("argument --pl" if "--planes" in words else "argument --pictures: not with", told.stderr)
+
+    def test_a_ctrl_c_while_a_frame_is_read_leaves_nothing(self):
+        with mock.patch.dict(os.environ, {"INTERRUPTED": "1"}):
+            status, made, told = self.run_loud(TOOLS / "renderdoc_to_capture", "--quiet", "frame.rdc")
+        self.assertEqual((status, made), (130, ""))
+        self.assertTrue(told.endswith("renderdoc_to_capture: interrupted\n"), told)
+
+    def test_a_ctrl_c_while_a_file_is_written_comes_too_late(self):
+        """Of a file; a pipe, whose reader may wait for ever, is left."""
+        script = f"""
+import os, signal, sys
+sys.path.insert(0, {str(TOOLS)!r})
+from real_frames import telling
+class Output:
+    fileno = sys.stdout.fileno
+    flush = sys.stdout.flush
+    def write(self, text, real=sys.stdout):
+        real.write(text[:4])
+        os.kill(os.getpid(), signal.SIGINT)
+        real.write(text[4:])
+sys.stdout = Output()
+telling.put_out("whole text")
+os.kill(os.getpid(), signal.SIGINT)
+sys.stdout.write("and more")
+"""
+        with tempfile.NamedTemporaryFile() as file:
+            subprocess.run([sys.executable, "-c", script], stdout=file, stderr=subprocess.DEVNULL, timeout=60)
+            self.assertEqual(pathlib.Path(file.name).read_text(), "whole text")       # the second one isn't held
+        self.assertEqual(subprocess.run([sys.executable, "-c", script], capture_output=True, timeout=60).stdout, b"whol")
+
+    def test_progress_is_told_as_it_goes(self):
+        told = self.run_loud(TOOLS / "renderdoc_to_capture", "frame.rdc")[2]
+        self.assertIn("draw 1 of 1: 5 draw()\n", told)
+        self.assertIn("writing draw 1 of 1: 5 draw()\n", told)
 
     def test_another_python_s_output_is_the_tool_s(self):
         with tempfile.TemporaryDirectory() as folder:

@@ -264,6 +264,9 @@ CONVERTERS = [
     ("compared: an event's first draw", "after.py", "            found[source[\"event\"]] = position\n", "            found.setdefault(source[\"event\"], position)\n", "Prints.test_pictures_are_compared_pixel_by_pixel"),
     ("compared: the first of some draws", "../../checks/compare_pictures", "found[(len(found) - 1) % step::step]", "found[::step]", "Prints.test_pictures_are_compared_pixel_by_pixel"),
     ("compared: any number may differ", "../../checks/compare_pictures", "if sum(counts) > wanted.may_differ:", "if False:", "Prints.test_pictures_are_compared_pixel_by_pixel"),
+    ("interrupted: a file is half written", "telling.py", "        signal.signal(signal.SIGINT, signal.SIG_IGN)\n", "        pass\n", "Prints.test_a_ctrl_c_while_a_file_is_written_comes_too_late"),
+    ("interrupted: never again", "telling.py", "        signal.signal(signal.SIGINT, kept)\n", "        pass\n", "Prints.test_a_ctrl_c_while_a_file_is_written_comes_too_late"),
+    ("progress: nothing is told while a capture is written", "../renderdoc_to_capture", "        writer.say = telling.saying(wanted.quiet)\n", "", "Prints.test_progress_is_told_as_it_goes"),
     ("reading: the path is that of nothing", "telling.py", "        file.flush()\n", "", "Reading"),
 ]
 

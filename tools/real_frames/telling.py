@@ -1,4 +1,7 @@
 """What both converters take as words, write, and tell on standard error."""
+import os
+import signal
+import stat
 import subprocess
 import sys
 import tempfile
@@ -26,7 +29,7 @@ def add_words(parser):
     parser.add_argument("--colours", choices=["measured", "distinct"], default="measured", help="from the frame's pictures, or one for each draw [measured]")
     parser.add_argument("--detail", type=float, metavar="BYTES", help="cut triangles while their colours are off by more (root of the mean square)")
     parser.add_argument("--smallest", type=int, default=16, metavar="PIXELS", help="cut none that shows at no more pixels [16]")
-    parser.add_argument("--quiet", action="store_true", help="say no draw while it is read")
+    parser.add_argument("--quiet", action="store_true", help="say no draw while it is read and written")
 
 
 def saying(quiet):
@@ -67,6 +70,18 @@ def what_fits(capture, lines):
     if not fitting:
         return "its first draw doesn't fit"
     return f"{len(fitting)} of its {len(draws)} draws fit, up to {fitting[-1]}, and --draws ..{fitting[-1]} takes these"
+
+
+def put_out(made):
+    """Writes to standard output. Where that is a file a Ctrl-C doesn't end it, so that the file is whole, or has nothing."""
+    kept = signal.getsignal(signal.SIGINT)
+    if stat.S_ISREG(os.fstat(sys.stdout.fileno()).st_mode):
+        signal.signal(signal.SIGINT, signal.SIG_IGN)
+    try:
+        sys.stdout.write(made)
+        sys.stdout.flush()
+    finally:
+        signal.signal(signal.SIGINT, kept)
 
 
 def have_it_read(made):

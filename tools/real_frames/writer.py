@@ -45,11 +45,16 @@ class Writer:
         self.events = []
         self.log = states.StateLog(self.events)
         self.picture = bytes(self.width * self.height * 4)
-        self.draws = self.place = 0
+        self.draws = self.place = self.done = 0
+        self.say = lambda line: None
 
     def capture(self):
         writers = {MarkerRecord: self.mark, ClearRecord: self.clear, PictureRecord: self.lay, DrawRecord: self.draw}
+        draws = [record for record in self.records if isinstance(record, DrawRecord)]
         for self.place, record in enumerate(self.records):
+            if isinstance(record, DrawRecord):
+                self.done += 1
+                self.say(f"writing draw {self.done} of {len(draws)}: {record.event} {record.name}")
             writers[type(record)](record)
         self.note()
         return {**captures.head(self.width, self.height), "depth_scale": {"low": self.scale.low, "high": self.scale.high}, "losses": self.losses.entries(), "events": self.events}
