@@ -110,7 +110,7 @@ class Foreign(unittest.TestCase):
         box = types.SimpleNamespace(x=10, y=20, width=100, height=50, minDepth=.25, maxDepth=.75, enabled=True)
         pipe = types.SimpleNamespace(GetViewport=lambda number: box, GetScissor=lambda number: box)
         for api, controller in ((Api.D3D11, types.SimpleNamespace(GetD3D11PipelineState=lambda: own)), (Api.D3D12, types.SimpleNamespace(GetD3D12PipelineState=lambda: own))):
-            read = pipelines.READERS[api](controller, pipe, 480)
+            read = pipelines.READERS[api](controller, pipe, 480, False)
             self.assertEqual(read.viewport.place((-1, 1, 0, 1)), (10, 20, .25))
             self.assertEqual(read.viewport.place((2, -2, 2, 2)), (110, 70, .75))
             self.assertFalse(read.viewport.rows_from_below)
@@ -127,6 +127,108 @@ class Foreign(unittest.TestCase):
             made = importlib.import_module(f"real_frames.{name}")
         self.addCleanup(sys.modules.pop, made.__name__, None)
         return made
+
+    def gl_state(self, lower, front_ccw):
+        """A context whose viewport and scissor begin at 10 20, and have 100 by 50."""
+        box = types.SimpleNamespace(x=10, y=20, width=100, height=50, minDepth=0, maxDepth=1, enabled=True)
+        raster = types.SimpleNamespace(frontCCW=front_ccw, depthClamp=False, depthBias=0, slopeScaledDepthBias=0, offsetClamp=0)
+        own = types.SimpleNamespace(vertexProcessing=types.SimpleNamespace(clipOriginLowerLeft=lower, clipNegativeOneToOne=True), rasterizer=types.SimpleNamespace(state=raster),
+                                    depthState=types.SimpleNamespace(depthEnable=True, depthWrites=True, depthFunction=Word.Less), stencilState=types.SimpleNamespace(stencilEnable=False),
+                                    framebuffer=types.SimpleNamespace(blendState=types.SimpleNamespace(blendFactor=(0, 0, 0, 0))))
+        return types.SimpleNamespace(GetGLPipelineState=lambda: own), types.SimpleNamespace(GetViewport=lambda number: box, GetScissor=lambda number: box)
+
+    def test_a_target_of_opengl_that_is_shown_upside_down(self):
+        """Its lowest row is the picture's upper one: rows are counted as OpenGL does, and what runs counter-clockwise in OpenGL runs clockwise in the picture."""
+        pipelines = self.beside_a_stand_in("pipelines")
+        read = lambda from_above, lower=True, front=True: pipelines.of_gl(*self.gl_state(lower, front), 480, from_above)
+        upright, turned = read(False), read(True)
+        self.assertEqual((upright.scissor, turned.scissor), ([10, 410, 110, 460], [10, 20, 110, 70]))
+        self.assertEqual((upright.viewport.place((-1, 1, 0, 1)), turned.viewport.place((-1, 1, 0, 1))), ((10, 410, .5), (10, 70, .5)))
+        self.assertEqual((upright.viewport.rows_from_below, turned.viewport.rows_from_below), (True, False))
+        self.assertEqual([read(*how).front_ccw for how in ((False, True, True), (True, True, True), (True, True, False), (True, False, True))], [True, False, True, True])
+
+    def test_clears_and_depths_of_such_a_target(self):
+        """A scissor of rows 20 to 69 from OpenGL's own side, and the depth at a pixel, which RenderDoc is asked for from above."""
+        clears, pictures = self.beside_a_stand_in("clears"), self.beside_a_stand_in("pictures")
+        cut = types.SimpleNamespace(x=10, y=20, width=100, height=50, enabled=True)
+        state = types.SimpleNamespace(depth={"write": True}, blend={"mask": 15})
+        action = types.SimpleNamespace(flags=clears.rd.ActionFlags.ClearColor)
+        pipe = types.SimpleNamespace(GetPipelineState=lambda: types.SimpleNamespace(GetScissor=lambda number: cut))
+        boxes, asked = [], []
+        for from_above in (False, True):
+            frame = types.SimpleNamespace(from_above=from_above, controller=pipe, name=lambda action: "glClear()", state=lambda *_: state)
+            boxes += clears.of_gl(frame, action, [0, 0, 640, 480])[2]
+            controller = types.SimpleNamespace(PickPixel=lambda target, x, y, *_: asked.append((x, y)) or types.SimpleNamespace(floatValue=[.5]))
+            made = pictures.Pictures(controller, {9: types.SimpleNamespace(height=480)}, True)
+            made.lowest_row_first = not from_above
+            self.assertEqual(made.depth_value(9, 3, 7), .5)
+        self.assertEqual((boxes, asked), ([[10, 410, 110, 460], [10, 20, 110, 70]], [(3, 7), (3, 472)]))
+
+    def test_the_target_that_is_copied_onto_the_shown_one(self):
+        """Wine draws on a target of its own, and copies it onto the window, turned."""
+        replay = self.beside_a_stand_in("replay")
+        flags = replay.rd.ActionFlags
+        kinds = {kind: getattr(flags, kind) for kind in ("Drawcall", "Copy", "Present", "PushMarker", "SetMarker", "Clear", "Dispatch", "Resolve")}
+        kinds.update({name: 1 << number for number, name in enumerate(kinds)})
+        number = lambda value: types.SimpleNamespace(data=types.SimpleNamespace(basic=types.SimpleNamespace(i=value)))
+        chunks = [types.SimpleNamespace(FindChild=lambda name, rows=rows: number(rows[name])) for rows in (
+            {"srcY0": 0, "srcY1": 480, "dstY0": 480, "dstY1": 0}, {"srcY0": 0, "srcY1": 480, "dstY0": 0, "dstY1": 480})]
+        def action(kind, outputs=(), source=0, onto=0, chunk=0):
+            name = {"Copy": "glBlitFramebuffer(..)"}.get(kind, "call()")
+            return types.SimpleNamespace(flags=kinds[kind], outputs=list(outputs), copySource=source, copyDestination=onto, events=[types.SimpleNamespace(chunkIndex=chunk)], GetName=lambda _: name)
+        for kind, flag in kinds.items():
+            setattr(flags, kind, flag)
+        replay.KINDS[:] = [("draw", flags.Drawcall), ("copy", flags.Copy)]
+        replay.rd.ResourceId = types.SimpleNamespace(Null=lambda: 0)
+        frame = replay.Frame("frame.rdc")
+        frame.is_gl, frame.names = lambda: True, types.SimpleNamespace(chunks=chunks)
+        frame.textures = {one: types.SimpleNamespace(width=640, height=480) for one in (5, 7, 9)}
+        frame.pictures = types.SimpleNamespace(lowest_row_first=True)
+        for chunk, is_turned in ((0, True), (1, False)):
+            frame.actions = [action("Drawcall", [7]), action("Drawcall", [9]), action("Copy", source=9, onto=5, chunk=1), action("Copy", source=7, onto=5, chunk=chunk), action("Present", [5])]
+            self.assertEqual(frame.shown_target(), 7)
+            self.assertEqual(frame.size(7), (640, 480))
+            self.assertEqual((frame.from_above, frame.pictures.lowest_row_first), (is_turned, not is_turned))
+        frame.actions.insert(0, action("Drawcall", [5]))            # a window that is drawn on is the target itself
+        self.assertEqual(frame.shown_target(), 5)
+        frame.size(5)
+        self.assertEqual((frame.from_above, frame.pictures.lowest_row_first), (False, True))
+        frame.actions = [action("Drawcall", [7]), action("Copy", source=3, onto=5), action("Present", [5])]
+        self.assertEqual(frame.shown_target(), 5)
+
+    def test_a_program_of_windows(self):
+        take = self.take_frame()
+        with tempfile.TemporaryDirectory() as folder, mock.patch.object(take, "WINES", folder):
+            program, wine = pathlib.Path(folder, "scene.exe"), pathlib.Path(folder, "wine64")
+            wanted = types.SimpleNamespace(wine=True, program=str(program), words=["5", "-x"])
+            with mock.patch.dict(os.environ, {"PATH": "/nowhere"}), self.assertRaisesRegex(Fault, "there is no wine64; on Debian: apt install wine wine64"):
+                take.program_of(wanted)
+            wine.touch(0o755)
+            with self.assertRaisesRegex(Fault, f"there is no file {program}"):
+                take.program_of(wanted)
+            program.touch()
+            self.assertEqual(take.program_of(wanted), (str(wine), [str(program), "5", "-x"]))
+            self.assertEqual(take.program_of(types.SimpleNamespace(wine=False, program="sh", words=["-c"]))[1], ["-c"])
+
+    def test_a_line_that_is_lost_is_taken_up_while_the_process_lives(self):
+        """Wine's loader becomes another program."""
+        take = self.take_frame()
+        frame, over = types.SimpleNamespace(type=1, newCapture=types.SimpleNamespace(path="a.rdc")), types.SimpleNamespace(type=3)
+        ended = []
+        def line(*messages, process):
+            rest = iter(messages)
+            return types.SimpleNamespace(ReceiveMessage=lambda _: next(rest, types.SimpleNamespace(type=5)), TriggerCapture=lambda count: None, CycleActiveWindow=lambda: None,
+                                         GetPID=lambda: process, Shutdown=lambda: ended.append(process))
+        kinds = types.SimpleNamespace(NewCapture=1, RegisterAPI=2, Disconnected=3, NewChild=4, Noop=5)
+        for process, wanted in ((os.getpid(), "a.rdc"), (1 << 30, None)):
+            lines = iter([line(over, process=process), None, line(frame, process=process)])
+            renderdoc = types.SimpleNamespace(TargetControlMessageType=kinds, CreateTargetControl=lambda *_: next(lines))
+            ask = lambda: take.frame_of(renderdoc, [take.control_of(renderdoc, 1)], types.SimpleNamespace(seconds=0, patience=5))
+            with mock.patch.object(take, "is_of_nothing", lambda path: False):
+                if wanted:
+                    self.assertEqual((ask(), ended), (wanted, [process]))
+                else:
+                    self.assertRaisesRegex(Fault, "ended before its frame was taken", ask)
 
     def test_a_target_of_floats_is_a_loss(self):
         replay = self.beside_a_stand_in("replay")
@@ -203,7 +305,7 @@ class Foreign(unittest.TestCase):
         kinds = types.SimpleNamespace(NewCapture=1, RegisterAPI=2, Disconnected=3, NewChild=4, Noop=5)
         def control(messages):
             rest = iter(messages)
-            return types.SimpleNamespace(ReceiveMessage=lambda _: next(rest, types.SimpleNamespace(type=5)), TriggerCapture=lambda count: None, CycleActiveWindow=lambda: None)
+            return types.SimpleNamespace(ReceiveMessage=lambda _: next(rest, types.SimpleNamespace(type=5)), TriggerCapture=lambda count: None, CycleActiveWindow=lambda: None, GetPID=lambda: 0)
         controls = [control(messages) for messages in programs]
         renderdoc = types.SimpleNamespace(TargetControlMessageType=kinds, CreateTargetControl=lambda host, ident, *_: controls[ident])
         with mock.patch.object(take, "is_of_nothing", lambda path: False):

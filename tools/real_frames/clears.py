@@ -28,7 +28,8 @@ def of_gl(frame, action, whole):
     depth = bool(flags & rd.ActionFlags.ClearDepthStencil) and ("Depth" in name or "glClear" not in name)
     state = frame.state(action, *whole[2:], Losses())
     cut = frame.controller.GetPipelineState().GetScissor(0)
-    box = meet(rectangle(cut.x, height - cut.y - cut.height, cut.width, cut.height), whole) if cut.enabled else whole
+    top = cut.y if frame.from_above else height - cut.y - cut.height
+    box = meet(rectangle(cut.x, top, cut.width, cut.height), whole) if cut.enabled else whole
     return bool(flags & rd.ActionFlags.ClearColor), depth and state.depth["write"], [box], state.blend["mask"]
 
 

@@ -15,6 +15,7 @@ HALF = {2: 0x38, 4: 0x3f}        # the upper byte of a float of 16 or of 32 bits
 class Pictures:
     def __init__(self, controller, textures, lowest_row_first):
         self.controller, self.textures, self.lowest_row_first = controller, textures, lowest_row_first
+        self.is_gl = lowest_row_first           # of OpenGL, whatever the target that is followed has first
         self.output = None
 
     def Shutdown(self):         # as RenderDoc's own objects have it
@@ -34,7 +35,8 @@ class Pictures:
 
     def depth_value(self, depth_target, x, y):
         """The depth at a pixel, 0 to 1. PickPixel ends the process on lavapipe's depths of 16 bits (RenderDoc 1.24), so those are read whole."""
-        if self.lowest_row_first:
+        if self.is_gl:
+            y = y if self.lowest_row_first else self.textures[int(depth_target)].height - 1 - y
             return self.controller.PickPixel(depth_target, x, y, WHOLE, rd.CompType.Typeless).floatValue[0]
         texture = self.textures[int(depth_target)]
         content = self.controller.GetTextureData(depth_target, WHOLE)

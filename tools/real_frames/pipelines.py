@@ -24,19 +24,21 @@ class Read:
     bias: tuple                 # constant, slope, most
 
 
-def of_gl(controller, pipe, height):
+def of_gl(controller, pipe, height, from_above):
+    """`from_above`: the target's lowest row is the picture's upper one, so that rows are as OpenGL counts them."""
     own = controller.GetGLPipelineState()
     view, cut = pipe.GetViewport(0), pipe.GetScissor(0)
     lower = own.vertexProcessing.clipOriginLowerLeft
-    viewport = Viewport(view.x, height - view.y - view.height, view.width, view.height, view.minDepth, view.maxDepth,
-                        y_up=lower, half_depth=not own.vertexProcessing.clipNegativeOneToOne, rows_from_below=lower)
+    top = lambda box: box.y if from_above else height - box.y - box.height       # noqa: E731
+    viewport = Viewport(view.x, top(view), view.width, view.height, view.minDepth, view.maxDepth, y_up=lower != from_above,
+                        half_depth=not own.vertexProcessing.clipNegativeOneToOne, rows_from_below=lower and not from_above)
     raster, depth = own.rasterizer.state, own.depthState
-    return Read(viewport, rectangle(cut.x, height - cut.y - cut.height, cut.width, cut.height), raster, raster.frontCCW == lower,
+    return Read(viewport, rectangle(cut.x, top(cut), cut.width, cut.height), raster, raster.frontCCW == (lower != from_above),
                 own.framebuffer.blendState.blendFactor, (depth.depthEnable, depth.depthWrites, depth.depthFunction),
                 not raster.depthClamp, own.stencilState.stencilEnable, (raster.depthBias, raster.slopeScaledDepthBias, raster.offsetClamp))
 
 
-def of_vulkan(controller, pipe, _):
+def of_vulkan(controller, pipe, *_):
     own = controller.GetVulkanPipelineState()
     view, cut = pipe.GetViewport(0), pipe.GetScissor(0)
     viewport = Viewport(view.x, view.y, view.width, view.height, view.minDepth, view.maxDepth,
@@ -59,14 +61,14 @@ def of_direct3d(own, pipe):
 
 
 READERS = {rd.GraphicsAPI.OpenGL: of_gl, rd.GraphicsAPI.Vulkan: of_vulkan,
-           rd.GraphicsAPI.D3D11: lambda controller, pipe, _: of_direct3d(controller.GetD3D11PipelineState(), pipe),
-           rd.GraphicsAPI.D3D12: lambda controller, pipe, _: of_direct3d(controller.GetD3D12PipelineState(), pipe)}
+           rd.GraphicsAPI.D3D11: lambda controller, pipe, *_: of_direct3d(controller.GetD3D11PipelineState(), pipe),
+           rd.GraphicsAPI.D3D12: lambda controller, pipe, *_: of_direct3d(controller.GetD3D12PipelineState(), pipe)}
 
 
-def read(controller, textures, size, losses):
+def read(controller, textures, size, from_above, losses):
     """The state at the event that was gone to, for a target of this size."""
     pipe = controller.GetPipelineState()
-    own = READERS[controller.GetAPIProperties().pipelineType](controller, pipe, size[1])
+    own = READERS[controller.GetAPIProperties().pipelineType](controller, pipe, size[1], from_above)
     target = textures.get(int(pipe.GetDepthTarget().resourceId))
     enable, write, function = own.depth
     if own.stencil:

@@ -32,6 +32,7 @@ class Frame:
         self.path = str(path)
         self.file = self.controller = self.pictures = None
         self.here = 0
+        self.from_above = False         # the target that is followed is one of OpenGL whose lowest row is the picture's upper one
 
     def __enter__(self):
         try:
@@ -102,16 +103,35 @@ class Frame:
         return int(action.copyDestination)
 
     def shown_target(self):
-        """The target that is presented, else that of the last draw."""
+        """The target that is presented, or the one that is copied onto it where nothing draws on it; else that of the last draw."""
+        drawn = {target for action in self.actions if self.kind(action) == "draw" for target in self.targets(action)}
         for wanted in (rd.ActionFlags.Present, rd.ActionFlags.Drawcall):
             for action in reversed(self.actions):
                 if action.flags & wanted and self.targets(action):
-                    return self.targets(action)[0]
+                    target = self.targets(action)[0]
+                    return target if target in drawn else self.copied_from(target, drawn) or target
         raise Fault("the frame draws on no colour target")
+
+    def copied_from(self, shown, drawn):
+        """The target that the last copy onto the one that is shown takes, if it is drawn on: Wine's Direct3D shows its pictures so."""
+        copies = (action for action in reversed(self.actions) if self.copied_onto(action) == shown)
+        return next((int(copy.copySource) for copy in copies if int(copy.copySource) in drawn), None)
+
+    def is_turned(self, target):
+        """Whether a target of OpenGL is shown upside down: its lowest row is the picture's upper one. Wine's Direct3D keeps pictures so."""
+        return self.is_gl() and any("glBlitFramebuffer" in self.name(action) and int(action.copySource) == target and self.turns(action) for action in self.actions)
+
+    def turns(self, action):
+        """Whether a copy has rows that rise on one side and fall on the other."""
+        chunk = self.names.chunks[action.events[-1].chunkIndex]
+        from_first, from_last, to_first, to_last = (chunk.FindChild(name).data.basic.i for name in ("srcY0", "srcY1", "dstY0", "dstY1"))
+        return (from_last - from_first) * (to_last - to_first) < 0
 
     def size(self, target):
         if target not in self.textures:
             raise Fault(f"it has no target {target}; --list tells those that it has")
+        self.from_above = self.is_turned(target)
+        self.pictures.lowest_row_first = self.is_gl() and not self.from_above
         return self.textures[target].width, self.textures[target].height
 
     def notes(self, target):
@@ -135,7 +155,7 @@ class Frame:
         """A line for each colour target, with its draws."""
         for target, (first, last, count) in self.draws_of_targets().items():
             texture = self.textures[target]
-            shown = ", shown" if target == self.shown_target() else ""
+            shown = (", shown upside down" if self.is_turned(target) else ", shown") if target == self.shown_target() else ""
             yield f"target {target}: {texture.width} by {texture.height}, {texture.format.Name()}, samples {texture.msSamp}, {count} draws, events {first} to {last}{shown}"
 
     # What is at an event.
@@ -145,7 +165,7 @@ class Frame:
         self.controller.SetFrameEvent(event, True)
 
     def state(self, _, width, height, losses):
-        return pipelines.read(self.controller, self.textures, (width, height), losses)
+        return pipelines.read(self.controller, self.textures, (width, height), self.from_above, losses)
 
     def clears(self, action, width, height):
         return clears.of(self, action, width, height)
