@@ -480,6 +480,28 @@ class Tool(unittest.TestCase):
         self.assertEqual((told.returncode, told.stdout, told.stderr),
                          (1, "", "apitrace_to_capture: apitrace sed can't change the trace: it breaks; with --fast it isn't asked to\n"))
 
+    def test_pictures(self):
+        """A glass of 200 100 50 and alpha 102 over 16 32 48 and over 7 80 9: after each call the picture is glretrace's."""
+        trace = Trace()("glViewport", 0, 0, WIDTH, HEIGHT)("glBlendFunc", 0x302, 0x303)("glClear", mask=0x4000, flags=RENDERS).corners(7, (-1, 0), (0, 0), (0, 1), (-1, 1))
+        trace("glEnable", cap=gl.BLEND).corners(7, (-1, -1), (1, -1), (1, 1), (-1, 1)).swap()
+        box, whole = ((0, 0, WIDTH // 2, HEIGHT // 2), (7, 80, 9)), (0, 0, WIDTH, HEIGHT)
+        glass = self.picture(15, (whole, (90, 59, 49)), (box[0], (84, 88, 25)))       # 200 100 50 times 2/5, and 3/5 of 16 32 48 and of 7 80 9
+        pictures = self.picture(1) + self.picture(2) + self.picture(8, box) + glass
+        told = self.run_tool(trace, "--quiet", "--pictures", pictures=pictures, own=self.picture(15, (whole, (200, 100, 50))))
+        self.assertEqual(told.returncode, 0, told.stderr)
+        self.assertIsNone(reference.fault(told.stdout.encode()))
+        capture = json.loads(told.stdout)
+        self.assertEqual(capture["version"], 3)
+        for call, content in ((8, self.picture(8, box)), (15, glass)):
+            last = max(number for number, event in enumerate(capture["events"], 1) if event["source"]["event"] == call)
+            shown = image_of(dict(capture, events=capture["events"][:last]))
+            self.assertEqual(bytes(value for at, value in enumerate(shown) if at % 4 < 3), content.partition(b"\n255\n")[2])
+            self.assertEqual(set(shown[3::4]), {255})
+        self.assertEqual({tuple(vertex["color"]) for vertex in capture["events"][-1]["vertices"]}, {(200, 100, 50, 102)})
+        self.assertEqual(capture["events"][-1]["source"]["colours"], {"known": WIDTH * HEIGHT})
+        self.assertIn("2 draws that write alpha", told.stderr)
+        self.assertEqual(self.run_tool(trace, "--pictures", "--detail", "4").returncode, 2)
+
     def test_the_list_of_frames(self):
         self.assertEqual(self.run_tool(self.scene(), "--list").stdout.splitlines(), ["frame 0: calls 0 to 6, 1 draws and clears", "frame 1: calls 7 to 19, 3 draws and clears"])
 

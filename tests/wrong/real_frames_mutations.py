@@ -160,6 +160,9 @@ MUTATIONS = [   # name, file, text, what stands there instead, test
 
 OLD = [
     ("old: file names steer the terminal", "apitrace_to_capture", "{printable(fault, MOST_LINE)}", "{fault}", "Tool.test_what_is_wrong_is_a_line"),
+    ("old: pictures have alpha", "old_frames/frame.py", '"mask": record.state.blend["mask"] & 7}', '"mask": record.state.blend["mask"]}', "Tool.test_pictures"),
+    ("old: pictures forget a draw's own colours", "real_frames/shown.py", "        if self.own:\n            how, found", "        if False:\n            how, found", "Tool.test_pictures"),
+    ("old: pictures are planes", "apitrace_to_capture", "(PicturedWriter if wanted.pictures else Writer)", "Writer", "Tool.test_pictures"),
     ("old: nobody says what to try", "old_frames/retrace.py", "{said(process)}{TRY}", "{said(process)}", "Tool.test_what_is_wrong_is_a_line"),
     ("matrices: the other way round", "old_frames/matrices.py", "return tuple(sum(first[4 * k + row] * second[4 * column + k] for k in range(4))", "return tuple(sum(second[4 * k + row] * first[4 * column + k] for k in range(4))", "Matrices"),
     ("matrices: turned the other way", "old_frames/matrices.py", "math.sin(math.radians(angle))", "-math.sin(math.radians(angle))", "Matrices"),

@@ -5,6 +5,7 @@ from types import SimpleNamespace
 
 from real_frames.fault import Fault
 from real_frames.names import printable
+from real_frames.records import DrawRecord
 from real_frames.viewport import meet
 
 from . import numbers as gl
@@ -43,6 +44,14 @@ def done_in(some, frame):
             if at > frame:
                 return done
     return done if at == frame else []
+
+
+def leave_alpha(records, losses):
+    """Of records whose pictures have an alpha of 255 everywhere, as glretrace tells none: no draw writes it."""
+    for record in records:
+        if isinstance(record, DrawRecord) and record.state.blend["mask"] & 8:
+            record.state.blend = {**record.state.blend, "mask": record.state.blend["mask"] & 7}
+            losses.add("draws that write alpha", "the target's own isn't told, so their mask leaves it out")
 
 
 def list_frames(path):
