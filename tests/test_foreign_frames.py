@@ -164,6 +164,19 @@ class Foreign(unittest.TestCase):
             self.assertEqual(made.depth_value(9, 3, 7), .5)
         self.assertEqual((boxes, asked), ([[10, 410, 110, 460], [10, 20, 110, 70]], [(3, 7), (3, 472)]))
 
+    def test_an_overlay_is_drawn_once(self):
+        """It is taken away without being drawn anew: of the gears that saved a fifth of the time, and gave the same capture."""
+        pictures = self.beside_a_stand_in("pictures")
+        pictures.rd.TextureDisplay, pictures.rd.FloatVector = types.SimpleNamespace, lambda *_: None
+        pictures.rd.CreateHeadlessWindowingData, pictures.rd.ReplayOutputType = lambda *_: None, Names()
+        done = []
+        output = types.SimpleNamespace(SetTextureDisplay=lambda display: done.append(display.overlay), Display=lambda: done.append("drawn"))
+        made = pictures.Pictures(types.SimpleNamespace(CreateOutput=lambda *_: output), {7: types.SimpleNamespace(width=4, height=4, resourceId=7)}, True)
+        made.of = lambda target: done.append("read") or b"picture"
+        self.assertEqual(made.alone(7), b"picture")
+        overlays = pictures.rd.DebugOverlay
+        self.assertEqual(done, [overlays.ClearBeforeDraw, "drawn", "read", overlays.NoOverlay])
+
     def test_the_target_that_is_copied_onto_the_shown_one(self):
         """Wine draws on a target of its own, and copies it onto the window, turned."""
         replay = self.beside_a_stand_in("replay")

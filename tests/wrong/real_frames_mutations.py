@@ -26,6 +26,7 @@ MUTATIONS = [   # name, file, text, what stands there instead, test
     ("upside down: edges along rows as OpenGL's", "pipelines.py", "rows_from_below=lower and not from_above", "rows_from_below=lower", "Foreign"),
     ("upside down: clears as if upright", "clears.py", "top = cut.y if frame.from_above else height", "top = height", "Foreign"),
     ("upside down: depths as if upright", "pictures.py", "y = y if self.lowest_row_first else", "y = y if True else", "Foreign"),
+    ("overlays: drawn anew to be taken away", "pictures.py", "        if overlay != rd.DebugOverlay.NoOverlay:", "        if True:", "Foreign"),
     ("upside down: every copy turns", "replay.py", "return (from_last - from_first) * (to_last - to_first) < 0", "return True", "Foreign"),
     ("shown: the window, though nothing draws on it", "replay.py", "return target if target in drawn else self.copied_from(target, drawn) or target", "return target", "Foreign"),
     ("take: a line that is lost is lost", "../take_frame", '            if line:\n                self.line.Shutdown()', '            if False:\n                self.line.Shutdown()', "Foreign"),

@@ -91,7 +91,8 @@ class Pictures:
         display.subresource = WHOLE
         display.backgroundColor = rd.FloatVector(0, 0, 0, 0)
         self.output.SetTextureDisplay(display)
-        self.output.Display()
+        if overlay != rd.DebugOverlay.NoOverlay:        # to take one away nothing is drawn
+            self.output.Display()
 
 
 def decoded(content, texture):
