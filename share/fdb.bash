@@ -4,11 +4,11 @@ _fdb() {
   case $before in
     --workers) COMPREPLY=($(compgen -W "1 2 4 8 16 32 64" -- "$word")) && return ;;
     --at) return ;;
-    -x) COMPREPLY=($(compgen -f -X '!*.fdb' -- "$word") $(compgen -d -- "$word")) && return ;;
+    -x|--start) COMPREPLY=($(compgen -f -X '!*.fdb' -- "$word") $(compgen -d -- "$word")) && return ;;
     --program) COMPREPLY=($(compgen -c -- "$word") $(compgen -f -- "$word")) && return ;;
   esac
   if [[ $word == -* ]]; then
-    COMPREPLY=($(compgen -W "-x --batch --at --workers --program --help" -- "$word"))
+    COMPREPLY=($(compgen -W "-x --start --batch --at --workers --program --help" -- "$word"))
   else
     COMPREPLY=($(compgen -f -X '!*.json' -- "$word") $(compgen -d -- "$word"))
   fi

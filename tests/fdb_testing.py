@@ -96,15 +96,15 @@ def launched(*words, given=b"", **how):
 class Terminal:
     """fdb at a terminal of a given size: it is typed to, and what it shows is read."""
 
-    def __init__(self, capture, *words, program=PROGRAM, size=(24, 80), folder=None, **environment):
+    def __init__(self, capture, *words, program=PROGRAM, size=(24, 80), folder=None, cwd=None, **environment):
         self.room = tempfile.TemporaryDirectory()
         self.ours, theirs = pty.openpty()
         self.resize(*size, tell=False)
         given = {name: value for name, value in os.environ.items() if name not in ("NO_COLOR", "TMUX", "STY", "KITTY_WINDOW_ID", "TERM_PROGRAM", "COLUMNS", "LINES")}
         given |= {"TERM": "xterm-256color", "LC_ALL": "C.UTF-8", "FDB_HISTORY": str(pathlib.Path(folder or self.room.name) / "history"),
-                  "INPUTRC": os.devnull} | environment
+                  "INPUTRC": os.devnull, "HOME": self.room.name} | environment
         words = [sys.executable, FDB, str(capture), "--program", str(program), *words]
-        self.run = subprocess.Popen(words, stdin=theirs, stdout=theirs, stderr=theirs, env=given, preexec_fn=own_terminal, close_fds=True)
+        self.run = subprocess.Popen(words, stdin=theirs, stdout=theirs, stderr=theirs, env=given, preexec_fn=own_terminal, close_fds=True, cwd=cwd)
         os.close(theirs)
         self.shown, self.decoder = "", codecs.getincrementaldecoder("utf-8")("replace")
 

@@ -166,6 +166,20 @@ class Breakpoints(Folder):
                          ["at 5", "at 0", "no breakpoint after 0", "at 6", "at 0", "at 2", "at 5"])
         self.assertEqual(self.told(["b 2", "disable", "i b", "delete", "b 2"]), ["breakpoint 1: event 2", "breakpoint 1: event 2 (disabled)", "breakpoint 2: event 2"])
 
+    def test_boxes(self):
+        """Events 1, 3 and 4 write pixels: the first and the last all eight, and the draw the two on the left above."""
+        self.assertEqual(self.stops(["b draw in 1 0 3 2", "c", "c", "rc", "rc"]), ["at 3", "no breakpoint after 3", "at 6", "at 3", "no breakpoint before 3", "at 0"])
+        self.assertEqual(self.stops(["b draw in 2 0 4 2", "b draw in 0 1 2 2", "c"]), ["no breakpoint after 0", "at 6"])
+        self.assertEqual(self.stops(["b clear in 2 1 3 2", "rc", "rc"], at="6"), ["at 4", "at 1"])     # the last clear changes nothing
+        self.assertEqual(self.stops(["b draw in 0 0 1 1", "off 3", "c", "on 3", "rc"]), ["at 0", "no breakpoint after 0", "at 6", "at 6", "at 3"])
+        self.assertEqual(self.told(["b draw in 0 0 4 2", "tbreak draw in 0 0 1 1", "c", "i b"], "--at", "0"), [
+            "breakpoint 1: each draw in 0 0 4 2", "breakpoint 2: each draw in 0 0 1 1 (once)", "breakpoint 1: each draw in 0 0 4 2",
+            "breakpoint 2: each draw in 0 0 1 1 (once)", "at 3", "3 on draw 2 flat", "breakpoint 1: each draw in 0 0 4 2"])
+        self.assertEqual(self.told(["b draw in 3 1 5 2", "i b"]), ["refused 6 no such pixel", "no breakpoints"])
+        for box in ("", "0", "0 0 1", "0 0 0 1", "1 0 1 1", "0 1 1 1", "0 0 1 x", "0 0 1 1 1", "0 0 257 256"):
+            self.assertEqual(batch(self.steps(), [f"b draw in {box}"])[0], 1, box)
+        self.assertEqual(batch(self.steps(), ["b marker in 0 0 1 1"])[0], 1)
+
     def test_what_is_no_breakpoint(self):
         for line in ("tbreak", "tbreak 7", "disable 1", "enable x", "disable 1 2", "b pixel 1 0 if", "b pixel 1 0 if red", "b pixel 1 0 if red > x", "b pixel 1 0 if red > 256",
                      "b pixel 1 0 if rot > 2", "b pixel 1 0 if red ~ 2", "b pixel 1 if red > 2", "watch 1 0 if red > 2 3",
@@ -187,6 +201,85 @@ class Breakpoints(Folder):
         asked.unlink()
         self.told(["d 1 3", "look", "look 1 1", f"save {self.folder}/x.png"], program=counted)
         self.assertEqual(asked.read_text().splitlines(), ["events", "goto 6", "goto 1", "state", "show", "goto 3", "state", "show", "goto 6"] + ["show"] * 3)
+
+
+class Groups(Folder):
+    """`finish` and `reverse-finish`."""
+
+    def frame(self, *events):
+        """A capture of markers and clears: each a name, or a clear's colour; with the call that it comes from, and the last one of a marker's group."""
+        made = [{"kind": "marker", "name": what} if isinstance(what, str) else {"kind": "clear", "color": [what] * 4} for what, *_ in events]
+        for event, (_, *source) in zip(made, events):
+            if source:
+                event["source"] = dict(zip(("event", "until"), source))
+        return self.written("groups.json", json.dumps({"format": "framedbg", "version": 1, "width": 1, "height": 1, "events": made}))
+
+    def ends(self, capture, words, at):
+        return [int(line.split()[1]) for line in self.told(words, "--at", str(at), capture=capture) if line.startswith("at ")]
+
+    def test_to_the_next_marker(self):
+        """Groups are events 2 to 3, 4 alone, and 5 to 7."""
+        capture = self.frame((1,), ("a",), (2,), ("b",), ("c",), (3,), (4,))
+        for at, end in ((2, 3), (5, 7), (6, 7)):
+            self.assertEqual(self.ends(capture, ["finish"], at), [end], at)
+        for at, before in ((2, 1), (3, 1), (4, 3), (7, 4)):
+            self.assertEqual(self.ends(capture, ["reverse-finish"], at), [before], at)
+        self.assertEqual(self.ends(capture, ["reverse-finish", "reverse-finish", "rfin"], 6), [4, 3, 1])
+        for word, at, said in (("finish", 0, "no marker's group goes on after 0"), ("finish", 1, "no marker's group goes on after 1"), ("fin", 3, "no marker's group goes on after 3"),
+                               ("finish", 7, "no marker's group goes on after 7"), ("reverse-finish", 1, "no marker's group has event 1"),
+                               ("rfin", 0, "no marker's group has event 0"), ("finish 1", 2, "nothing is wanted behind the word")):
+            self.assertEqual(batch(capture, [word], "--at", str(at))[::2], (1, f"fdb: standard input:1: {said}\n"), word)
+
+    def test_groups_in_groups(self):
+        """The outer group ends with call 50, and so with event 5; the inner one with call 30, and so with event 3."""
+        capture = self.frame(("outer", 10, 50), ("inner", 20, 30), (1, 30), (2, 40), (3, 50), (4, 60))
+        self.assertEqual(self.ends(capture, ["finish", "finish"], 2), [3, 5])
+        self.assertEqual(self.ends(capture, ["finish"], 4), [5])
+        self.assertEqual(self.ends(capture, ["reverse-finish", "reverse-finish"], 3), [1, 0])
+        self.assertEqual(self.ends(capture, ["reverse-finish"], 4), [0])
+        self.assertEqual(batch(capture, ["finish"], "--at", "5")[0], 1)
+        capture = self.frame(("outer", 10, 50), (1, 30), ("named",), (2,), (3, 50), (4, 60))      # a marker in a group, which has no end of its own
+        self.assertEqual(self.ends(capture, ["finish"], 3), [6])
+        self.assertEqual(self.ends(capture, ["finish"], 2), [5])
+
+    def test_sources_that_say_nothing(self):
+        for source in (7, [], {"event": "x", "until": 3}, {"until": 9}, {"event": 2, "until": "x"}):
+            capture = self.frame(("a",), (1,), ("b",), (2,))
+            given = json.loads(capture.read_text())
+            given["events"][0]["source"] = source
+            self.assertEqual(self.ends(self.written("other.json", json.dumps(given)), ["finish"], 1), [2], source)
+
+
+class Bookmarks(Folder):
+    def test_marks(self):
+        told = self.told(["mark roof", "g 1", "mark door", "goto roof", "g door", "marks", "mark roof", "marks", "goto 2", "goto nowhere", "goto"], "--at", "3")
+        self.assertEqual(told, ["mark roof at 3", "at 1", "1 on clear 10 20 30 40", "mark door at 1", "at 3", "3 on draw 2 flat", "at 1", "1 on clear 10 20 30 40",
+                                "mark door at 1", "mark roof at 3", "mark roof at 1", "mark door at 1", "mark roof at 1", "at 2", "bad 2 arguments", "bad 2 arguments"])
+        self.assertEqual(self.told(["marks"]), ["no marks"])
+        self.assertEqual(batch(self.steps(), ["g nowhere"])[2], "fdb: standard input:1: K is a whole number, end or a mark, and not nowhere; marks lists them\n")
+        for line in ("mark", "mark 7", "mark a b", "mark end", "mark -x", "mark a:b", f"mark {'a' * 65}", "marks 1"):
+            self.assertEqual(batch(self.steps(), [line])[0], 1, line)
+
+
+class Starts(Folder):
+    """A file whose lines are run at the start."""
+
+    def test_a_file_that_is_named(self):
+        path = self.written("start.fdb", "mark begun\np 1 0\n")
+        self.assertEqual(self.told(["marks"], "--start", str(path)), ["mark begun at 6", "pixel 1 2 3 4", "mark begun at 6"])
+        script = self.written("a.fdb", "marks\n")
+        self.assertEqual(self.told([], "-x", str(script), "--start", str(path))[-1], "mark begun at 6")
+        bad = self.written("bad.fdb", "p 1 0\nnonsense\n")
+        self.assertEqual(batch(self.steps(), ["p 0 0"], "--start", str(bad)), (
+            1, ["pixel 1 2 3 4"], f"fdb: {bad}:2: no such word: nonsense; help lists them\n"))
+        self.assertEqual(batch(self.steps(), [], "--start", str(self.folder / "none"))[0], 1)
+
+    def test_none_unasked(self):
+        """Without a prompt that of the home folder isn't read: what a script comes to is the same for all."""
+        for name in (".fdbrc", ".fdb"):
+            self.written(name, "p 1 0\n")
+        steps = self.steps()
+        self.assertEqual(launched(steps, "--batch", "--program", PROGRAM, given=b"p 0 0\n", cwd=self.folder, env=os.environ | {"HOME": str(self.folder)}), (0, "pixel 1 2 3 4\n", ""))
 
 
 class Answers(Folder):
@@ -270,7 +363,7 @@ class Answers(Folder):
             self.assertTrue(told[0].startswith(word.usage) and word.short in told[1], told)
         for name in ("step", "back", "goto", "pixel", "history", "state", "events", "show", "quit"):
             self.assertIn("framedbg's own", self.told([f"help {name}"])[0])
-        for name in ("s", "rs", "n", "rn", "c", "rc", "b", "watch", "g", "tbreak", "disable", "enable", "undo", "who", "last", "first", "p", "i", "l", "off", "on", "d", "look", "save", "source", "expect", "help"):
+        for name in ("s", "rs", "n", "rn", "c", "rc", "b", "watch", "g", "tbreak", "disable", "enable", "undo", "finish", "reverse-finish", "mark", "marks", "who", "last", "first", "p", "i", "l", "off", "on", "d", "look", "save", "source", "expect", "help"):
             self.assertIn(name, WORDS.named)
 
     def test_slips(self):

@@ -65,13 +65,8 @@ class Pages(unittest.TestCase):
     def test_man_page(self):
         page = (ROOT / "share/fdb.1").read_text().replace("\\-", "-").replace("\\&", "").replace("\\e", "\\")
         flat = " ".join(re.sub(r"^\.\w+ ?", "", page, flags=re.M).replace('"', "").split())
-        for word in WORDS.listed:
-            for text in (word.usage, word.short, word.long, *word.also):
-                self.assertIn(" ".join(text.split()), flat, word.name)
-        for name in OWN:
-            self.assertIn(name, flat)
-        for option in options():
-            self.assertIn(option, flat)
+        wanted = [text for word in WORDS.listed for text in (word.usage, word.short, word.long, *word.also)]
+        self.assertEqual([text for text in [*wanted, *OWN, *options()] if " ".join(text.split()) not in flat], [], "share/fdb.1 leaves these out")
         version = re.compile(r'^\.TH \w+ 1 "" "(framedbg [\d.]+)"', re.M)
         self.assertEqual(version.search(page)[1], version.search((ROOT / "share/framedbg.1").read_text())[1])
 

@@ -69,7 +69,7 @@ class Prompts(Folder):
     def test_completion(self):
         cases = [("who\t 50 50\n", "50  drawn"), ("wat\t 1 1\n", "breakpoint 1: pixel 1 1"), ("b ma\t\n", "each marker"), ("l 1\t\t", "1   10  11  12  13"),
                  ("\x15off 8\n", "at 13"), ("on \t\n", "at 13"), ("info o\t\n", "all events are on"), ("hel\tdelete\n", "takes breakpoint"), ("delete \t\n", "(13/13)"),
-                 ("g e\t\n", "13   draw"), ("goto 9\t\n", "at 9")]
+                 ("g e\t\n", "13   draw"), ("mark roof\n", "mark roof at 13"), ("goto ro\t\n", "13   draw"), ("goto 9\t\n", "at 9")]
         with Terminal(HOUSE, size=(40, 100)) as terminal:
             terminal.prompt()
             for typed, shows in cases:
@@ -107,6 +107,27 @@ class Prompts(Folder):
             terminal.prompt()
             terminal.type("\x1b[A\x1b[A\n")                      # the line before the last
             terminal.until("11   draw")
+
+    def test_the_start_file_of_the_home_folder(self):
+        """One in the folder where one stands is never read."""
+        home = self.folder / "home"
+        home.mkdir()
+        self.written(".fdbrc", "p 1 1\n")
+        (home / ".fdbrc").write_text("p 50 50\nnonsense\n")
+        with Terminal(HOUSE, cwd=self.folder, HOME=str(home)) as terminal:
+            told = terminal.until(re.compile(r"\(13/13\) "))
+            self.assertIn("125 95 55 128", told)
+            self.assertIn("no such word: nonsense", told)
+            self.assertNotIn("61 111 200 255", told)
+        (home / ".fdbrc").unlink()
+        with Terminal(HOUSE, cwd=self.folder, HOME=str(home)) as terminal:
+            self.assertNotIn("61 111 200 255", terminal.until(re.compile(r"\(13/13\) ")))
+        named = self.written("named.fdb", "mark here\n")
+        (home / ".fdbrc").write_text("p 50 50\n")
+        with Terminal(HOUSE, "--start", str(named), HOME=str(home)) as terminal:
+            told = terminal.until(re.compile(r"\(13/13\) "))
+            self.assertIn("mark here at 13", told)
+            self.assertNotIn("125 95 55 128", told)
 
     def test_two_at_once(self):
         """Neither loses what the other one kept."""

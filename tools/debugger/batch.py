@@ -1,11 +1,12 @@
 """A run of fdb, from its words to its status."""
+import os
 import pathlib
 import subprocess
 import sys
 
 from framedbg_client import Client, Ended, Garbled, Refusal
 
-from . import moving, breaking, asking, switching, comparing, picturing, scripts, ending     # noqa: F401  each has words, which are listed in this order
+from . import moving, bookmarks, breaking, asking, switching, comparing, picturing, scripts, ending     # noqa: F401  each has words, which are listed in this order
 from .faults import Failed, Leave, Slip, status_of
 from .frame import Frame
 from .moving import here
@@ -53,7 +54,7 @@ def debugged(client, given):
     session = Session(Frame(client), Laid(screen.paints) if is_asked else PLAIN, screen, is_asked)
     try:
         start(session, given, is_asked)
-        for path in given.scripts:
+        for path in [*start_files(given, is_asked), *given.scripts]:
             scripts.run(session, scripts.read(path), path)
         if not is_asked and not given.scripts:
             scripts.run(session, read_on(sys.stdin), "standard input")
@@ -70,6 +71,13 @@ def debugged(client, given):
     if is_asked:
         Prompt(session).run()
     return 0
+
+
+def start_files(given, is_asked):
+    """The file whose lines come first: the one that is named, or at a prompt that of the home folder. None of the folder where one stands: it may have come
+    with somebody else's capture."""
+    home = os.path.expanduser("~/.fdbrc")
+    return [given.start] if given.start else [home] if is_asked and os.path.isfile(home) else []
 
 
 def start(session, given, is_asked):

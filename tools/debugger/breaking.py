@@ -2,12 +2,14 @@
 from captures import KINDS
 from framedbg_client import Pixel
 
-from .breakpoints import AtEvent, AtPixel, OfKind
+from .breakpoints import AtEvent, AtPixel, InBox, OfKind
 from .conditions import condition_of
 from .faults import Slip
+from .frame import WRITERS
 from .words import WORDS, number, place
 
-
+MOST_PIXELS = 1 << 16    # of a box: framedbg is asked for the history of each of them
+BOX = "Behind draw, clear or depth_clear may stand in L T R B, as in b draw in 10 10 20 20: it stops where such an event changes a pixel of that box, right and bottom exclusive."
 CONDITION = "Behind X Y may stand if CHANNEL SIGN VALUE, as in b pixel 5 5 if red > 200: it stops where that holds after the change."
 
 
@@ -19,6 +21,17 @@ def at_pixel(session, arguments, usage):
     return AtPixel(x, y, condition)
 
 
+def in_box(session, kind, arguments):
+    """Where an event of a kind changes a pixel of a box."""
+    if kind not in WRITERS or len(arguments) != 4:
+        raise Slip(f"KIND in L T R B is wanted, and KIND is one of {', '.join(WRITERS)}")
+    left, top, right, bottom = box = tuple(number(text, name) for text, name in zip(arguments, "LTRB"))
+    if not 0 < (right - left) * (bottom - top) <= MOST_PIXELS or right < left:
+        raise Slip(f"a box has from 1 to {MOST_PIXELS} pixels: L is less than R, and T less than B")
+    session.frame.client.reply(f"pixel {right - 1} {bottom - 1}", Pixel)       # refused where there is no such pixel
+    return InBox(kind, box)
+
+
 def set_breakpoint(session, what, once=False):
     session.tell("note", session.breakpoints.told(session.breakpoints.add(what, once)))
 
@@ -27,6 +40,8 @@ def place_of(session, arguments, word):
     """Where a breakpoint is to stand that is set by a word."""
     if arguments[:1] == ["pixel"]:
         return at_pixel(session, arguments[1:], f"{word} pixel X Y")
+    if arguments[1:2] == ["in"]:
+        return in_box(session, arguments[0], arguments[2:])
     if len(arguments) != 1:
         raise Slip(f"{word} K, {word} KIND or {word} pixel X Y is wanted")
     if arguments[0] in KINDS:
@@ -40,7 +55,7 @@ def place_of(session, arguments, word):
 
 
 @WORDS.add("b", "b K | KIND | pixel X Y", "a breakpoint at event K, at events of a kind that are on, or where the pixel changes",
-           f"c and rc stop on it: the event has just been gone through, and rs goes before it. A pixel's are found by its history, forward and back. {CONDITION}",
+           f"c and rc stop on it: the event has just been gone through, and rs goes before it. A pixel's are found by its history, forward and back. {CONDITION} {BOX}",
            also=("break",), takes=("breakpoint", "number", "number"))
 def break_at(session, arguments):
     set_breakpoint(session, place_of(session, arguments, "b"))

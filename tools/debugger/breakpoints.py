@@ -1,5 +1,12 @@
-"""Where `c` and `rc` stop: at an event, at events of a kind, where a pixel changes."""
+"""Where `c` and `rc` stop: at an event, at events of a kind, where a pixel changes, at events that change one of a box."""
 from dataclasses import dataclass
+
+
+def nearest(events, position, forward):
+    """Of events in their order the first after a position, or the last before it."""
+    if forward:
+        return next((event for event in events if event > position), None)
+    return next((event for event in reversed(events) if event < position), None)
 
 
 class Place:
@@ -50,9 +57,20 @@ class AtPixel(Place):
     def next(self, frame, position, forward):
         """By the pixel's history: forward by that of the whole frame, which moves to its end."""
         events = [change.event for change in frame.changes(self.x, self.y, whole=forward) if self.condition is None or self.condition.holds(change)]
-        if forward:
-            return next((event for event in events if event > position), None)
-        return next((event for event in reversed(events) if event < position), None)
+        return nearest(events, position, forward)
+
+
+@dataclass(frozen=True)
+class InBox(Place):
+    kind: str
+    box: tuple               # left, top, right, bottom, the last two exclusive
+
+    def __str__(self):
+        return f"each {self.kind} in {' '.join(map(str, self.box))}"
+
+    def next(self, frame, position, forward):
+        """By the histories of the box's pixels."""
+        return nearest([event for event in frame.changed_in(self.box, whole=forward) if frame.kind(event) == self.kind], position, forward)
 
 
 class Breakpoints:

@@ -3,7 +3,7 @@
     fdb frame.json                        a prompt, at the end of the frame; help lists the words
     fdb frame.json -x bug.fdb --batch     runs a script, and tells by its status whether what it expects is so
 
-All that it tells are replies of one framedbg run. Statuses: 0 done, 1 a fault of the words, or of a line of a script, or an 'expect' that
+All that it tells are replies of one framedbg run, but where a group ends of a frame that RenderDoc took: that stands in the file. Statuses: 0 done, 1 a fault of the words, or of a line of a script, or an 'expect' that
 doesn't hold, 2 the capture is refused, 3 a read or write fault, 4 too much input, 5 memory, 130 interrupted.
 """
 import argparse
@@ -32,6 +32,7 @@ def words(given=None):
     parser = Words(prog="fdb", description=__doc__, formatter_class=argparse.RawDescriptionHelpFormatter)
     parser.add_argument("capture", metavar="CAPTURE", help="the capture, a JSON file")
     parser.add_argument("-x", dest="scripts", metavar="FILE", action="append", default=[], help="runs the lines of a file first; may be given several times")
+    parser.add_argument("--start", metavar="FILE", help="runs the lines of a file before all else [at a prompt ~/.fdbrc, where that is there]")
     parser.add_argument("--batch", action="store_true", help="no prompt: plain text, one fact a line; without -x the lines come from standard input")
     parser.add_argument("--at", type=position, metavar="K", help="the position at the start [the last]")
     parser.add_argument("--workers", type=workers, metavar="N", help="the number of threads that draw, from 1 to 64 [4]")

@@ -4,6 +4,7 @@ import os
 
 from captures import KINDS
 
+from .bookmarks import LAST
 from .words import OWN, WORDS
 
 MOST = 200               # candidates: of more the list is no help
@@ -46,11 +47,12 @@ def files(_, begun):
 
 FOUND = {
     "event": events,
-    "position": lambda session, begun: events(session, begun, first=0) + named(["end"])(session, begun),
+    "position": lambda session, begun: events(session, begun, first=0) + named(lambda session: [LAST, *sorted(session.bookmarks)])(session, begun),
     "on": lambda session, begun: events(session, begun, session.frame.is_on),
     "off": lambda session, begun: events(session, begun, lambda event: not session.frame.is_on(event)),
     "breakpoint": lambda session, begun: named([*KINDS, "pixel"])(session, begun) if not begun[:1].isdigit() else events(session, begun),
     "info": named(["off", "b"]),
+    "mark": named(lambda session: sorted(session.bookmarks)),
     "given": named(lambda session: map(str, session.breakpoints.numbered)),
     "word": named(lambda _: WORDS.names()),
     "file": files,

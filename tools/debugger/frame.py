@@ -2,12 +2,15 @@
 import bisect
 import re
 import sys
+from functools import cached_property
 from itertools import groupby
 from operator import attrgetter
 from typing import NamedTuple
 
 from captures import STATES
 from framedbg_client import Colour, Garbled, History
+
+from .groups import Groups, sources_of
 
 WRITERS = ("draw", "clear", "depth_clear")
 KEPT = 64                # histories
@@ -31,7 +34,7 @@ class Frame:
             raise Garbled(f"no reply of framedbg to events: {reply.text[:80]!r}")
         self.kinds = [sys.intern(event.split(" ", 1)[0]) for event in self.events]
         self.setters = {part: [event for event, kind in enumerate(self.kinds, 1) if kind == part] for part in STATES}
-        self.histories, self.switches = {}, client.switches
+        self.histories, self.boxes, self.switches = {}, {}, client.switches
 
     def __len__(self):
         return len(self.events)
@@ -60,12 +63,20 @@ class Frame:
         events = self.setters[part]
         return next((events[at] for at in range(bisect.bisect_right(events, position) - 1, -1, -1) if self.is_on(events[at])), None)
 
+    @cached_property
+    def groups(self):
+        return Groups(self.kinds, sources_of(self.client.words[1]))
+
     # ---- Pixels, by their histories: never by steps
-    def history(self, x, y, whole=False):
-        """The reply to `history` here, or at the end of the frame. It is kept until an event is switched."""
+    def place(self, whole):
+        """Where histories are asked for: here, or at the end of the frame. What is known of them is so until an event is switched."""
         if self.switches != self.client.switches:
-            self.histories, self.switches = {}, self.client.switches
-        wanted = len(self) if whole else self.position
+            self.histories, self.boxes, self.switches = {}, {}, self.client.switches
+        return len(self) if whole else self.position
+
+    def history(self, x, y, whole=False):
+        """The reply to `history` here, or at the end of the frame."""
+        wanted = self.place(whole)
         if (x, y, wanted) not in self.histories:
             if self.position != wanted:
                 wanted = self.client.goto(wanted)
@@ -80,13 +91,29 @@ class Frame:
 
     def changes(self, x, y, whole=False):
         """The events that changed a pixel, and what they made of it."""
-        found = []
-        for event, entries in by_event(self.history(x, y, whole).value):
-            first, last = entries[0], entries[-1]
-            depths = [first.depths.before, last.depths.after] if first.depths else [0, 0]
-            if (first.before, depths[0]) != (last.after, depths[1]):
-                found.append(Change(event, first.before, last.after, last.depths.after if last.depths else None))
-        return found
+        return changes_of(self.history(x, y, whole).value)
+
+    def changed_in(self, box, whole=False):
+        """The events that changed a pixel of a box, in their order, at least as far as the position or the frame's end."""
+        wanted = self.place(whole)
+        if self.boxes.get(box, (-1, []))[0] < wanted:
+            if self.position != wanted:
+                wanted = self.client.goto(wanted)
+            left, top, right, bottom = box
+            histories = (self.client.value(f"history {x} {y}", History) for y in range(top, bottom) for x in range(left, right))
+            self.boxes[box] = wanted, sorted({change.event for history in histories for change in changes_of(history)})
+        return self.boxes[box][1]
+
+
+def changes_of(history):
+    """What events changed, by a pixel's history."""
+    found = []
+    for event, entries in by_event(history):
+        first, last = entries[0], entries[-1]
+        depths = [first.depths.before, last.depths.after] if first.depths else [0, 0]
+        if (first.before, depths[0]) != (last.after, depths[1]):
+            found.append(Change(event, first.before, last.after, last.depths.after if last.depths else None))
+    return found
 
 
 def by_event(history: History):

@@ -1,4 +1,5 @@
 """Words that go through the frame."""
+from .bookmarks import LAST
 from .faults import Slip
 from .frame import WRITERS
 from .words import WORDS, number, place
@@ -59,11 +60,39 @@ def to_writer_before(session, arguments):
     to_writer(session, arguments, False)
 
 
-@WORDS.add("g", "g K | g end", "to position K: the first K events have been gone through", "'goto' is framedbg's own, with its own reply.", takes=("position",))
+@WORDS.add("g", "g K | end | NAME", "to position K: the first K events have been gone through; or to a mark", "'goto' is framedbg's own, with its own reply.", takes=("position",))
 def go_to(session, arguments):
     if len(arguments) != 1:
         raise Slip("g K is wanted")
-    go(session, len(session.frame) if arguments[0] == "end" else number(arguments[0], "K"))
+    named = {LAST: len(session.frame), **session.bookmarks}
+    text = arguments[0]
+    if text not in named and not text[:1].isdigit():
+        raise Slip(f"K is a whole number, end or a mark, and not {text}; marks lists them")
+    go(session, named[text] if text in named else number(text, "K"))
+
+
+# ---- Groups
+GROUP = "A group goes on to the next marker. Where a capture comes from a frame that RenderDoc took, it ends where that frame's group does, and may have groups inside."
+
+
+@WORDS.add("finish", "finish", "to the last event of the marker's group", f"Of several the innermost that goes on. {GROUP}", also=("fin",))
+def finish(session, arguments):
+    if arguments:
+        raise Slip("nothing is wanted behind the word")
+    end = session.frame.groups.end(session.frame.position)
+    if end is None:
+        raise Slip(f"no marker's group goes on after {session.frame.position}")
+    go(session, end)
+
+
+@WORDS.add("reverse-finish", "reverse-finish", "back to where the marker's group begins, before its marker", f"Said again it goes out of the group round that one. {GROUP}", also=("rfin",))
+def finish_backward(session, arguments):
+    if arguments:
+        raise Slip("nothing is wanted behind the word")
+    marker = session.frame.groups.start(session.frame.position)
+    if marker is None:
+        raise Slip(f"no marker's group has event {session.frame.position}")
+    go(session, marker - 1)
 
 
 # ---- Breakpoints

@@ -18,6 +18,7 @@ class Session:
         self.frame, self.teller, self.screen, self.goes_on = frame, teller, screen, goes_on
         self.breakpoints = Breakpoints()
         self.told = []                        # by the word before, plainly: what `expect` looks at
+        self.bookmarks = {}                   # positions by name
         self.found = None                     # where `last` or `first` came to: (x, y, position)
         self.past = []                        # where the words before stood: (position, what was off), which `undo` goes back to
         self.scripts = []                     # those that are being run, the innermost last
@@ -36,8 +37,8 @@ class Session:
         name, arguments = words[0], words[1:]
         if name != "expect":
             self.told = []
-        own = name in OWN and not (name in ("on", "off") and len(arguments) > 1)
-        word = None if own else WORDS.find(name)
+        own = name in OWN and not self.is_more(name, arguments)
+        word = None if own else WORDS.find("g" if name == "goto" else name)
         known, before = len(self.past), (self.frame.client.position, self.frame.client.off)
         with self.left_as_it_was():
             try:
@@ -46,6 +47,10 @@ class Session:
                 self.tell("refusal", refusal.reply)
         if name != "undo":
             self.remember(known, before)
+
+    def is_more(self, name, arguments):
+        """Whether a line asks for more than framedbg's own line of that name can."""
+        return len(arguments) > 1 if name in ("on", "off") else name == "goto" and len(arguments) == 1 and arguments[0] in self.bookmarks
 
     def remember(self, known, before):
         """What a word changed, for `undo`; of a script all its lines are one."""

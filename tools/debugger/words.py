@@ -6,7 +6,7 @@ from typing import Callable
 from .faults import Slip
 
 OWN = {                  # framedbg's lines, with their own replies
-    "step": "step: goes through the next event", "back": "back: takes the last event back", "goto": "goto K: goes to position K",
+    "step": "step: goes through the next event", "back": "back: takes the last event back", "goto": "goto K: goes to position K; goto NAME to a mark",
     "on": "on I: switches event I on", "off": "off I: switches event I off",
     "pixel": "pixel X Y: the pixel's colour, and its depth where the capture has depth", "history": "history X Y: what each event and triangle did to the pixel",
     "state": "state: the pipeline state before the next event", "events": "events: the events, and which of them are on",
