@@ -160,6 +160,22 @@ class Asked(unittest.TestCase):
             places = [(x, y) for y in range(64) for x in range(96)]
             self.assertEqual([pixel.colour for pixel in frame.pixels(places)], [image.pixel(x, y) for x, y in places])
 
+    def test_histories_of_many_pixels(self):
+        """More lines than a pipe holds, in one go; where one is refused, the replies to the others are read."""
+        wanted = reference.Frame(json.loads((EXAMPLES / "crossing.json").read_text()))
+        places = [(x, y) for y in range(3, 9) for x in range(2, 14)]
+        with client(EXAMPLES / "crossing.json") as frame:
+            frame.goto(3)
+            found = [[(entry.event, entry.verdict, tuple(entry.after), entry.depths.after) for entry in entries] for entries in frame.histories(places)]
+            self.assertEqual(found, [[(entry[0], entry[2], tuple(entry[5]), entry[8]) for entry in wanted.replay(3, x, y)[1]] for x, y in places])
+            with self.assertRaises(Refusal):
+                frame.histories([(0, 0), (9999, 0), (1, 0)])
+            self.assertEqual((frame.goto(1), frame.histories([])), (1, []))
+        with client() as frame:
+            frame.goto(13)
+            found = frame.histories([(x, y) for y in range(64) for x in range(96)])
+            self.assertEqual((len(found), found[50 * 96 + 50]), (96 * 64, frame.history(50, 50)))
+
     def test_depths_of_an_area(self):
         """More lines than a pipe holds, in one go; and what is no depth."""
         wanted = reference.Frame(json.loads((EXAMPLES / "crossing.json").read_text()))

@@ -87,11 +87,11 @@ class Frame:
 
     def written(self, x, y, whole=False):
         """The events that wrote a pixel, as far as the position, or in the whole frame."""
-        return [event for event, entries in by_event(self.history(x, y, whole).value) if any(entry.is_drawn for entry in entries)]
+        return [event for event, entries in by_event(self.history(x, y, whole).value.entries) if any(entry.is_drawn for entry in entries)]
 
     def changes(self, x, y, whole=False):
         """The events that changed a pixel, and what they made of it."""
-        return changes_of(self.history(x, y, whole).value)
+        return changes_of(self.history(x, y, whole).value.entries)
 
     def changed_in(self, box, whole=False):
         """The events that changed a pixel of a box, in their order, at least as far as the position or the frame's end."""
@@ -100,13 +100,13 @@ class Frame:
             if self.position != wanted:
                 wanted = self.client.goto(wanted)
             left, top, right, bottom = box
-            histories = (self.client.value(f"history {x} {y}", History) for y in range(top, bottom) for x in range(left, right))
-            self.boxes[box] = wanted, sorted({change.event for history in histories for change in changes_of(history)})
+            histories = self.client.histories([(x, y) for y in range(top, bottom) for x in range(left, right)])
+            self.boxes[box] = wanted, sorted({change.event for entries in histories for change in changes_of(entries)})
         return self.boxes[box][1]
 
 
 def changes_of(history):
-    """What events changed, by a pixel's history."""
+    """What events changed, by the entries of a pixel's history."""
     found = []
     for event, entries in by_event(history):
         first, last = entries[0], entries[-1]
@@ -116,5 +116,5 @@ def changes_of(history):
     return found
 
 
-def by_event(history: History):
-    return [(event, list(entries)) for event, entries in groupby(history.entries, attrgetter("event"))]
+def by_event(history):
+    return [(event, list(entries)) for event, entries in groupby(history, attrgetter("event"))]

@@ -157,6 +157,18 @@ class Client:
     def history(self, x, y):
         return self.value(f"history {x} {y}", History).entries
 
+    def histories(self, places):
+        """The histories of some pixels, each (x, y), asked for in one go. All replies are read, also where one is a refusal, which is raised then."""
+        lines = [f"history {x} {y}".encode() for x, y in places]
+        self._begin_asking()
+        with self.connection.writing(lines):
+            values = [read_reply(self.connection.line, self.connection.bytes).value for _ in lines]
+        self.is_asking = False
+        refused = next((value for value in values if not isinstance(value, History)), None)
+        if refused:
+            raise Refusal(refused)
+        return [value.entries for value in values]
+
     def state(self):
         return self.value("state", State)
 

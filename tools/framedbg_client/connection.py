@@ -36,16 +36,22 @@ class Connection:
         except (BrokenPipeError, ValueError):
             raise self.end() from None
 
-    def exchange(self, lines):
-        """Sends lines that have a reply of one line each, and gives these as bytes. Both go on at once, so that no pipe is full on both sides."""
+    @contextlib.contextmanager
+    def writing(self, lines):
+        """Sends lines while their replies are read: both go on at once, so that no pipe is full on both sides."""
         writer = threading.Thread(target=self._write_all, args=[lines], daemon=True)
         writer.start()
-        for _ in lines:
-            line = self.process.stdout.readline()
-            if not line.endswith(b"\n"):
-                raise self.end()
-            yield line[:-1]
+        yield
         writer.join()
+
+    def exchange(self, lines):
+        """Sends lines that have a reply of one line each, and gives these as bytes."""
+        with self.writing(lines):
+            for _ in lines:
+                line = self.process.stdout.readline()
+                if not line.endswith(b"\n"):
+                    raise self.end()
+                yield line[:-1]
 
     def _write_all(self, lines):
         """The reader tells of a run that has ended."""
