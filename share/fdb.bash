@@ -8,7 +8,7 @@ _fdb() {
     --program) COMPREPLY=($(compgen -c -- "$word") $(compgen -f -- "$word")) && return ;;
   esac
   if [[ $word == -* ]]; then
-    COMPREPLY=($(compgen -W "-x --start --batch --at --workers --program --help" -- "$word"))
+    COMPREPLY=($(compgen -W "-x --diff --start --batch --at --workers --program --help" -- "$word"))
   else
     COMPREPLY=($(compgen -f -X '!*.json' -- "$word") $(compgen -d -- "$word"))
   fi

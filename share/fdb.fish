@@ -1,5 +1,6 @@
 # Completions of fdb for fish.
 complete -c fdb -s x -r -d 'Runs the lines of a file first'
+complete -c fdb -r -l diff -d 'Compares two captures'
 complete -c fdb -r -l start -d 'Runs the lines of a file before all else'
 complete -c fdb -l batch -d 'No prompt: plain text, one fact a line'
 complete -c fdb -x -l at -d 'The position at the start'

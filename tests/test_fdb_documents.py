@@ -7,7 +7,7 @@ import unittest
 
 import folders
 
-from fdb_testing import EXAMPLES, HUNTS, ROOT, Terminal
+from fdb_testing import EXAMPLES, HUNTS, PROGRAM, ROOT, Terminal, launched
 
 from debugger import command_line
 from debugger.words import OWN, WORDS
@@ -69,6 +69,11 @@ class Pages(unittest.TestCase):
         self.assertEqual([text for text in [*wanted, *OWN, *options()] if " ".join(text.split()) not in flat], [], "share/fdb.1 leaves these out")
         version = re.compile(r'^\.TH \w+ 1 "" "(framedbg [\d.]+)"', re.M)
         self.assertEqual(version.search(page)[1], version.search((ROOT / "share/framedbg.1").read_text())[1])
+
+    def test_two_captures(self):
+        """What the man page shows of --diff."""
+        shown = re.search(r"^  \$ fdb \\-\\-diff (\S+) (\S+)\n((?:  .*\n)+)", (ROOT / "share/fdb.1").read_text(), re.M)
+        self.assertEqual(launched("--diff", HUNTS / shown[1], HUNTS / shown[2], "--program", PROGRAM)[:2], (1, re.sub("^  ", "", shown[3], flags=re.M)))
 
     def test_completions(self):
         for name in ("fdb.bash", "_fdb", "fdb.fish"):

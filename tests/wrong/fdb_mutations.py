@@ -89,6 +89,17 @@ MUTATIONS = [
     ("answers: framedbg's step laid out", "debugger/session.py", "own = name in OWN and", 'own = name in OWN and name != "step" and', FDB, "Answers.test_each_line_of_framedbg"),
     ("answers: no nearest word", "debugger/words.py", "1, 0.6)", "1, 0.99)", FDB, "Answers.test_slips"),
     ("answers: the first of several beginnings", "debugger/words.py", "if len(begun) == 1 and", "if begun and", FDB, "Answers.test_slips"),
+    # two captures
+    ("diff: what framedbg passes over is a difference", "debugger/contents.py", '{name: event[name] for name in ("kind", *MEMBERS[event["kind"]]) if name in event}', "dict(event)", FDB, "Captures.test_alike"),
+    ("diff: what moved went and came", "debugger/comparing_captures.py", "moves[number] = waiting[keys[0][number - 1]].popleft()", "pass", FDB, "Captures.test_moved"),
+    ("diff: what moved is another's change", "debugger/comparing_captures.py", 'kinds[0][number - 1], kinds[1][to - 1] = f"from {number}", f"to {to}"', "pass", FDB, "Captures.test_what_moved_is_no_change"),
+    ("diff: a state that differs is forgotten", "debugger/comparing_captures.py", "and same_states(frames, has_depth)", "", FDB, "Captures.test_a_state_shows_at_the_next_draw"),
+    ("diff: each picture is asked for", "debugger/comparing_captures.py", "if is_alike and (step in same", "if False and (step in same", FDB, "Captures.test_few_pictures_are_asked_for"),
+    ("diff: depths that differ are forgotten", "debugger/comparing_captures.py", "not (has_written and has_depth) and ", "", FDB, "Captures.test_depths_that_show_later"),
+    ("diff: status 0 where they differ", "debugger/comparing_captures.py", "    return DIFFER\n", "    return ALIKE\n", FDB, "Captures.test_changed"),
+    ("diff: wrong words are a difference", "debugger/command_line.py", "parser.trouble = 2 if", "parser.trouble = 1 if", FDB, "Statuses.test_words"),
+    ("diff: pairs out of order", "debugger/aligning.py", "return sorted(found)", "return found", FDB, "Lists.test_by_chance"),
+    ("diff: single events aren't looked for", "debugger/aligning.py", "        found += pairs\n", "", FDB, "Lists.test_by_hand"),
     # pictures
     ("pictures: the file is emptied first", "debugger/picturing.py", '    image = session.frame.client.value("show", Image)\n    try:', '    path.write_bytes(b"")\n    image = session.frame.client.value("show", Image)\n    try:', FDB, "Pictures.test_nothing_is_lost"),
     ("pictures: a file that nobody else reads", "writing/files.py", "        os.chmod(name, 0o666 & ~umask())\n", "", FDB, "Pictures.test_saved"),
@@ -111,7 +122,7 @@ MUTATIONS = [
     ("endings: a refused capture is status 1", "debugger/faults.py", "return ended.status if 2 <= ended.status <= 5 else 1", "return 1", FDB, "Endings.test_captures"),
     ("endings: status 0 after a failed script", "debugger/batch.py", 'getattr(fault, "status", FAULT)', "0", FDB, "Scripts.test_expectations"),
     ("endings: another run at the end", "debugger/ending.py", "position = session.frame.position", "position = len(session.frame)", FDB, "Endings.test_another_run"),
-    ("endings: words at fault are status 2", "debugger/command_line.py", "self.exit(1,", "self.exit(2,", FDB, "Endings.test_words"),
+    ("endings: words at fault are status 2", "debugger/command_line.py", "self.exit(self.trouble,", "self.exit(2,", FDB, "Endings.test_words"),
     # how each tool writes and ends
     ("writing: a full disk is a traceback", "writing/ending.py", "        except OSError as fault:\n            raise Unwritable(fault) from None\n", "        finally:\n            pass\n", ENDINGS, "Tools.test_a_full_disk"),
     ("writing: a full disk is a fault of the words", "writing/ending.py", "WRITING, INTERRUPTED = 1, 3, 130", "WRITING, INTERRUPTED = 1, 1, 130", ENDINGS, "Tools.test_a_full_disk"),

@@ -1,0 +1,48 @@
+"""What the events of a capture's file are, by the members that framedbg reads."""
+import hashlib
+import json
+
+from captures import MOST_BYTES, PICTURE
+
+MEMBERS = {              # of each kind
+    "clear": ("color",), "raster": ("cull", "front_ccw", "scissor"), "scissor": ("rect",), "blend": ("enable", "rgb", "alpha", "mask"), "factor": ("color",),
+    "draw": ("interp", "vertices", "indices", "picture"), "marker": ("name",), "depth": ("enable", "write", "func"), "depth_clear": ("depth",),
+}
+BOX = ("left", "top", "width", "height", "texels", "holes")      # of a picture
+
+
+class Contents:
+    """Of a file that framedbg has read: so it is a capture."""
+
+    def __init__(self, path):
+        with open(path, "rb") as file:
+            capture = json.loads(file.read(MOST_BYTES))
+        self.version, self.size = capture["version"], (capture["width"], capture["height"])
+        self.events = capture["events"]
+        self.keys = [hashlib.blake2b(json.dumps(self.members(number), sort_keys=True).encode(), digest_size=16).digest() for number in range(1, len(self.events) + 1)]
+
+    def members(self, number):
+        """Those of an event that framedbg reads."""
+        event = self.events[number - 1]
+        read = {name: event[name] for name in ("kind", *MEMBERS[event["kind"]]) if name in event}
+        if event["kind"] == "draw":
+            is_painted = event["interp"] == PICTURE
+            corner = ("x", "y", *(["z"] if self.version > 1 else []), *([] if is_painted else ["color"]))
+            read["vertices"] = [{name: vertex[name] for name in corner} for vertex in event["vertices"]]
+            read.pop("picture", None)
+            if is_painted:
+                read["picture"] = {name: event["picture"][name] for name in BOX if name in event["picture"]}
+        return read
+
+
+def unlike(one, other):
+    """The names of the members in which two events of a kind differ; of vertices how many do."""
+    names = [name for name in MEMBERS[one["kind"]] if one.get(name) != other.get(name)]
+    told = [vertices_unlike(one[name], other[name]) if name == "vertices" else name for name in names]
+    return ", ".join(told)
+
+
+def vertices_unlike(one, other):
+    if len(one) != len(other):
+        return f"{len(one)} vertices, and then {len(other)}"
+    return f"{sum(a != b for a, b in zip(one, other))} of {len(one)} vertices"
