@@ -40,6 +40,16 @@ def leant(z):
     return [*tested(depth())[:3], box(2, 2, 22, 16, RED, 30000), box(2, 7, 22, 9, BLUE, 10000), draw((3, 3, GREEN, 20000), (20, 4, GREEN, z), (12, 16, GREEN, 20000))]
 
 
+QUADS = ((1, 1, 7, 7, GLASS), (4, 4, 11, 10, (20, 90, 160, 200)), (9, 2, 18, 9, (250, 160, 60, 140)), (6, 8, 16, 16, (90, 200, 250, 170)), (14, 10, 23, 17, (255, 120, 120, 90)))
+GLOW = blend(rgb="SRC_ALPHA ONE ADD")
+
+
+def batch(quads):
+    """Sprites in one draw, of two triangles each."""
+    corners = [corner for left, top, right, bottom, color in quads for corner in ((left, top, color), (right, top, color), (right, bottom, color), (left, bottom, color))]
+    return draw(*corners, indices=[4 * quad + at for quad in range(len(quads)) for at in (0, 1, 2, 0, 2, 3)])
+
+
 def cut(rect):
     return [clear(*SKY), {"kind": "scissor", "rect": rect}, raster(scissor=True), box(1, 1, 23, 17, RED)]
 
@@ -70,6 +80,7 @@ CASES = {
     "two events exchanged": ([clear(*SKY), box(1, 1, 9, 9, RED), box(5, 3, 13, 11, GREEN), box(7, 5, 16, 13, BLUE)],
                              [clear(*SKY), box(7, 5, 16, 13, BLUE), box(5, 3, 13, 11, GREEN), box(1, 1, 9, 9, RED)], 2),
     "an event once more": ([*blended(blend()), SECOND], blended(blend()), 4),
+    "a part of the state from a triangle on": ([*FIRST, blend(), batch(QUADS[:2]), GLOW, batch(QUADS[2:])], [*FIRST, blend(), batch(QUADS), GLOW], 4),
     "direction of triangles": ([clear(*SKY), fan()], [clear(*SKY), fan([*ORDER[:6], 0, 4, 3, *ORDER[9:]])], 2),
     "a triangle too many": ([clear(*SKY), fan(ORDER[:12])], [clear(*SKY), fan([*ORDER[:12], 0, 6, 7])], 2),
     "indices left out": ([clear(*SKY), fan()], [clear(*SKY), fan(ORDER[:7] + ORDER[9:])], 2),
@@ -114,6 +125,18 @@ class Kinds(Folder):
                 self.assertIn(number, [suspect.event for suspect in outcome.suspects[:3]])
                 self.assertIn(name, {one.change.kind for one in outcome.changes if one.left == 0})
                 self.assertFalse({"colour of a vertex", "interpolation"} & {one.change.kind for one in outcome.changes})
+
+    def test_a_batch_that_was_not_ended(self):
+        """The sprites from triangle 4 on glow: the program set the blending of event 5 too late. What is drawn behind it keeps its own."""
+        later = [box(1, 12, 9, 17, (200, 0, 90, 100))]
+        right = [*FIRST, blend(), batch(QUADS[:2]), GLOW, batch(QUADS[2:]), blend(), *later, GLOW, box(20, 1, 23, 5, GLASS)]
+        wrong = [*FIRST, blend(), batch(QUADS), *later, GLOW, box(20, 1, 23, 5, GLASS)]
+        outcome = self.found(capture(wrong), capture(right))
+        best = outcome.changes[0]
+        self.assertEqual((best.left, best.change.event, best.change.says, best.change.also), (0, 4, "with blend as event 6 sets it from triangle 4 on", (6,)))
+        self.assertEqual([event["kind"] for event in best.change.events], ["clear", "draw", "blend", "draw", "blend", "draw", "blend", "draw", "blend", "draw"])
+        self.assertEqual([event["indices"] for event in best.change.events if len(event.get("vertices", ())) == 20],
+                         [batch(QUADS)["indices"][:12], batch(QUADS)["indices"][12:]])
 
     def test_two_at_once(self):
         right, wrong = TWO

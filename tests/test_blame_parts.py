@@ -340,8 +340,8 @@ class Planted(unittest.TestCase):
         self.assertEqual(set(plants.PLANTS) - {"two at once"}, {kind.name for kind in kinds.KINDS} - NOT_PLANTED)
 
 
-# kinds of change that mend what another kind plants
-NOT_PLANTED = {"both factors of blending", "order of states", "two events exchanged", "a triangle too many"}
+# kinds of change that mend what another kind plants; and one that is younger than the bugs of docs/MEASURED.md, of which none is a batch that wasn't ended
+NOT_PLANTED = {"both factors of blending", "order of states", "two events exchanged", "a triangle too many", "a part of the state from a triangle on"}
 
 if __name__ == "__main__":
     unittest.main()

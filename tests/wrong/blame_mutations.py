@@ -28,6 +28,9 @@ MUTATIONS = [
     ("clusters: all that differs is one", "clusters.py", "for i in (-1, 0, 1) for j in (-1, 0, 1)]", "for i in range(-9, 10) for j in range(-9, 10)]", PARTS, "Clusters.test_what_hangs_together"),
     ("clusters: the smallest first", "clusters.py", "(-len(cluster), cluster.pixels[0])", "(len(cluster), cluster.pixels[0])", PARTS, "Clusters.test_what_hangs_together"),
     ("clusters: pixels of one corner alone", "clusters.py", "cells.setdefault((x // 16, y // 16), []).append(pixel)", "cells.setdefault(0, []).append(pixel)\n    return pixels[:most]", PARTS, "Clusters.test_spread"),
+    # draws that are split
+    ("splitting: the state stays behind the draw", "splitting.py", 'if next_one == "draw" else []', "if False else []", KINDS, "Kinds.test_a_batch_that_was_not_ended"),
+    ("splitting: from the first triangle that was met", "splitting.py", "min((max(triangles)", "min((min(triangles)", KINDS, "Kinds.test_a_batch_that_was_not_ended"),
     # windows
     ("windows: a scissor that stays where it was", "frame.py", "by = (left, top, left, top)", "by = (0, 0, 0, 0)", PARTS, "Frames.test_windows"),
     ("windows: a picture's rows from its own left", "painting.py", "self.place(left, y) for y", "self.place(self.left, y) for y", PARTS, "Frames.test_windows"),

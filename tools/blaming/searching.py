@@ -7,7 +7,7 @@ from dataclasses import dataclass, field
 from captures import STATES
 from framedbg_client import Client, Ended, History
 
-from . import states, orders, slips, corners     # noqa: F401  each puts kinds into the table, which are tried in this order
+from . import states, orders, splitting, slips, corners     # noqa: F401  each puts kinds into the table, which are tried in this order
 from .clusters import clusters_of, outside, spread
 from .evidence import REACHES, Sample, suspects_of
 from .faults import MEMORY, Fault
