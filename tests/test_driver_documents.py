@@ -109,8 +109,7 @@ class Pages(unittest.TestCase):
     def test_the_man_page(self):
         flat = " ".join(re.sub(r"^\.\w+ ?", "", self.man(), flags=re.M).replace('"', "").split())
         for option, text, _ in options():
-            self.assertIn(f"{option} ", flat)
-            self.assertIn(text, flat)
+            self.assertEqual([some for some in (f"{option} ", text) if some not in flat], [], "the man page leaves these out")
         known = {option for option, _, _ in options()} | {"--help"}
         self.assertEqual(set(re.findall(r"(?<![\w-])--[a-z][a-z-]*", self.man())), known)
         version = re.compile(r'^\.TH \S+ 1 "" "(framedbg [\d.]+)"', re.M)

@@ -1,0 +1,2 @@
+# Completions of framedbg-explain for fish.
+complete -c framedbg-explain -l help -d 'Shows the options'
