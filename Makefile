@@ -9,6 +9,7 @@
 #               installation. checks/test_parts.txt has the parts; at the end stand their minutes, and what was passed over since something isn't there;
 #               with QUICK=1 what to run before a push, without wrong versions, the edits of edits/ and the second browser
 # make bench    measures the program beside a plain loop in C, and prints ratios; no part of the gate
+# make help     prints these lines
 # make install  puts the program, its page, completions, viewer and documents below PREFIX; make uninstall takes them away
 
 PROGRAM := crates/framedbg/out/framedbg
@@ -16,9 +17,12 @@ SAMPLE := examples/house.json
 PREFIX ?= /usr/local
 HOME_OF := $(DESTDIR)$(PREFIX)
 
-.PHONY: all bench d3d11 demo install page program release test take-frames test-blame test-driver test-fdb test-frames test-page test-viewer try uninstall view wrong-blame wrong-driver wrong-fdb wrong-frames wrong-pages wrong-viewers
+.PHONY: all bench d3d11 demo help install page program release test take-frames test-blame test-driver test-fdb test-frames test-page test-viewer try uninstall view wrong-blame wrong-driver wrong-fdb wrong-frames wrong-pages wrong-viewers
 
 all: demo
+
+help:
+	@sed -n '/^#/!q;s/^# //p' Makefile
 
 program:
 	@build/build_program
@@ -98,6 +102,7 @@ take-frames: $(PROGRAM)
 
 test-viewer: $(PROGRAM)
 	tests/test_explain.py
+	tests/test_tool_pages.py
 	tests/test_mesh_to_capture.py
 	tests/test_viewer.py
 
