@@ -2,7 +2,9 @@
 # make demo     proves and builds framedbg, finds the wrong colour of examples/house.json, and writes its image to demo.pam and demo.png
 # make view     shows the sample capture in the browser, step by step
 # make page     makes out/framedbg.html, the viewer with the program inside, as one file for a browser; with CAPTURE=.. another with that capture inside
-# make release  makes out/framedbg-VERSION/, to hand out: the page, what make install puts somewhere as a tar file, the logic, and checksums
+# make release  makes out/framedbg-VERSION/, to hand out: the page, what make install puts somewhere as a tar file, a .deb and a wheel, and checksums
+# make wheel    makes out/framedbg-VERSION-..whl, which pip and pipx install without the network
+# make deb      makes out/framedbg_VERSION_amd64.deb, which apt installs and takes away
 # make d3d11    makes out/play_d3d11.exe, which draws captures by Direct3D 11 on Windows and compares them with what is right
 # make test     checks documents and examples beside the gate: every proof from nothing, the edits that must fail, the tests, the programs; and then
 #               what only the built program shows: its endings, its threads, its limits, each of its allocations refused, viewer, page, tools, its
@@ -17,7 +19,7 @@ SAMPLE := examples/house.json
 PREFIX ?= /usr/local
 HOME_OF := $(DESTDIR)$(PREFIX)
 
-.PHONY: all bench d3d11 demo help install page program release test take-frames test-blame test-driver test-fdb test-frames test-page test-viewer try uninstall view wrong-blame wrong-driver wrong-fdb wrong-frames wrong-pages wrong-viewers
+.PHONY: all bench d3d11 deb demo help install page program release test take-frames test-blame test-driver test-fdb test-frames test-page test-viewer try uninstall view wheel wrong-blame wrong-driver wrong-fdb wrong-frames wrong-pages wrong-viewers
 
 all: demo
 
@@ -53,6 +55,9 @@ page: program
 
 release: page
 	build/release
+
+wheel deb: $(PROGRAM)
+	build/package $@
 
 test-page: $(PROGRAM)
 	tests/test_page.py
