@@ -81,6 +81,12 @@ class Pages(unittest.TestCase):
         rows = re.findall(r"^\| ([a-z][a-z ]+) \| [^|]+ \|$", PAGE.partition("| Kind | What is changed |")[2], re.M)
         self.assertEqual(sorted(rows), sorted(kind.name for kind in KINDS))
 
+    def test_the_readme(self):
+        """What its first screen shows of blame is what the page's first session has of these lines, which is replayed."""
+        shown = re.search(r"\| grep -E '\^\(who\|mends\|sure\)'\n(.*?)^```", (ROOT / "README.md").read_text(), re.M | re.S)[1]
+        session = PAGE.partition("$ framedbg-blame examples/hunts/chain.json wanted.pam")[2].partition("```")[0]
+        self.assertEqual(shown.splitlines(), re.findall(r"^(?:who|mends|sure) .*$", session, re.M))
+
     def test_statuses(self):
         """--help, the page and the man page say the same of them."""
         cells = {status: row for status, *row in re.findall(r"^\| (\d) \| ([^|]+) \| ([^|]+) \|$", PAGE, re.M)}
