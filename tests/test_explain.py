@@ -5,6 +5,7 @@
 
 Captures are changed by chance, as values and as bytes: all are compared with build/reference.py, and some with the program (FRAMEDBG names another).
 """
+import base64
 import copy
 import json
 import os
@@ -18,16 +19,18 @@ import unittest
 
 from folders import TOOLS, TOP
 
+import browser
 import captures
 import reference
 from explaining import json_text
 from explaining.verdict import explained
 from framedbg_client.program import tried_program
+from page import packing
 
 EXAMPLES = TOP / "examples"
 PROGRAM = tried_program()
 
-SEED, CASES, RUN_CASES = 20, 3000, 150
+SEED, CASES, RUN_CASES, PAGE_CASES = 20, 3000, 150, 800
 CORNER = {"x": 65536, "y": -65536, "z": 9, "color": [1, 2, 3, 4]}
 FRAME = {"format": "framedbg", "version": 2, "width": 4, "height": 4, "events": [
     {"kind": "clear", "color": [1, 2, 3, 4]}, {"kind": "raster", "cull": "none", "front_ccw": False, "scissor": True},
@@ -142,9 +145,9 @@ class Explained(unittest.TestCase):
         self.assertEqual(change('"x": 65536', '"x": 1.5'), f"{where('65536,')}: event 6 (draw), vertex 0, x: a whole number from -1073741824 to 1073741824 of "
                          "1/65536 pixel is wanted, not 1.5")
         self.assertEqual(change('"func": "LESS"', '"func": "less"'), f"{where('LESS', -1)}: event 9 (depth), func: one of NEVER, LESS, EQUAL, LESS_EQUAL, GREATER, NOT_EQUAL, "
-                         'GREATER_EQUAL, ALWAYS is wanted (LESS?), not the text "less"')
-        self.assertEqual(change('"kind": "raster"', '"kind": "rastre"'), f'{where(chr(34) + "raster")}: event 2, kind: there is no kind "rastre" (raster?)')
-        self.assertIn("event 5 (factor): the member color is missing: an array of 4 is wanted (colour?)", change('"color": [\n    0', '"colour": [\n    0'))
+                         'GREATER_EQUAL, ALWAYS is wanted (did you mean LESS?), not the text "less"')
+        self.assertEqual(change('"kind": "raster"', '"kind": "rastre"'), f'{where(chr(34) + "raster")}: event 2, kind: there is no kind "rastre" (did you mean raster?)')
+        self.assertIn("event 5 (factor): the member color is missing: an array of 4 is wanted (did you mean colour?)", change('"color": [\n    0', '"colour": [\n    0'))
         self.assertIn("event 6 (draw), index 2: 3 names no vertex: the draw has 3, numbered from 0", change("    1,\n    2\n   ]\n  },\n", "    1,\n    3\n   ]\n  },\n"))
         self.assertIn("the text ends too early", explained(text[:-1].encode())[2])
         self.assertEqual(explained(b'{\n "a": 1 2}')[2], "line 2, column 9: , or } is wanted here")
@@ -174,7 +177,7 @@ class Explained(unittest.TestCase):
         told = lambda **members: explained(json.dumps({**WITH_PICTURES, **members}).encode())[2].partition(": ")[2]
         draw = WITH_PICTURES["events"][0]
         self.assertEqual(told(version=2), 'event 1 (draw), interp: "picture" comes with version 3: one of flat, linear is wanted')
-        self.assertEqual(told(events=[draw | {"interp": "pictures"}]), 'event 1 (draw), interp: one of flat, linear, picture is wanted (picture?), not the text "pictures"')
+        self.assertEqual(told(events=[draw | {"interp": "pictures"}]), 'event 1 (draw), interp: one of flat, linear, picture is wanted (did you mean picture?), not the text "pictures"')
         self.assertEqual(told(events=[draw | {"picture": "no"}]), 'event 1 (draw), picture: an object is wanted, not the text "no"')
         self.assertEqual(told(events=[draw | {"vertices": [{"x": 0, "y": 0}]}]), "event 1 (draw), vertex 0: the member z is missing: a whole number from 0 to 65535 is wanted")
         self.assertEqual(told(version=4), "version: 1, 2 or 3 is wanted, not 4")
@@ -227,6 +230,55 @@ class Explained(unittest.TestCase):
         self.assertEqual((run.returncode, run.stdout, run.stderr), (2, b"/dev/zero: refused, 1 too long\nit has more than 67108864 bytes\n", b""))
         longest = b"[" + b" " * 67_108_862 + b"]"
         self.assertEqual([explained(data)[1] for data in (longest, longest + b" ")], ["3 not a capture", "1 too long"])
+
+
+# What the page alone says of some captures
+TOLD = """const { verdictOn } = await import("refused.js");
+return given[0].map(letters => { const { verdict, why } = verdictOn(Uint8Array.from(atob(letters), letter => letter.charCodeAt(0))); return [verdict, why]; });"""
+
+
+@unittest.skipUnless(browser.is_installed(), "Chromium and chromedriver aren't installed")
+class InThePage(unittest.TestCase):
+    """The page alone has no Python: its own scripts name member and place. They are tried without the page and its program."""
+
+    @classmethod
+    def setUpClass(cls):
+        cls.folder = tempfile.TemporaryDirectory()
+        cls.browser = browser.Browser()
+        file = pathlib.Path(cls.folder.name) / "scripts.html"
+        file.write_text(f"<!doctype html>{packing.imports(TOOLS / 'viewer/page', packing.HERE)}")
+        cls.browser.open(file.as_uri())
+
+    @classmethod
+    def tearDownClass(cls):
+        cls.browser.close()
+        cls.folder.cleanup()
+
+    def told(self, *some):
+        return self.browser.within(TOLD, [base64.b64encode(data).decode() for data in some])
+
+    def test_it_says_what_explain_says(self):
+        some = list(cases(PAGE_CASES))
+        for data, (verdict, why) in zip(some, self.told(*some), strict=True):
+            accepted, wanted, because = explained(data)
+            self.assertEqual((verdict, why), (wanted, "" if accepted else because), data)
+
+    def test_some_by_hand(self):
+        """What somebody met who wrote a capture by hand, and texts that the cases by chance seldom have."""
+        draw, source = FRAME["events"][5], {"event": 363, "name": "glDrawArrays()"}
+        half = draw | {"source": source, "vertices": [CORNER | {"x": 150.5}]}
+        whole = "a whole number from -1073741824 to 1073741824 of 1/65536 pixel is wanted, not 150.5"
+        long = WITH_PICTURES["events"][0] | {"picture": BOX | {"texels": "A" * 36}}
+        some = [({**WITH_PICTURES, "events": [long]}, "8 bad field 1", "event 1 (draw), picture, texels: 24 bytes in base64 are wanted, four for each of 3 by 2 texels; the text has 27"),
+                ({**FRAME, "events": [half]}, "8 bad field 1", f"event 1 (draw) of call 363 glDrawArrays(), vertex 0, x: {whole}"),
+                ({**FRAME, "events": [{"kind": "depthclear", "depth": 1}]}, "7 unknown event 1", 'event 1, kind: there is no kind "depthclear" (did you mean depth_clear?)'),
+                ({**FRAME, "events": [{"kind": "clear", "colour": [1, 2, 3, 4]}]}, "8 bad field 1", "event 1 (clear): the member color is missing: an array of 4 is wanted (did you mean colour?)"),
+                ({**FRAME, "height": 0}, "5 size", "height: a whole number from 1 to 16384 is wanted, not 0")]
+        for (frame, verdict, why), (told, because) in zip(some, self.told(*(json.dumps(frame).encode() for frame, _, _ in some)), strict=True):
+            self.assertEqual((told, because.partition(": ")[2]), (verdict, why))
+        in_lines = json.dumps(FRAME, indent=1, ensure_ascii=False).replace('"a name"', '"\U0001f600\U0001f600", "name": 7')
+        line = in_lines[:in_lines.index("\U0001f600")].count("\n") + 1
+        self.assertEqual(self.told(in_lines.encode())[0][1], f'line {line}, column 26: event 8 (marker), name: a text is wanted, not 7')      # columns are of characters
 
 
 if __name__ == "__main__":

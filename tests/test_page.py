@@ -278,32 +278,58 @@ class Alone(Opened):
         self.reads("#difference", "1 px differ by ≤ 40, 60 50 to 60 50")
 
     def test_a_refused_capture(self):
-        """The page says how the program ended, shows nothing of another capture, and takes the next one."""
+        """The page says why over the frame that was there, which stays and goes on; then it takes the next one."""
         self.show(HOUSE)
         self.at(13)
+        self.switch(8, False)
         self.drop("README.md", b"# no capture")
-        self.browser.until("return document.getElementById('notice').innerText.includes('framedbg: capture refused 2 not json (status 2)')")
-        self.assertEqual(self.browser.run("return document.querySelectorAll('#event-list .event').length"), 0)
-        self.assertFalse(self.browser.run("return document.querySelector('#image').checkVisibility()"))
-        self.drop("house.json", HOUSE.read_bytes())
-        self.at(13)
-        self.assertEqual(self.drawn(50, 50), [125, 95, 55, 255])
-        self.assertFalse(self.browser.run("return document.querySelector('#notice').checkVisibility()"))
+        self.reads("#refusal p", "README.md: refused, 2 not json line 1, column 1: a value is wanted here house.json is shown as before.")
+        self.assertLessEqual(sum(self.box("#refusal")[1::2]), self.box("#stage")[1])
+        self.assertEqual(self.browser.run("return [document.querySelectorAll('#event-list .event').length, ...['#capture', '#size'].map(s => document.querySelector(s).innerText)]"), [13, "house.json", "96 × 64"])
+        self.assertEqual(self.drawn(50, 50), [190, 60, 50, 255])
+        self.browser.press("Escape", "Left")
+        self.at(12)
+        self.assertEqual(self.browser.run("return document.querySelectorAll('#event-list .event.off').length"), 1)
+        self.drop("depth.json", DEPTH.encode())
+        self.at(6)
+        self.assertFalse(self.browser.run("return document.querySelector('#refusal').checkVisibility()"))
 
     def test_a_refused_capture_is_explained(self):
-        """Where the event stands, and what is written there; no new start is offered."""
-        self.show(HOUSE)
+        """Member and place are named, in the first choice too, which stays until there is a capture to show."""
+        self.plain()
+        text = '{"format":"framedbg","version":1,"width":4,"height":4,\n"events":[{"kind":"clear","color":[1,2,3,4]},\n  {"kind":"clear","color":[1,2,300,4]}]}'
+        why = "line 3, column 32: event 2 (clear), color 2: a whole number from 0 to 255 is wanted, not 300"
+        wrong = pathlib.Path(FOLDER.name) / "wrong.json"
+        wrong.write_text(text)
+        self.browser.choose("#capture-file", wrong)
+        self.reads("#choice #refusal p", f"wrong.json: refused, 8 bad field 2 {why}")
+        self.browser.click("#own-capture")
         self.at(13)
-        for text, why in (('{"format":"framedbg","version":1,"width":4,"height":4,\n"events":[{"kind":"clear","color":[1,2,3,4]},\n  {"kind":"clear","color":[1,2,300,4]}]}',
-                           'line 3, column 3: event 2 is {"kind":"clear","color":[1,2,300,4]}'),
-                          ('{"events":[], "format":"framedbg","version":1,"width":4,"height":4,"x":[{"events":[9]}],"events":[{"kind":"marker","name":"],\\"{"},7]}',
-                           "event 2 is 7"),
-                          ('{"format":"framedbg","version":4,"width":4,"height":4,"events":[]}', "version is 4"), ('{"format":"framedbg","version":1,"height":0,"events":[]}', "width is missing, height is 0")):
+        self.assertFalse(self.browser.run("return document.getElementById('choice').open"))
+        for text, why in (('{"events":[], "format":"framedbg","version":1,"width":4,"height":4,"x":[{"events":[9]}],"events":[{"kind":"marker","name":"],\\"{"},{"kind":"claer"}]}',
+                           '7 unknown event 2 line 1, column 140: event 2, kind: there is no kind "claer" (did you mean clear?)'),
+                          ('{"format":"framedbg","version":4,"width":4,"height":4,"events":[]}', "4 version line 1, column 32: version: 1, 2 or 3 is wanted, not 4")):
             self.drop("wrong.json", text.encode())
-            self.browser.until("return document.getElementById('notice').innerText.includes(arguments[0])", why)
-            self.assertEqual(self.text("#notice button"), "Close")
-        self.drop("house.json", HOUSE.read_bytes())
+            self.reads("#refusal p", f"wrong.json: refused, {why} house.json is shown as before.")
+        self.browser.click("#refusal button")
+        self.assertTrue(self.browser.run("return document.getElementById('refusal').hidden"))
+
+    def test_a_file_of_another_kind(self):
+        """A frame of RenderDoc, a trace of apitrace, a picture where a capture is wanted: what to do with each."""
+        self.plain()
+        samples, _ = image(HOUSE)
+        driver = pathlib.Path(FOLDER.name) / "driver.png"
+        driver.write_bytes(png(samples, 96, 64))
+        self.browser.choose("#capture-file", driver)
+        self.reads("#choice #refusal p", "driver.png is a picture, and no capture. Open a capture first; then drop the picture on its frame, to see what differs.")
+        self.browser.click("#own-capture")
         self.at(13)
+        self.browser.choose("#capture-file", driver)
+        self.reads("#refusal p", "driver.png is a picture, and no capture. Drop it on the frame, or open it at Compared, to see what differs. house.json is shown as before.")
+        for name, data, advice in (("town.rdc", b"RDOC\0", "a frame that RenderDoc took. Turn it into a capture at a terminal, and open that: renderdoc_to_capture town.rdc > town.json"),
+                                   ("game.trace", b"at", "a trace of apitrace. Turn it into a capture at a terminal, and open that: apitrace_to_capture game.trace > game.json")):
+            self.drop(name, data)
+            self.reads("#refusal p", f"{name} is {advice} house.json is shown as before.")
 
     def test_the_sample(self):
         self.plain()

@@ -284,7 +284,14 @@ class Page(Hands):
             self.browser.choose("#file", other)
             self.reads("#notice", "other.png is 64 × 96, the target 96 × 64")
             self.browser.choose("#file", HOUSE)
-            self.reads("#notice", "house.json is no PNG, PAM or PPM")
+            self.reads("#notice", "house.json is a capture, and no picture to compare with")
+            for name, advice in (("a town.rdc", "a town.rdc is a frame that RenderDoc took. Turn it into a capture at a terminal, and open that: renderdoc_to_capture './a town.rdc' > './a town.json' Close"),
+                                 ("game.trace", "game.trace is a trace of apitrace. Turn it into a capture at a terminal, and open that: apitrace_to_capture game.trace > game.json Close"),
+                                 ("README.md", "README.md is no PNG, PAM or PPM")):
+                strange = pathlib.Path(folder) / name
+                strange.write_bytes(b"strange")
+                self.browser.choose("#file", strange)
+                self.reads("#notice", advice)
 
     def test_compared_with_a_png_of_noise(self):
         few = random.Random(1)

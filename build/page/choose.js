@@ -1,26 +1,38 @@
 // Which capture is shown: the one that came with the page, or one that is chosen or dropped. It stays in this page: nothing is sent anywhere.
 
-import { notice } from "./log.js";
+import { adviceOn, isNamedAsPicture, kindOf } from "./files.js";
 import { pack, unpack } from "./packed.js";
+import { forgetRefusal, tellRefusal } from "./refusal.js";
+import { Stopped } from "./runner.js";
 
-const PICTURE = /\.(png|pam|ppm)$/i;           // the viewer compares with those
+const A_WHILE = 300;           // milliseconds after which the page says that it is busy
 const came = document.documentElement.cloneNode(true);     // the page as it came, to be saved with another capture
 came.querySelector("#begin").remove();
-const inside = document.getElementById("own"), stage = document.getElementById("view");
-let shown = null;
+const inside = document.getElementById("own"), stage = document.getElementById("view"), busy = document.getElementById("busy");
+let shown = null, turns = 0;
 
-// The page calls `take` with each capture, { name, bytes }, from the first on; `draw` gives the image of one
+// The page calls `take` with each capture, { name, bytes }, from the first on, and waits: it throws why one is refused. `draw` gives the image of one
 export function chooseCaptures(take, draw) {
   const taken = async (name, bytes) => {
+    const its = ++turns, late = setTimeout(() => { busy.hidden = false; }, A_WHILE);
     try {
-      shown = { name, bytes: await bytes };
+      const other = { name, bytes: await bytes };
+      await take(other);
+      shown = other;
+      forgetRefusal();
       dialog.close();
-      take(shown);
     } catch (fault) {
-      notice(`${name}: ${fault.message}`, true);
+      if (!(fault instanceof Stopped)) refuse(`${name}: ${fault.message}`, dialog);
+    } finally {
+      clearTimeout(late);
+      if (its === turns) busy.hidden = true;
     }
   };
-  const takeFile = file => taken(file.name, file.arrayBuffer().then(bytes => new Uint8Array(bytes)));
+  const takeFile = async file => {
+    const kind = await kindOf(file), why = kind === "picture" ? pictureTold(file.name, dialog) : adviceOn(file.name, kind);
+    if (why) return refuse(why, dialog);
+    return taken(file.name, file.arrayBuffer().then(bytes => new Uint8Array(bytes)));
+  };
   const takeOwn = () => taken(inside.dataset.name, unpack(inside.textContent));
   const dialog = firstChoice(takeFile, takeOwn);
   addButtons();
@@ -31,6 +43,14 @@ export function chooseCaptures(take, draw) {
     offerHunts(dialog, taken, draw);
   }
 }
+
+// Over the frame that stays; where there is none yet, in the choice
+function refuse(why, dialog) {
+  if (!shown && !dialog.open) dialog.showModal();
+  tellRefusal(shown && !dialog.open ? `${why}\n${shown.name} is shown as before.` : why, dialog.open ? dialog : stage);
+}
+
+const pictureTold = (name, dialog) => `${name} is a picture, and no capture. ${dialog.open ? "Open a capture first; then drop the picture on its frame" : "Drop it on the frame, or open it at Compared"}, to see what differs.`;
 
 // The frames with a bug that came with the page, each with its picture, drawn one after another while nothing is chosen yet
 async function offerHunts(dialog, taken, draw) {
@@ -85,7 +105,7 @@ function listen(takeFile, dialog) {
   addEventListener("drop", event => {
     const [file] = event.dataTransfer.files;
     event.preventDefault();
-    if (!file || (PICTURE.test(file.name) && !dialog.open)) return;
+    if (!file || (isNamedAsPicture(file.name) && !dialog.open && stage.contains(event.target))) return;
     event.stopPropagation();
     stage.classList.remove("over");
     takeFile(file);

@@ -1,44 +1,59 @@
-// Why framedbg refuses a capture, as far as this page can tell: where the event stands that it names, and what is written there. tools/explain names the member too.
+// Why framedbg refuses a capture: which member of which event, and where in the text, in the words of framedbg-explain (tools/explaining/verdict.py).
 
-const SHOWN = 200;       // letters of an event's text
-const MEMBERS = { 3: ["format", "events"], 4: ["version"], 5: ["width", "height"] };
+import { decoded, lineAndColumn, locate, Malformed, read } from "./json_text.js";
+import { check, Wrong } from "./rules.js";
+import { printable } from "./printable.js";
 
-// What framedbg said, and the capture's bytes; empty where it refused nothing
+const MOST_BYTES = 67_108_864, MOST_NAME = 60, MOST_NUMBER = 2n ** 64n;      // of a capture; of a call's name that is shown, and its number is below
+const OF_ONE = { vertices: "vertex", indices: "index" };
+
+// What an ended run said of a capture, in words of two lines; what isn't a refusal stays as it is, and where both don't agree framedbg's word alone counts
 export function explained(said, bytes) {
-  const [, fault, , number] = said.match(/capture refused (\d+) (\D+?)(?: (\d+))?(?: \(|$)/) ?? [];
-  if (!fault) return "";
-  const text = new TextDecoder().decode(bytes);
+  const [, refused] = said.match(/capture refused (\d+ .*?)(?: \(status \d+\))?$/) ?? [];
+  if (!refused) return said;
+  const { verdict, why } = verdictOn(bytes);
+  return verdict === refused ? `refused, ${refused}\n${printable(why)}` : `refused, ${refused}`;
+}
+
+// framedbg's own word for a capture of these bytes, and the explanation
+export function verdictOn(bytes) {
+  if (bytes.length > MOST_BYTES) return { verdict: "1 too long", why: `it has more than ${MOST_BYTES} bytes` };
+  let text = "", capture;
   try {
-    const capture = JSON.parse(text);
-    if (number) return tellEvent(text, +number);
-    return (MEMBERS[fault] ?? []).map(name => `${name} is ${cut(JSON.stringify(capture?.[name]) ?? "missing")}`).join(", ");
-  } catch (error) {
-    return error.message;
+    text = decoded(bytes);
+    capture = read(text);
+    check(capture);
+  } catch (fault) {
+    if (fault instanceof Malformed) return { verdict: "2 not json", why: `${place(text || new TextDecoder("utf-8", { ignoreBOM: true }).decode(bytes), fault.at)}: ${fault.message}` };
+    if (fault instanceof Wrong) return { verdict: fault.verdict, why: `${place(text, locate(text, fault.path))}: ${named(capture, fault)}${fault.message}` };
+    throw fault;
   }
+  return { verdict: "accepted", why: "" };
 }
 
-function tellEvent(text, number) {
-  const [start, end] = placeOf(text, number), before = text.slice(0, start).split("\n");
-  return `line ${before.length}, column ${before.at(-1).length + 1}: event ${number} is ${cut(text.slice(start, end))}`;
+function place(text, at) {
+  const [line, column] = lineAndColumn(text, at);
+  return `line ${line}, column ${column}`;
 }
 
-const cut = text => text.length > SHOWN ? `${text.slice(0, SHOWN)} ..` : text;
+// The call that an event comes from, where it says one: " of call 363 glDrawElements()"
+function call(event) {
+  const source = event instanceof Map ? event.get("source") : null, [number, name] = ["event", "name"].map(word => source instanceof Map ? source.get(word) : null);
+  const isNumber = (typeof number === "number" || typeof number === "bigint") && number >= 0 && number < MOST_NUMBER;
+  const words = [...(isNumber ? [String(number)] : []), ...(typeof name === "string" && name ? [[...name.slice(0, 2 * MOST_NAME)].slice(0, MOST_NAME).join("")] : [])];
+  return words.length ? ` of call ${words.join(" ")}` : "";
+}
 
-// Where an event's text begins and ends: the events are the elements of the last array of that name in the outermost object
-function placeOf(text, number) {
-  const token = /"(?:[^"\\]|\\.)*"|[[\]{},]|[^\s"[\]{},:]+/g;
-  let depth = 0, count = 0, inEvents = false, key = "", start = -1, found = [0, 0];
-  for (let match; (match = token.exec(text));) {
-    const [word] = match;
-    if (inEvents && depth === 2 && start < 0 && word !== "]" && word !== ",") start = match.index;
-    if (depth === 1 && word[0] === '"' && /^\s*:/.test(text.slice(token.lastIndex, token.lastIndex + 99))) key = word;
-    if (word === "[" && depth === 1 && key === '"events"') [inEvents, count] = [true, 0];
-    if (word === "[" || word === "{") depth++;
-    if (word === "]" || word === "}") depth--;
-    const isOver = inEvents && start >= 0 && depth === 2 && word !== ",";
-    if (isOver && ++count === number) found = [start, token.lastIndex];
-    if (isOver) start = -1;
-    if (depth === 1) inEvents = false;
+// The way to the member in words: event 5 (draw) of call 363 glDrawElements(), vertex 3, color 0
+function named(capture, { fault, path: [first, number, ...rest] }) {
+  const words = [], steps = number === undefined ? [first].filter(step => step !== undefined) : rest;
+  if (number !== undefined) {
+    const event = capture.get("events")[number], kind = event instanceof Map ? event.get("kind") : null;
+    words.push(`event ${number + 1}${typeof kind === "string" && fault === 8 ? ` (${kind})` : ""}${call(event)}`);
   }
-  return found;
+  while (steps.length) {
+    const name = steps.shift();
+    words.push(typeof steps[0] === "number" ? `${OF_ONE[name] ?? name} ${steps.shift()}` : name);
+  }
+  return words.length ? `${words.join(", ")}: ` : "";
 }

@@ -20,7 +20,7 @@ const text = name => document.getElementById(name).textContent;
 const script = URL.createObjectURL(new Blob([text("program")], { type: "text/javascript" }));
 const program = unpack(text("module")).then(bytes => WebAssembly.compile(bytes));
 const main = new Runner(started), beside = new Map();      // the run that the page moves, and those that stand elsewhere
-let turn = Promise.resolve(), events = null, capture, newest = null, images = 0, stops = 0, search = null, tellCapture = () => {};
+let turn = Promise.resolve(), events = null, capture, tried = null, newest = null, images = 0, stops = 0, search = null, tellCapture = () => {};
 
 // What the address says, or the saved page of the capture that it opens
 export const firstPlace = () => {
@@ -33,25 +33,45 @@ export const switchedElsewhere = () => false;
 // Another capture has been taken, and the run is its own
 export const onCapture = told => { tellCapture = told; };
 
-const chosen = new Promise(resolve => chooseCaptures(other => {
-  const isFirst = !capture;
-  [capture, events] = [other, null];
-  if (isFirst) return resolve();
-  main.off.clear();
-  end(new Error(`${capture.name} is shown now`));
-  tellCapture();
+// One that framedbg refuses is told, and what is shown stays; the run that read another one goes on as the page's own
+const chosen = new Promise(resolve => chooseCaptures(async other => {
+  const run = new Runner(() => workerOf(other.bytes)), isFirst = !capture;
+  tried?.end(new Stopped());
+  tried = run;
+  try {
+    await run.ask(["state"], null);
+    if (tried !== run) throw new Stopped();         // another one was chosen meanwhile
+  } catch (fault) {
+    run.end(fault);
+    throw fault instanceof Ended ? new Ended(explained(fault.message, other.bytes)) : fault;
+  }
+  [capture, events, tried] = [other, null, null];
+  endBeside(new Error(`${capture.name} is shown now`));
+  main.takeOver(run, new Error(`${capture.name} is shown now`));
+  if (isFirst) resolve();
+  else tellCapture();
 }, drawOther));
 
-function end(why) {
-  for (const run of [main, ...beside.values()]) run.end(why);
+function endBeside(why) {
+  for (const run of beside.values()) run.end(why);
   beside.clear();
+}
+
+function end(why) {
+  main.end(why);
+  endBeside(why);
+}
+
+// Unless something is stopped before that
+async function isChosen() {
+  const before = stops;
+  await Promise.all([program, chosen]);
+  if (before !== stops) throw new Stopped();
 }
 
 // A worker with the program in it, and the capture
 async function started() {
-  const before = stops;
-  await Promise.all([program, chosen]);
-  if (before !== stops) throw new Stopped();
+  await isChosen();
   return workerOf(capture.bytes);
 }
 
@@ -77,6 +97,7 @@ const inTurn = job => {
 // The replies to some lines, with no other caller's between: { text, lines?, left_out?, image? }. Of an image the part in the window comes.
 // A run beside may answer them, "end" or "depths": it has the same events off, and where it stands is nobody else's. Or it answers more lines after them
 export const ask = (lines, window = null, name = null, atEnd = []) => inTurn(async () => {
+  await isChosen();
   if (name) return askBeside(name, lines, window);
   const own = follow(await main.ask(lines, window));
   return atEnd.length ? [...own, ...await askBeside("end", atEnd, window)] : own;
@@ -105,9 +126,6 @@ function follow(replies) {
   }
   return replies;
 }
-
-// Why the capture is refused, where that is what was said; a new start is of no help then
-export const refusal = said => explained(said, capture.bytes);
 
 export const captureName = async () => { await chosen; return capture.name; };
 export const restart = () => inTurn(() => {

@@ -43,11 +43,18 @@ export class Runner {
   }
 
   async answer(lines, window) {
+    const { output } = this, replies = [];           // those of this worker, whichever is there when they come
     this.lines += lines.length;
     this.worker?.postMessage({ lines: new TextEncoder().encode(lines.map(line => line + "\n").join("")) });
-    const replies = [];
-    for (const _ of lines) replies.push(await this.output.reply(window));
+    for (const _ of lines) replies.push(await output.reply(window));
     return replies;
+  }
+
+  // Goes on with another run's worker, which has all events on; whoever waits for an answer is told why there is none
+  takeOver(other, why) {
+    this.end(why);
+    this.off.clear();
+    Object.assign(this, { worker: other.worker, output: other.output, lines: other.lines });
   }
 
   // Has the same events off as another run, and lines left for so many more

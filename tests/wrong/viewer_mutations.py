@@ -10,8 +10,8 @@ from wrong_versions import Version, try_all
 
 MISSING = "" if browser.is_installed() else "Chromium and chromedriver aren't installed"
 # By a name's first word: where its file lies, and the tests
-KINDS = {"door": ("viewer/", "test_viewer.py"), "server": ("viewer/", "test_viewer.py"), "page": ("viewer/", "test_viewer.py"), "view": ("", "test_viewer.py"),
-         "blame": ("viewer/", "test_viewer.py"), "explain": ("", "test_explain.py"), "mesh": ("", "test_mesh_to_capture.py")}
+KINDS = {"door": ("tools/viewer/", "test_viewer.py"), "server": ("tools/viewer/", "test_viewer.py"), "page": ("tools/viewer/", "test_viewer.py"), "view": ("tools/", "test_viewer.py"),
+         "blame": ("tools/viewer/", "test_viewer.py"), "explain": ("tools/", "test_explain.py"), "explained page": ("build/page/", "test_explain.py"), "mesh": ("tools/", "test_mesh_to_capture.py")}
 MUTATIONS = [   # name, file, text, what stands there instead, test
     ("door: any address", "server.py", '("127.0.0.1", port)', '("", port)', "Doors.test_loopback"),
     ("view: a port that is another's is a traceback", "viewer/server.py", "        self.blame = Blame(*session.words[:2])", "        setattr(self, \"blame\" if port == 0 else \"none\", Blame(*session.words[:2]))",
@@ -244,6 +244,10 @@ MUTATIONS = [   # name, file, text, what stands there instead, test
     ("explain: a kind of any length", "explaining/printable.py", "len(text) <= MOST_SHOWN", "True", "Explained.test_nothing_steers_the_terminal"),
     ("explain: read to its end", "explain", "file.read(MOST_BYTES + 1)", "file.read()", "Explained.test_a_file_without_end"),
     ("explain: a byte too few is read", "explain", "file.read(MOST_BYTES + 1)", "file.read(MOST_BYTES)", "Explained.test_a_file_without_end"),
+    ("explained page: columns of half characters", "json_text.js", "if ((text.charCodeAt(i) & 0xfc00) !== 0xdc00) column++", "column++", "InThePage.test_some_by_hand"),
+    ("explained page: the name that is least like it", "near.js", "like > best.like", "like < best.like", "InThePage.test_it_says_what_explain_says"),
+    ("explained page: pictures of any length", "rules.js", "if (has !== length) throw", "if (has < length) throw", "InThePage.test_some_by_hand"),
+    ("page: a frame of RenderDoc is a picture", "page/files.js", "  rdc: converted(", "  picture: converted(", "Page.test_compared_with_another_picture"),
     ("mesh: rows without properties", "meshes/ply.py", "(count and not properties)", "False", "Meshes.test_what_is_declared_without_end"),
     ("mesh: rows below zero", "meshes/ply.py", "count < 0 or ", "", "Meshes.test_what_is_declared_without_end"),
     ("mesh: rows behind the end", "meshes/ply.py", "if count > len(body):", "if False:", "Meshes.test_what_is_declared_without_end"),
@@ -282,7 +286,7 @@ MUTATIONS = [   # name, file, text, what stands there instead, test
 def version(name, file, old, new, test):
     kind = name.partition(":")[0]
     folder, tests = KINDS[kind]
-    return Version(name, f"tools/{folder}{file}", old, new, tests, test, MISSING if kind == "page" else "")
+    return Version(name, folder + file, old, new, tests, test, MISSING if kind in ("page", "explained page") else "")
 
 
 if __name__ == "__main__":

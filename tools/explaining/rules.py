@@ -239,7 +239,7 @@ def near(value, allowed):
         return ""
     names = {name.lower(): name for name in itertools.islice(allowed, MOST_COMPARED)}
     found = difflib.get_close_matches(value.lower(), names, 1)
-    return f" ({names[found[0]]}?)" if found else ""
+    return f" (did you mean {names[found[0]]}?)" if found else ""
 
 
 def told(value):

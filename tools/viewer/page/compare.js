@@ -1,11 +1,19 @@
 // A picture from a file, to be compared with the image: PAM and PPM as framedbg and netpbm write them, and PNG of eight bits, exactly.
 // The browser's own readers scale colours by alpha and back, so they can't be asked.
 
+import { adviceOn, kindOf } from "./files.js";
+
 export async function readPicture(file) {
   const bytes = new Uint8Array(await file.arrayBuffer()), magic = String.fromCharCode(...bytes.subarray(0, 4));
   const picture = magic.startsWith("P7") || magic.startsWith("P6") ? readNetpbm(bytes) : magic.endsWith("PNG") ? await readPng(bytes) : null;
-  if (!picture) throw new Error(`${file.name} is no PNG, PAM or PPM`);
+  if (!picture) throw new Error(await toldOf(file));
   return { name: file.name, ...picture };
+}
+
+// Why a file is no picture, and what to do with it
+async function toldOf(file) {
+  const kind = await kindOf(file);
+  return adviceOn(file.name, kind) || (kind === "capture" ? `${file.name} is a capture, and no picture to compare with` : `${file.name} is no PNG, PAM or PPM`);
 }
 
 // Samples of `depth` channels, made four; without an alpha of its own a picture has none to compare

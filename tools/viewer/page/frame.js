@@ -1,6 +1,6 @@
 // The frame at a position: what framedbg said of it, and the moves that ask for more. Every move is one call of a few commands.
 
-import { refusal, restart, sources, triangle, switchedElsewhere, onForeign, Ended, Stopped } from "./run.js";
+import { restart, sources, triangle, switchedElsewhere, onForeign, Ended, Stopped } from "./run.js";
 import { ask, stop as stopAnswer } from "./working.js";
 import { readEvent, readEntry, readPixel, readState, positionIn, isRefusal } from "./replies.js";
 import { forgetHistories, isCoarse, readMap, wantMap as setMap } from "./maps.js";
@@ -329,8 +329,6 @@ export const command = line => inTurn(async () => {
 function fail(fault) {
   if (fault instanceof Stopped) return void goBack();
   if (!(fault instanceof Ended)) return notice(String(fault.message ?? fault), true);
-  const why = refusal(fault.message);
-  if (why) return notice(`This capture is refused: ${fault.message}\n${why}`, true, "Close", () => {});
   notice(`The run has ended: ${fault.message}`, true, "Start again", () => {
     const off = frame.events.filter(event => !event.on).map(event => `off ${event.number}`);
     inTurn(async () => {

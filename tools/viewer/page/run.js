@@ -57,9 +57,6 @@ export function switchedElsewhere() {
   return was;
 }
 
-// Why the capture is refused: the server has told that before any page comes, so a file that is mended since then may be tried again
-export const refusal = () => "";
-
 export const captureName = async () => (await (await call("/capture")).json()).name;
 
 export async function restart() {

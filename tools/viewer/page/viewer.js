@@ -173,7 +173,7 @@ function compareWith(other) {
 }
 
 const pin = () => frame.after && !frame.isDragged && compareWith({ ...frame.after, name: `position ${frame.position}, pinned` });
-const load = file => file && readPicture(file).then(compareWith).catch(fault => notice(fault.message, true));
+const load = file => file && readPicture(file).then(compareWith).catch(fault => notice(fault.message, true, ...(fault.message.includes("\n") ? ["Close", () => {}] : [])));
 
 // The next pixel in reading order that differs, after the chosen one and round again
 function nextDifferent() {
