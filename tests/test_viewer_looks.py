@@ -8,7 +8,7 @@ import folders
 
 import browser
 from viewer_hands import Hands
-from viewer_testing import HOUSE, WINDOW, Viewer, file_of, image
+from viewer_testing import HOUSE, WINDOW, Viewer, capture_of, file_of, image
 
 # Turns the wheel over the picture, at a place of the page
 TURN = """const [x, y, more] = arguments;
@@ -38,6 +38,31 @@ for (const one of shown) for (const two of shown) {
   if (name(one) < name(two) && a.left < b.right - 1 && b.left < a.right - 1 && a.top < b.bottom - 1 && b.top < a.bottom - 1) over.push(`${name(one)} ${name(two)}`);
 }
 return [out, over, document.documentElement.scrollWidth > wide];"""
+
+# Each number that is cut off without a sign: it runs out of a part of the page that neither scrolls nor ends in dots, or out of its own cell
+CUT = """const cut = [], walker = document.createTreeWalker(document.body, NodeFilter.SHOW_TEXT), style = e => getComputedStyle(e), box = e => e.getBoundingClientRect();
+for (let node; (node = walker.nextNode());) {
+  const owner = node.parentElement, range = document.createRange();
+  if (!/\\d/.test(node.data) || !owner.checkVisibility() || owner.closest("dialog, script, .unseen")) continue;
+  range.selectNodeContents(node);
+  const boxes = [...range.getClientRects()], name = at => `${at.id || at.className || at.tagName}: ${node.data}`;
+  const cell = owner.closest(".row > *");
+  if (cell && style(cell).textOverflow !== "ellipsis" && cell.scrollWidth > cell.clientWidth + 1) cut.push(name(cell));
+  if (cell && style(cell).textOverflow !== "ellipsis" && boxes.some(b => b.right > box(cell).right + 1 || b.bottom > box(cell.parentElement).bottom + 1)) cut.push(name(cell));
+  for (let at = owner; at !== document.documentElement; at = at.parentElement) {
+    if (/auto|scroll/.test(style(at).overflowX)) break;
+    if (style(at).overflowX !== "visible" && style(at).textOverflow !== "ellipsis" && boxes.some(b => b.right > box(at).right + 1 || b.left < box(at).left - 1)) cut.push(name(at));
+  }
+}
+for (const list of document.querySelectorAll(".list")) if (!style(list).backgroundImage.includes("gradient")) cut.push(`${list.id}: no shadow`);
+return cut;"""
+FAR = 1_073_741_567             # in 1/65536 pixel: 16383.99608
+# The longest numbers: a capture of version 2 whose triangle reaches far out of the target
+LONG = capture_of(64, 48, [
+    {"kind": "clear", "color": [255, 255, 255, 128]}, {"kind": "raster", "cull": "none", "front_ccw": False, "scissor": True}, {"kind": "scissor", "rect": [-2147483648, -2147483648, 2147483647, 2147483647]},
+    {"kind": "factor", "color": [255, 255, 255, 255]}, {"kind": "blend", "enable": True, "rgb": ["BLEND_FACTOR", "INV_BLEND_FACTOR", "ADD"], "alpha": ["ONE", "ZERO", "ADD"], "mask": 15},
+    {"kind": "depth", "enable": True, "write": True, "func": "LESS_EQUAL"}, {"kind": "depth_clear", "depth": 65535},
+    {"kind": "draw", "interp": "flat", "vertices": [{"x": x, "y": y, "z": 65534, "color": [254, 253, 252, 251]} for x, y in ((-FAR, FAR), (FAR, -FAR), (FAR, FAR))]}], 2)
 
 
 @unittest.skipUnless(browser.is_installed(), "Chromium and chromedriver aren't installed")
@@ -70,6 +95,30 @@ class Looks(Hands):
             if width == 1280:
                 self.assertGreaterEqual(self.box("#view")[2] * 2, width)
                 self.assertGreaterEqual(self.box("#stage")[3] * 2, height)
+
+    def test_no_number_is_cut(self):
+        """Without a sign: in the history, the lists of events and corners, the state and beside the picture, at any width."""
+        with tempfile.TemporaryDirectory() as folder, Viewer(file_of(folder, LONG)) as viewer:
+            for width, height in ((901, 800), (1000, 800), (1100, 800), (1280, 800), (1440, 900), (500, 800)):
+                self.of_size(width, height)
+                self.open(viewer)
+                self.at(8)
+                self.click_pixel(20, 20, 64)
+                self.browser.until("return document.querySelectorAll('#history .entry').length === 3")
+                self.browser.run("document.getElementById('wires-shown').checked || document.getElementById('wires-shown').click()")
+                self.browser.until("return document.querySelectorAll('#vertices .row').length === 4")
+                self.comes(lambda: [width, *self.browser.run(CUT)], [width])
+                self.assertEqual(self.browser.run("return ['#filter', '#command'].map(s => getComputedStyle(document.querySelector(s)).textOverflow)"), ["ellipsis"] * 2)
+                colours = self.browser.run("return [...document.querySelectorAll('#history .entry:last-child .cell')].map(e => e.innerText.replace(/\\s+/g, ' ').trim())")
+                self.assertEqual(colours, ["254 253 252 251 65534", "255 255 255 128 65535", "254 253 252 251 65534"])
+
+    def test_a_click_shows_its_history(self):
+        """On a phone, where one thing stands below another."""
+        self.of_size(500, 800)
+        self.shows_house()
+        inside = "const e = document.getElementById('history').getBoundingClientRect(), h = document.querySelector('header').getBoundingClientRect(); return e.top >= h.bottom && e.bottom <= innerHeight && e.height > 100"
+        self.comes(lambda: self.browser.run(inside), True)
+        self.assertGreater(self.box("#stage")[1] + self.box("#stage")[3], 200)        # and of the picture enough is left
 
     def test_colours_of_the_system(self):
         """Swatches and the picture keep theirs, and what is chosen has a line."""

@@ -6,13 +6,14 @@ import { sumOf } from "./sum.js";
 import { figures, hex } from "./words.js";
 
 const $ = id => document.getElementById(id);
-const ROW = 26, DEEP_ROW = 40;        // pixels of the page: a row of the history, and one with depths or figures under the colours
-const NARROW = 480;                   // where figures have no room beside their colours
+const ROW = 26, LINE = 15;            // pixels of the page: a row of the history, and each line more: of depths, and of colours where the column is narrow
+const NARROW = 460;                   // where three colours have no room beside event, triangle and verdict
+const PHONE = matchMedia("(max-width: 800px)");
 const history = new List($("history"), ROW, entryRow, {
   onKey: (key, entry) => /^(ArrowUp|ArrowDown|Enter)$/.test(key) && (goToEntry(entry), true),
   look: entry => `${Math.sign(entry.event - frame.position)} ${entry === frame.outlined}`,
 });
-let shown = -1, isNarrow = true;
+let shown = -1, isNarrow = true, seen = null;
 
 export function drawPixel() {
   const { pixel, value, entries, position } = frame;
@@ -25,14 +26,22 @@ export function drawPixel() {
   $("hex").textContent = hex(value.colour);
   $("depth-here").hidden = value.depth === null;
   $("depth-here").replaceChildren("depth ", element("b", "", String(value.depth)));
-  const deep = entries.some(entry => entry.depth) || isNarrow;
-  $("pixel").classList.toggle("deep", deep);
-  if (history.rowHeight !== (deep ? DEEP_ROW : ROW)) history.forget();
-  history.rowHeight = deep ? DEEP_ROW : ROW;
+  const isDeep = entries.some(entry => entry.depth), height = ROW + LINE * (isDeep + isNarrow);
+  $("pixel").classList.toggle("deep", isDeep);
+  $("pixel").classList.toggle("stacked", isNarrow);
+  if (history.rowHeight !== height) history.forget();
+  history.rowHeight = height;
   history.show(entries);
   drawSum();
   if (shown !== position) history.choose(entries.findLastIndex(entry => entry.event <= position));
   shown = position;
+  if (PHONE.matches && seen !== pixel) $("history").scrollIntoView({ block: "nearest" });       // one thing stands below another there
+  seen = pixel;
+}
+
+// The names of the columns stay over them
+for (const [list, names] of [["history", "#history-head"], ["vertices", ".row.vertex.names"]]) {
+  $(list).addEventListener("scroll", () => { document.querySelector(names).style.left = `${-$(list).scrollLeft}px`; });
 }
 
 new ResizeObserver(() => {
