@@ -351,6 +351,41 @@ class Alone(Opened):
         self.at(9)
         self.reads("#capture", "chain.json")
 
+    def test_the_hunts_again(self):
+        """Open.. leads to them while a frame is shown, which stays where nothing is chosen."""
+        self.show(HOUSE)
+        self.at(13)
+        self.browser.click("#open-capture")
+        self.browser.until("return document.getElementById('choice').open")
+        self.browser.click("#choice-guide")
+        self.browser.until("return document.getElementById('guide').open")
+        self.browser.press("Escape")
+        self.browser.until("return !document.getElementById('guide').open")
+        self.browser.press("Escape")
+        self.browser.until("return !document.getElementById('choice').open")
+        self.reads("#capture", "house.json")
+        self.browser.click("#open-capture")
+        chain = "[...document.querySelectorAll('#hunts button')].find(b => b.innerText.trim() === 'chain')"
+        self.browser.until(f"return {chain}?.querySelector('canvas').getContext('2d').getImageData(60, 60, 1, 1).data[3] === 255")      # drawn, though the choice was closed meanwhile
+        self.browser.run(f"{chain}.click()")
+        self.reads("#capture", "chain.json")
+        self.at(9)
+        self.assertFalse(self.browser.run("return document.getElementById('choice').open"))
+
+    def test_it_is_loaded_again(self):
+        """With the frame that was shown, at its place; opened anew it asks."""
+        self.show(CHAIN)
+        self.at(9)
+        self.browser.click(self.row(8) + " .what")
+        self.at(8)
+        self.browser.until("return location.hash === '#at=8' && Object.keys(sessionStorage).length > 0")
+        self.browser.call("/refresh", {})
+        self.browser.until("return document.querySelector('#position b') !== null")
+        self.at(8)
+        self.reads("#capture", "chain.json")
+        self.plain()
+        self.assertTrue(self.browser.run("return document.getElementById('choice').open"))
+
     def test_it_ends_and_starts_again(self):
         self.show(HOUSE)
         self.at(13)
@@ -655,7 +690,7 @@ class Blamed(Opened):
 
 
 class BlamedInChromium(Blamed, test_viewer_blame.WhoDidItInChromium):
-    pass
+    test_nothing_mends_it = None        # a server that says so
 
 
 class BlamedInFirefox(Blamed, test_viewer_blame.WhoDidItInFirefox):

@@ -5,6 +5,7 @@ import tempfile
 import threading
 import time
 import unittest
+from unittest import mock
 
 import folders
 
@@ -148,7 +149,15 @@ class WhoDidIt(Hands):
 
 @unittest.skipUnless(browser.is_installed(), "Chromium and chromedriver aren't installed")
 class WhoDidItInChromium(WhoDidIt):
-    pass
+    def test_nothing_mends_it(self):
+        """It isn't told in the colour of good news."""
+        nothing = {"differ": 5, "changes": [], "findings": [], "over": True}
+        with mock.patch.object(Blame, "answer", lambda *_: (nothing, b"")), tempfile.TemporaryDirectory() as folder, Viewer(CHAIN) as viewer:
+            self.compared(viewer, folder)
+            self.browser.click("#who")
+            self.reads("#findings .verdict", "No change that was tried mends it")
+            self.assertTrue(self.browser.run("const all = document.getElementById('findings'), good = document.createElement('span'); good.className = 'verdict';"
+                                             "all.append(good); return getComputedStyle(good).color !== getComputedStyle(all.querySelector('.verdict')).color"))
 
 
 @unittest.skipUnless(browser.Firefox.installed(), "Firefox isn't installed")

@@ -118,6 +118,15 @@ class Maps(Hands):
         colours = [self.legend()[name][0] for name in names]
         self.assertEqual(self.picture(30, 24), [colours[value] for value in values])
 
+    def test_under_the_pointer(self):
+        """Place, colour, and how often it was drawn: each by itself."""
+        with Viewer(HOUSE) as viewer:
+            self.open(viewer)
+            self.at(13)
+            self.turn_to("o")
+            self.click_pixel(50, 50, 96)
+            self.reads("#hover", "50 50 125 95 55 128 drawn 3 times")
+
     def test_a_switch_changes_the_map(self):
         """Of every second pixel at first, and then of all of them: all events on, the first draw off, and on again."""
         capture = json.loads(HOUSE.read_text())

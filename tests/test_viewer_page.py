@@ -292,6 +292,7 @@ class Page(Hands):
                 strange.write_bytes(b"strange")
                 self.browser.choose("#file", strange)
                 self.reads("#notice", advice)
+            self.comes(lambda: [self.drawn(x, y) for x, y in ((60, 50), (50, 50))], [[255, 255, 255, 255], [31, 23, 13, 255]])        # white where they differ
 
     def test_compared_with_a_png_of_noise(self):
         few = random.Random(1)

@@ -3,13 +3,14 @@
 import { adviceOn, isNamedAsPicture, kindOf } from "./files.js";
 import { pack, unpack } from "./packed.js";
 import { forgetRefusal, tellRefusal } from "./refusal.js";
+import { keep, kept } from "./reloaded.js";
 import { Stopped } from "./runner.js";
 
 const A_WHILE = 300;           // milliseconds after which the page says that it is busy
 const came = document.documentElement.cloneNode(true);     // the page as it came, to be saved with another capture
 came.querySelector("#begin").remove();
 const inside = document.getElementById("own"), stage = document.getElementById("view"), busy = document.getElementById("busy");
-let shown = null, turns = 0;
+let dialog, shown = null, turns = 0, openChoice = () => {};
 
 // The page calls `take` with each capture, { name, bytes }, from the first on, and waits: it throws why one is refused. `draw` gives the image of one
 export function chooseCaptures(take, draw) {
@@ -21,55 +22,63 @@ export function chooseCaptures(take, draw) {
       shown = other;
       forgetRefusal();
       dialog.close();
+      keep(other, () => shown === other);
     } catch (fault) {
-      if (!(fault instanceof Stopped)) refuse(`${name}: ${fault.message}`, dialog);
+      if (!(fault instanceof Stopped)) refuse(`${name}: ${fault.message}`);
     } finally {
       clearTimeout(late);
       if (its === turns) busy.hidden = true;
     }
   };
   const takeFile = async file => {
-    const kind = await kindOf(file), why = kind === "picture" ? pictureTold(file.name, dialog) : adviceOn(file.name, kind);
-    if (why) return refuse(why, dialog);
+    const kind = await kindOf(file), why = kind === "picture" ? pictureTold(file.name) : adviceOn(file.name, kind);
+    if (why) return refuse(why);
     return taken(file.name, file.arrayBuffer().then(bytes => new Uint8Array(bytes)));
   };
-  const takeOwn = () => taken(inside.dataset.name, unpack(inside.textContent));
-  const dialog = firstChoice(takeFile, takeOwn);
-  addButtons();
-  listen(takeFile, dialog);
-  if ("opens" in inside.dataset) takeOwn();
-  else {
+  const takeOwn = () => taken(inside.dataset.name, unpack(inside.textContent)), last = kept();
+  dialog = choiceOf(takeFile, takeOwn);
+  const drawHunts = offerHunts(taken, draw);
+  openChoice = () => {
+    dialog.querySelector("#choice-close").hidden = !shown;
+    forgetRefusal();
     dialog.showModal();
-    offerHunts(dialog, taken, draw);
-  }
+    drawHunts();
+  };
+  addButtons();
+  listen(takeFile);
+  if (last) taken(last.name, unpack(last.text));
+  else if ("opens" in inside.dataset) takeOwn();
+  else openChoice();
 }
 
 // Over the frame that stays; where there is none yet, in the choice
-function refuse(why, dialog) {
-  if (!shown && !dialog.open) dialog.showModal();
+function refuse(why) {
+  if (!shown && !dialog.open) openChoice();
   tellRefusal(shown && !dialog.open ? `${why}\n${shown.name} is shown as before.` : why, dialog.open ? dialog : stage);
 }
 
-const pictureTold = (name, dialog) => `${name} is a picture, and no capture. ${dialog.open ? "Open a capture first; then drop the picture on its frame" : "Drop it on the frame, or open it at Compared"}, to see what differs.`;
+const pictureTold = name => `${name} is a picture, and no capture. ${dialog.open ? "Open a capture first; then drop the picture on its frame" : "Drop it on the frame, or open it at Compared"}, to see what differs.`;
 
-// The frames with a bug that came with the page, each with its picture, drawn one after another while nothing is chosen yet
-async function offerHunts(dialog, taken, draw) {
+// The frames with a bug that came with the page, each with its picture. Whoever calls what this gives has those drawn, one after another while the choice is open
+function offerHunts(taken, draw) {
   const all = [...document.querySelectorAll("script.hunt")], list = dialog.querySelector("#hunts");
-  const buttons = all.map(({ dataset: { name }, textContent }) => {
+  const undrawn = all.map(({ dataset: { name }, textContent }) => {
     const button = document.createElement("button"), picture = document.createElement("canvas");
     Object.assign(picture, { width: 120, height: 90, ariaHidden: "true" });
     button.append(picture, name.replace(/\.json$/, ""));
     button.onclick = () => taken(name, unpack(textContent));
     list.append(button);
-    return button;
+    return { textContent, picture };
   });
+  let turn = Promise.resolve();
   dialog.querySelector("#hunts-told").hidden = !all.length;
-  for (const [i, script] of all.entries()) {
-    if (!dialog.open) return;
-    const { width, height, bytes } = await draw(await unpack(script.textContent)), picture = buttons[i].firstElementChild, shown = new ImageData(width, height);
-    for (let p = 0; p < bytes.length; p++) shown.data[p] = p % 4 === 3 ? 255 : bytes[p];
-    Object.assign(picture, { width, height }).getContext("2d").putImageData(shown, 0, 0);
-  }
+  return () => { turn = turn.then(async () => { while (dialog.open && undrawn.length) await drawHunt(undrawn.shift(), draw); }); };
+}
+
+async function drawHunt({ textContent, picture }, draw) {
+  const { width, height, bytes } = await draw(await unpack(textContent)), painted = new ImageData(width, height);
+  for (let p = 0; p < bytes.length; p++) painted.data[p] = p % 4 === 3 ? 255 : bytes[p];
+  Object.assign(picture, { width, height }).getContext("2d").putImageData(painted, 0, 0);
 }
 
 function element(html) {
@@ -78,29 +87,32 @@ function element(html) {
   return document.body.appendChild(template.content.firstElementChild);
 }
 
-function firstChoice(takeFile, takeOwn) {
-  const dialog = element(`<dialog id="choice"><h2>Which capture?</h2><p>Drop one anywhere on this page. It stays here: nothing is sent.</p>
+function choiceOf(takeFile, takeOwn) {
+  const made = element(`<dialog id="choice"><h2>Which capture?</h2><p>Drop one anywhere on this page. It stays here: nothing is sent.</p>
     <p><input id="capture-file" type="file" accept=".json,application/json" aria-label="A capture of your own"> or the sample, <button id="own-capture"></button></p>
-    <p id="hunts-told" hidden>Or look for what was planted in one of these frames:</p><div id="hunts"></div></dialog>`);
-  const [file, button] = dialog.querySelectorAll("input, #own-capture");
+    <p id="hunts-told" hidden>Or look for what was planted in one of these frames (<button id="choice-guide" class="quiet">how to find who did it</button>):</p><div id="hunts"></div>
+    <p><button id="choice-close" hidden>Close</button></p></dialog>`);
+  const [file, button, guide, close] = made.querySelectorAll("input, #own-capture, #choice-guide, #choice-close");
   button.textContent = inside.dataset.name;
   button.onclick = takeOwn;
   file.onchange = () => { if (file.files.length) takeFile(file.files[0]); file.value = ""; };
-  dialog.oncancel = event => event.preventDefault();
-  return dialog;
+  guide.onclick = () => document.getElementById("guide").showModal();
+  close.onclick = () => made.close();
+  made.oncancel = event => { if (!shown) event.preventDefault(); };
+  return made;
 }
 
 function addButtons() {
-  const buttons = element(`<div><button id="open-capture" class="quiet" title="Another capture; or drop one anywhere">Open&hellip;</button><button id="save-page"
+  const buttons = element(`<div><button id="open-capture" class="quiet" title="Another capture, the sample or a hunt; or drop one anywhere">Open&hellip;</button><button id="save-page"
     class="quiet" title="This page with this capture inside: one file, to send or to keep">Save page</button></div>`);
   document.querySelector("header .name").after(buttons);
   const [open, save] = buttons.children;
-  open.onclick = () => document.getElementById("capture-file").click();
+  open.onclick = () => openChoice();
   save.onclick = () => shown && savePage(shown);
 }
 
 // A file that is dropped anywhere is a capture, but for a picture on a frame, which is the viewer's
-function listen(takeFile, dialog) {
+function listen(takeFile) {
   addEventListener("dragover", event => event.preventDefault());       // else the browser would leave for the file
   addEventListener("drop", event => {
     const [file] = event.dataTransfer.files;

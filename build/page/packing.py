@@ -9,7 +9,7 @@ import re
 HERE = pathlib.Path(__file__).resolve().parent
 EXAMPLES = pathlib.Path(os.environ.get("EXAMPLES", HERE.parent.parent / "examples"))
 SCRIPTS = ["run.js", "runner.js", "choose.js", "output.js", "packed.js", "part.js",       # run.js in the place of the viewer's
-           "refused.js", "rules.js", "json_text.js", "near.js", "printable.js", "refusal.js",
+           "refused.js", "rules.js", "json_text.js", "near.js", "printable.js", "refusal.js", "reloaded.js",
            "search.js", "changes.js", "worked.js", "evidence.js", "clusters.js", "capture.js"]
 POLICY = ("default-src 'none'; script-src 'unsafe-inline' 'wasm-unsafe-eval' data: blob:; worker-src blob:; style-src 'unsafe-inline'; img-src data:; "
           "base-uri 'none'; form-action 'none'")

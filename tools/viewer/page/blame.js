@@ -47,7 +47,7 @@ function setLooking(is, far = "") {
 function show({ differ, changes, findings, samples, over, more }, { width, height }, hands) {
   const best = changes[0], mended = best && pictureOf(samples, width, height);
   const rest = differ && best?.differ !== 0 ? [over && "the time was over", more].filter(Boolean) : [];
-  $("findings").replaceChildren(element("span", "verdict", tell(differ, best)), ...(mended ? [mendedButton(mended, hands)] : []),
+  $("findings").replaceChildren(element("span", !differ || best?.differ === 0 ? "verdict" : "verdict unmended", tell(differ, best)), ...(mended ? [mendedButton(mended, hands)] : []),
     ...findings.map(finding => row(finding, hands)), ...rest.map(text => element("span", "rest", text)));
   $("findings").hidden = false;
 }

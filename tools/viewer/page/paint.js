@@ -25,6 +25,14 @@ export function paint(out, bytes, mask, on) {
   }
 }
 
+// What is the same is dark, and what differs white, as framedbg-night shows it
+export function paintDifference(out, bytes, mask) {
+  for (let i = 0, p = 0; p < bytes.length; i++, p += 4) {
+    for (let c = p; c < p + 3; c++) out[c] = mask[i] ? 255 : bytes[c] >> 2;
+    out[p + 3] = 255;
+  }
+}
+
 // What is shown most often, in the least time
 function paintOpaque(out, words) {
   for (let i = 0; i < words.length; i++) out[i] = words[i] | OPAQUE;

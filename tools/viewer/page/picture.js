@@ -2,7 +2,7 @@
 
 import { listenToHands } from "./touch.js";
 import { knownBands } from "./image.js";
-import { paint, paintGreys, paintValues } from "./paint.js";
+import { paint, paintDifference, paintGreys, paintValues } from "./paint.js";
 
 export class Picture {
   constructor(parts) {
@@ -15,12 +15,12 @@ export class Picture {
     this.listen();
   }
 
-  // Shows an image; where a difference is given, what is the same is dim. Of one that differs in some rows from what is shown those alone are painted
-  show(image, difference = null) {
+  // Shows an image; where a difference is given, what is the same is dim, or what differs white. Of one that differs in some rows from what is shown those alone are painted
+  show(image, difference = null, isWhite = false) {
     this.setSize(image);
     const how = JSON.stringify(this.channels), bands = this.plain?.how === how && !difference ? knownBands(image, this.plain.image) : null;
     if (bands) this.drawBands(image, bands);
-    else this.draw(image, pixels => paint(pixels, image.bytes, difference?.mask, this.channels));
+    else this.draw(image, pixels => difference && isWhite ? paintDifference(pixels, image.bytes, difference.mask) : paint(pixels, image.bytes, difference?.mask, this.channels));
     this.plain = difference ? null : { image, how };
     this.sheet.classList.toggle("transparent", this.channels.a && (this.channels.r || this.channels.g || this.channels.b));
   }

@@ -67,7 +67,7 @@ function drawImage() {
   const other = compared ? view.other : before, comparable = other && isComparable(after, other);
   view.found = comparable && !map ? differenceOf(after, other, compared ? +$("tolerance").value : 0) : null;
   view.shown = look === "before" && before ? before : look === "other" ? view.other : after;
-  picture.show(view.shown, look === "changed" || look === "compared" ? view.found : null);
+  picture.show(view.shown, look === "changed" || look === "compared" ? view.found : null, look === "compared");
   if (map) picture.showMap(map, colourOf(map));
   drawLegend(map);
   const state = states.with ?? states.next;
@@ -121,7 +121,8 @@ function drawLegend(map) {
 function drawHover() {
   const { hover, shown } = view, colour = hover && shown && colourAt(shown, hover.x, hover.y);
   if (!colour) return void ($("hover").textContent = "\u00a0");
-  $("hover").replaceChildren(element("span", "place", `${hover.x} ${hover.y}`), swatch(colour), figures(colour), ...(LOOKS.has(lookNow()) ? tellUnder(frame.map, hover) : []));
+  const under = LOOKS.has(lookNow()) ? tellUnder(frame.map, hover) : [];
+  $("hover").replaceChildren(element("span", "place", `${hover.x} ${hover.y}`), swatch(colour), ...[figures(colour), ...under].map(text => element("span", "", text)));
 }
 
 function tellUnder(map, place) {
@@ -201,7 +202,7 @@ function press(event) {
   if (event.key === "Escape") return document.activeElement.blur();
   const moves = event.shiftKey && MOVES[event.key];
   const doing = moves ? () => movePixel(...moves) : KEYS[event.key.length === 1 ? event.key.toLowerCase() : event.key];
-  if (!doing || event.ctrlKey || event.metaKey || event.altKey || $("help").open) return;
+  if (!doing || event.ctrlKey || event.metaKey || event.altKey || document.querySelector("dialog[open]")) return;
   event.preventDefault();
   if (doing !== KEYS.f) film.stop();
   doing();
@@ -248,7 +249,7 @@ function tellLive() {
 
 function listen() {
   const clicks = {
-    first: KEYS.Home, back: KEYS.ArrowLeft, step: KEYS.ArrowRight, last: KEYS.End, play: KEYS.f, stop, fit: KEYS[0], larger: KEYS["+"], smaller: KEYS["-"], keys: KEYS["?"],
+    first: KEYS.Home, back: KEYS.ArrowLeft, step: KEYS.ArrowRight, last: KEYS.End, play: KEYS.f, stop, fit: KEYS[0], larger: KEYS["+"], smaller: KEYS["-"], keys: KEYS["?"], "to-guide": () => $("guide").showModal(),
     "writer-before": KEYS["["], "writer-after": KEYS["]"], pin, load: () => $("file").click(), "next-different": nextDifferent,
     copy: () => copy(session(), "a session for framedbg run"), "copy-value": () => copy($("value").textContent, $("value").textContent), "save-png": savePng,
   };
