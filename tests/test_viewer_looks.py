@@ -1,5 +1,6 @@
 """The viewer's page on other screens and under other hands: narrow windows, colours of the system's own, the wheel, two fingers, and the PNG that is saved."""
 import base64
+import json
 import pathlib
 import tempfile
 import unittest
@@ -7,8 +8,9 @@ import unittest
 import folders
 
 import browser
+import captures
 from viewer_hands import Hands
-from viewer_testing import HOUSE, WINDOW, Viewer, capture_of, file_of, image
+from viewer_testing import DEPTH, HOUSE, RED, WINDOW, Viewer, capture_of, file_of, image, vertices
 
 # Turns the wheel over the picture, at a place of the page
 TURN = """const [x, y, more] = arguments;
@@ -182,6 +184,82 @@ class Looks(Hands):
         self.browser.press("Escape", "Left")
         self.at(3)                                                          # a pick would come before this move
         self.assertTrue(self.browser.run("return document.getElementById('history').hidden"))
+
+    # ---- The range
+
+    def shows_range(self, text, key=""):
+        """A capture of 8 by 8 pixels at its end, under a look's key, with the range beside it."""
+        folder = tempfile.TemporaryDirectory()
+        self.addCleanup(folder.cleanup)
+        viewer = Viewer(file_of(folder.name, text))
+        self.addCleanup(viewer.__exit__)
+        self.open(viewer)
+        self.at(len(json.loads(text)["events"]))
+        self.browser.press("Escape", *key, "r")
+
+    def set_range(self, black, white):
+        self.browser.run("document.getElementById('black').value = arguments[0]; document.getElementById('white').value = arguments[1]; document.getElementById('white').oninput()", black, white)
+
+    def of_two(self):
+        """What is drawn at 1 1, in the triangle, and at 7 7, outside of it."""
+        return [self.drawn(1, 1)[:3], self.drawn(7, 7)[:3]]
+
+    def test_the_range_of_a_dark_picture(self):
+        """From black to white, of the channels that are shown and of what is in sight, with a histogram."""
+        self.shows_range(capture_of(8, 8, [captures.clear(10, 20, 30, 255), captures.draw(vertices((0, 0, [40, 30, 20, 255]), (8, 0, [40, 30, 20, 255]), (0, 8, [40, 30, 20, 255])))]))
+        self.reads("#range-told", "10 to 40 in sight")
+        self.assertEqual(self.of_two(), [[40, 30, 20], [10, 20, 30]])
+        self.browser.click("#fit-range")
+        self.comes(self.of_two, [[255, 170, 85], [0, 85, 170]])
+        self.assertEqual(self.browser.run("return ['black', 'white'].map(id => document.getElementById(id).value)"), ["10", "40"])
+        bars = "return [81, 82, 83, 164, 165, 166].map(x => document.getElementById('histogram').getContext('2d').getImageData(x, 39, 1, 1).data[3])"
+        self.assertEqual(self.browser.run(bars), [0, 255, 0, 0, 255, 0])                       # of 256 from 10 to 40, those of 20 and 30
+        self.set_range(20, 30)
+        self.comes(self.of_two, [[255, 255, 0], [0, 0, 255]])
+        self.browser.run("for (const c of 'rb') document.querySelector(`[data-channel=${c}]`).click()")
+        self.reads("#range-told", "20 to 30 in sight")
+        self.browser.run("for (const c of 'rb') document.querySelector(`[data-channel=${c}]`).click()")
+        self.browser.click("#whole-range")
+        self.comes(self.of_two, [[40, 30, 20], [10, 20, 30]])
+        self.browser.run("document.getElementById('range-shown').click()")
+        self.assertTrue(self.browser.run("return document.getElementById('range').hidden"))
+
+    def test_the_range_of_depths(self):
+        """Nearer is lighter, and what lies outside is as light as its end."""
+        self.shows_range(capture_of(8, 8, json.loads(DEPTH)["events"][:4], 2), "z")
+        self.comes(self.of_two, [[240] * 3, [60] * 3])                      # depths 1000 and 2000
+        for black, white, near, far in ((0, 4000, 195, 150), (1500, 2500, 240, 150), (1000, 2000, 240, 60)):
+            self.set_range(black, white)
+            self.comes(self.of_two, [[near] * 3, [far] * 3])
+
+    def test_overdraw_up_to_the_highest(self):
+        """Three triangles over all, and seventeen more over six pixels of a corner."""
+        whole, corner = ([(0, 0, RED), (far, 0, RED), (0, far, RED)] for far in (16, 4))
+        self.shows_range(capture_of(8, 8, [captures.draw(vertices(*(3 * whole + 17 * corner)))]), "o")
+        told = lambda: [text for text in self.browser.run("return [...document.querySelectorAll('#legend > span')].map(e => e.innerText.replace(/\\s+/g, ' ').trim())") if not text.endswith(" 0")]
+        self.comes(told, ["drawn 3 to 5 times 58", "drawn 18 to 20 times 6"])
+        self.browser.click("#fit-range")
+        self.comes(told, ["drawn 1 to 4 times 58", "drawn 18 to 20 times 6"])
+        self.assertEqual(self.browser.run("return ['black', 'white'].map(id => document.getElementById(id).value)"), ["2", "20"])
+
+    def test_the_range_of_differences(self):
+        """By how much, in place of white alone."""
+        samples, head = image(HOUSE)
+        samples[4 * (50 * 96 + 50) + 1] += 1
+        samples[4 * (50 * 96 + 60)] += 40
+        self.shows_house()
+        with tempfile.TemporaryDirectory() as folder:
+            driver = pathlib.Path(folder) / "driver.pam"
+            driver.write_bytes(head + samples)
+            self.browser.choose("#file", driver)
+            self.reads("#compared-with", "driver.pam")
+        of_both = lambda: [self.drawn(50, 50)[0], self.drawn(60, 50)[0], self.drawn(61, 50)[0]]
+        self.browser.press("Escape", "r")
+        self.comes(of_both, [1, 40, 0])
+        self.browser.click("#fit-range")
+        self.comes(of_both, [6, 255, 0])
+        self.browser.press("Escape", "r")
+        self.comes(of_both, [255, 255, image(HOUSE)[0][4 * (50 * 96 + 61)] // 4])
 
     # ---- The PNG
 

@@ -39,6 +39,14 @@ def slope(width, height):
     return capture_of(width, height, [{"kind": "depth", "enable": True, "write": True, "func": "LESS"}, {"kind": "draw", "interp": "linear", "vertices": vertices(*corners)}], 2)
 
 
+def steps(times):
+    """Of each count its step on a scale of seven up to the highest, and the names of the steps."""
+    lasts = [max(7, *times) * step // 7 for step in range(8)]
+    named = {0: "not drawn", 1: "drawn once"}
+    names = [f"drawn {first} to {last} times" if first < last else named.get(last, f"drawn {last} times") for first, last in zip([0, *(last + 1 for last in lasts)], lasts)]
+    return [next(step for step, last in enumerate(lasts) if count <= last) for count in times], names
+
+
 def times_drawn(capture):
     """How many pixels are drawn how often at the end: none, once, .., 7 times and more."""
     frame, end = reference.Frame(capture), len(capture["events"])
@@ -105,8 +113,8 @@ class Maps(Hands):
                 entries = [frame.replay(position, x, y)[1] for x, y in places]
                 fates = [max([RANKS.index(entry[2]) for entry in some if entry[0] == position], default=0) for some in entries]
                 self.shows_values("v", fates, ["not reached", "culled", "scissored", "discarded", "depth failed", "drawn"])
-                times = [min(sum(entry[2] == "drawn" and entry[1] != "-" for entry in some), 7) for some in entries]
-                self.shows_values("o", times, ["not drawn", "drawn once", *(f"drawn {n} times" for n in range(2, 7)), "drawn 7 times and more"])
+                times = [sum(entry[2] == "drawn" and entry[1] != "-" for entry in some) for some in entries]
+                self.shows_values("o", *steps(times))
             self.browser.press("o")
             self.comes(self.look, "after")
             self.assertEqual(self.legend(), {})

@@ -14,18 +14,23 @@ export async function askDepths(ask, position, part, goesOn) {
 }
 
 // Greys of depths, nearer is lighter, and black where nothing is in front of the far plane; and the range that they stretch over
-export function greyOf(depths) {
+function greyOf(depths) {
   let near = FAR, far = 0;
   for (const depth of depths) {
     if (depth === FAR) continue;
     if (depth < near) near = depth;
     if (depth > far) far = depth;
   }
+  return { greys: greysBetween(depths, [near, far]), near, far };
+}
+
+// The same over a range of depths; what lies outside is as light as its end
+export function greysBetween(depths, [near, far]) {
   const greys = new Uint8Array(depths.length);
   for (let i = 0; i < depths.length; i++) {
-    if (depths[i] !== FAR) greys[i] = far === near ? 200 : Math.round(240 - 180 * (depths[i] - near) / (far - near));
+    if (depths[i] !== FAR) greys[i] = far === near ? 200 : Math.round(240 - 180 * (Math.min(far, Math.max(near, depths[i])) - near) / (far - near));
   }
-  return { greys, near, far };
+  return greys;
 }
 
 export function tellDepths({ near, far, part }) {

@@ -6,9 +6,9 @@ import { askSamples, sizeOf } from "./samples.js";
 const NAMES = ["not reached", "culled", "scissored", "discarded", "depth failed", "drawn"];
 const VERDICTS = [null, "culled", "scissored", "discarded", "depthfailed", "drawn"];
 const COLOURS = [[20, 20, 20], [0, 96, 160], [240, 228, 66], [150, 0, 255], [213, 94, 0], [150, 215, 255]];
-// From dark to light, as often as it was drawn: the last stands for more too
+// From dark to light, as often as it was drawn, in steps from the black to the white point
 const HEAT = [[0, 0, 4], [42, 0, 184], [107, 38, 142], [151, 59, 97], [199, 62, 62], [255, 153, 85], [244, 208, 0], [255, 255, 215]];
-const DRAWN = VERDICTS.indexOf("drawn");
+const DRAWN = VERDICTS.indexOf("drawn"), STEPS = HEAT.length - 1;
 
 // The histories of a part: of each sample where its entries begin, and of each entry event, verdict and whether it is a triangle's
 export async function askHistories(askEnd, part, goesOn) {
@@ -37,18 +37,29 @@ function collect(kept, position, value) {
 export function mapOf(look, kept, position) {
   const isLast = k => kept.events[k] === position;
   const value = look === "fate" ? (was, k) => isLast(k) ? Math.max(was, kept.verdicts[k]) : was : (was, k) => was + (kept.isDraw[k] && kept.verdicts[k] === DRAWN);
-  return { look, part: kept.part, values: collect(kept, position, value) };
+  const values = collect(kept, position, value);
+  return { look, part: kept.part, values, most: values.reduce((most, count) => Math.max(most, count), STEPS) };
 }
 
 const coloursOf = ({ look }) => look === "fate" ? COLOURS : HEAT;
 const times = count => count === 0 ? "not drawn" : count === 1 ? "drawn once" : `drawn ${count} times`;
 
-export const colourOf = map => value => coloursOf(map)[Math.min(value, coloursOf(map).length - 1)];
+// Of a count its step in a range, and of a step the last count that it stands for
+const stepOf = (count, [black, white]) => count === 0 ? 0 : Math.min(STEPS, Math.max(1, Math.ceil(STEPS * (count - black) / (white - black))));
+const lastOf = (step, [black, white]) => black + Math.floor(step * (white - black) / STEPS);
+
+const placeOf = ({ look }, value, range) => look === "fate" ? value : stepOf(value, range);
+export const colourOf = (map, range) => value => coloursOf(map)[placeOf(map, value, range)];
 export const nameOf = ({ look }, value) => look === "fate" ? NAMES[value] : times(value);
 
-// Of each value that a legend names: its name, its colour and how many samples have it
-export function legendOf(map) {
-  const colours = coloursOf(map), counts = new Array(colours.length).fill(0), most = colours.length - 1;
-  for (const value of map.values) counts[Math.min(value, most)]++;
-  return colours.map((colour, i) => ({ colour, count: counts[i], name: `${nameOf(map, i)}${map.look === "overdraw" && i === most ? " and more" : ""}` }));
+// Of each step that a legend names: its name, its colour and how many samples have it. A step for no count is left out
+export function legendOf(map, range) {
+  const colours = coloursOf(map), counts = new Array(colours.length).fill(0);
+  for (const value of map.values) counts[placeOf(map, value, range)]++;
+  return colours.map((colour, i) => ({ colour, count: counts[i], name: map.look === "fate" || i === 0 ? nameOf(map, i) : stepNamed(i, range, map.most) })).filter(({ name }) => name);
+}
+
+function stepNamed(step, range, most) {
+  const first = step === 1 ? 1 : lastOf(step - 1, range) + 1, last = step === STEPS ? Math.max(most, range[1]) : lastOf(step, range);
+  return first > last ? "" : first === last ? times(first) : `drawn ${first} to ${last} times`;
 }

@@ -50,11 +50,11 @@ export const isComparable = (image, other) => isWhole(other) || ["left", "top", 
 // The pixels of an image as words of 32 bits, alpha highest: every machine that a browser runs on has the lowest byte first
 export const wordsOf = bytes => new Uint32Array(bytes.buffer, bytes.byteOffset, bytes.length >> 2);
 
-// Which of the fetched pixels of two images differ by more than a tolerance: a mask, how many, the box round them, the most that a channel differs
+// Which of the fetched pixels of two images differ by more than a tolerance: a mask, by how much each, how many, the box round them, the most that a channel differs
 export function difference(image, other, tolerance = 0) {
   const { left, top, every, columns, rows } = image, one = wordsOf(image.bytes), two = wordsOf(other.bytes);
   const compared = other.hasAlpha === false ? 0xffffff : -1, mask = new Uint8Array(columns * rows);
-  const found = { mask, count: 0, most: 0, left: Infinity, top: Infinity, right: -1, bottom: -1, every, whole: isWhole(image) };
+  const found = { mask, by: new Uint8Array(columns * rows), count: 0, most: 0, left: Infinity, top: Infinity, right: -1, bottom: -1, every, whole: isWhole(image) };
   const aside = every / other.every;              // from one of the kept pixels to the next, in the other's
   for (const [first, count] of knownBands(image, other) ?? [[0, rows]]) {
     for (let row = first; row < first + count; row++) compareRow(found, row, { one, two, compared, tolerance, aside, columns, q: indexIn(other, left, top + row * every) / 4 });
@@ -69,6 +69,7 @@ function compareRow(found, row, { one, two, compared, tolerance, aside, columns,
     const by = mostBetween(one[i] & compared, two[q] & compared);
     if (by <= tolerance) continue;
     found.mask[i] = 1;
+    found.by[i] = by;
     found.count++;
     if (by > found.most) found.most = by;
     if (column < found.left) found.left = column;

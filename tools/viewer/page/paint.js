@@ -25,6 +25,11 @@ export function paint(out, bytes, mask, on) {
   }
 }
 
+// Colours between a black and a white point: what each value of a channel becomes
+export function lighten(out, lights) {
+  for (let p = 0; p < out.length; p += 4) for (let c = p; c < p + 3; c++) out[c] = lights[out[c]];
+}
+
 // What is the same is dark, and what differs white, as framedbg-night shows it
 export function paintDifference(out, bytes, mask) {
   for (let i = 0, p = 0; p < bytes.length; i++, p += 4) {

@@ -2,7 +2,7 @@
 
 import { listenToHands } from "./touch.js";
 import { knownBands } from "./image.js";
-import { paint, paintDifference, paintGreys, paintValues } from "./paint.js";
+import { lighten, paint, paintDifference, paintGreys, paintValues } from "./paint.js";
 
 export class Picture {
   constructor(parts) {
@@ -15,13 +15,18 @@ export class Picture {
     this.listen();
   }
 
-  // Shows an image; where a difference is given, what is the same is dim, or what differs white. Of one that differs in some rows from what is shown those alone are painted
-  show(image, difference = null, isWhite = false) {
+  // Shows an image; where a difference is given, what is the same is dim, or what differs white; between the lights of a range, where there is one.
+  // Of one that differs in some rows from what is shown those alone are painted
+  show(image, { difference = null, isWhite = false, lights = null } = {}) {
     this.setSize(image);
-    const how = JSON.stringify(this.channels), bands = this.plain?.how === how && !difference ? knownBands(image, this.plain.image) : null;
+    const how = JSON.stringify(this.channels), bands = this.plain?.how === how && !difference && !lights ? knownBands(image, this.plain.image) : null;
     if (bands) this.drawBands(image, bands);
-    else this.draw(image, pixels => difference && isWhite ? paintDifference(pixels, image.bytes, difference.mask) : paint(pixels, image.bytes, difference?.mask, this.channels));
-    this.plain = difference ? null : { image, how };
+    else this.draw(image, pixels => {
+      if (difference && isWhite) paintDifference(pixels, image.bytes, difference.mask);
+      else paint(pixels, image.bytes, difference?.mask, this.channels);
+      if (lights) lighten(pixels, lights);
+    });
+    this.plain = difference || lights ? null : { image, how };
     this.sheet.classList.toggle("transparent", this.channels.a && (this.channels.r || this.channels.g || this.channels.b));
   }
 

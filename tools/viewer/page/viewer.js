@@ -16,9 +16,10 @@ import { Picture } from "./picture.js";
 import { keepPlace, onPlace, placeOf, readPlace } from "./place.js";
 import { colourAt, difference, isComparable, nextIn } from "./image.js";
 import { partFor, tellPart } from "./parts.js";
-import { tellDepths } from "./depths.js";
+import { greysBetween, tellDepths } from "./depths.js";
 import { colourOf, legendOf, nameOf } from "./fates.js";
 import { LOOKS } from "./maps.js";
+import { drawHistogram, fit, forgetRanges, kindOf, lightsOf, rangeOf, setRange, valuesInSight } from "./range.js";
 import { indexOf } from "./samples.js";
 import { readPicture } from "./compare.js";
 import { followTheme } from "./theme.js";
@@ -67,9 +68,12 @@ function drawImage() {
   const other = compared ? view.other : before, comparable = other && isComparable(after, other);
   view.found = comparable && !map ? differenceOf(after, other, compared ? +$("tolerance").value : 0) : null;
   view.shown = look === "before" && before ? before : look === "other" ? view.other : after;
-  picture.show(view.shown, look === "changed" || look === "compared" ? view.found : null, look === "compared");
-  if (map) picture.showMap(map, colourOf(map));
-  drawLegend(map);
+  const difference = look === "changed" || look === "compared" ? view.found : null, kind = kindOf(look), range = kind && $("range-shown").checked ? rangeOf(kind, map) : null, lights = range && lightsOf(range);
+  picture.show(view.shown, { difference, isWhite: look === "compared", lights: kind === "image" ? lights : null });
+  if (map) picture.showMap(range && look === "depth" ? { ...map, greys: greysBetween(map.values, range) } : map, colourOf(map, range ?? rangeOf(null, map)));
+  if (range && kind === "difference" && difference) picture.showMap({ part: after, greys: difference.by.map(by => lights[by]) });
+  drawLegend(map, range ?? rangeOf(null, map));
+  drawRange(kind, range, map);
   const state = states.with ?? states.next;
   picture.setScissor($("scissor-shown").checked && state?.scissor ? state.rect : null);
   if (pixel) picture.setCross(pixel.x, pixel.y);
@@ -112,8 +116,21 @@ const tellOther = (other, colour) => [`${other.name} has`, element("br"), swatch
 // What is shown: a map only when it is there, so that no button is lit over another picture
 const lookNow = () => LOOKS.has(view.look) && frame.map?.look !== view.look ? "after" : view.look;
 
-function drawLegend(map) {
-  const named = map && map.look !== "depth" ? legendOf(map) : [];
+// Black, white and the histogram of what is in sight
+function drawRange(kind, range, map) {
+  $("range").hidden = !range;
+  if (!range) return;
+  const its = map ?? { part: view.shown, values: view.found?.by ?? [], bytes: view.shown.bytes, channels: picture.channels }, found = valuesInSight(kind, its, picture.visible());
+  for (const [i, id] of ["black", "white"].entries()) if (document.activeElement !== $(id)) $(id).value = range[i];
+  drawHistogram($("histogram"), found, range);
+  $("range-told").textContent = `${found.least} to ${found.most} in sight`;
+  $("fit-range").onclick = () => { fit(kind, found); drawImage(); };
+  $("whole-range").onclick = () => { setRange(kind, null); drawImage(); };
+  $("black").oninput = $("white").oninput = () => { setRange(kind, +$("black").value, +$("white").value); drawImage(); };
+}
+
+function drawLegend(map, range) {
+  const named = map && map.look !== "depth" ? legendOf(map, range) : [];
   $("legend").replaceChildren(...named.map(({ colour: [r, g, b], count, name }) =>
     element("span", "", swatch({ r, g, b, a: 255 }), ` ${name} `, element("b", "", count.toLocaleString("en")))));
 }
@@ -145,6 +162,7 @@ function move(visible) {
   const part = partFor(frame.after, visible);
   if (part !== undefined) fetchPart(part);
   if (LOOKS.has(view.look)) wantMap(view.look, visible);
+  if ($("range-shown").checked) drawImage();
 }
 
 function goToWriter(way) {
@@ -191,7 +209,7 @@ const KEYS = {
   " ": switchLast, ".": stop, f: () => film.play(), u: undo, m: () => notice(keepBookmark(placeOf(frame)) ? "This place is kept among the bookmarks" : "This place is forgotten"),
   a: () => setLook("after"), c: () => turnLook("changed"), d: () => turnLook("compared"),
   b: () => { view.held ??= view.look; setLook(view.held === "compared" && view.other ? "other" : "before"); },
-  z: () => frame.hasDepth && turnLook("depth"), v: () => turnLook("fate"), o: () => turnLook("overdraw"), p: pin, n: nextDifferent, s: () => $("scissor-shown").click(), t: () => $("wires-shown").click(),
+  z: () => frame.hasDepth && turnLook("depth"), v: () => turnLook("fate"), o: () => turnLook("overdraw"), p: pin, n: nextDifferent, r: () => $("range-shown").click(), s: () => $("scissor-shown").click(), t: () => $("wires-shown").click(),
   "+": () => picture.larger(), "=": () => picture.larger(), "-": () => picture.smaller(), 0: () => picture.fit(),
   ":": () => $("command").focus(), "?": () => $("help").showModal(),
 };
@@ -259,7 +277,7 @@ function listen() {
   $("slider").onchange = () => frame.isDragged && goTo(+$("slider").value);
   $("filter").oninput = () => setFilter($("filter").value);
   $("filter").onkeydown = event => { if (event.key === "Enter" && foundFirst()) goTo(foundFirst()); };
-  $("scissor-shown").onchange = $("tolerance").oninput = drawImage;
+  $("scissor-shown").onchange = $("range-shown").onchange = $("tolerance").oninput = drawImage;
   $("wires-shown").onchange = () => showTriangles(picture);
   $("file").onchange = () => { load($("file").files[0]); $("file").value = ""; };
   for (const button of document.querySelectorAll("[data-look]")) button.onclick = () => setLook(button.dataset.look);
@@ -292,6 +310,7 @@ function begin(place = null) {
   film.stop();
   Object.assign(view, { look: "after", held: null, other: null, found: null, hover: null, shown: null, mended: null });
   forgetFindings();
+  forgetRanges();
   picture.clear();
   forget();
   forgetTriangles();
