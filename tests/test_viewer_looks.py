@@ -261,6 +261,46 @@ class Looks(Hands):
         self.browser.press("Escape", "r")
         self.comes(of_both, [255, 255, image(HOUSE)[0][4 * (50 * 96 + 61)] // 4])
 
+    # ---- Which draw is which
+
+    def thumbnail(self, number):
+        """The picture in an event's row: its size, and the colour in its middle; or none."""
+        return self.browser.run("const c = document.querySelector(arguments[0] + ' .thumbnail'); return c && [c.width, c.height, ...c.getContext('2d').getImageData(c.width >> 1, c.height >> 1, 1, 1).data]", self.row(number))
+
+    def test_what_an_event_changed(self):
+        """A small picture in the row of each event that the frame has stood at, of the very colours; another one where something is switched."""
+        self.of_size(1600, 900)
+        self.shows_house()
+        self.assertIsNone(self.thumbnail(11))
+        self.browser.click(self.row(11) + " .what")
+        self.at(11)
+        self.comes(lambda: self.thumbnail(11), [27, 20, 125, 95, 55, 255])          # of 32 by 24 pixels that changed
+        self.browser.press("Escape", "Left")
+        self.at(10)
+        self.assertEqual([self.thumbnail(number) for number in (10, 12)], [None, None])
+        self.switch(8, False)
+        self.comes(lambda: self.thumbnail(11), None)
+        self.browser.press("Escape", "Right")
+        self.at(11)
+        self.comes(lambda: self.thumbnail(11), [27, 20, 190, 60, 50, 255])
+        self.of_size(1000, 800)
+        self.comes(lambda: self.browser.run("return document.querySelector('.thumbnail').checkVisibility()"), False)      # there is no room
+
+    def test_where_an_event_draws(self):
+        """Its box, while the pointer is on its row: of a draw, of a clear, and of what draws nothing none."""
+        self.shows_house()
+        box = lambda: self.browser.run("const [b, s] = ['box', 'sheet'].map(id => document.getElementById(id)), [one, all] = [b, s].map(e => e.getBoundingClientRect()), zoom = all.width / 96;"
+                                       "return b.hidden ? null : [one.left - all.left, one.top - all.top, one.right - all.left, one.bottom - all.top].map(v => Math.round(v / zoom))")
+        for number, expected in ((11, [44, 36, 76, 60]), (2, [0, 0, 96, 64]), (8, None), (13, [56, 46, 64, 60]), (11, [44, 36, 76, 60])):
+            left, top, wide, high = self.box(self.row(number))
+            self.browser.call("/actions", {"actions": [{"type": "pointer", "id": "mouse", "actions": [{"type": "pointerMove", "x": round(left + wide / 2), "y": round(top + high / 2)}]}]})
+            self.comes(box, expected)
+        self.browser.press("Escape", "+")
+        self.comes(box, [44, 36, 76, 60])
+        left, top, wide, high = self.box("#log")
+        self.browser.call("/actions", {"actions": [{"type": "pointer", "id": "mouse", "actions": [{"type": "pointerMove", "x": round(left + wide / 2), "y": round(top + high / 2)}]}]})
+        self.comes(box, None)
+
     # ---- The PNG
 
     def test_the_png_is_the_picture(self):

@@ -2,13 +2,17 @@
 
 import { canUndo, frame, goTo, last, switchOver, undo } from "./frame.js";
 import { List, element } from "./list.js";
+import { hasThumbnail, thumbnailOf } from "./thumbnails.js";
 import { describeEvent } from "./words.js";
 
 const $ = id => document.getElementById(id);
 const list = new List($("event-list"), 26, rowOf, { onKey: press, look: lookOf }), ticks = document.getElementById("ticks");
 const folded = new Set();
-let filter = "", shown = -1;
+let filter = "", shown = -1, tellHover = () => {};
 export const WRITES = new Set(["clear", "draw", "depth_clear"]);    // kinds that can write pixels
+
+// Told of the event under the pointer, and null where there is none
+export const onHoverEvent = told => { tellHover = told; };
 
 export function setFilter(text) {
   filter = text.trim().toLowerCase();
@@ -85,7 +89,7 @@ export function drawEvents() {
 
 // What a move changes of a row
 function lookOf({ event: { number } }) {
-  return `${Math.sign(number - frame.position)} ${frame.writers.has(number)}`;
+  return `${Math.sign(number - frame.position)} ${frame.writers.has(number)} ${hasThumbnail(number)}`;
 }
 
 function rowOf({ event, members, depth }) {
@@ -98,8 +102,11 @@ function rowOf({ event, members, depth }) {
   row.append(checkBox(event, members ?? []), element("span", "number", String(event.number)), ...(members ? headOf(event) : describeEvent(event)));
   const source = frame.sources.get(event.number);
   if (source) row.append(Object.assign(element("span", "source", `${source.event} ${source.name}`), { title: `The program's call ${source.event}: ${source.name}` }));
+  row.append(...thumbnailOf(event.number));
   if (depth > 1) row.style.paddingLeft = `${10 + 10 * depth}px`;
   row.addEventListener("click", () => goTo(event.number));
+  row.addEventListener("pointerenter", () => tellHover(event));
+  row.addEventListener("pointerleave", () => tellHover(null));
   return row;
 }
 

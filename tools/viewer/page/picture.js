@@ -6,7 +6,7 @@ import { lighten, paint, paintDifference, paintGreys, paintValues } from "./pain
 
 export class Picture {
   constructor(parts) {
-    Object.assign(this, parts);         // stage, sheet, canvas, grid, scissor, cross, outline, mark: elements of the page
+    Object.assign(this, parts);         // stage, sheet, canvas, grid, scissor, box, cross, outline, mark: elements of the page
     this.zoom = 1;
     this.fitted = true;
     this.channels = { r: true, g: true, b: true, a: false };
@@ -51,6 +51,7 @@ export class Picture {
     this.sheet.hidden = this.cross.hidden = true;
     this.setOutline(null);
     this.setMark(null);
+    this.setBox(null);
   }
 
   setSize({ width, height }) {
@@ -120,6 +121,7 @@ export class Picture {
     this.placeCanvas();
     this.place(this.cross, this.crossAt);
     this.place(this.scissor, this.scissorAt);
+    this.place(this.box, this.boxAt);
     this.setMark(this.markAt);
     this.onZoom(zoom);
     this.onView();
@@ -133,6 +135,7 @@ export class Picture {
   }
 
   setCross(x, y) { this.place(this.cross, this.crossAt = [x, y, x + 1, y + 1]); }
+  setBox(rect) { this.place(this.box, this.boxAt = rect); }
   setScissor(rect) { this.place(this.scissor, this.scissorAt = rect && this.inside(rect)); }
 
   // A ring round a place between pixels, or none

@@ -3,7 +3,9 @@
 import { captureName, firstPlace, onCapture } from "./run.js";
 import { onWorking } from "./working.js";
 import { frame, onShow, inTurn, open, goToPlace, again, last, stop, goTo, neighbour, switchOver, undo, pick, pickInTurn, command, fetchPart, wantMap } from "./frame.js";
-import { WRITES, setFilter, foundFirst, listEvents, listWriters, drawEvents, drawTicks, drawWriters } from "./events.js";
+import { WRITES, setFilter, foundFirst, listEvents, listWriters, drawEvents, drawTicks, drawWriters, onHoverEvent } from "./events.js";
+import { boxOf, forgetBoxes } from "./boxes.js";
+import { forgetThumbnails, note } from "./thumbnails.js";
 import { drawPixel } from "./panels.js";
 import { drawState } from "./state.js";
 import { forgetTriangles, redraw, showTriangles } from "./triangles.js";
@@ -27,22 +29,24 @@ import { element, swatch } from "./list.js";
 import { everyOf, figures } from "./words.js";
 import { forget, notice, session } from "./log.js";
 
+const A_WHILE = 80;      // milliseconds that the pointer stays on an event before its box is asked for
 const $ = id => document.getElementById(id);
-const picture = new Picture(Object.fromEntries(["stage", "sheet", "grid", "scissor", "cross", "outline", "mark"].map(id => [id, $(id)]).concat([["canvas", $("image")]])));
-const view = { look: "after", held: null, whose: "with", other: null, found: null, hover: null, shown: null, mended: null, of: null };
+const picture = new Picture(Object.fromEntries(["stage", "sheet", "grid", "scissor", "box", "cross", "outline", "mark"].map(id => [id, $(id)]).concat([["canvas", $("image")]])));
+const view = { look: "after", held: null, whose: "with", other: null, found: null, hover: null, shown: null, mended: null, of: null, hovered: null };
 
 const film = new Film(frame, last, goTo, plays => $("play").setAttribute("aria-pressed", plays));
 
 // ---- What is drawn ---------------------------------------------------------------------------------------
 
 onShow(what => {
-  if (what === "events") listEvents(), forgetFindings();
+  if (what === "events") listEvents(), forgetFindings(), forgetThumbnails();
   if (what === "history") listWriters();
   if (what === "events") drawTicks();
   if (what === "history") drawWriters();
   if (what === "outline") return picture.setOutline(frame.corners), drawPixel(), showTriangles(picture);
   drawPosition();
   drawImage();
+  if (what === "position") noteChange();
   drawEvents();
   drawPixel();
   drawState(view.whose);
@@ -88,6 +92,21 @@ function drawImage() {
   for (const button of document.querySelectorAll("[data-look]")) button.setAttribute("aria-checked", button.dataset.look === look), button.setAttribute("aria-busy", button.dataset.look === view.look && look !== view.look);
   for (const button of document.querySelectorAll("[data-channel]")) button.setAttribute("aria-pressed", picture.channels[button.dataset.channel]);
   drawHover();
+}
+
+// Where what the last event changed is there: its small picture
+function noteChange() {
+  const { position, before, after } = frame;
+  if (view.found && view.of.after === after && view.of.other === before && position) note(position, after, view.found);
+}
+
+// What an event draws on, while the pointer is on its row
+async function outlineEvent(event) {
+  view.hovered = event;
+  if (!event) return picture.setBox(null);
+  await new Promise(resolve => setTimeout(resolve, A_WHILE));       // not of those that the pointer passes over
+  const box = view.hovered === event && frame.after ? await boxOf(event, frame.after) : null;
+  if (view.hovered === event) picture.setBox(box);
 }
 
 // Of the same two images it stays the same: a pixel that is picked changes none
@@ -294,6 +313,7 @@ function listen() {
   followBlame({ other: () => view.other, tolerance: () => +$("tolerance").value, goTo, pick, show: mended => { view.mended = mended; setLook(mended ? "mended" : "compared"); } });
   dragColumns();
   followBookmarks(goToPlace);
+  onHoverEvent(event => outlineEvent(event).catch(fault => notice(String(fault.message ?? fault), true)));
   picture.onPick = pick;
   picture.onZoom = zoom => { $("zoom").textContent = zoom >= 1 ? `${zoom}×` : `${Math.round(zoom * 100)}%`; };
   picture.onMove = move;
@@ -311,6 +331,7 @@ function begin(place = null) {
   Object.assign(view, { look: "after", held: null, other: null, found: null, hover: null, shown: null, mended: null });
   forgetFindings();
   forgetRanges();
+  forgetBoxes();
   picture.clear();
   forget();
   forgetTriangles();
