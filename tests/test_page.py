@@ -27,6 +27,7 @@ import test_viewer_answers
 import test_viewer_blame
 import test_viewer_maps
 import test_viewer_page
+import test_viewer_what_if
 from viewer_testing import DEPTH, EXAMPLES, PROGRAM, capture_of, image, png
 from viewer import image as viewer_image
 from viewer.session import Session
@@ -535,6 +536,14 @@ class MapsInChromium(Opened, test_viewer_maps.MapsInChromium):
 
 
 class MapsInFirefox(Opened, test_viewer_maps.MapsInFirefox):
+    pass
+
+
+class WhatIfInChromium(Opened, test_viewer_what_if.WhatIfInChromium):
+    pass
+
+
+class WhatIfInFirefox(Opened, test_viewer_what_if.WhatIfInFirefox):
     pass
 
 

@@ -14,6 +14,7 @@ from test_viewer_looks import *    # noqa: F401, F403
 from test_viewer_maps import *     # noqa: F401, F403
 from test_viewer_page import *     # noqa: F401, F403
 from test_viewer_server import *   # noqa: F401, F403
+from test_viewer_what_if import *  # noqa: F401, F403
 
 if __name__ == "__main__":
     passed_over.run_tests("test_viewer")

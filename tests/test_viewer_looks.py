@@ -275,6 +275,8 @@ class Looks(Hands):
         self.browser.click(self.row(11) + " .what")
         self.at(11)
         self.comes(lambda: self.thumbnail(11), [27, 20, 125, 95, 55, 255])          # of 32 by 24 pixels that changed
+        left, top, wide, high = self.box(f"{self.row(11)} .thumbnail")
+        self.assertLessEqual(left + wide, sum(self.box("#event-list")[::2]))         # in sight
         self.browser.press("Escape", "Left")
         self.at(10)
         self.assertEqual([self.thumbnail(number) for number in (10, 12)], [None, None])

@@ -4,8 +4,8 @@ import unittest
 
 import browser
 
-# Answers that the browser complains of and a test may want: of a run that ended, and without the token
-ASKED_FOR = ("410 (Gone)", "403 (Forbidden)")
+# Answers that the browser complains of and a test may want: of a run that ended, without the token, and of a change that framedbg refuses
+ASKED_FOR = ("410 (Gone)", "403 (Forbidden)", "400 (Bad Request)")
 
 
 class Hands(unittest.TestCase):

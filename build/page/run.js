@@ -148,6 +148,23 @@ export async function blame(picture, by, told) {
 }
 export const stopBlame = () => search.stop();
 
+// The picture at the end of the frame after a change of an event (whatif.js), and the capture that is changed so; events that are off are none in it
+export async function changedCapture(change) {
+  const its = new Capture(capture.bytes, main.off), { events } = its;
+  if (change.move) return its.bytesOf(events.toSpliced(change.move - 1, 1).toSpliced(change.to - 1, 0, events[change.move - 1]));
+  return its.bytesOf(events.with(change.set - 1, { ...events[change.set - 1], ...change.members }));
+}
+
+export async function changed(change) {
+  const bytes = await changedCapture(change);
+  try {
+    const { width, height, bytes: samples } = await drawOther(bytes);
+    return { width, height, samples };
+  } catch (fault) {
+    throw fault instanceof Ended ? new Error(explained(fault.message, bytes)) : fault;
+  }
+}
+
 // An event of the capture, or undefined where that is too large to be read for it
 function eventOf(number) {
   const { bytes } = capture;

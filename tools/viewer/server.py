@@ -11,6 +11,8 @@ are read once at the start and found by exact name, and a call is a few lines fo
     POST /draw       an event's number; the answer is its vertices and indices as the file has them, as JSON
     POST /blame      a picture as PAM, and how far each channel may be off in X-Tolerance; the answer is a line of JSON, who made the image at the end of
                      the frame differ, as `framedbg-blame --json` says it, and then the samples of the picture after the best change
+    POST /changed    a change of an event as JSON (changed.py); the answer is a line of JSON with width and height, and the samples of the picture after it
+    POST /changed/capture is answered with that capture
     POST /blame/stop ends that search, which is answered with {"stopped": true}
     POST /restart    a new run of the same capture, after one that has ended
     POST /stop       a new run with the same events off, in the place of one that takes long: the call that it was at is answered with "stopped"
@@ -24,6 +26,7 @@ import secrets
 
 from . import doors
 from .blame import Blame
+from .changed import Changed
 from .doors import Refused
 from .runs import Runs
 from .sent import Sent
@@ -41,6 +44,7 @@ class Server(http.server.ThreadingHTTPServer):
         self.blame = Blame(*session.words[:2])          # which server_close() asks, also where the port isn't to be had
         super().__init__(("127.0.0.1", port), Handler)
         self.runs, self.capture, self.sent, self.on_first_call = Runs(session), capture, Sent(), on_first_call
+        self.changed = Changed(*session.words[:2])
         self.token = secrets.token_urlsafe(32)
         self.host = f"127.0.0.1:{self.server_address[1]}"
         self.origin = f"http://{self.host}"
@@ -96,7 +100,7 @@ class Handler(http.server.BaseHTTPRequestHandler):
     def post(self):
         self.check_token()
         calls = {"/commands": self.commands, "/triangle": self.triangle, "/draw": self.draw, "/restart": self.restart, "/stop": self.stop,
-                 "/blame": self.blame, "/blame/stop": self.stop_blame}
+                 "/blame": self.blame, "/blame/stop": self.stop_blame, "/changed": self.changed, "/changed/capture": self.changed_capture}
         if self.path not in calls:
             raise Refused(404, "no such call")
         calls[self.path](self.rfile.read(doors.body_length(self.headers, doors.MAX_PICTURE if self.path == "/blame" else doors.MAX_BODY)))
@@ -128,6 +132,13 @@ class Handler(http.server.BaseHTTPRequestHandler):
     def stop_blame(self, _):
         self.server.blame.stop()
         self.send_json({})
+
+    def changed(self, change):
+        width, height, samples = self.server.changed.picture(change, set(self.server.runs.session.off))
+        self.send(200, "application/octet-stream", json.dumps({"width": width, "height": height}).encode() + b"\n", samples)
+
+    def changed_capture(self, change):
+        self.send(200, "application/json", self.server.changed.text(change, set(self.server.runs.session.off)))
 
     def restart(self, _):
         self.server.runs.start()

@@ -2,7 +2,7 @@
 // the picture after what mends it can be looked at.
 
 import { blame, stopBlame } from "./run.js";
-import { isWhole } from "./image.js";
+import { isWhole, pictureOf } from "./image.js";
 import { element } from "./list.js";
 import { notice } from "./log.js";
 
@@ -79,5 +79,3 @@ function mendedButton(picture, { show: showMended }) {
   };
   return button;
 }
-
-const pictureOf = (bytes, width, height) => ({ name: "mended", width, height, left: 0, top: 0, every: 1, columns: width, rows: height, bytes });

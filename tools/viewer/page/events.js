@@ -99,10 +99,9 @@ function rowOf({ event, members, depth }) {
   row.setAttribute("role", "option");
   row.setAttribute("aria-selected", event.number === frame.position);
   row.dataset.number = event.number;
-  row.append(checkBox(event, members ?? []), element("span", "number", String(event.number)), ...(members ? headOf(event) : describeEvent(event)));
+  row.append(checkBox(event, members ?? []), element("span", "number", String(event.number)), ...thumbnailOf(event.number), ...(members ? headOf(event) : describeEvent(event)));
   const source = frame.sources.get(event.number);
   if (source) row.append(Object.assign(element("span", "source", `${source.event} ${source.name}`), { title: `The program's call ${source.event}: ${source.name}` }));
-  row.append(...thumbnailOf(event.number));
   if (depth > 1) row.style.paddingLeft = `${10 + 10 * depth}px`;
   row.addEventListener("click", () => goTo(event.number));
   row.addEventListener("pointerenter", () => tellHover(event));
@@ -151,7 +150,7 @@ function headOf(event) {
     list.element.focus({ preventScroll: true });
     fold(event);
   });
-  return [element("span", "what", event.name || "(no name)"), button];
+  return [Object.assign(element("span", "what", event.name || "(no name)"), { title: event.name }), button];
 }
 
 function fold(event) {

@@ -2,6 +2,7 @@
 // target's; the part begins at (left, top), of its pixels every so many in a row and a column is there, four bytes each, and at most so many are.
 
 export const isWhole = image => image.columns === image.width && image.rows === image.height;
+export const pictureOf = (bytes, width, height) => ({ name: "mended", width, height, left: 0, top: 0, every: 1, columns: width, rows: height, bytes });
 const indexIn = ({ left, top, every, columns }, x, y) => 4 * (Math.floor((y - top) / every) * columns + Math.floor((x - left) / every));
 const holds = ({ left, top, every, columns, rows }, x, y) => x >= left && y >= top && x < left + columns * every && y < top + rows * every;
 

@@ -9,6 +9,8 @@ history.replaceState(null, "", location.pathname + (place && `#${place}`));
 
 export const firstPlace = () => place;
 
+const REFUSED = 400;                  // whose text says why
+
 export class Ended extends Error {}
 export class Stopped extends Error {}
 
@@ -24,7 +26,7 @@ async function call(path, body, headers = {}) {
     const { ended, stopped } = await answer.json();
     throw stopped ? new Stopped() : new Ended(ended);
   }
-  if (!answer.ok) throw new Error(`${answer.status} ${(await answer.text()).trim()}`);
+  if (!answer.ok) throw new Error(`${answer.status === REFUSED ? "" : `${answer.status} `}${(await answer.text()).trim()}`);
   return answer;
 }
 
@@ -76,6 +78,13 @@ export async function blame({ width, height, bytes, hasAlpha }, by) {
   return { ...JSON.parse(new TextDecoder().decode(found.subarray(0, cut))), samples: found.slice(cut + 1) };
 }
 export const stopBlame = () => call("/blame/stop", "");
+
+// The picture at the end of the frame after a change of an event (whatif.js), and the capture that is changed so
+export async function changed(change) {
+  const bytes = new Uint8Array(await (await call("/changed", JSON.stringify(change))).arrayBuffer()), cut = bytes.indexOf(10);
+  return { ...JSON.parse(new TextDecoder().decode(bytes.subarray(0, cut))), samples: bytes.slice(cut + 1) };
+}
+export const changedCapture = async change => (await call("/changed/capture", JSON.stringify(change))).arrayBuffer();
 
 // The corners of a triangle in pixels, as the capture's file has them, or null where that is too large to be read for it
 export const triangle = async (event, number) => (await call("/triangle", `${event} ${number}`)).json();

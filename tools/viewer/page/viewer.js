@@ -14,9 +14,10 @@ import { dragColumns } from "./columns.js";
 import { listenToLine } from "./typed.js";
 import { Film } from "./film.js";
 import { followBlame, forgetFindings } from "./blame.js";
+import { followChanges, forgetChange, isChange, tryChange } from "./whatif.js";
 import { Picture } from "./picture.js";
 import { keepPlace, onPlace, placeOf, readPlace } from "./place.js";
-import { colourAt, difference, isComparable, nextIn } from "./image.js";
+import { colourAt, difference, isComparable, isWhole, nextIn, pictureOf } from "./image.js";
 import { partFor, tellPart } from "./parts.js";
 import { greysBetween, tellDepths } from "./depths.js";
 import { colourOf, legendOf, nameOf } from "./fates.js";
@@ -39,7 +40,7 @@ const film = new Film(frame, last, goTo, plays => $("play").setAttribute("aria-p
 // ---- What is drawn ---------------------------------------------------------------------------------------
 
 onShow(what => {
-  if (what === "events") listEvents(), forgetFindings(), forgetThumbnails();
+  if (what === "events") listEvents(), forgetFindings(), forgetThumbnails(), forgetChange(CHANGES);
   if (what === "history") listWriters();
   if (what === "events") drawTicks();
   if (what === "history") drawWriters();
@@ -284,6 +285,17 @@ function tellLive() {
   $("image").setAttribute("aria-label", `The image at ${stands}`);
 }
 
+// What a change of an event is of, and where it is shown
+const CHANGES = {
+  events: () => frame.events, name: () => $("capture").textContent,
+  atEnd: async () => { goTo(last()); return inTurn(() => isWhole(frame.after) ? { ...frame.after, name: "the frame as it is" } : null); },
+  compare({ width, height, samples }, before) {
+    Object.assign(view, { other: before, mended: pictureOf(samples, width, height) });
+    setLook("mended");
+  },
+  show: is => setLook(is ? "mended" : "after"),
+};
+
 function listen() {
   const clicks = {
     first: KEYS.Home, back: KEYS.ArrowLeft, step: KEYS.ArrowRight, last: KEYS.End, play: KEYS.f, stop, fit: KEYS[0], larger: KEYS["+"], smaller: KEYS["-"], keys: KEYS["?"], "to-guide": () => $("guide").showModal(),
@@ -309,7 +321,8 @@ function listen() {
   $("view").ondragover = event => { event.preventDefault(); $("view").classList.add("over"); };
   $("view").ondragleave = () => $("view").classList.remove("over");
   $("view").ondrop = event => { event.preventDefault(); $("view").classList.remove("over"); load(event.dataTransfer.files[0]); };
-  listenToLine($("ask"), $("command"), command);
+  listenToLine($("ask"), $("command"), line => isChange(line) ? tryChange(line, CHANGES) : command(line));
+  followChanges(CHANGES);
   followBlame({ other: () => view.other, tolerance: () => +$("tolerance").value, goTo, pick, show: mended => { view.mended = mended; setLook(mended ? "mended" : "compared"); } });
   dragColumns();
   followBookmarks(goToPlace);
@@ -330,13 +343,14 @@ function begin(place = null) {
   film.stop();
   Object.assign(view, { look: "after", held: null, other: null, found: null, hover: null, shown: null, mended: null });
   forgetFindings();
+  forgetChange();
   forgetRanges();
   forgetBoxes();
   picture.clear();
   forget();
   forgetTriangles();
   inTurn(async () => {
-    $("capture").textContent = await captureName();
+    $("capture").textContent = $("capture").title = await captureName();
     showBookmarks($("capture").textContent);
     document.title = `${$("capture").textContent} – framedbg`;
   });

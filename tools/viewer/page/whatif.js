@@ -1,0 +1,75 @@
+// What if an event were another one, or stood elsewhere: a line, as it is typed, becomes a change of the capture. Its picture is drawn beside the run, compared, and kept as a capture.
+
+import { changed, changedCapture } from "./run.js";
+import { notice } from "./log.js";
+
+const $ = id => document.getElementById(id);
+const MEMBERS = {
+  clear: ["color"], factor: ["color"], raster: ["cull", "front_ccw", "scissor"], scissor: ["rect"], blend: ["enable", "rgb", "alpha", "mask"], draw: ["interp"],
+  depth: ["enable", "write", "func"], depth_clear: ["depth"], marker: ["name"],
+};
+const WORDS = { on: true, true: true, off: false, false: false };
+let change = null;                     // that is shown
+
+export const isChange = line => /^\s*(set|move)\b/.test(line);
+
+// { set, members } or { move, to }, its number then; throws a sentence where it is neither
+export function readChange(line, events) {
+  const [word, ...rest] = line.trim().split(/\s+/), number = text => {
+    const event = events[text - 1];
+    if (!event) throw new Error(`${line}: events are numbered from 1 to ${events.length}`);
+    return event.number;
+  };
+  if (word === "move") {
+    const [what, way, where] = rest;
+    if (rest.length !== 3 || !["after", "before"].includes(way)) throw new Error("move EVENT after EVENT, or move EVENT before EVENT");
+    const [from, other] = [number(what), number(where)];
+    return { move: from, to: other + (way === "after") - (other > from) - (other === from && way === "after") };
+  }
+  const [what, name, ...values] = rest, event = events[number(what) - 1], members = MEMBERS[event.kind] ?? [];
+  if (!members.includes(name) || !values.length) throw new Error(`set EVENT NAME VALUE: event ${what} is a ${event.kind}, and has ${members.join(", ")}`);
+  const read = values.map(text => WORDS[text] ?? (/^-?\d+$/.test(text) ? Number(text) : text));
+  return { set: event.number, members: { [name]: event.kind === "marker" ? values.join(" ") : read.length > 1 ? read : read[0] } };
+}
+
+// `hands` of the page: events() and name() are what is changed, atEnd() gives the image at the end of the frame; compare(picture, that) and show(whether) show what came of it
+export function followChanges(hands) {
+  $("changed-shown").onclick = () => {
+    const is = $("changed-shown").getAttribute("aria-pressed") !== "true";
+    $("changed-shown").setAttribute("aria-pressed", is);
+    hands.show(is);
+  };
+  $("changed-keep").onclick = () => keep(hands.name()).catch(tell);
+  $("changed-forget").onclick = () => forgetChange(hands);
+}
+
+const tell = fault => notice(String(fault.message ?? fault), true);
+
+export async function tryChange(line, hands) {
+  try {
+    const wanted = readChange(line, hands.events()), [before, picture] = await Promise.all([hands.atEnd(), changed(wanted)]);
+    if (!before) return notice("Of a target that is too large to come whole no change is drawn", true);
+    change = wanted;
+    $("what-if").hidden = false;
+    $("changed-told").textContent = line.trim();
+    $("changed-shown").setAttribute("aria-pressed", true);
+    hands.compare(picture, before);
+  } catch (fault) {
+    tell(fault);
+  }
+}
+
+export function forgetChange(hands = null) {
+  if ($("what-if").hidden) return;
+  $("what-if").hidden = true;
+  hands?.show(false);
+}
+
+// The changed capture as a file
+async function keep(name) {
+  const link = document.createElement("a");
+  link.href = URL.createObjectURL(new Blob([await changedCapture(change)], { type: "application/json" }));
+  link.download = `${name.replace(/\.json$/i, "")}_changed.json`;
+  link.click();
+  setTimeout(() => URL.revokeObjectURL(link.href), 60_000);
+}
