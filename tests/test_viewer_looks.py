@@ -287,6 +287,8 @@ class Looks(Hands):
         self.comes(lambda: self.thumbnail(11), [27, 20, 190, 60, 50, 255])
         self.of_size(1000, 800)
         self.comes(lambda: self.browser.run("return document.querySelector('.thumbnail').checkVisibility()"), False)      # there is no room
+        left, _, wide, _ = self.box("#event-list .fold")
+        self.assertLessEqual(left + wide, sum(self.box("#event-list")[::2]))         # but for what folds a group
 
     def test_where_an_event_draws(self):
         """Its box, while the pointer is on its row: of a draw, of a clear, and of what draws nothing none."""

@@ -285,6 +285,7 @@ MUTATIONS = [   # name, file, text, what stands there instead, test
     ("page: a moved event leaves its place", "page/whatif.js", '(way === "after") - (other > from)', '(way === "after")', "WhatIfInChromium.test_lines"),
     ("page: another change is kept", "page/whatif.js", "await changedCapture(change)", "await changedCapture({ move: 1, to: 1 })", "WhatIfInChromium.test_what_if"),
     ("page: a small picture of before a switch", "page/viewer.js", "forgetFindings(), forgetThumbnails(),", "forgetFindings(),", "Looks.test_what_an_event_changed"),
+    ("page: what folds a group is out of sight", "page/events.js", "...(members ? headOf(event) :", "...(members ? headOf(event).reverse() :", "Looks.test_what_an_event_changed"),
     ("page: a small picture of all", "page/thumbnails.js", "first = (start - top) / every * columns + (from - left) / every", "first = 0", "Looks.test_what_an_event_changed"),
     ("page: a box that stays", "page/events.js", "tellHover(null)", "tellHover(event)", "Looks.test_where_an_event_draws"),
     ("page: the box of another draw", "page/boxes.js", "if (!known.has(number)) known.set(", "if (!known.size) known.set(", "Looks.test_where_an_event_draws"),

@@ -150,7 +150,7 @@ function headOf(event) {
     list.element.focus({ preventScroll: true });
     fold(event);
   });
-  return [Object.assign(element("span", "what", event.name || "(no name)"), { title: event.name }), button];
+  return [button, Object.assign(element("span", "what", event.name || "(no name)"), { title: event.name })];
 }
 
 function fold(event) {
