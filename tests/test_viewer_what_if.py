@@ -108,7 +108,7 @@ class WhatIf(Hands):
             self.comes(lambda: self.drawn(50, 50), [125, 95, 55, 255])
             self.assertTrue(self.browser.run("return document.getElementById('what-if').hidden"))
             self.type("set 8 mask 16")
-            self.browser.until("return /^line 1, column \\d+: event 8 \\(blend\\), mask: a whole number from 0 to 15 is wanted, not 16$/.test(document.getElementById('notice').innerText)")
+            self.browser.until("return /^line \\d+, column \\d+: event 8 \\(blend\\), mask: a whole number from 0 to 15 is wanted, not 16$/.test(document.getElementById('notice').innerText)")
 
 
 @unittest.skipUnless(browser.is_installed(), "Chromium and chromedriver aren't installed")

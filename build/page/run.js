@@ -161,7 +161,7 @@ export async function changed(change) {
     const { width, height, bytes: samples } = await drawOther(bytes);
     return { width, height, samples };
   } catch (fault) {
-    throw fault instanceof Ended ? new Error(explained(fault.message, bytes)) : fault;
+    throw fault instanceof Ended ? new Error(explained(fault.message, bytes).split("\n").at(-1)) : fault;      // the place alone, as the server says it
   }
 }
 

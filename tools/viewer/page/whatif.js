@@ -8,8 +8,8 @@ const MEMBERS = {
   clear: ["color"], factor: ["color"], raster: ["cull", "front_ccw", "scissor"], scissor: ["rect"], blend: ["enable", "rgb", "alpha", "mask"], draw: ["interp"],
   depth: ["enable", "write", "func"], depth_clear: ["depth"], marker: ["name"],
 };
-const WORDS = { on: true, true: true, off: false, false: false };
-let change = null;                     // that is shown
+const WORDS = new Map([["on", true], ["true", true], ["off", false], ["false", false]]);
+let change = null, turns = 0;          // that is shown; how many were typed
 
 export const isChange = line => /^\s*(set|move)\b/.test(line);
 
@@ -28,7 +28,7 @@ export function readChange(line, events) {
   }
   const [what, name, ...values] = rest, event = events[number(what) - 1], members = MEMBERS[event.kind] ?? [];
   if (!members.includes(name) || !values.length) throw new Error(`set EVENT NAME VALUE: event ${what} is a ${event.kind}, and has ${members.join(", ")}`);
-  const read = values.map(text => WORDS[text] ?? (/^-?\d+$/.test(text) ? Number(text) : text));
+  const read = values.map(text => WORDS.get(text) ?? (/^-?\d+$/.test(text) ? Number(text) : text));
   return { set: event.number, members: { [name]: event.kind === "marker" ? values.join(" ") : read.length > 1 ? read : read[0] } };
 }
 
@@ -46,8 +46,10 @@ export function followChanges(hands) {
 const tell = fault => notice(String(fault.message ?? fault), true);
 
 export async function tryChange(line, hands) {
+  const its = ++turns;
   try {
     const wanted = readChange(line, hands.events()), [before, picture] = await Promise.all([hands.atEnd(), changed(wanted)]);
+    if (its !== turns || before === undefined) return;        // another one was typed meanwhile, or the way to the end was stopped
     if (!before) return notice("Of a target that is too large to come whole no change is drawn", true);
     change = wanted;
     $("what-if").hidden = false;
