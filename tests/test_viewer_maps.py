@@ -205,7 +205,7 @@ class MapsInChromium(Maps):
             self.addCleanup(go.set)
             self.shows(slope(64, 48), folder)
             self.browser.press("Escape", "z")
-            self.comes(lambda: self.browser.run("return document.querySelector('[aria-busy=\"true\"]')?.dataset.look"), "depth")
+            self.comes(lambda: self.browser.run("return document.querySelector('[data-look][aria-busy=\"true\"]')?.dataset.look"), "depth")        # the image's part is busy too, of a slow answer
             self.assertEqual((self.look(), self.drawn(5, 5)), ("after", [255, 0, 0, 255]))
             go.set()
             self.comes(self.look, "depth")
