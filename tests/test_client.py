@@ -302,7 +302,7 @@ class Page(unittest.TestCase):
 
     def test_each_script(self):
         page = (ROOT / "docs/CLIENTS.md").read_text()
-        found = re.findall(r"```(python|sh)\n(.*?)```\n+It says:\n+```text\n(.*?)```", page, re.S)
+        found = re.findall(r"```(python|sh)\n((?:(?!```).)*)```\n+It says:\n+```text\n(.*?)```", page, re.S)
         self.assertEqual([kind for kind, *_ in found], ["python", "sh"])
         with tempfile.TemporaryDirectory() as folder:
             room = pathlib.Path(folder)
