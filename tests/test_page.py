@@ -86,7 +86,7 @@ const { Capture } = await import("capture.js"), [text, window] = given, capture 
 return JSON.parse(new TextDecoder().decode(capture.bytesOf(capture.events, window)));
 """
 GEOMETRY = {"both factors of blending", "direction of triangles", "a triangle too many", "indices left out", "indices doubled", "indices exchanged", "an index that is wrong",
-            "a triangle that is missing", "colour of a vertex", "place of a vertex", "depth of a vertex"}      # kinds that the page doesn't try
+            "a triangle that is missing", "a part of the state from a triangle on", "colour of a vertex", "place of a vertex", "depth of a vertex"}      # kinds that the page doesn't try
 RED = (200, 40, 30, 255)
 WITHOUT = "delete WebAssembly.Suspending; WebAssembly.validate = () => false;"
 
