@@ -136,6 +136,21 @@ class Reports:
         self.assertIn("caf\\xe9", (self.folder / "night/night.html").read_text())
 
 
+def has_ended(process):
+    """Whether it is gone, or only waits to be asked for its status, which on a busy machine takes its time."""
+    try:
+        return pathlib.Path(f"/proc/{process}/stat").read_text().rpartition(")")[2].split()[0] == "Z"
+    except (FileNotFoundError, ProcessLookupError):
+        return True
+
+
+def soon(is_so, seconds=5):
+    end = time.monotonic() + seconds
+    while not is_so() and time.monotonic() < end:
+        time.sleep(0.01)
+    return is_so()
+
+
 class Here(Reports, Night):
     def test_what_is_done(self):
         self.night()
@@ -245,8 +260,7 @@ class Here(Reports, Night):
                 out, errors = run.communicate(timeout=50)
             self.assertEqual((run.returncode, out, errors), (130, b"", b"framedbg-night: interrupted: the same command goes on from here\n"))
             for process in map(int, running.read_text().split()):
-                with self.assertRaises(ProcessLookupError):
-                    os.kill(process, 0)
+                self.assertTrue(soon(lambda process=process: has_ended(process)), process)
 
     def test_elsewhere(self):
         status, lines, _ = self.night("--results", self.room / "elsewhere")
