@@ -421,8 +421,9 @@ class Alone(Opened):
             self.drop("chain.json", CHAIN.read_bytes())
             self.at(9)
             self.assertEqual(self.browser.run("return document.querySelectorAll('#event-list .event.off').length"), 0)
-            told = self.browser.within("const { ask, stop } = await import('run.js'); await stop(); return (await ask(['events']))[0].text")
-            self.assertNotIn(" off ", told)       # the run that begins after a stop has all events of the other capture on
+            told = self.browser.within("const { ask, stop } = await import('run.js'); await stop(); return JSON.stringify(await ask(['events']))")
+            self.assertIn("9 on ", told)
+            self.assertNotIn("8 off ", told)       # the run that begins after a stop has all events of the other capture on
 
     def stopped_at_the_start(self):
         self.stop()
