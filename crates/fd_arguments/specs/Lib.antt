@@ -1,2 +1,4 @@
 pub mod Words
 pub mod Made
+mod Refusing
+pub mod Wanting

@@ -1,15 +1,12 @@
-//! What the words of a command line ask for, and about which file.
-ghost use Rattle.std.specs.Prelude.{◌≤◌, IfOk, IsSomeAnd, map};
-ghost use Rattle.clap.specs.Words.{FailsBy, fault_of, found_of, rows_of, subcommand_of};
-ghost use Rattle.fd_arguments.specs.Words.{Asks, HasRequest, HasWorkers, program};
+//! What a subcommand asks for, and about which file.
+ghost use Rattle.std.specs.Prelude.{◌≤◌};
+ghost use Rattle.clap.specs.Words.{found_of, rows_of};
+ghost use Rattle.fd_arguments.specs.Words.{Asks, HasRequest, HasWorkers};
 ghost use Rattle.fd_words.specs.Request.{AsksWorkers};
 
-use crate::words::command;
-use clap::{ArgMatches, Error};
+use clap::ArgMatches;
 use fd_crew::MOST_WORKERS;
 use fd_words::Request;
-use std::alloc::Global;
-use std::convert::AsStr;
 
 /// The number of workers where none is asked for.
 const WORKERS: u32 = 4;
@@ -49,7 +46,7 @@ fn request_of(name: &str, matches: &ArgMatches) -> Request
 }
 
 /// What a subcommand with its arguments asks for.
-fn arguments_of<'a>(name: &str, matches: &ArgMatches<'a>) -> Arguments<'a>
+pub(crate) fn arguments_of<'a>(name: &str, matches: &ArgMatches<'a>) -> Arguments<'a>
     ensures value { Asks (name.now, rows_of (found_of matches.now)) result }
     ensures workers { AsksWorkers result.request }
 {
@@ -57,16 +54,4 @@ fn arguments_of<'a>(name: &str, matches: &ArgMatches<'a>) -> Arguments<'a>
         request: request_of(name, matches),
         capture: matches.get_str("CAPTURE").unwrap_or(""),
     }
-}
-
-/// Reads the words of a command line, of which the first is the program's name. The error is the text of the help or the version that they ask for, a fault
-/// of theirs, or a want of memory.
-pub fn read_arguments<'a, S: AsStr>(alloc: Global, words: &'a [S]) -> Result<Arguments<'a>, Error>
-    ensures asks { IfOk result (λ arguments. IsSomeAnd (subcommand_of program (map S.text words.now)) (λ met. Asks met arguments)) }
-    ensures workers { IfOk result (λ arguments. AsksWorkers arguments.request) }
-    ensures fails { FailsBy (fault_of program (map S.text words.now)) result }
-{
-    let matches = command(alloc)?.try_get_matches_from(words)?;
-    let (name, own) = matches.subcommand().unwrap();
-    Ok(arguments_of(name, own))
 }

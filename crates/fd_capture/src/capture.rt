@@ -37,7 +37,8 @@ fn likely_version(text: &str) -> u32
 
 /// What is read of a capture, its events as those of a version.
 fn capture_head(alloc: Global, version: u32, text: &str) -> Result<Head, CaptureFault>
-    ensures { MatchResult result (λ head. (found : Members) × (read text.now ≡ Some (object found)) × HasHead version head found) (λ fault. Fails fault (table_of_text text.now)) }
+    ensures { MatchResult result (λ head. (found : Members) × (read text.now ≡ Some (object found)) × HasHead version head found)
+        (λ fault. Fails fault (table_of_text text.now)) }
 {
     match read_head(alloc, version, text)? {
         Some(head) => Ok(head),

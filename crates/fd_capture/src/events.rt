@@ -51,7 +51,8 @@ fn next_event(
     reader: &mut Reader<'_>,
     depth: usize,
 ) -> Result<Result<Vec<Event>, CaptureFault>, Stop>
-    ensures ok { IfOk result (λ more. (d : Data) × (taken depth reader.old ≡ Some (d, reader.new)) × GivesNext number events more (event_numbered version number d)) }
+    ensures ok { IfOk result (λ more. (d : Data) × (taken depth reader.old ≡ Some (d, reader.new))
+        × GivesNext number events more (event_numbered version number d)) }
     ensures refused { result ≡ Err Stop.NotJson → taken depth reader.old ≡ None }
     ensures shorter { OnOk result (length reader.new < length reader.old) }
 {
@@ -69,7 +70,8 @@ fn event_items(
     reader: &mut Reader<'_>,
     depth: usize,
 ) -> Result<Result<Vec<Event>, CaptureFault>, Stop>
-    ensures ok { IfOk result (λ events. (ds : Items) × (items_taken depth reader.old ≡ Some (ds, reader.new)) × Gives (λ v. v.items) events (few_events version (list_of ds))) }
+    ensures ok { IfOk result (λ events. (ds : Items) × (items_taken depth reader.old ≡ Some (ds, reader.new))
+        × Gives (λ v. v.items) events (few_events version (list_of ds))) }
     ensures refused { result ≡ Err Stop.NotJson → items_taken depth reader.old ≡ None }
     ensures shorter { OnOk result (length reader.new < length reader.old) }
 {

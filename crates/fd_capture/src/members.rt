@@ -65,7 +65,8 @@ pub(crate) fn put(
     depth: usize,
     members: &mut Map<String, Value>,
 ) -> Result<(), Stop>
-    ensures ok { OnOk result ((d : Data) × (taken depth reader.old ≡ Some (d, reader.new)) × (members_view members.new.entries ≡ put name.now (clipped d) (members_view members.old.entries))) }
+    ensures ok { OnOk result ((d : Data) × (taken depth reader.old ≡ Some (d, reader.new))
+        × (members_view members.new.entries ≡ put name.now (clipped d) (members_view members.old.entries))) }
     ensures refused { result ≡ Err Stop.NotJson → taken depth reader.old ≡ None }
     ensures shorter { OnOk result (length reader.new < length reader.old) }
 {

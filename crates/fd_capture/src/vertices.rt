@@ -1,5 +1,6 @@
 //! The vertices of a draw, taken from the tokens of its text.
-ghost use Rattle.std.specs.Prelude.{◌≡◌, ◌<◌, ◌≤◌, ◌-◌, ◌^◌, [], ◌∷◌, ◌++◌, ◌&&◌, ℤ, codes, length, map, take, Some, None, Err, IfOk, OnOk, option_map, option_and_then};
+ghost use Rattle.std.specs.Prelude.{◌≡◌, ◌<◌, ◌≤◌, ◌-◌, ◌^◌, [], ◌∷◌, ◌++◌, ◌&&◌, ℤ, codes, length, map, take, Some, None, Err, IfOk, OnOk, option_map};
+ghost use Rattle.std.specs.Prelude.{option_and_then};
 ghost use Rattle.serde_json.specs.Data.{Data, Items, Members, object};
 ghost use Rattle.fd_json.specs.Taken.{taken, members_taken, items_taken};
 ghost use Rattle.fd_capture.specs.Field.{all_of, array_of, between, colour_of_data, list_of, within_32, number_between, signed_32, unsigned_32};
@@ -134,7 +135,8 @@ fn keep(channels: &mut Channels, channel: u8)
 
 /// The first channels of an array whose bracket was taken, up to the bracket that closes it; none if one of all isn't well formed.
 fn channel_items(reader: &mut Reader<'_>, depth: usize) -> Result<Option<Channels>, Stop>
-    ensures ok { IfOk result (λ v. (ds : Items) × (items_taken depth reader.old ≡ Some (ds, reader.new)) × (option_map (λ channels. channels.items) v ≡ option_map (take 5) (all_of (number_between 0 255) (list_of ds)))) }
+    ensures ok { IfOk result (λ v. (ds : Items) × (items_taken depth reader.old ≡ Some (ds, reader.new))
+        × (option_map (λ channels. channels.items) v ≡ option_map (take 5) (all_of (number_between 0 255) (list_of ds)))) }
     ensures refused { result ≡ Err Stop.NotJson → items_taken depth reader.old ≡ None }
     ensures shorter { OnOk result (length reader.new < length reader.old) }
 {
@@ -291,7 +293,8 @@ fn index_items(
     reader: &mut Reader<'_>,
     depth: usize,
 ) -> Result<Option<Vec<u32>>, Stop>
-    ensures ok { IfOk result (λ v. (ds : Items) × (items_taken depth reader.old ≡ Some (ds, reader.new)) × (option_map (λ indices. indices.items) v ≡ all_of unsigned_32 (list_of ds))) }
+    ensures ok { IfOk result (λ v. (ds : Items) × (items_taken depth reader.old ≡ Some (ds, reader.new))
+        × (option_map (λ indices. indices.items) v ≡ all_of unsigned_32 (list_of ds))) }
     ensures refused { result ≡ Err Stop.NotJson → items_taken depth reader.old ≡ None }
     ensures shorter { OnOk result (length reader.new < length reader.old) }
 {
@@ -317,7 +320,8 @@ pub(crate) fn indices(
     reader: &mut Reader<'_>,
     depth: usize,
 ) -> Result<Option<Vec<u32>>, Stop>
-    ensures ok { IfOk result (λ v. (d : Data) × (taken depth reader.old ≡ Some (d, reader.new)) × (option_map (λ indices. indices.items) v ≡ option_and_then (all_of unsigned_32) (array_of d))) }
+    ensures ok { IfOk result (λ v. (d : Data) × (taken depth reader.old ≡ Some (d, reader.new))
+        × (option_map (λ indices. indices.items) v ≡ option_and_then (all_of unsigned_32) (array_of d))) }
     ensures refused { result ≡ Err Stop.NotJson → taken depth reader.old ≡ None }
     ensures shorter { OnOk result (length reader.new < length reader.old) }
 {

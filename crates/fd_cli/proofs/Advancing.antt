@@ -9,6 +9,7 @@ use Rattle.std.proofs.KnownBytes.{Appends-nil, Appends-trans}
 use Rattle.arrayvec.specs.ArrayVec.{ArrayVec}
 use Rattle.fd_events.specs.Table.{Table}
 use Rattle.fd_frame.specs.State.{State, opening}
+use Rattle.fd_memory.specs.Wanting.{Wanted}
 use Rattle.fd_words.specs.declared.command.Command.TheVariants.{Quit}
 use Rattle.fd_words.specs.declared.ending.Ending.{Ending}
 use Rattle.fd_words.specs.declared.ending.Ending.TheVariants.{Done, Write, TooMuch}
@@ -92,7 +93,7 @@ module _ (old new : Progress) (held_old held_new : Option (List ℕ)) where
         reply = replies.reply;
         unsent = replies.puts.left;
         last = new.session;
-        answers = subst (λ c. Answers old.session c replies.reply new.session) (whole_line h) replies.answers;
+        answers = subst (λ c. Answers Wanted old.session c replies.reply new.session) (whole_line h) replies.answers;
         wrote = append_assoc text replies.puts.taken replies.puts.left ∙ ap (λ xs. text ++ xs) (sym replies.puts.whole);
         count = omega (arith, replies.puts.counted, h.sent_count, length-append text replies.puts.taken);
       }
@@ -120,7 +121,7 @@ module _ (old new : Progress) (held_old held_new : Option (List ℕ)) where
         after = λ table input text h more.
             let whole = append_assoc input (10 ∷ []) more in
             let is_quit = sym (whole_line h) ∙ quit in
-            let wrote = ap (λ (xs : List ℕ). text ++ xs) (subst (λ c. Answers old.session c replies.reply new.session) quit replies.answers).0 in
+            let wrote = ap (λ (xs : List ℕ). text ++ xs) (subst (λ c. Answers Wanted old.session c replies.reply new.session) quit replies.answers).0 in
             record { input = input; more = more; text = text; before = before h; whole = whole; within = omega arith; quit = is_quit; wrote = wrote };
       }
 
@@ -133,7 +134,7 @@ module _ (old new : Progress) (held_old held_new : Option (List ℕ)) where
         written = replies.reply;
         appended = all.0;
         after = λ table input text h.
-            let answers = subst (λ c. Answers old.session c replies.reply new.session) (whole_line h) replies.answers in
+            let answers = subst (λ c. Answers Wanted old.session c replies.reply new.session) (whole_line h) replies.answers in
             record {
               lines = h.lines ++ h.rest ∷ [];
               rest = [];
@@ -143,7 +144,7 @@ module _ (old new : Progress) (held_old held_new : Option (List ℕ)) where
                 count = omega (arith, h.line_count, length-append h.lines (h.rest ∷ []));
                 none_past = λ e. refl;
                 no_quit = all_push (λ line. command_of line ≢ Ok Quit) h.lines h.rest h.answered.no_quit (λ e. other (whole_line h ∙ e));
-                run = run_push (opening table) h.lines text old.session h.rest replies.reply new.session h.answered.run answers;
+                run = run_push Wanted (opening table) h.lines text old.session h.rest replies.reply new.session h.answered.run answers;
               };
               line = line;
               line_count = omega (arith, h.line_count, length-append h.lines (h.rest ∷ []));
@@ -162,7 +163,7 @@ module _ (old new : Progress) (held_old held_new : Option (List ℕ)) where
         written = replies.reply;
         appended = (puts_all held_old held_new old.sent new.sent replies.reply replies.puts).0;
         after = λ table input text h.
-            let answers = subst (λ c. Answers old.session c replies.reply new.session) (whole_line h) replies.answers in
+            let answers = subst (λ c. Answers Wanted old.session c replies.reply new.session) (whole_line h) replies.answers in
             inr (refl, record { text = text; before = before h; last = inr (rest_some h.rest h.line some, replies.reply, new.session, answers, refl) });
       }
 

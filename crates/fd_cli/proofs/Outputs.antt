@@ -7,6 +7,7 @@ use Rattle.std.proofs.lemmas.List.Splits.{slice_split_none, slice_split_at, leng
 use Rattle.std.proofs.lemmas.Bool.{ne_eqb}
 use Rattle.fd_events.specs.Table.{Table}
 use Rattle.fd_frame.specs.State.{State, opening}
+use Rattle.fd_memory.specs.Wanting.{Wanted}
 use Rattle.fd_words.specs.declared.command.Command.{Command}
 use Rattle.fd_words.specs.declared.command.Command.TheVariants.{Quit}
 use Rattle.fd_words.specs.declared.command.CommandFault.{CommandFault}
@@ -103,8 +104,8 @@ transcript_on state (line ∷ lines) others =
     ∙ sym (append_assoc first.0 (transcript first.1 lines) (transcript (left_by first.1 lines) others))
 
 -- what was written of some lines begins what is written of more
-on_and_on : (state : State) (lines others : List (List ℕ)) (text : List ℕ) → WritesUpToMemory state lines text → (more : List ℕ)
-    × WritesUpToMemory state (lines ++ others) (text ++ more)
+on_and_on : (state : State) (lines others : List (List ℕ)) (text : List ℕ) → WritesUpToMemory Wanted state lines text → (more : List ℕ)
+    × WritesUpToMemory Wanted state (lines ++ others) (text ++ more)
 on_and_on state lines others text (inl is) =
     let same = ap (λ (xs : List ℕ). xs ++ transcript (left_by state lines) others) is ∙ sym (transcript_on state lines others) in
     (transcript (left_by state lines) others, inl same)
@@ -124,6 +125,7 @@ on_and_on state lines others text (inr b) =
         left = b.left;
         end = b.end;
         cut = cut;
+        wanted = b.wanted;
         answers = b.answers;
         names = b.names;
         goes_on = b.goes_on;
@@ -148,21 +150,21 @@ module _ (table : Table) (taken : List ℕ) where
   answered_last text b some = answered_end text b ∙ ap (λ (ls : List (List ℕ)). b.lines ++ ls) (last_some b.rest some)
 
   -- so many lines were answered, with the rest behind them
-  with_rest : (input text reply : List ℕ) (last : State) (b : AnswersLines table input text) → Answers b.state (command_of b.rest) reply last
-      → WritesUpToMemory (opening table) (b.lines ++ b.rest ∷ []) (text ++ reply)
-  with_rest input text reply last b answers = writes_transcript (opening table) (b.lines ++ b.rest ∷ []) (text ++ reply) last
-      (run_push (opening table) b.lines text b.state b.rest reply last b.answered.run answers)
+  with_rest : (input text reply : List ℕ) (last : State) (b : AnswersLines table input text) → Answers Wanted b.state (command_of b.rest) reply last
+      → WritesUpToMemory Wanted (opening table) (b.lines ++ b.rest ∷ []) (text ++ reply)
+  with_rest input text reply last b answers = writes_transcript true (opening table) (b.lines ++ b.rest ∷ []) (text ++ reply) last
+      (run_push Wanted (opening table) b.lines text b.state b.rest reply last b.answered.run answers)
 
   lines_of : (written : List ℕ) (b : AnswersLines table taken written) → WritesLines table taken written
-  lines_of written b = rw (ended_are taken b.lines b.rest b.answered.cut) (writes_transcript (opening table) b.lines written b.state b.answered.run)
+  lines_of written b = rw (ended_are taken b.lines b.rest b.answered.cut) (writes_transcript true (opening table) b.lines written b.state b.answered.run)
 
   at_a_quit : (written : List ℕ) → StopsAtQuit table taken written → WritesOutput table taken written
   at_a_quit written s =
       let b = s.before in
       let is : answered taken ≡ b.lines ++ b.rest ∷ [] = answered_on s.input s.more s.text b s.whole
       ∙ ap (λ (ls : List (List ℕ)). b.lines ++ ls) (first b.rest (pieces_of s.more) true (some_pieces s.more) (ap is_quit s.quit)) in
-      let bye : Answers b.state (command_of b.rest) (codes "bye\n") b.state =
-      subst (λ (c : Result Command CommandFault). Answers b.state c (codes "bye\n") b.state) (sym s.quit) (refl, refl) in
+      let bye : Answers Wanted b.state (command_of b.rest) (codes "bye\n") b.state =
+      subst (λ (c : Result Command CommandFault). Answers Wanted b.state c (codes "bye\n") b.state) (sym s.quit) (refl, refl) in
       rw (is, s.wrote) (with_rest s.input s.text (codes "bye\n") b.state b bye)
 
   at_the_end : (written : List ℕ) → AnswersAll table taken written → WritesOutput table taken written
@@ -172,7 +174,7 @@ module _ (table : Table) (taken : List ℕ) where
         | inl h ↦
             let is : answered taken ≡ b.lines =
             answered_end a.text b ∙ ap (λ (r : List ℕ). b.lines ++ answered_of (r ∷ [])) h.0 ∙ append-nil b.lines in
-            rw (is, h.1) (writes_transcript (opening table) b.lines a.text b.state b.answered.run)
+            rw (is, h.1) (writes_transcript true (opening table) b.lines a.text b.state b.answered.run)
         | inr h ↦ rw (answered_last a.text b h.0, h.4) (with_rest taken a.text h.1 h.2 b h.3)
       ]
 

@@ -20,20 +20,20 @@ module _ (P : ℕ → List Event → Type 0) where
   flagged t zero on holds = holds
   flagged t (suc n) on holds = holds
 
-  pub answered : (command : Result Command CommandFault) (old new : State) (text : List ℕ) → Answers old command text new → Holds old → Holds new
-  answered (Ok Step) old new text (Refused fault, h, is) holds = kept new _ h.1 holds
-  answered (Ok Step) old new text (other, h, is) holds = kept new _ h.2 holds
+  pub answered : (command : Result Command CommandFault) (old new : State) (text : List ℕ) → Answers (Unit {0}) old command text new → Holds old → Holds new
+  answered (Ok Step) old new text (Refused fault, h, w, is) holds = kept new _ h.1 holds
+  answered (Ok Step) old new text (other, h, w, is) holds = kept new _ h.2 holds
   answered (Ok Back) old new text (Ok at, h, is) holds = kept new _ h.2 holds
   answered (Ok Back) old new text (Err fault, h, is) holds = kept new _ h.2 holds
-  answered (Ok (Goto to)) old new text (Moved at, h, is) holds = kept new _ h.2 holds
-  answered (Ok (Goto to)) old new text (Stopped at, h, is) holds = kept new _ h.3 holds
-  answered (Ok (Goto to)) old new text (Refused fault, h, is) holds = kept new _ h.1 holds
-  answered (Ok (On number)) old new text (Moved at, h, is) holds = kept new _ h.2 (flagged old.table number true holds)
-  answered (Ok (On number)) old new text (Stopped at, h, is) holds = kept new _ h.3 (flagged old.table number true holds)
-  answered (Ok (On number)) old new text (Refused fault, h, is) holds = kept new _ h.1 holds
-  answered (Ok (Off number)) old new text (Moved at, h, is) holds = kept new _ h.2 (flagged old.table number false holds)
-  answered (Ok (Off number)) old new text (Stopped at, h, is) holds = kept new _ h.3 (flagged old.table number false holds)
-  answered (Ok (Off number)) old new text (Refused fault, h, is) holds = kept new _ h.1 holds
+  answered (Ok (Goto to)) old new text (Moved at, h, w, is) holds = kept new _ h.2 holds
+  answered (Ok (Goto to)) old new text (Stopped at, h, w, is) holds = kept new _ h.3 holds
+  answered (Ok (Goto to)) old new text (Refused fault, h, w, is) holds = kept new _ h.1 holds
+  answered (Ok (On number)) old new text (Moved at, h, w, is) holds = kept new _ h.2 (flagged old.table number true holds)
+  answered (Ok (On number)) old new text (Stopped at, h, w, is) holds = kept new _ h.3 (flagged old.table number true holds)
+  answered (Ok (On number)) old new text (Refused fault, h, w, is) holds = kept new _ h.1 holds
+  answered (Ok (Off number)) old new text (Moved at, h, w, is) holds = kept new _ h.2 (flagged old.table number false holds)
+  answered (Ok (Off number)) old new text (Stopped at, h, w, is) holds = kept new _ h.3 (flagged old.table number false holds)
+  answered (Ok (Off number)) old new text (Refused fault, h, w, is) holds = kept new _ h.1 holds
   answered (Ok (Pixel x y)) old new text h holds = kept new _ h.5 holds
-  answered (Ok (History x y)) old new text h holds = kept new _ h.3 holds
+  answered (Ok (History x y)) old new text h holds = kept new _ h.4 holds
   answered other old new text h holds = kept new _ h.1 holds

@@ -1,5 +1,5 @@
 -- A run on a capture of version 1 writes what version 1 says.
-use Rattle.std.proofs.Common.{◌≡◌, ℕ, zero, suc, ◌+◌, List, [], ◌∷◌, ◌++◌, map, length, Bool, true, false, Result, Ok, Err, inl, inr, refl, sym, ap, ◌∙◌, ◌↔◌}
+use Rattle.std.proofs.Common.{◌≡◌, ℕ, ◌+◌, List, [], ◌∷◌, ◌++◌, map, length, Bool, false, Result, Ok, Err, inl, inr, refl, sym, ap, ◌∙◌, ◌↔◌}
 use Rattle.std.proofs.Common.{codes, cond}
 use Rattle.std.specs.Prelude.{is_some}
 use Rattle.std.specs.List.{flat_map}
@@ -26,10 +26,11 @@ use Rattle.fd_session.specs.declared.answer.SessionFault.{SessionFault}
 use Rattle.fd_frame.specs.State.{State, opening}
 use Rattle.fd_session.specs.Machine.{ShowsPixel, ShowsDepth, ShowsHistory}
 use Rattle.fd_words.specs.declared.command.Command.{Command}
-use Rattle.fd_words.specs.declared.command.Command.TheVariants.{Pixel, History, State as ShowState, Events, Show}
+use Rattle.fd_words.specs.declared.command.Command.TheVariants.{Step, Goto, On, Off, Pixel, History, State as ShowState, Events, Show}
 use Rattle.fd_words.specs.declared.command.CommandFault.{CommandFault}
 use Rattle.fd_words.specs.Line.{command_of}
 use Rattle.fd_cli.specs.Run.{Answers, Run}
+use Rattle.fd_cli.proofs.Transcripts.{asks_nothing, shows_nothing}
 use Rattle.fd_cli.specs.Show.{show_text}
 use Rattle.fd_words.specs.Text.{state_line, event_words, event_line, event_lines, event_list, events_head, entry_line, entry_list, number_line}
 use Rattle.fd_words.specs.Text.{number_word, word}
@@ -129,30 +130,34 @@ module _ (state : State) (first : IsFirst state) where
 -- ---- the same answers
 
 answers_same : (command : Result Command CommandFault) (old new : State) (text : List ℕ) → IsFirst old
-    → Answers old command text new ↔ one.Answers old command text new
+    → Answers (Unit {0}) old command text new ↔ one.Answers old command text new
 answers_same (Ok (Pixel x y)) old new text first = (
   λ h. let shown = pixel_to old first x y h.0 h.1 h.2 h.3 in (h.0, shown.0, h.4 ∙ shown.1, h.5),
   λ h. let shown = pixel_from old first x y h.0 h.1 in (h.0, shown.0, shown.1, shown.2, h.2 ∙ sym shown.3, h.3),
 )
 answers_same (Ok (History x y)) old new text first = (
-  λ h. let shown = history_to old first x y h.0 h.1 in (shown.0, shown.1, h.2 ∙ shown.2, h.3),
-  λ h. let shown = history_from old first x y h.0 h.1 in (shown.0, shown.1, h.2 ∙ sym shown.2, h.3),
+  λ h. let shown = history_to old first x y h.0 h.1 in (shown.0, shown.1, h.3 ∙ shown.2, h.4),
+  λ h. let shown = history_from old first x y h.0 h.1 in (shown.0, shown.1, shows_nothing shown.0, h.2 ∙ sym shown.2, h.3),
 )
 answers_same (Ok ShowState) old new text first = (λ h. (h.0 ∙ state_same old first, h.1), λ h. (h.0 ∙ sym (state_same old first), h.1))
 answers_same (Ok Events) old new text first =
     let same = list_same old.table old.position first.1 in
     (λ h. (h.0 ∙ same, h.1), λ h. (h.0 ∙ sym same, h.1))
 answers_same (Ok Show) old new text first = (
-  λ h. (elim h.0 [ inl is ↦ inl (is ∙ show_same old first) | inr is ↦ inr is ], h.1),
-  λ h. (elim h.0 [ inl is ↦ inl (is ∙ sym (show_same old first)) | inr is ↦ inr is ], h.1),
+  λ h. (elim h.0 [ inl is ↦ inl (is ∙ show_same old first) | inr told ↦ inr told.0 ], h.1),
+  λ h. (elim h.0 [ inl is ↦ inl (is ∙ sym (show_same old first)) | inr is ↦ inr (is, tt) ], h.1),
 )
+answers_same (Ok Step) old new text first = (λ h. (h.0, h.1, h.3), λ h. (h.0, h.1, asks_nothing h.0, h.2))
+answers_same (Ok (Goto to)) old new text first = (λ h. (h.0, h.1, h.3), λ h. (h.0, h.1, asks_nothing h.0, h.2))
+answers_same (Ok (On number)) old new text first = (λ h. (h.0, h.1, h.3), λ h. (h.0, h.1, asks_nothing h.0, h.2))
+answers_same (Ok (Off number)) old new text first = (λ h. (h.0, h.1, h.3), λ h. (h.0, h.1, asks_nothing h.0, h.2))
 answers_same other old new text first = (λ h. h, λ h. h)
 
-run_same : (lines : List (List ℕ)) (old new : State) (text : List ℕ) → IsFirst old → Run old lines text new ↔ one.Run old lines text new
+run_same : (lines : List (List ℕ)) (old new : State) (text : List ℕ) → IsFirst old → Run (Unit {0}) old lines text new ↔ one.Run old lines text new
 run_same [] old new text first = (λ h. h, λ h. h)
 run_same (line ∷ lines) old new text first =
     let same = λ (mid : State) (reply : List ℕ). answers_same (command_of line) old mid reply first in
-    let later = λ (mid : State) (reply others : List ℕ) (is : Answers old (command_of line) reply mid).
+    let later = λ (mid : State) (reply others : List ℕ) (is : Answers (Unit {0}) old (command_of line) reply mid).
     run_same lines mid new others (answered IsOne (command_of line) old mid reply is first) in (
       λ h. (h.0, h.1, h.2, (same h.1 h.0).0 h.3, (later h.1 h.0 h.2 h.3).0 h.4, h.5),
       λ h. let is = (same h.1 h.0).1 h.3 in (h.0, h.1, h.2, is, (later h.1 h.0 h.2 is).1 h.4, h.5),

@@ -1,5 +1,5 @@
 -- A run on a capture of version 2 writes what version 2 says.
-use Rattle.std.proofs.Common.{◌≡◌, ℕ, zero, suc, ◌+◌, List, [], ◌∷◌, ◌++◌, length, Bool, true, false, cond, Result, Ok, Err, inl, inr, refl, sym, ap, ◌∙◌, ◌↔◌}
+use Rattle.std.proofs.Common.{◌≡◌, ℕ, ◌+◌, List, [], ◌∷◌, ◌++◌, length, Bool, false, cond, Result, Ok, Err, inl, inr, refl, sym, ap, ◌∙◌, ◌↔◌}
 use Rattle.std.proofs.Common.{codes}
 use Rattle.std.specs.List.{flat_map}
 use Rattle.std.proofs.lemmas.List.Elements.{All-head, All-tail}
@@ -20,10 +20,11 @@ use Rattle.fd_session.specs.declared.answer.SessionFault.{SessionFault}
 use Rattle.fd_frame.specs.State.{State, opening}
 use Rattle.fd_session.specs.Machine.{ShowsPixel, ShowsDepth, ShowsHistory}
 use Rattle.fd_words.specs.declared.command.Command.{Command}
-use Rattle.fd_words.specs.declared.command.Command.TheVariants.{Pixel as ShowPixel, History, State as ShowState, Events, Show}
+use Rattle.fd_words.specs.declared.command.Command.TheVariants.{Step, Goto, On, Off, Pixel as ShowPixel, History, State as ShowState, Events, Show}
 use Rattle.fd_words.specs.declared.command.CommandFault.{CommandFault}
 use Rattle.fd_words.specs.Line.{command_of}
 use Rattle.fd_cli.specs.Run.{Answers, Run}
+use Rattle.fd_cli.proofs.Transcripts.{asks_nothing, shows_nothing}
 use Rattle.fd_cli.specs.Show.{show_text}
 use Rattle.fd_words.specs.Text.{state_line, event_words, event_line, event_lines, event_list, events_head, entry_line, entry_list, number_line}
 use Rattle.fd_words.specs.Text.{number_word, word}
@@ -117,30 +118,34 @@ list_same t position none = ap (λ lines. events_head (length t.events) position
 -- ---- the same answers
 
 answers_same : (command : Result Command CommandFault) (old new : State) (text : List ℕ) → IsSecond old
-    → Answers old command text new ↔ two.Answers old command text new
+    → Answers (Unit {0}) old command text new ↔ two.Answers old command text new
 answers_same (Ok (ShowPixel x y)) old new text second = (
   λ h. (h.0, h.1, pixel_to old second x y h.0 h.2, depth_to old second x y h.1 h.3, h.4 ∙ pixel_same old second h.0 h.1, h.5),
   λ h. (h.0, h.1, pixel_from old second x y h.0 h.2, depth_from old second x y h.1 h.3, h.4 ∙ sym (pixel_same old second h.0 h.1), h.5),
 )
 answers_same (Ok (History x y)) old new text second = (
-  λ h. (h.0, history_to old second x y h.0 h.1, h.2 ∙ history_same old second h.0, h.3),
-  λ h. (h.0, history_from old second x y h.0 h.1, h.2 ∙ sym (history_same old second h.0), h.3),
+  λ h. (h.0, history_to old second x y h.0 h.1, h.3 ∙ history_same old second h.0, h.4),
+  λ h. (h.0, history_from old second x y h.0 h.1, shows_nothing h.0, h.2 ∙ sym (history_same old second h.0), h.3),
 )
 answers_same (Ok ShowState) old new text second = (λ h. (h.0 ∙ state_same old second, h.1), λ h. (h.0 ∙ sym (state_same old second), h.1))
 answers_same (Ok Events) old new text second =
     let same = list_same old.table old.position second.1 in
     (λ h. (h.0 ∙ same, h.1), λ h. (h.0 ∙ sym same, h.1))
 answers_same (Ok Show) old new text second = (
-  λ h. (elim h.0 [ inl is ↦ inl (is ∙ show_same old second) | inr is ↦ inr is ], h.1),
-  λ h. (elim h.0 [ inl is ↦ inl (is ∙ sym (show_same old second)) | inr is ↦ inr is ], h.1),
+  λ h. (elim h.0 [ inl is ↦ inl (is ∙ show_same old second) | inr told ↦ inr told.0 ], h.1),
+  λ h. (elim h.0 [ inl is ↦ inl (is ∙ sym (show_same old second)) | inr is ↦ inr (is, tt) ], h.1),
 )
+answers_same (Ok Step) old new text second = (λ h. (h.0, h.1, h.3), λ h. (h.0, h.1, asks_nothing h.0, h.2))
+answers_same (Ok (Goto to)) old new text second = (λ h. (h.0, h.1, h.3), λ h. (h.0, h.1, asks_nothing h.0, h.2))
+answers_same (Ok (On number)) old new text second = (λ h. (h.0, h.1, h.3), λ h. (h.0, h.1, asks_nothing h.0, h.2))
+answers_same (Ok (Off number)) old new text second = (λ h. (h.0, h.1, h.3), λ h. (h.0, h.1, asks_nothing h.0, h.2))
 answers_same other old new text second = (λ h. h, λ h. h)
 
-run_same : (lines : List (List ℕ)) (old new : State) (text : List ℕ) → IsSecond old → Run old lines text new ↔ two.Run old lines text new
+run_same : (lines : List (List ℕ)) (old new : State) (text : List ℕ) → IsSecond old → Run (Unit {0}) old lines text new ↔ two.Run old lines text new
 run_same [] old new text second = (λ h. h, λ h. h)
 run_same (line ∷ lines) old new text second =
     let same = λ (mid : State) (reply : List ℕ). answers_same (command_of line) old mid reply second in
-    let later = λ (mid : State) (reply others : List ℕ) (is : Answers old (command_of line) reply mid).
+    let later = λ (mid : State) (reply others : List ℕ) (is : Answers (Unit {0}) old (command_of line) reply mid).
     run_same lines mid new others (answered IsTwo (command_of line) old mid reply is second) in (
       λ h. (h.0, h.1, h.2, (same h.1 h.0).0 h.3, (later h.1 h.0 h.2 h.3).0 h.4, h.5),
       λ h. let is = (same h.1 h.0).1 h.3 in (h.0, h.1, h.2, is, (later h.1 h.0 h.2 is).1 h.4, h.5),

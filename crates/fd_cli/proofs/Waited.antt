@@ -1,5 +1,5 @@
 -- Reads of which each waits for the answers to what came before it.
-use Rattle.std.proofs.Common.{◌≡◌, List, ℕ, [], ◌∷◌, ◌++◌, ap, refl, subst, sym}
+use Rattle.std.proofs.Common.{List, ℕ, [], ◌∷◌, ◌++◌, ap, refl, subst, sym}
 use Rattle.fd_device.specs.Beside.{IsFilledBeside}
 use Rattle.fd_events.specs.Table.{Table}
 use Rattle.fd_listing.specs.Counting.{StaysFlushed}

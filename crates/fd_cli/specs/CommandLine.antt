@@ -1,9 +1,10 @@
 -- Promised. What the program does, from the words of its command line to its status.
-use Rattle.std.specs.Prelude.{◌≡◌, ◌⊎◌, ℕ, List, [], Bool, Result, Ok, Err, IsSomeAnd, codes}
+use Rattle.std.specs.Prelude.{◌≡◌, ◌<◌, ◌⊎◌, ℕ, List, [], Bool, false, length, Result, Ok, Err, IsSomeAnd, codes}
 use Rattle.std.specs.Io.KnownBytes.{Appends}
 use Rattle.clap.specs.Words.{Text, fault_of, subcommand_of, IsAmong}
 use Rattle.clap.specs.declared.error.kind.ErrorKind.{ErrorKind}
 use Rattle.clap.specs.declared.error.kind.ErrorKind.TheVariants.{DisplayHelp, DisplayVersion}
+use Rattle.fd_arguments.specs.Wanting.{IsWantedFor}
 use Rattle.fd_arguments.specs.Words.{Asks, program}
 use Rattle.fd_arguments.specs.declared.arguments.Arguments.{Arguments}
 use Rattle.fd_device.specs.Transfer.{Puts, CountsFailure}
@@ -28,6 +29,7 @@ pub record Tells (text : List ℕ) (old new : DevicesShown) : Type 0 where
   pub whole : Bool
   pub says : Puts old.errors.bytes new.errors.bytes 0 count text whole
   pub failures : CountsFailure old.errors.failures new.errors.failures whole
+  pub breaks_off : whole ≡ false → count < length text
 
 -- The program ended before it did anything, and told so.
 abbrev pub EndsBefore : Ending → DevicesShown → DevicesShown → ℕ → Type 0
@@ -38,13 +40,15 @@ pub record WritesHelp (text : List ℕ) (old new : DevicesShown) (status : ℕ) 
   pub ending : Ending
   pub written : List ℕ
   pub count : ℕ
-  pub whole : Bool
+  pub told : Bool
   pub input : new.input ≡ old.input
   pub appended : Appends old.output.bytes new.output.bytes written
   pub writes : WritesText text written ending
   pub failures : CountsWriter ending old.output.failures new.output.failures
   pub passed_on : EndsFlushed ending old.flushed new.flushed
-  pub says : Puts old.errors.bytes new.errors.bytes 0 count (report_of ending) whole
+  pub says : Puts old.errors.bytes new.errors.bytes 0 count (report_of ending) told
+  pub tells : CountsFailure old.errors.failures new.errors.failures told
+  pub breaks_off : told ≡ false → count < length (report_of ending)
   pub ends : status ≡ status_of ending
 
 -- What the words' first fault comes to: the help or the version is written, and any other fault is told. The texts are clap's.
@@ -82,7 +86,8 @@ pub record Asked (words : List Text) (gave : List ℕ → Result (List ℕ) File
 abbrev pub HasFault : List Text → DevicesShown → DevicesShown → ℕ → Type 0
 HasFault words old new status = (kind : ErrorKind) × IsAmong kind (fault_of program words) × Explains kind old new status
 
--- From words to status: memory was wanted before anything was done; or the words have a fault; or they ask for something, which is done as it is promised.
+-- From words to status: clap wanted memory for the words, or the text of their fault did, and nothing else was done; or they have a fault; or they ask for
+-- something, which is done as it is promised.
 abbrev pub Programs : List Text → (List ℕ → Result (List ℕ) FileFault → Type 0) → (Request → List ℕ → Type 0) → DevicesShown → DevicesShown → ℕ → Type 0
 Programs words gave Performed old new status =
-    EndsBefore Memory old new status ⊎ (HasFault words old new status ⊎ Asked words gave Performed old new status)
+    (IsWantedFor words × EndsBefore Memory old new status) ⊎ (HasFault words old new status ⊎ Asked words gave Performed old new status)

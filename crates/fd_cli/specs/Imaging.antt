@@ -1,10 +1,10 @@
 -- Promised. What a call that writes an image has written, by how it ends.
-use Rattle.std.specs.Prelude.{◌≡◌, ℕ, ◌<◌, ◌≤◌, List, [], ◌++◌, length, Option, Some, None}
+use Rattle.std.specs.Prelude.{◌≡◌, ℕ, ◌<◌, ◌≤◌, List, [], length, Option, Some, None}
 use Rattle.fd_events.specs.Table.{Table}
 use Rattle.fd_pam.specs.Pam.{pam}
 use Rattle.fd_frame.specs.State.{State, opening, at_position}
 use Rattle.fd_words.specs.declared.ending.Ending.{Ending}
-use Rattle.fd_words.specs.declared.ending.Ending.TheVariants.{Done, NoSuchPosition, Write, Memory}
+use Rattle.fd_words.specs.declared.ending.Ending.TheVariants.{NoSuchPosition, Memory}
 use Rattle.fd_listing.specs.Opening.{OfCapture}
 use Rattle.fd_listing.specs.Listing.{WritesText}
 

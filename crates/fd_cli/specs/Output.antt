@@ -4,6 +4,7 @@ use Rattle.std.specs.List.{slice_split}
 use Rattle.fd_events.specs.Table.{Table}
 use Rattle.fd_capture.specs.Capture.{capture_of}
 use Rattle.fd_frame.specs.State.{opening}
+use Rattle.fd_memory.specs.Wanting.{Wanted}
 use Rattle.fd_words.specs.declared.command.Command.{Command}
 use Rattle.fd_words.specs.declared.command.Command.TheVariants.{Quit}
 use Rattle.fd_words.specs.declared.command.CommandFault.{CommandFault}
@@ -48,9 +49,9 @@ ended_lines input = but_last (pieces_of input)
 abbrev pub output : Table → List ℕ → List ℕ
 output table input = transcript (opening table) (answered input)
 
--- Up to the first reply that tells of a want of memory, if there is one.
+-- Up to the first reply that tells of a want of memory, if there is one; then memory was wanted.
 abbrev pub WritesOutput : Table → List ℕ → List ℕ → Type 0
-WritesOutput table input written = WritesUpToMemory (opening table) (answered input) written
+WritesOutput table input written = WritesUpToMemory Wanted (opening table) (answered input) written
 
 -- The first bytes of it, so many, were taken before the writer failed.
 pub record WritesFront (table : Table) (input written : List ℕ) (sent : ℕ) : Type 0 where
@@ -60,7 +61,7 @@ pub record WritesFront (table : Table) (input written : List ℕ) (sent : ℕ) :
 
 -- The lines that a line feed ends were answered.
 abbrev pub WritesLines : Table → List ℕ → List ℕ → Type 0
-WritesLines table input written = WritesUpToMemory (opening table) (ended_lines input) written
+WritesLines table input written = WritesUpToMemory Wanted (opening table) (ended_lines input) written
 
 -- Those before a byte past a bound were.
 pub record WritesWithin (table : Table) (taken written : List ℕ) : Type 0 where

@@ -2,6 +2,8 @@
 use Rattle.std.specs.Prelude.{◌≡◌, ℕ, ◌≤◌, ◌<◌, List, [], length, Option, Bool, false}
 use Rattle.std.specs.Io.KnownBytes.{Consumes, Appends}
 use Rattle.fd_device.specs.Transfer.{Puts, CountsFailure}
+use Rattle.fd_device.specs.declared.device.Sink as Sink
+use Rattle.fd_device.specs.declared.device.Source as Source
 use Rattle.fd_words.specs.declared.ending.Ending.{Ending}
 use Rattle.fd_words.specs.declared.request.Request.{Request}
 use Rattle.fd_words.specs.declared.request.Request.TheVariants.{Run, Image, Events}
@@ -36,10 +38,14 @@ pub record DevicesShown : Type 0 where
   pub errors : DeviceShown
   pub flushed : Bool
 
--- as the source, the sink and the errors are shown
-abbrev pub devices_shown : {R W E : Type 0} → (R → DeviceShown) → (W → DeviceShown) → (E → DeviceShown) → (W → Bool) → Devices R W E → DevicesShown
-devices_shown input output errors flushed devices =
-    record { input = input devices.source; output = output devices.sink; errors = errors devices.errors; flushed = flushed devices.sink }
+-- what the devices show, as the source, the sink and the errors say of themselves
+abbrev pub devices_shown : {R W E : Type 0} → Source.Ghosts R → Sink.Ghosts W → Sink.Ghosts E → Devices R W E → DevicesShown
+devices_shown source sink errors devices = record {
+  input = shown (source.remaining devices.source) (source.failure_count devices.source);
+  output = shown (sink.contents devices.sink) (sink.failure_count devices.sink);
+  errors = shown (errors.contents devices.errors) (errors.failure_count devices.errors);
+  flushed = sink.is_flushed devices.sink;
+}
 
 -- From bytes to bytes: some of the input was taken and some output written, as the request has it; a reader or a writer failed only where the ending says so;
 -- all that was written was passed on unless the writer failed; the errors were told the ending's line, or a front of it where that device failed; and the

@@ -4,6 +4,7 @@ use Rattle.std.specs.List.{AllByRecursion}
 use Rattle.fd_words.specs.Limits.{most_reply_bytes}
 use Rattle.fd_events.specs.Table.{Table}
 use Rattle.fd_frame.specs.State.{State, opening}
+use Rattle.fd_memory.specs.Wanting.{Wanted}
 use Rattle.fd_words.specs.declared.command.Command.{Command}
 use Rattle.fd_words.specs.declared.command.Command.TheVariants.{Quit}
 use Rattle.fd_words.specs.declared.command.CommandFault.{CommandFault}
@@ -21,7 +22,7 @@ pub record Answered (table : Table) (input text : List ℕ) (lines : List (List 
   pub count : length lines ≤ 1000000
   pub none_past : length lines ≡ 1000000 → rest ≡ []
   pub no_quit : AllByRecursion (λ line. command_of line ≢ Ok Quit) lines
-  pub run : Run (opening table) lines text state
+  pub run : Run Wanted (opening table) lines text state
 
 -- The lines that a line feed ends were answered.
 pub record AnswersLines (table : Table) (taken written : List ℕ) : Type 0 where
@@ -46,7 +47,8 @@ pub record AnswersAll (table : Table) (taken written : List ℕ) : Type 0 where
   pub text : List ℕ
   pub before : AnswersLines table taken text
   pub last : ((before.rest ≡ []) × (written ≡ text))
-      ⊎ ((0 < length before.rest) × (reply : List ℕ) × (new : State) × Answers before.state (command_of before.rest) reply new × (written ≡ text ++ reply))
+      ⊎ ((0 < length before.rest) × (reply : List ℕ) × (new : State) × Answers Wanted before.state (command_of before.rest) reply new
+      × (written ≡ text ++ reply))
 
 -- The lines before a byte past a bound were answered.
 pub record PassesBound (table : Table) (taken written : List ℕ) : Type 0 where
@@ -64,7 +66,7 @@ pub record BreaksOff (table : Table) (input written : List ℕ) (sent : ℕ) : T
   pub reply : List ℕ
   pub unsent : List ℕ
   pub last : State
-  pub answers : Answers before.state (command_of before.rest) reply last
+  pub answers : Answers Wanted before.state (command_of before.rest) reply last
   pub wrote : written ++ unsent ≡ text ++ reply
   pub count : sent ≡ length written
 
@@ -107,6 +109,6 @@ ServesCapture capture taken written ending ended =
 pub record Replies (old : State) (command : Result Command CommandFault) (new : State) (held_old held_new : Option (List ℕ)) (sent_old sent_new : ℕ)
     (ok : Bool) : Type 0 where
   pub reply : List ℕ
-  pub answers : Answers old command reply new
+  pub answers : Answers Wanted old command reply new
   pub puts : Puts held_old held_new sent_old sent_new reply ok
   pub short : ok ≡ true → length reply ≤ most_reply_bytes

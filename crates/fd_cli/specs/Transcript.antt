@@ -11,7 +11,7 @@ use Rattle.fd_words.specs.declared.command.Command.{Command}
 use Rattle.fd_words.specs.declared.command.Command.TheVariants.{Step, Back, Goto, On, Off, Pixel, History, State as ShowState, Events, Show, Quit}
 use Rattle.fd_words.specs.declared.command.CommandFault.{CommandFault}
 use Rattle.fd_words.specs.Line.{command_of}
-use Rattle.fd_cli.specs.Run.{Answers, Run, NamesMemory, RunWithoutMemory}
+use Rattle.fd_cli.specs.Run.{Answers, Run, Evidence, NamesMemory, RunWithoutMemory}
 use Rattle.fd_cli.specs.Show.{show_text}
 use Rattle.fd_words.specs.Text.{number_line, fault_line, entry_list}
 use Rattle.fd_cli.specs.ReplyText.{refusal_line, pixel_text, state_text, events_text}
@@ -64,9 +64,9 @@ abbrev pub left_by : State → List (List ℕ) → State
 left_by state [] = state
 left_by state (line ∷ lines) = left_by (replied state (command_of line)).1 lines
 
--- The text is the transcript up to a line whose reply tells of a want of memory. The machine may give that reply there, and it leaves a state from which what
--- follows is a run. Of the lines that are left, some first ones were answered in it.
-pub record BreaksAtMemory (state : State) (lines : List (List ℕ)) (text : List ℕ) : Type 0 where
+-- The text is the transcript up to a line whose reply tells of a want of memory, where `Want` holds. The machine may give that reply there, and it leaves a
+-- state from which what follows is a run. Of the lines that are left, some first ones were answered in it.
+pub record BreaksAtMemory (Want : Type 0) (state : State) (lines : List (List ℕ)) (text : List ℕ) : Type 0 where
   pub earlier : List (List ℕ)
   pub line : List ℕ
   pub later : List (List ℕ)
@@ -76,26 +76,28 @@ pub record BreaksAtMemory (state : State) (lines : List (List ℕ)) (text : List
   pub left : State
   pub end : State
   pub cut : lines ≡ earlier ++ line ∷ (later ++ unread)
-  pub answers : Answers (left_by state earlier) (command_of line) reply left
+  pub wanted : Want
+  pub answers : Answers Want (left_by state earlier) (command_of line) reply left
   pub names : NamesMemory reply
-  pub goes_on : Run left later more end
+  pub goes_on : Run Want left later more end
   pub wrote : text ≡ transcript state earlier ++ (reply ++ more)
 
-abbrev pub WritesUpToMemory : State → List (List ℕ) → List ℕ → Type 0
-WritesUpToMemory state lines text = (text ≡ transcript state lines) ⊎ BreaksAtMemory state lines text
+abbrev pub WritesUpToMemory : Type 0 → State → List (List ℕ) → List ℕ → Type 0
+WritesUpToMemory Want state lines text = (text ≡ transcript state lines) ⊎ BreaksAtMemory Want state lines text
 
 -- Every run writes the transcript of its lines, up to the first reply that tells of a want of memory, if there is one.
 abbrev pub WritesTranscript : Type 0
-WritesTranscript = (state : State) (lines : List (List ℕ)) (text : List ℕ) (new : State) → Run state lines text new → WritesUpToMemory state lines text
+WritesTranscript = (real : Bool) (state : State) (lines : List (List ℕ)) (text : List ℕ) (new : State) → Run (Evidence real) state lines text new
+    → WritesUpToMemory (Evidence real) state lines text
 
 -- The transcript is a run, in which no reply tells of a want of memory, from each state that a session has.
 abbrev pub TranscriptRuns : Type 0
 TranscriptRuns =
-    (state : State) (lines : List (List ℕ)) → state.position ≤ length state.table.events
-    → RunWithoutMemory state lines (transcript state lines) (left_by state lines)
+    (real : Bool) (state : State) (lines : List (List ℕ)) → state.position ≤ length state.table.events
+    → RunWithoutMemory (Evidence real) state lines (transcript state lines) (left_by state lines)
 
 -- A run in which no reply tells of one is a run, writes the whole transcript, and leaves the state that the transcript leaves. So memory alone is left open.
 abbrev pub WithoutMemoryWritesAll : Type 0
 WithoutMemoryWritesAll =
-    (state : State) (lines : List (List ℕ)) (text : List ℕ) (new : State) → RunWithoutMemory state lines text new
-    → Run state lines text new × (text ≡ transcript state lines) × (new ≡ left_by state lines)
+    (real : Bool) (state : State) (lines : List (List ℕ)) (text : List ℕ) (new : State) → RunWithoutMemory (Evidence real) state lines text new
+    → Run (Evidence real) state lines text new × (text ≡ transcript state lines) × (new ≡ left_by state lines)

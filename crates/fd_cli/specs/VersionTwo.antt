@@ -143,7 +143,7 @@ pub record Stays (bytes : List ℕ) (t : Table) : Type 0 where
   pub without : All (λ event. is_of_picture event ≡ false) t.events
   pub pixels : (flags : List Bool) (k x y : ℕ) → drawing.pixel_at (record t { flags = flags }) k x y ≡ pixel_at (record t { flags = flags }) k x y
   pub listed : (position : ℕ) → text.event_list t position ≡ event_list t position
-  pub outputs : (lines : List (List ℕ)) (written : List ℕ) (new : State) → run.Run (opening t) lines written new ↔ Run (opening t) lines written new
+  pub outputs : (lines : List (List ℕ)) (written : List ℕ) (new : State) → run.Run (Unit {0}) (opening t) lines written new ↔ Run (opening t) lines written new
 
 -- It does so for each capture that version 2 accepts.
 abbrev pub VersionTwoStays : Type 0

@@ -1,13 +1,14 @@
 //! The program, from its words to its status.
-ghost use Rattle.std.specs.Prelude.{◌≡◌, ◌≢◌, ◌⊎◌, ◌^◌, ◌<◌, ◌+◌, Bool, ℕ, List, is_ok, length, map, OnOk, true};
+ghost use Rattle.std.specs.Prelude.{◌≡◌, ◌≢◌, ◌⊎◌, ◌<◌, Bool, ℕ, List, false, length, map};
 ghost use Rattle.std.specs.Io.KnownBytes.{Appends};
 ghost use Rattle.clap.specs.Words.{kind_of};
 ghost use Rattle.clap.specs.declared.error.kind.ErrorKind.TheVariants.{OutOfMemory};
+ghost use Rattle.fd_arguments.specs.Wanting.{IsWantedFor};
 ghost use Rattle.fd_words.specs.declared.ending.Ending.TheVariants.{Memory};
 ghost use Rattle.fd_device.specs.Transfer.{Puts, CountsFailure};
 ghost use Rattle.fd_listing.specs.Counting.{CountsWriter, EndsFlushed};
 ghost use Rattle.fd_listing.specs.Listing.{WritesText};
-ghost use Rattle.fd_cli.specs.Performing.{Performs, shown, devices_shown};
+ghost use Rattle.fd_cli.specs.Performing.{Performs, devices_shown};
 ghost use Rattle.fd_cli.specs.Waiting.{WaitsAbout};
 ghost use Rattle.fd_cli.specs.CommandLine.{EndsBefore, Explains, Programs, Refuses, RefusesWords, WritesHelp};
 
@@ -15,10 +16,11 @@ use crate::files::{FileFault, Files, WordsFault};
 use crate::performing::{Devices, perform};
 use clap::Error;
 use clap::error::ErrorKind;
-use fd_arguments::read_arguments;
-use fd_device::{Failed, Sink, Source, send};
+use fd_arguments::{explained, read_arguments};
+use fd_device::{Sink, Source, send};
+use fd_listing::end_text;
 use fd_words::Ending;
-use std::alloc::{AllocError, Global};
+use std::alloc::Global;
 use std::convert::AsStr;
 use std::thread::Threads;
 
@@ -31,40 +33,26 @@ const CANNOT_READ: u8 = 3;
 /// Tells a text to the errors. Whether it was told changes nothing.
 fn tell<E: Sink>(text: &[u8], errors: &mut E)
     ensures tells { (count : ℕ) × (whole : Bool) × Puts (E.contents errors.old) (E.contents errors.new) 0 count text.now whole
-        × CountsFailure (E.failure_count errors.old) (E.failure_count errors.new) whole }
+        × CountsFailure (E.failure_count errors.old) (E.failure_count errors.new) whole × (whole ≡ false → count < length text.now) }
 {
     let mut count = 0;
     let _ = send(errors, &mut count, text);
 }
 
-/// Sends a text, and flushes.
-fn send_flushed<W: Sink>(text: &[u8], sink: &mut W, sent: &mut u64) -> Result<(), Failed>
-    requires { sent.old + length text.now < 2 ^ 64 }
-    ensures puts { Puts (W.contents sink.old) (W.contents sink.new) sent.old sent.new text.now (is_ok result) }
-    ensures flushed { OnOk result (W.is_flushed sink.new ≡ true) }
-    ensures failures { CountsFailure (W.failure_count sink.old) (W.failure_count sink.new) (is_ok result) }
-{
-    send(sink, sent, text)?;
-    sink.flush()
-}
-
-/// WritesHelp a text to the output.
+/// Writes a text to the output.
 fn write_text<W: Sink>(text: &[u8], sink: &mut W) -> Ending
     ensures writes { (written : List ℕ) × Appends (W.contents sink.old) (W.contents sink.new) written × WritesText text.now written result }
     ensures failures { CountsWriter result (W.failure_count sink.old) (W.failure_count sink.new) }
     ensures flushed { EndsFlushed result (W.is_flushed sink.old) (W.is_flushed sink.new) }
 {
     let mut sent = 0;
-    match send_flushed(text, sink, &mut sent) {
-        Ok(()) => Ending::Done,
-        Err(_) => Ending::Write { sent },
-    }
+    let outcome = send(sink, &mut sent, text);
+    end_text(outcome, sent, sink)
 }
 
 /// Tells the errors how the program ended before it did anything, and gives the status.
 fn end_before<R: Source, W: Sink, E: Sink>(ending: &Ending, devices: &mut Devices<R, W, E>) -> u8
-    ensures { let seen = devices_shown (λ r. shown (R.remaining r) (R.failure_count r)) (λ w. shown (W.contents w) (W.failure_count w))
-        (λ e. shown (E.contents e) (E.failure_count e)) W.is_flushed in
+    ensures { let seen = devices_shown R.Source W.Sink.own E.Sink.own in
         EndsBefore ending.now (seen devices.old) (seen devices.new) result }
 {
     let _ = ending.report(&mut devices.errors);
@@ -76,8 +64,7 @@ pub fn refuse_words<R: Source, W: Sink, E: Sink>(
     fault: WordsFault,
     devices: &mut Devices<R, W, E>,
 ) -> u8
-    ensures { let seen = devices_shown (λ r. shown (R.remaining r) (R.failure_count r)) (λ w. shown (W.contents w) (W.failure_count w))
-        (λ e. shown (E.contents e) (E.failure_count e)) W.is_flushed in
+    ensures { let seen = devices_shown R.Source W.Sink.own E.Sink.own in
         RefusesWords fault (seen devices.old) (seen devices.new) result }
 {
     if fault == WordsFault::Memory {
@@ -90,25 +77,14 @@ pub fn refuse_words<R: Source, W: Sink, E: Sink>(
     USAGE
 }
 
-/// WritesHelp the help or the version that the words ask for, and gives the status.
+/// Writes the help or the version that the words ask for, and gives the status.
 fn write_help<R: Source, W: Sink, E: Sink>(text: &[u8], devices: &mut Devices<R, W, E>) -> u8
-    ensures { let seen = devices_shown (λ r. shown (R.remaining r) (R.failure_count r)) (λ w. shown (W.contents w) (W.failure_count w))
-        (λ e. shown (E.contents e) (E.failure_count e)) W.is_flushed in
+    ensures { let seen = devices_shown R.Source W.Sink.own E.Sink.own in
         WritesHelp text.now (seen devices.old) (seen devices.new) result }
 {
     let ending = write_text(text, &mut devices.sink);
     let _ = ending.report(&mut devices.errors);
     ending.status()
-}
-
-/// What is wrong with the words, or the help that they ask for. Where a capture's name stands in a subcommand's place, the words that list it are told too.
-fn explained<S: AsStr>(alloc: Global, error: &Error, words: &[S]) -> Result<String, AllocError> {
-    let word = words.get(1).map_or("", |word| word.as_str());
-    if error.kind() == ErrorKind::InvalidSubcommand && word.ends_with(".json") {
-        format!(in alloc; "{error}\n\ndid you mean: framedbg events {word}\n")
-    } else {
-        format!(in alloc; "{error}")
-    }
 }
 
 /// Says what is wrong with the words, or gives the help that they ask for, and gives the status.
@@ -118,9 +94,8 @@ fn explain<S: AsStr, R: Source, W: Sink, E: Sink>(
     words: &[S],
     devices: &mut Devices<R, W, E>,
 ) -> u8
-    ensures { let seen = devices_shown (λ r. shown (R.remaining r) (R.failure_count r)) (λ w. shown (W.contents w) (W.failure_count w))
-        (λ e. shown (E.contents e) (E.failure_count e)) W.is_flushed in
-        EndsBefore Memory (seen devices.old) (seen devices.new) result
+    ensures { let seen = devices_shown R.Source W.Sink.own E.Sink.own in
+        ((IsWantedFor (map S.text words.now) ⊎ (kind_of error.now ≡ OutOfMemory)) × EndsBefore Memory (seen devices.old) (seen devices.new) result)
         ⊎ ((kind_of error.now ≢ OutOfMemory) × Explains (kind_of error.now) (seen devices.old) (seen devices.new) result) }
 {
     let kind = error.kind();
@@ -141,8 +116,7 @@ fn explain<S: AsStr, R: Source, W: Sink, E: Sink>(
 
 /// Says why the file can't be read, and gives the status.
 fn refuse_file<R: Source, W: Sink, E: Sink>(fault: FileFault, devices: &mut Devices<R, W, E>) -> u8
-    ensures { let seen = devices_shown (λ r. shown (R.remaining r) (R.failure_count r)) (λ w. shown (W.contents w) (W.failure_count w))
-        (λ e. shown (E.contents e) (E.failure_count e)) W.is_flushed in
+    ensures { let seen = devices_shown R.Source W.Sink.own E.Sink.own in
         Refuses fault (seen devices.old) (seen devices.new) result }
 {
     match fault {
@@ -164,8 +138,7 @@ pub fn program<T: Threads + Sync, S: AsStr, F: Files, R: Source, W: Sink, E: Sin
     files: &F,
     devices: &mut Devices<R, W, E>,
 ) -> u8
-    ensures { let seen = devices_shown (λ r. shown (R.remaining r) (R.failure_count r)) (λ w. shown (W.contents w) (W.failure_count w))
-        (λ e. shown (E.contents e) (E.failure_count e)) W.is_flushed in
+    ensures { let seen = devices_shown R.Source W.Sink.own E.Sink.own in
         Programs (map S.text words.now) (F.gave files.now)
         (λ request capture. Performs request capture (seen devices.old) (seen devices.new) (R.has_ended devices.new.source) result
         × WaitsAbout (record { contents = W.contents; is_flushed = W.is_flushed }) capture devices.old.sink devices.old.source devices.new.source)

@@ -4,7 +4,7 @@ ghost use Rattle.std.specs.Io.KnownBytes.{Consumes, Appends};
 ghost use Rattle.fd_listing.specs.Counting.{CountsReader, CountsWriter, EndsFlushed};
 ghost use Rattle.fd_listing.specs.Opening.{RefusesTooLong};
 ghost use Rattle.fd_words.specs.Request.{AsksWorkers};
-ghost use Rattle.fd_cli.specs.Performing.{Does, Performs, shown, devices_shown};
+ghost use Rattle.fd_cli.specs.Performing.{Does, Performs, devices_shown};
 ghost use Rattle.fd_cli.specs.Waiting.{WaitsAbout};
 
 use crate::imaging::image;
@@ -61,8 +61,7 @@ pub fn perform<T: Threads + Sync, R: Source, W: Sink, E: Sink>(
     devices: &mut Devices<R, W, E>,
 ) -> u8
     requires { AsksWorkers request }
-    ensures performs { let seen = devices_shown (λ r. shown (R.remaining r) (R.failure_count r)) (λ w. shown (W.contents w) (W.failure_count w))
-        (λ e. shown (E.contents e) (E.failure_count e)) W.is_flushed in
+    ensures performs { let seen = devices_shown R.Source W.Sink.own E.Sink.own in
         Performs request capture.now (seen devices.old) (seen devices.new) (R.has_ended devices.new.source) result }
     // Before each read all lines that ended were answered, and the answers passed on.
     ensures waits { WaitsAbout (record { contents = W.contents; is_flushed = W.is_flushed }) capture.now devices.old.sink devices.old.source devices.new.source }

@@ -3,7 +3,8 @@ ghost use Rattle.std.specs.Prelude.{◌≡◌, ℕ, ◌<◌, ◌≤◌, ◌+◌,
 ghost use Rattle.fd_words.specs.Limits.{most_reply_bytes};
 ghost use Rattle.fd_blend.specs.declared.channel.Colour.{Colour};
 ghost use Rattle.fd_history.specs.declared.entry.Entry.{Entry};
-ghost use Rattle.fd_session.specs.Machine.{ShowsPixel, ShowsDepth, ShowsHistory};
+ghost use Rattle.fd_session.specs.Machine.{ShowsPixel, ShowsDepth, ShowsHistory, OnMemory};
+ghost use Rattle.fd_memory.specs.Wanting.{Wanted};
 ghost use Rattle.fd_session.specs.declared.answer.SessionFault.{SessionFault};
 ghost use Rattle.fd_words.specs.Line.{command_of};
 ghost use Rattle.fd_device.specs.Transfer.{Puts, CountsFailure};
@@ -47,7 +48,8 @@ fn send_pixel<W: Sink>(
     sent: &mut u64,
 ) -> Result<(), Failed>
     requires { sent.old + 256 < 2 ^ 64 }
-    ensures puts { (colour : Result Colour SessionFault) × (depth : Result ℕ SessionFault) × ShowsPixel session.now x y colour × ShowsDepth session.now x y depth
+    ensures puts { (colour : Result Colour SessionFault) × (depth : Result ℕ SessionFault) × ShowsPixel session.now x y colour
+        × ShowsDepth session.now x y depth
         × (length (pixel_text session.now.table.version colour depth) ≤ 256)
         × Puts (W.contents sink.old) (W.contents sink.new) sent.old sent.new (pixel_text session.now.table.version colour depth) (is_ok result) }
     ensures failures { CountsFailure (W.failure_count sink.old) (W.failure_count sink.new) (is_ok result) }
@@ -76,7 +78,7 @@ fn send_history<W: Sink>(
     sent: &mut u64,
 ) -> Result<(), Failed>
     requires { sent.old + most_reply_bytes < 2 ^ 64 }
-    ensures puts { (outcome : Result (List Entry) SessionFault) × ShowsHistory session.now x y outcome
+    ensures puts { (outcome : Result (List Entry) SessionFault) × ShowsHistory session.now x y outcome × OnMemory Wanted outcome
         × (is_ok result ≡ true → length (history_text session.now.table.version outcome) ≤ most_reply_bytes)
         × Puts (W.contents sink.old) (W.contents sink.new) sent.old sent.new (history_text session.now.table.version outcome) (is_ok result) }
     ensures failures { CountsFailure (W.failure_count sink.old) (W.failure_count sink.new) (is_ok result) }

@@ -29,7 +29,8 @@ fn serve_table<T: Threads + Sync, R: Source, W: Sink>(
     ensures serves { (taken : List ℕ) × (written : List ℕ) × Consumes (R.remaining source.old) (R.remaining source.new) taken
         × Appends (W.contents sink.old) (W.contents sink.new) written
         × (length taken ≤ 268435457) × Serves table taken written result (R.has_ended source.new) }
-    ensures waits { (reads : List (Reading R W)) × WaitsFor (record { contents = W.contents; is_flushed = W.is_flushed }) table sink.old source.old source.new reads }
+    ensures waits { (reads : List (Reading R W)) × WaitsFor (record { contents = W.contents; is_flushed = W.is_flushed }) table sink.old source.old source.new
+        reads }
     ensures read { CountsReader result (R.failure_count source.old) (R.failure_count source.new) }
     ensures write { CountsWriter result (W.failure_count sink.old) (W.failure_count sink.new) }
     ensures flushed { EndsFlushed result (W.is_flushed sink.old) (W.is_flushed sink.new) }

@@ -1,5 +1,6 @@
 //! The reply to `show`.
-ghost use Rattle.std.specs.Prelude.{codes, string_bytes, IfOk, ◌≡◌, ◌<◌, ◌≤◌, ◌+◌, ◌^◌, ◌⊎◌, ℕ, List, length, is_ok};
+ghost use Rattle.std.specs.Prelude.{codes, string_bytes, IfOk, OnErr, ◌≡◌, ◌<◌, ◌≤◌, ◌+◌, ◌^◌, ◌⊎◌, ℕ, List, length, is_ok};
+ghost use Rattle.fd_memory.specs.Wanting.{Wanted};
 ghost use Rattle.fd_words.specs.Limits.{most_reply_bytes};
 ghost use Rattle.fd_snap.specs.Limits.{most_pixels};
 ghost use Rattle.fd_pam.specs.Pam.{header, pam_len, tuples};
@@ -60,7 +61,8 @@ fn length_line(session: &Session) -> ArrayVec<u8, 64>
 
 /// The header of the image file that the session shows.
 fn shown_header(alloc: Global, session: &Session) -> Result<String, AllocError>
-    ensures { IfOk result (λ text. string_bytes text ≡ header session.now.table.width session.now.table.height) }
+    ensures text { IfOk result (λ text. string_bytes text ≡ header session.now.table.width session.now.table.height) }
+    ensures wanted { OnErr result Wanted }
 {
     let (width, height) = target_size(session);
     header(alloc, width, height)
@@ -95,7 +97,7 @@ pub(crate) fn show<W: Sink>(
     sent: &mut u64,
 ) -> Result<(), Failed>
     requires { sent.old + most_reply_bytes < 2 ^ 64 }
-    ensures puts { (text : List ℕ) × ((text ≡ show_text session.now) ⊎ (text ≡ refusal_line Memory)) × (length text ≤ most_reply_bytes)
+    ensures puts { (text : List ℕ) × ((text ≡ show_text session.now) ⊎ ((text ≡ refusal_line Memory) × Wanted)) × (length text ≤ most_reply_bytes)
         × Puts (W.contents sink.old) (W.contents sink.new) sent.old sent.new text (is_ok result) }
     ensures failures { CountsFailure (W.failure_count sink.old) (W.failure_count sink.new) (is_ok result) }
 {

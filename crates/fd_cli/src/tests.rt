@@ -1,6 +1,6 @@
 use crate::tests::captures::{
-    ALPHA_SCALED, CULLED_THEN_SCISSORED, DEPTH_TEST, INDEXED, LINEAR_RED, MANY_TILES,
-    MASKED_AND_SCISSORED, NO_EVENTS, ONE_CLEAR, PICTURE, TWO_TRIANGLES,
+    ADDED_TWICE, ALPHA_SCALED, CULLED_THEN_SCISSORED, DEPTH_TEST, INDEXED, LINEAR_RED, MANY_TILES,
+    MASKED_AND_SCISSORED, NO_EVENTS, ONE_CLEAR, PICTURE, TWO_TRIANGLES, WIDEST,
 };
 use crate::tests::devices::{Limited, Pieces};
 use crate::{Ending, image, list_events, serve};
@@ -63,6 +63,8 @@ fn the_shared_edge_is_drawn_once(rt: HostRuntime) {
     let text =
         b"at 1\npixel 255 0 0 255\npixel 0 255 0 255\npixel 0 255 0 255\npixel 0 255 0 255\nrefused 6 no such pixel\n";
     expect_replies(&rt, TWO_TRIANGLES, input, text);
+    let stepped = b"step\npixel 0 0\npixel 1 0\npixel 0 1\npixel 1 1\npixel 2 0\n";
+    expect_replies(&rt, TWO_TRIANGLES, stepped, text);
 }
 
 /// Two flat triangles half a pixel high, of which the first one's top edge, and the second one's bottom edge, goes through centres.
@@ -85,6 +87,9 @@ fn mask_and_scissor_leave_clears_alone(rt: HostRuntime) {
     let text =
         b"at 4\npixel 9 9 9 9\npixel 9 9 9 9\npixel 9 9 9 9\npixel 9 9 9 9\nat 5\npixel 200 9 202 9\npixel 9 9 9 9\nstate cull none ccw 0 scissor 1 rect 0 0 1 1 blend 0 ONE ZERO ADD ONE ZERO ADD mask 5 factor 255 255 255 255\n";
     expect_replies(&rt, MASKED_AND_SCISSORED, input, text);
+    let stepped = b"step\nstep\nstep\nstep\npixel 0 0\nstep\npixel 0 0\npixel 1 1\n";
+    let told = b"at 1\nat 2\nat 3\nat 4\npixel 9 9 9 9\nat 5\npixel 200 9 202 9\npixel 9 9 9 9\n";
+    expect_replies(&rt, MASKED_AND_SCISSORED, stepped, told);
 }
 
 #[test]
@@ -101,6 +106,22 @@ fn a_blend_state_switched_off_and_on(rt: HostRuntime) {
     let text =
         b"at 2\npixel 100 50 25 128\nat 2\npixel 200 100 50 128\nat 2\npixel 100 50 25 128\nrefused 5 already so\n";
     expect_replies(&rt, ALPHA_SCALED, input, text);
+    let told = b"at 1\nat 2\npixel 100 50 25 128\n";
+    expect_replies(&rt, ALPHA_SCALED, b"step\nstep\npixel 0 0\n", told);
+}
+
+#[test]
+fn each_triangle_of_a_draw_has_an_entry(rt: HostRuntime) {
+    let text =
+        b"at 2\nhistory 2\n2 0 drawn 10 10 10 10 0 0 0 0 10 10 10 10\n2 1 drawn 10 10 10 10 10 10 10 10 20 20 20 20\n";
+    expect_replies(&rt, ADDED_TWICE, b"goto 2\nhistory 0 0\n", text);
+}
+
+#[test]
+fn the_widest_target(rt: HostRuntime) {
+    let input = b"goto 1\npixel 16382 0\npixel 16383 0\n";
+    let text = b"at 1\npixel 7 7 7 7\npixel 0 0 0 0\n";
+    expect_replies(&rt, WIDEST, input, text);
 }
 
 #[test]

@@ -1,5 +1,5 @@
--- Working. What only one call of a reader or of a writer gives: that it went from old to new by a call that moved so many bytes, or failed; and what only one fill of a
--- source beside a sink gives. It is shut, and this file is closed to other crates, so that nobody there can make one.
+-- Working. What only one call of a reader or of a writer gives: that it went from old to new by a call that moved so many bytes, or failed; and what only one
+-- fill of a source beside a sink gives. It is shut, and this file is closed to other crates, so that nobody there can make one.
 use Rattle.std.specs.Prelude.{ℕ, List, Option}
 
 pub ReadOnce : {T : Type 0} → T → T → Option ℕ → Type 0

@@ -25,5 +25,6 @@ pub trait Shows {
         ensures some { 0 < length result.now }
         ensures inside { x + length result.now ≤ (state self.now).table.width }
         ensures short { length result.now ≤ 32 }
-        ensures colours { result.now ≡ map (λ column. colour_at (state self.now).table (state self.now).position column y) (range_with_len x (length result.now)) };
+        ensures colours { result.now ≡ map (λ column. colour_at (state self.now).table (state self.now).position column y)
+            (range_with_len x (length result.now)) };
 }

@@ -3,8 +3,10 @@
 
 pub use list::list_events;
 pub use opening::open;
+pub use texts::end_text;
 
 mod list;
 mod opening;
 #[cfg(test)]
 mod tests;
+mod texts;

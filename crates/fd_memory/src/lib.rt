@@ -1,7 +1,7 @@
 //! Growths of lists, each of which gives what nothing else gives: that memory was wanted.
 #![tactic(auto)]
 
-ghost use Rattle.std.specs.Prelude.{◌≡◌, ◌+◌, ◌^◌, ◌≤◌, [], ◌∷◌, ◌++◌, length, max, replicate, IsOk, IfOk, OnOk, OnErr, vec_capacity};
+ghost use Rattle.std.specs.Prelude.{◌≡◌, ◌+◌, ◌^◌, ◌≤◌, [], ◌∷◌, ◌++◌, length, max, replicate, IsOk, IfOk, OnOk, OnErr, string_bytes, vec_capacity};
 ghost use Rattle.atomic_table.specs.Table.{opening};
 ghost use Rattle.fd_memory.specs.Wanting.{Wanted};
 
@@ -46,13 +46,35 @@ trait Growth {
         Ok(())
     }
 
+    fn append<T: Copy>(list: &mut Vec<T>, items: &[T]) -> Result<(), AllocError>
+        ensures items { OnOk result (list.new.items ≡ list.old.items ++ items.now) }
+        ensures wanted { OnErr result why }
+    {
+        list.extend_from_slice(items)
+    }
+
+    fn push_str(text: &mut String, more: &str) -> Result<(), AllocError>
+        ensures bytes { OnOk result (string_bytes text.new ≡ string_bytes text.old ++ more.now) }
+        ensures wanted { OnErr result why }
+    {
+        text.push_str(more)
+    }
+
+    fn boxed<T: Drop>(alloc: Global, value: T) -> Result<Box<T>, AllocError>
+        ensures value { IfOk result (λ held. held.value ≡ value) }
+        ensures wanted { OnErr result why }
+    {
+        Ok(Box::new(alloc, value)?)
+    }
+
     fn table<S: Drop, V, K, P: TableRule<S, V, K>>(
         alloc: Global,
         words: &[u64],
         about: &K,
     ) -> Result<(Table<S, V, K, P, Global>, Seat<S, V>), AllocError>
         requires { P.holds about.now (opening words.now [] (P.first about.now)) }
-        ensures table { IfOk result (λ t. (t.0.shared.table_id.words ≡ length words.now) × (t.0.shared.table_id.slots ≡ 0) × (t.1.table_id ≡ t.0.shared.table_id)
+        ensures table { IfOk result (λ t. (t.0.shared.table_id.words ≡ length words.now) × (t.0.shared.table_id.slots ≡ 0)
+            × (t.1.table_id ≡ t.0.shared.table_id)
             × (t.1.id ≡ 0) × (t.1.me ≡ (P.first about.now, [])) × (t.0.shared.key ≡ about.now)) }
         ensures wanted { OnErr result why }
     {
@@ -136,6 +158,36 @@ pub fn push<T: Drop>(list: &mut Vec<T>, item: T) -> Result<(), AllocError>
     ensures wanted { OnErr result Wanted }
 {
     Heap::push(list, item)
+}
+
+/// These items more, at the end.
+pub fn append<T: Copy>(list: &mut Vec<T>, items: &[T]) -> Result<(), AllocError>
+    ensures items { OnOk result (list.new.items ≡ list.old.items ++ items.now) }
+    ensures wanted { OnErr result Wanted }
+{
+    Heap::append(list, items)
+}
+
+/// Asks for so many bytes at once, and gives them back: so the heap of a thread grows in one step by what it is asked for soon, and not page by page.
+/// Where they are refused nothing is lost.
+pub fn prime(alloc: Global, bytes: usize) {
+    let _room: Result<Vec<u8>, AllocError> = Vec::with_capacity(alloc, bytes);
+}
+
+/// A text more, at the end of another.
+pub fn push_str(text: &mut String, more: &str) -> Result<(), AllocError>
+    ensures bytes { OnOk result (string_bytes text.new ≡ string_bytes text.old ++ more.now) }
+    ensures wanted { OnErr result Wanted }
+{
+    Heap::push_str(text, more)
+}
+
+/// A value in memory of its own.
+pub fn boxed<T: Drop>(alloc: Global, value: T) -> Result<Box<T>, AllocError>
+    ensures value { IfOk result (λ held. held.value ≡ value) }
+    ensures wanted { OnErr result Wanted }
+{
+    Heap::boxed(alloc, value)
 }
 
 /// A table of words, with no slot.

@@ -6,11 +6,14 @@ ghost use Rattle.fd_pam.specs.Pam.{header, pam_len, tuple, tuples, pam};
 ghost use Rattle.fd_pam.specs.declared.writer.TheConstants.{CHUNK_LEN, FULL_CHUNK_LEN};
 ghost use Rattle.fd_device.specs.Transfer.{Puts, CountsFailure};
 ghost use Rattle.fd_pam.specs.Writes.{Writes, CountsWrite};
+ghost use Rattle.fd_memory.specs.Wanting.{Wanted};
+ghost use Rattle.fd_pam.specs.declared.writer.PamFault.TheVariants.{Memory};
 
 use arrayvec::ArrayVec;
 use fd_blend::Colour;
 use fd_device::{Failed, Sink, send};
 use fd_frame::Shows;
+use fd_memory::push_str;
 use itoa::Buffer;
 use std::alloc::{AllocError, Global};
 use thiserror::Error;
@@ -58,11 +61,19 @@ pub fn pam_len(width: u32, height: u32) -> u64
 
 /// The header of an image of this size.
 pub fn header(alloc: Global, width: u32, height: u32) -> Result<String, AllocError>
-    ensures { IfOk result (λ text. string_bytes text ≡ header width height) }
+    ensures text { IfOk result (λ text. string_bytes text ≡ header width height) }
+    ensures wanted { OnErr result Wanted }
 {
-    format!(in alloc;
-        "P7\nWIDTH {width}\nHEIGHT {height}\nDEPTH 4\nMAXVAL 255\nTUPLTYPE RGB_ALPHA\nENDHDR\n"
-    )
+    let mut text = String::new(alloc);
+    push_str(&mut text, "P7\nWIDTH ")?;
+    push_str(&mut text, Buffer::new().format(width))?;
+    push_str(&mut text, "\nHEIGHT ")?;
+    push_str(&mut text, Buffer::new().format(height))?;
+    push_str(
+        &mut text,
+        "\nDEPTH 4\nMAXVAL 255\nTUPLTYPE RGB_ALPHA\nENDHDR\n",
+    )?;
+    Ok(text)
 }
 
 /// Sends the chunk where it has no room for another piece of a row.
@@ -152,6 +163,7 @@ pub fn write_body<F: Shows, W: Sink>(sink: &mut W, frame: &F) -> Result<(), PamF
 pub fn write<F: Shows, W: Sink>(alloc: Global, sink: &mut W, frame: &F) -> Result<(), PamFault>
     ensures bytes { Writes (W.contents sink.old) (W.contents sink.new) (pam (F.state frame.now)) result }
     ensures failures { CountsWrite (W.failure_count sink.old) (W.failure_count sink.new) result }
+    ensures wanted { result ≡ Err Memory → Wanted }
 {
     let table = frame.table();
     let Ok(header) = header(alloc, table.width(), table.height()) else {

@@ -1,7 +1,9 @@
 //! The texts of lines, and of the words that they are made of.
 ghost use Rattle.std.specs.Prelude.{◌≡◌, ◌==◌, ◌≤◌, ◌+◌, ◌++◌, not, codes, length, Ok};
 ghost use Rattle.fd_capture.specs.Spelling.{factor_text, op_text, cull_text, func_text, interp_text};
-ghost use Rattle.fd_words.specs.Text.{word, number_word, signed_word, truth_word, flag_word, colour_words, rect_words, part_words, equation_words, depth_words, line_end, source_text, event_words, event_line, events_head, state_line, pixel_line, triangle_word, verdict_text, entry_line};
+ghost use Rattle.fd_words.specs.Text.{word, number_word, signed_word, truth_word, flag_word, colour_words, rect_words, part_words, equation_words, depth_words};
+ghost use Rattle.fd_words.specs.Text.{line_end, source_text, event_words, event_line, events_head, state_line, pixel_line, triangle_word, verdict_text};
+ghost use Rattle.fd_words.specs.Text.{entry_line};
 
 use arrayvec::ArrayVec;
 use bitflags::Flags;
@@ -411,7 +413,8 @@ pub(crate) fn events_head(count: u32, position: u32) -> Line
 /// Ends the line of an entry of a pixel's history, in the replies on a capture of a version.
 fn end_entry(line: &mut Line, version: u32, entry: &Entry)
     requires { length line.old.items + 19 ≤ 256 }
-    ensures items { line.new.items ≡ line.old.items ++ line_end version (number_word entry.now.source_depth ++ number_word entry.now.depth_before ++ number_word entry.now.depth_after) }
+    ensures items { line.new.items ≡ line.old.items ++ line_end version
+        (number_word entry.now.source_depth ++ number_word entry.now.depth_before ++ number_word entry.now.depth_after) }
     ensures len { length line.new.items ≤ length line.old.items + 19 }
 {
     if shows_depths(version) {

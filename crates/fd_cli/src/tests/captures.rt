@@ -22,6 +22,20 @@ pub(crate) const MASKED_AND_SCISSORED: &str =
 {"kind":"draw","interp":"flat","vertices":[{"x":0,"y":0,"color":[200,201,202,203]},{"x":262144,"y":0,"color":[200,201,202,203]},{"x":0,"y":262144,"color":[200,201,202,203]}]}
 ]}"#;
 
+/// A blend that adds, and a draw of two equal triangles.
+pub(crate) const ADDED_TWICE: &str =
+    r#"{"format":"framedbg","version":1,"width":1,"height":1,"events":[
+{"kind":"blend","enable":true,"rgb":["ONE","ONE","ADD"],"alpha":["ONE","ONE","ADD"],"mask":15},
+{"kind":"draw","interp":"flat","vertices":[{"x":0,"y":0,"color":[10,10,10,10]},{"x":131072,"y":0,"color":[10,10,10,10]},{"x":0,"y":131072,"color":[10,10,10,10]},
+{"x":0,"y":0,"color":[10,10,10,10]},{"x":131072,"y":0,"color":[10,10,10,10]},{"x":0,"y":131072,"color":[10,10,10,10]}]}
+]}"#;
+
+/// A triangle over all but one pixel of the widest target.
+pub(crate) const WIDEST: &str =
+    r#"{"format":"framedbg","version":1,"width":16384,"height":1,"events":[
+{"kind":"draw","interp":"flat","vertices":[{"x":0,"y":0,"color":[7,7,7,7]},{"x":1073741824,"y":0,"color":[7,7,7,7]},{"x":0,"y":1073741824,"color":[7,7,7,7]}]}
+]}"#;
+
 /// A blend that scales by alpha, and a draw.
 pub(crate) const ALPHA_SCALED: &str =
     r#"{"format":"framedbg","version":1,"width":1,"height":1,"events":[

@@ -1,8 +1,8 @@
 //! Readers and writers of the tests.
 use std::alloc::Global;
-use std::cell::Cell;
 use std::io;
 use std::io::{Read, Write};
+use std::sync::atomic::{AtomicUsize, Ordering};
 
 /// Gives so many bytes at a time, and then the end or a fault.
 #[derive(Clone, Copy)]
@@ -119,7 +119,7 @@ impl Write for Interrupted {
 #[derive(Drop)]
 pub(crate) struct Flushing<'a> {
     pub(crate) waiting: usize,
-    pub(crate) flushed: &'a Cell<usize>,
+    pub(crate) flushed: &'a AtomicUsize,
 }
 
 impl Write for Flushing<'_> {
@@ -129,7 +129,7 @@ impl Write for Flushing<'_> {
     }
 
     fn flush(&mut self) -> io::Result<()> {
-        self.flushed.set(self.waiting);
+        self.flushed.store(self.waiting, Ordering::SeqCst);
         Ok(())
     }
 }
@@ -139,7 +139,7 @@ impl Write for Flushing<'_> {
 pub(crate) struct Asking<'a> {
     pub(crate) lines: [&'static [u8]; 3],
     pub(crate) next: usize,
-    pub(crate) flushed: &'a Cell<usize>,
+    pub(crate) flushed: &'a AtomicUsize,
     pub(crate) notes: [usize; 3],
 }
 
@@ -152,7 +152,7 @@ impl Read for Asking<'_> {
         if buf.len() < line.len() {
             return Err(io::Error::from(io::ErrorKind::Other));
         }
-        self.notes[self.next] = self.flushed.get();
+        self.notes[self.next] = self.flushed.load(Ordering::SeqCst);
         buf[..line.len()].copy_from_slice(line);
         self.next += 1;
         Ok(line.len())

@@ -1,9 +1,11 @@
+ghost use Rattle.std.specs.Prelude.{◌≤◌};
+
 use crate::tests::captures::ONE_CLEAR;
 use crate::tests::devices::{Again, Asking, Flushing, Interrupted, Limited, Pieces, Repeats};
 use crate::{Ending, image, list_events, serve};
 use fd_device::{Device, Sink, Source};
-use std::cell::Cell;
 use std::process::Abort;
+use std::sync::atomic::AtomicUsize;
 use std::thread::Threads;
 
 const INPUT: &[u8] = b"step\nshow\nquit\n";
@@ -54,11 +56,13 @@ fn a_writer_that_fails_after_each_byte(rt: HostRuntime) {
     }
     let writer = Limited::of(rt.alloc(), 85, 1);
     expect_run(&rt, Pieces::of(INPUT, 1), &writer, Ending::Done, OUTPUT);
-    let mut source = Device::new(Pieces::of(INPUT, 100));
-    let mut sink = Device::new(Interrupted(false));
-    let capture = ONE_CLEAR.as_bytes();
-    let ended = serve(&rt, rt.alloc(), capture, 1, &mut source, &mut sink);
-    assert_eq!(rt; ended, Ending::Write { sent: 0 });
+    for workers in [1, 2, 64] {
+        let mut source = Device::new(Pieces::of(INPUT, 100));
+        let mut sink = Device::new(Interrupted(false));
+        let capture = ONE_CLEAR.as_bytes();
+        let ended = serve(&rt, rt.alloc(), capture, workers, &mut source, &mut sink);
+        assert_eq!(rt; ended, Ending::Write { sent: 0 });
+    }
 }
 
 #[test]
@@ -125,8 +129,11 @@ fn a_reader_that_fails_after_each_byte(rt: HostRuntime) {
 
 fn notes_of_run<'a>(
     rt: &(impl Abort + Threads + Sync + AllocGlobal),
-    flushed: &'a Cell<usize>,
-) -> [usize; 3] {
+    workers: u32,
+    flushed: &'a AtomicUsize,
+) -> [usize; 3]
+    requires { (1 ≤ workers) × (workers ≤ 64) }
+{
     let lines = [
         b"step\n".as_slice(),
         b"show\n".as_slice(),
@@ -143,16 +150,18 @@ fn notes_of_run<'a>(
         flushed,
     });
     let capture = ONE_CLEAR.as_bytes();
-    let ending = serve(rt, rt.alloc(), capture, 1, &mut source, &mut sink);
+    let ending = serve(rt, rt.alloc(), capture, workers, &mut source, &mut sink);
     assert_eq!(rt; ending, Ending::Done);
     source.into_inner().notes
 }
 
 #[test]
 fn replies_before_it_reads_on(rt: HostRuntime) {
-    let flushed = Cell::new(0usize);
-    let notes = notes_of_run(&rt, &flushed);
-    assert_eq!(rt; notes.as_slice(), [0, 5, 81].as_slice());
+    for workers in [1, 2, 64] {
+        let flushed = AtomicUsize::new(0);
+        let notes = notes_of_run(&rt, workers, &flushed);
+        assert_eq!(rt; notes.as_slice(), [0, 5, 81].as_slice());
+    }
 }
 
 /// How a run on one byte so many times ends, and that it then wrote one line so many times, whatever the number of workers.

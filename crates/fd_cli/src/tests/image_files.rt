@@ -1,4 +1,6 @@
 //! Image files of what a session shows.
+ghost use Rattle.std.specs.Prelude.{◌≤◌};
+
 use crate::tests::devices::Limited;
 use fd_blend::Colour;
 use fd_device::{Device, Sink};
@@ -16,9 +18,11 @@ const WHOLE: &[u8] =
 fn cleared<T: Threads + Sync>(
     rt: &T,
     alloc: Global,
-    width: u32,
-    height: u32,
-) -> Result<Session, Fail> {
+    size: (u32, u32),
+    workers: u32,
+) -> Result<Session, Fail>
+    requires { (1 ≤ workers) × (workers ≤ 64) }
+{
     let mut events = Vec::new(alloc);
     events.push(Event::Clear(Colour {
         r: 10,
@@ -26,8 +30,8 @@ fn cleared<T: Threads + Sync>(
         b: 30,
         a: 40,
     }))?;
-    let table = EventTable::start(alloc, 1, width, height, events)?;
-    let Ok(mut session) = Session::start(alloc, table, 1) else {
+    let table = EventTable::start(alloc, 1, size.0, size.1, events)?;
+    let Ok(mut session) = Session::start(alloc, table, workers) else {
         return Err(Fail::from("no memory"));
     };
     let _ = session.step(rt);
@@ -40,10 +44,14 @@ fn limited(alloc: Global, room: usize, step: usize) -> Device<Limited> {
 
 #[test]
 fn one_clear_to_bytes(rt: HostRuntime) -> Result<(), Fail> {
-    let session = cleared(&rt, rt.alloc(), 1, 1)?;
-    let mut sink = limited(rt.alloc(), 100, 7);
-    assert_eq!(rt; write(rt.alloc(), &mut sink, &session), Ok(()));
-    assert_eq!(rt; sink.into_inner().bytes.as_slice(), WHOLE);
+    for workers in [1, 2, 64] {
+        let session = cleared(&rt, rt.alloc(), (1, 1), workers)?;
+        assert_eq!(rt; session.position(), 1);
+        let mut sink = limited(rt.alloc(), 100, 7);
+        assert_eq!(rt; write(rt.alloc(), &mut sink, &session), Ok(()));
+        assert_eq!(rt; sink.into_inner().bytes.as_slice(), WHOLE);
+    }
+    let session = cleared(&rt, rt.alloc(), (1, 1), 1)?;
     let mut body = limited(rt.alloc(), 100, 100);
     assert_eq!(rt; write_body(&mut body, &session), Ok(()));
     assert_eq!(rt;
@@ -56,7 +64,7 @@ fn one_clear_to_bytes(rt: HostRuntime) -> Result<(), Fail> {
 /// The sink fails after each number of bytes in turn.
 #[test]
 fn a_writer_that_fails_after_each_byte(rt: HostRuntime) -> Result<(), Fail> {
-    let session = cleared(&rt, rt.alloc(), 1, 1)?;
+    let session = cleared(&rt, rt.alloc(), (1, 1), 1)?;
     for room in 0..WHOLE.len() {
         let mut sink = limited(rt.alloc(), room, 3);
         let sent = room as u64;
@@ -74,7 +82,7 @@ fn a_writer_that_fails_after_each_byte(rt: HostRuntime) -> Result<(), Fail> {
 #[test]
 fn rows_wider_than_a_chunk(rt: HostRuntime) -> Result<(), Fail> {
     for (width, height) in [(2048, 3), (3, 2048), (1025, 2)] {
-        let session = cleared(&rt, rt.alloc(), width, height)?;
+        let session = cleared(&rt, rt.alloc(), (width, height), 1)?;
         let mut sink = limited(rt.alloc(), 100_000, 100_000);
         assert_eq!(rt; write_body(&mut sink, &session), Ok(()));
         let bytes = sink.into_inner().bytes;

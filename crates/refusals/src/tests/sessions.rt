@@ -8,11 +8,12 @@ use fd_events::EventTable;
 use fd_session::{Answer, Session, SessionFault};
 use std::process::Abort;
 use std::test::Fail;
+use std::thread::Threads;
 
-/// What the two ends of a row of 33 pixels show.
-fn expect_ends(rt: &impl Abort, session: &Session, position: u32, shown: Colour) {
+/// What each pixel of a row of 33 shows.
+fn expect_row(rt: &impl Abort, session: &Session, position: u32, shown: Colour) {
     assert_eq!(rt; session.position(), position);
-    for x in [0, 32] {
+    for x in 0..33u32 {
         assert_eq!(rt; session.pixel(x, 0), Ok(shown), "at {x}");
     }
 }
@@ -22,15 +23,15 @@ fn expect_cleared(rt: &impl Abort, session: &Session, answer: Answer) {
     match answer {
         Answer::Moved { at } => {
             assert_eq!(rt; at, 1);
-            expect_ends(rt, session, 1, colour(1, 2, 3, 4));
+            expect_row(rt, session, 1, colour(1, 2, 3, 4));
         }
         Answer::Stopped { at } => {
             assert_eq!(rt; at, 0);
-            expect_ends(rt, session, 0, FRESH);
+            expect_row(rt, session, 0, FRESH);
         }
         Answer::Refused(fault) => {
             assert_eq!(rt; fault, SessionFault::Memory);
-            expect_ends(rt, session, 0, FRESH);
+            expect_row(rt, session, 0, FRESH);
         }
     }
 }
@@ -45,7 +46,7 @@ fn step(rt: HostRuntime) -> Result<(), Fail> {
     if session.position() == 0 {
         assert_eq!(rt; session.step(&rt), Answer::Moved { at: 1 });
     }
-    expect_ends(&rt, &session, 1, colour(1, 2, 3, 4));
+    expect_row(&rt, &session, 1, colour(1, 2, 3, 4));
     Ok(())
 }
 
@@ -59,7 +60,7 @@ fn goto_gated(rt: HostRuntime) -> Result<(), Fail> {
     if session.position() == 0 {
         assert_eq!(rt; session.goto_gated(&rt, 1, &Free), Answer::Moved { at: 1 });
     }
-    expect_ends(&rt, &session, 1, colour(1, 2, 3, 4));
+    expect_row(&rt, &session, 1, colour(1, 2, 3, 4));
     Ok(())
 }
 
@@ -181,6 +182,21 @@ fn expect_table(rt: &impl Abort, table: &EventTable) {
     }
 }
 
+/// What a session of these verdicts shows at its end, with the event of the second one off and then on.
+fn expect_verdicts<T: Threads + Sync + Abort + AllocGlobal>(rt: &T, session: &mut Session) {
+    assert_eq!(rt; session.table().version(), 1);
+    for number in 1..6u32 {
+        assert_eq!(rt; session.is_on(number), Ok(number != 3));
+    }
+    assert_eq!(rt; session.goto(rt, 5), Answer::Moved { at: 5 });
+    assert_eq!(rt; session.pixel(0, 0), Ok(colour(3, 4, 5, 6)));
+    let two = session.history(rt.alloc(), 0, 0);
+    assert!(rt; two.is_ok_and(|entries| entries.len() == 2));
+    assert_eq!(rt; session.switch(rt, 3, true), Answer::Moved { at: 5 });
+    let three = session.history(rt.alloc(), 0, 0);
+    assert!(rt; three.is_ok_and(|entries| entries.len() == 3));
+}
+
 /// On a refusal the table is handed back as it was, its flags too.
 #[test]
 fn start(rt: HostRuntime) -> Result<(), Fail> {
@@ -198,8 +214,10 @@ fn start(rt: HostRuntime) -> Result<(), Fail> {
         Err((handed_back, _)) => {
             println!(rt; "told Memory")?;
             expect_table(&rt, &handed_back);
-            let again = Session::start(rt.alloc(), handed_back, 2);
-            assert!(rt; again.is_ok_and(|session| session.position() == 0));
+            let Ok(mut again) = Session::start(rt.alloc(), handed_back, 2) else {
+                return Err(Fail::from("no memory"));
+            };
+            expect_verdicts(&rt, &mut again);
         }
     }
     Ok(())

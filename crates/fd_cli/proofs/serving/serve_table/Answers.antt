@@ -28,8 +28,16 @@ returns-then-count-eq0-clause-serves g c =
     let nothing : inv.input ++ take c.in-Ok-fill_beside.count c.fill_beside.new.buffer ≡ inv.input =
     ap (λ k. inv.input ++ take k c.fill_beside.new.buffer) c.if-count-eq0.true ∙ append-nil inv.input in
     let size = length-take c.min-room.result c.loop-count.buffer in
-    let room : 0 < length c.fill_beside.new.buffer = omega (arith, c.fill_beside.auto.buffer, c.min-room.ensures, size, inv.serving.byte_count, inv.serving.answered.bytes) in
-    let ended = end_reached (g.R.Source.has_ended c.loop-count.source) _ c.in-Ok-fill_beside.count (length c.fill_beside.new.buffer) filled.2 c.if-count-eq0.true room in (
+    let room : 0 < length c.fill_beside.new.buffer = omega (
+      arith,
+      c.fill_beside.auto.buffer,
+      c.min-room.ensures,
+      size,
+      inv.serving.byte_count,
+      inv.serving.answered.bytes,
+    ) in
+    let ended = end_reached (g.R.Source.has_ended c.loop-count.source) _ c.in-Ok-fill_beside.count
+    (length c.fill_beside.new.buffer) filled.2 c.if-count-eq0.true room in (
       inv.input ++ take c.in-Ok-fill_beside.count c.fill_beside.new.buffer,
       inv.text ++ finish.written,
       Consumes-trans _ (g.R.Source.remaining c.loop-count.source) _ inv.input _ inv.consumed filled.1,
@@ -78,7 +86,8 @@ loop-count-preserved g c =
       serving = after_fill _ _ _ _ _ _ _ _ _ _ _ filled.0 inv.serving a;
       waited = waited_more _ c.args.table c.args.sink.now c.args.source.now c.loop-count.source c.fill_beside.new.source c.loop-count.sink
           inv.input _ inv.waited c.in-Ok-fill_beside.ensures.beside
-          (answered_so _ c.args.table c.args.sink.now c.args.source.now c.loop-count.sink inv.input inv.text c.loop-count.progress inv.serving inv.appended inv.flushed);
+          (answered_so _ c.args.table c.args.sink.now c.args.source.now c.loop-count.sink inv.input inv.text c.loop-count.progress inv.serving inv.appended
+          inv.flushed);
       room = c.in_default-take_bytes.ensures.room;
       read = c.in-Ok-fill_beside.ensures.failures ∙ inv.read;
       write = c.in_default-take_bytes.ensures.ok ∙ inv.write;
@@ -93,7 +102,8 @@ returns-in_default-fill_beside-clause-waits g c =
     let inv = c.loop-count.invariant in
     let waited = waited_more _ c.args.table c.args.sink.now c.args.source.now c.loop-count.source c.fill_beside.new.source c.loop-count.sink
     inv.input _ inv.waited c.in_default-fill_beside.ensures.beside
-    (answered_so _ c.args.table c.args.sink.now c.args.source.now c.loop-count.sink inv.input inv.text c.loop-count.progress inv.serving inv.appended inv.flushed) in
+    (answered_so _ c.args.table c.args.sink.now c.args.source.now c.loop-count.sink inv.input inv.text c.loop-count.progress inv.serving inv.appended
+    inv.flushed) in
     (waited.reads, waited.waits)
 
 pub returns-then-count-eq0-clause-waits : goal.returns-then-count-eq0-clause-waits
@@ -101,7 +111,8 @@ returns-then-count-eq0-clause-waits g c =
     let inv = c.loop-count.invariant in
     let waited = waited_more _ c.args.table c.args.sink.now c.args.source.now c.loop-count.source c.fill_beside.new.source c.loop-count.sink
     inv.input _ inv.waited c.in-Ok-fill_beside.ensures.beside
-    (answered_so _ c.args.table c.args.sink.now c.args.source.now c.loop-count.sink inv.input inv.text c.loop-count.progress inv.serving inv.appended inv.flushed) in
+    (answered_so _ c.args.table c.args.sink.now c.args.source.now c.loop-count.sink inv.input inv.text c.loop-count.progress inv.serving inv.appended
+    inv.flushed) in
     (waited.reads, waited.waits)
 
 pub returns-in-Err-clause-waits : goal.returns-in-Err-clause-waits
@@ -109,5 +120,6 @@ returns-in-Err-clause-waits g c =
     let inv = c.loop-count.invariant in
     let waited = waited_more _ c.args.table c.args.sink.now c.args.source.now c.loop-count.source c.fill_beside.new.source c.loop-count.sink
     inv.input _ inv.waited c.in-Ok-fill_beside.ensures.beside
-    (answered_so _ c.args.table c.args.sink.now c.args.source.now c.loop-count.sink inv.input inv.text c.loop-count.progress inv.serving inv.appended inv.flushed) in
+    (answered_so _ c.args.table c.args.sink.now c.args.source.now c.loop-count.sink inv.input inv.text c.loop-count.progress inv.serving inv.appended
+    inv.flushed) in
     (waited.reads, waited.waits)

@@ -1,14 +1,15 @@
 use Rattle.std.proofs.Common.{rules, ◌≡◌, ◌∙◌, ap, ap₂, sym, subst, Some, None, Option, true, refl, List, map, option_map, Ok, Err, Result}
 use Rattle.std.specs.Box.{box_value}
-use Rattle.std.specs.Prelude.{unwrap_or}
+use Rattle.std.specs.Prelude.{IfErr, unwrap_or}
 use Rattle.std.specs.Result.{IsErrAnd}
-use Rattle.clap.specs.Words.{App, FailsBy, HasKind, Kinds, Text, Row, found_of, fault_of}
+use Rattle.clap.specs.Words.{App, FailsBy, HasKind, Kinds, Text, Row, found_of, fault_of, kind_of}
+use Rattle.clap.specs.declared.error.kind.ErrorKind.TheVariants.{OutOfMemory}
 use Rattle.clap.specs.Words.{is_simple, is_simple_and_free, rows_of, subcommand_of, subcommand_rows_of}
 use Rattle.clap.specs.declared.error.Error.{Error}
 use Rattle.clap.specs.declared.parser.matches.ArgMatches.TheViews.{out-ArgMatches, out-SubCommand}
 use Rattle.clap.proofs.OnLiterals.{clap_on_literals}
 use Rattle.fd_arguments.specs.Words.{program}
-use Rattle.fd_arguments.proofs.arguments.read_arguments.Goals as goal
+use Rattle.fd_arguments.proofs.reading.Reading.read.Goals as goal
 
 program_is_simple : (is_simple program ≡ true) × (is_simple_and_free program ≡ true)
 unfolding clap_on_literals
@@ -17,6 +18,10 @@ program_is_simple = (refl, refl)
 same_error : {T : Type 0} (kinds : Kinds) (r : Result T Error) (e : Error) → HasKind kinds e → IsErrAnd r (λ x. x ≡ e) → FailsBy kinds r
 same_error kinds (Err x) e h same = subst (HasKind kinds) (sym same) h
 same_error kinds (Ok t) e h same = elim same [ ]
+
+any_error : {T : Type 0} (r : Result T Error) (P : Error → Type 0) → ((e : Error) → P e) → IfErr r P
+any_error (Err x) P all = all x
+any_error (Ok t) P all = tt
 
 some_is : {A : Type 0} (x y : A) → Some x ≡ Some y → x ≡ y
 some_is x y same = ap (λ o. unwrap_or o x) same
@@ -36,6 +41,14 @@ returns-in_err-matches-clause-fails g c =
     let kind = c.in_err-matches.ensures.kinds (ap is_simple_and_free c.in_ok-command.ensures ∙ program_is_simple.1) in
     same_error _ c.from_residual-in_err-matches.result c.in_err-matches.field-0.0 (subst (λ k. HasKind k c.in_err-matches.field-0.0) fault kind)
     c.from_residual-in_err-matches.ensures.1
+
+pub returns-in_err-matches-clause-wanted : goal.returns-in_err-matches-clause-wanted
+returns-in_err-matches-clause-wanted g c = any_error _ (λ e. kind_of e ≡ OutOfMemory → g.Self.Reading.why (map g.S.AsStr.text c.args.words.now))
+    (λ e is. search rules)
+
+pub returns-in_err-command-clause-wanted : goal.returns-in_err-command-clause-wanted
+returns-in_err-command-clause-wanted g c = any_error _ (λ e. kind_of e ≡ OutOfMemory → g.Self.Reading.why (map g.S.AsStr.text c.args.words.now))
+    (λ e is. search rules)
 
 pub returns-clause-fails : goal.returns-clause-fails
 returns-clause-fails g c = sym (ap (λ (a : App). fault_of a (map g.S.AsStr.text c.args.words.now)) c.in_ok-command.ensures)
