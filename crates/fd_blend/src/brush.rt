@@ -1,5 +1,9 @@
 //! One source over many destinations: what is the same for all of them is worked out once.
-ghost use Rattle.std.specs.Prelude.{◌≡◌};
+ghost use Rattle.std.specs.Prelude.{◌≡◌, IfSome};
+ghost use Rattle.fd_blend.specs.Blend.{blend};
+ghost use Rattle.fd_blend.specs.Blending.{Blending};
+ghost use Rattle.fd_blend.specs.Brush.{IsSettled};
+ghost use Rattle.fd_blend.specs.Resolved.{IsOf, IsInLanes};
 ghost use Rattle.fd_blend.specs.Row.{drawn_row};
 
 use crate::channel::Colour;
@@ -32,8 +36,6 @@ impl Model for Brush {
 }
 
 impl Brush {
-    ghost use Rattle.fd_blend.specs.Blend.{blend};
-
     /// A brush of this source.
     pub fn of(state: &BlendState, factor: Colour, source: Colour) -> Brush
         ensures { result ≡ record { state = state.now; factor = factor; source = source } }
@@ -47,17 +49,6 @@ impl Brush {
         }
     }
 
-    /// The source over two destinations.
-    fn pair(&self, d: Colour, e: Colour) -> (Colour, Colour)
-        ensures first { result.0 ≡ blend self.now.state self.now.factor self.now.source d }
-        ensures second { result.1 ≡ blend self.now.state self.now.factor self.now.source e }
-    {
-        match self.settled {
-            Some(settled) => self.equation.over(settled, d, e),
-            None => self.equation.pair(self.source, self.source, d, e),
-        }
-    }
-
     /// Draws the source over each of a row of destinations.
     pub fn draw(&self, dst: &mut [Colour])
         ensures { dst.new ≡ drawn_row self.now.state self.now.factor self.now.source dst.old }
@@ -66,16 +57,44 @@ impl Brush {
             dst.fill(self.source);
             return;
         }
-        let pairs = dst.len() / 2;
-        for pair in 0..pairs {
-            let i = 2 * pair;
-            let (first, second) = self.pair(dst[i], dst[i + 1]);
-            dst[i] = first;
-            dst[i + 1] = second;
-        }
-        if 2 * pairs < dst.len() {
-            let last = 2 * pairs;
-            dst[last] = self.pair(dst[last], dst[last]).0;
-        }
+        draw_pairs(self.equation, self.settled, self.source, dst);
+    }
+}
+
+/// A source over two destinations.
+fn pair(
+    equation: Equation,
+    settled: Option<Settled>,
+    source: Colour,
+    d: Colour,
+    e: Colour,
+) -> (Colour, Colour)
+    requires lanes { IsInLanes equation.rgb equation.alpha equation.mask equation.factor equation.positions equation.flips equation.written }
+    requires settled { IfSome settled (λ s. IsSettled equation.rgb equation.alpha equation.factor source s.sources s.factors) }
+    ensures first { (state : Blending) → IsOf state equation.rgb equation.alpha equation.mask → result.0 ≡ blend state equation.factor source d }
+    ensures second { (state : Blending) → IsOf state equation.rgb equation.alpha equation.mask → result.1 ≡ blend state equation.factor source e }
+{
+    match settled {
+        Some(settled) => equation.over(settled, d, e),
+        None => equation.pair(source, source, d, e),
+    }
+}
+
+/// Draws a source over a row of destinations, two at a time. What is the same for all is handed over by value, so that no destination can lie in it.
+fn draw_pairs(equation: Equation, settled: Option<Settled>, source: Colour, dst: &mut [Colour])
+    requires lanes { IsInLanes equation.rgb equation.alpha equation.mask equation.factor equation.positions equation.flips equation.written }
+    requires settled { IfSome settled (λ s. IsSettled equation.rgb equation.alpha equation.factor source s.sources s.factors) }
+    ensures { (state : Blending) → IsOf state equation.rgb equation.alpha equation.mask → dst.new ≡ drawn_row state equation.factor source dst.old }
+{
+    let pairs = dst.len() / 2;
+    for at in 0..pairs {
+        let i = 2 * at;
+        let (first, second) = pair(equation, settled, source, dst[i], dst[i + 1]);
+        dst[i] = first;
+        dst[i + 1] = second;
+    }
+    if 2 * pairs < dst.len() {
+        let last = 2 * pairs;
+        dst[last] = pair(equation, settled, source, dst[last], dst[last]).0;
     }
 }

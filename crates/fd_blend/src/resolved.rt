@@ -230,8 +230,10 @@ impl Equation {
     pub(crate) fn over(&self, settled: Settled, d: Colour, e: Colour) -> (Colour, Colour)
         requires lanes { IsInLanes self.now.rgb self.now.alpha self.now.mask self.now.factor self.now.positions self.now.flips self.now.written }
         requires weights { AreWeights settled.sources settled.factors }
-        ensures first { (state : Blending) (source : Colour) → IsOf state self.now.rgb self.now.alpha self.now.mask → IsSettled self.now.rgb self.now.alpha self.now.factor source settled.sources settled.factors → result.0 ≡ blend state self.now.factor source d }
-        ensures second { (state : Blending) (source : Colour) → IsOf state self.now.rgb self.now.alpha self.now.mask → IsSettled self.now.rgb self.now.alpha self.now.factor source settled.sources settled.factors → result.1 ≡ blend state self.now.factor source e }
+        ensures first { (state : Blending) (source : Colour) → IsOf state self.now.rgb self.now.alpha self.now.mask
+            → IsSettled self.now.rgb self.now.alpha self.now.factor source settled.sources settled.factors → result.0 ≡ blend state self.now.factor source d }
+        ensures second { (state : Blending) (source : Colour) → IsOf state self.now.rgb self.now.alpha self.now.mask
+            → IsSettled self.now.rgb self.now.alpha self.now.factor source settled.sources settled.factors → result.1 ≡ blend state self.now.factor source e }
     {
         let bytes = pair_bytes(d, e);
         let lanes = added(bytes, settled.sources, settled.factors, self.written);

@@ -94,7 +94,9 @@ def main():
     points = [[CORNERS[place] for place in point] for point in POINTS]
     print("//! Blended bytes, written by vectors/blend_table.py: edit the script, not this file.")
     print()
-    print("/// Six points: source channel, source alpha, destination channel, destination alpha, blend factor's channel.")
+    print(
+        "/// Six points: source channel, source alpha, destination channel, destination alpha, blend factor's channel."
+    )
     print("pub(super) static POINTS: [[u8; 5]; 6] = [")
     for point in points:
         print(f"    {listed(point)},")
@@ -105,14 +107,20 @@ def main():
         print(f"/// {operation} at the six points, whatever the factors.")
         print(f"pub(super) static {operation}: [u8; 6] = {listed(values)};")
         print()
-    print("/// For each source factor and each destination factor, in the specification's order: ADD, SUBTRACT and REV_SUBTRACT,")
+    print(
+        "/// For each source factor and each destination factor, in the specification's order: ADD, SUBTRACT "
+        "and REV_SUBTRACT,"
+    )
     print("/// each at the six points.")
     print("pub(super) static VALUES: [[u8; 18]; 144] = [")
     for values in rows():
         print(f"    {listed(values)},")
     print("];")
     print()
-    print("/// For each source factor, each destination factor and each operation: the digest over the whole grid of the corners.")
+    print(
+        "/// For each source factor, each destination factor and each operation: the digest over the whole grid "
+        "of the corners."
+    )
     print("pub(super) static DIGESTS: [u32; 720] = [")
     digests = [digest(src, dst, operation) for src, dst in product(FACTORS, repeat=2) for operation in OPERATIONS]
     for start in range(0, len(digests), 5):

@@ -1,5 +1,6 @@
 ghost use Rattle.std.specs.Prelude.{◌≡◌, ℕ, ℤ, IsTrue, ◌&&◌, not, false};
-ghost use Rattle.fd_cover.specs.Bounds.{is_within, is_empty, HoldsCovered, HoldsBoth, IsSmallest, corner_box, bounds_of, least, greatest, first_from, past, joined_box, shared_box, pixels_of_box};
+ghost use Rattle.fd_cover.specs.Bounds.{is_within, is_empty, HoldsCovered, HoldsBoth, IsSmallest, corner_box, bounds_of, least, greatest, first_from, past};
+ghost use Rattle.fd_cover.specs.Bounds.{joined_box, shared_box, pixels_of_box};
 
 use crate::triangle::Tri;
 

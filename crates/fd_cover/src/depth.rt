@@ -76,7 +76,8 @@ pub fn depth_at(triangle: &Tri, depths: &[u16; 3], x: u32, y: u32) -> u16
     requires row { y < most_pixels }
     requires covered { IsTrue (covers triangle.now x y) }
     ensures value { result ≡ depth_at triangle.now depths.now x y }
-    ensures nearest { IsNearestLarger (area_of triangle.now) (weighted_sum triangle.now x y (vertex_depth depths.now 0) (vertex_depth depths.now 1) (vertex_depth depths.now 2)) result }
+    ensures nearest { IsNearestLarger (area_of triangle.now)
+        (weighted_sum triangle.now x y (vertex_depth depths.now 0) (vertex_depth depths.now 1) (vertex_depth depths.now 2)) result }
 {
     let [a, b, c] = *depths;
     Weights::at(triangle, x, y).mean_depth(a, b, c)

@@ -99,8 +99,8 @@ impl Weights {
     }
 }
 
-/// How one channel, or the depth, goes along a row of covered pixels: its rounded value is the highest byte of the place, and the next pixel's place is a step on.
-/// A depth has the highest two bytes and 48 bits of fraction, and is walked only where those are fine enough.
+/// How one channel, or the depth, goes along a row of covered pixels: its rounded value is the highest byte of the place, and the next pixel's place is a step
+/// on. A depth has the highest two bytes and 48 bits of fraction, and is walked only where those are fine enough.
 ///
 /// A channel's place has 56 bits of fraction and begins 96 units above its quotient. Each quotient is less than 3 units too low, so in 32 pixels
 /// a place is above the exact one by less than 192 units, and never below it. An exact quotient whose next whole number is not reached
@@ -135,7 +135,8 @@ pub fn shade(triangle: &Tri, colours: &[Colour; 3], interp: Interp, x: u32, y: u
     requires row { y < most_pixels }
     requires covered { IsTrue (covers triangle.now x y) }
     ensures value { result ≡ shaded triangle.now interp (colour_of colours.now 0) (colour_of colours.now 1) (colour_of colours.now 2) x y }
-    ensures linear { interp ≡ Interp.Linear → IsNearestMean triangle.now (colour_of colours.now 0) (colour_of colours.now 1) (colour_of colours.now 2) x y result }
+    ensures linear { interp ≡ Interp.Linear → IsNearestMean triangle.now (colour_of colours.now 0) (colour_of colours.now 1)
+        (colour_of colours.now 2) x y result }
 {
     let [a, b, c] = *colours;
     match interp {
@@ -159,7 +160,8 @@ fn shade_linear(triangle: &Tri, colours: &[Colour; 3], x: u32, y: u32, out: &mut
     requires row { y < most_pixels }
     requires columns { x + length out.old ≤ most_pixels }
     requires covered { (column : ℕ) → x ≤ column → column < x + length out.old → IsTrue (covers triangle.now column y) }
-    ensures { out.new ≡ map (λ column. shaded triangle.now Interp.Linear (colour_of colours.now 0) (colour_of colours.now 1) (colour_of colours.now 2) column y) (range_with_len x (length out.old)) }
+    ensures { out.new ≡ map (λ column. shaded triangle.now Interp.Linear (colour_of colours.now 0) (colour_of colours.now 1)
+        (colour_of colours.now 2) column y) (range_with_len x (length out.old)) }
 {
     let [a, b, c] = *colours;
     let area = doubled_area(
@@ -209,7 +211,8 @@ pub fn shade_row(
     requires row { y < most_pixels }
     requires columns { x + length out.old ≤ most_pixels }
     requires covered { (column : ℕ) → x ≤ column → column < x + length out.old → IsTrue (covers triangle.now column y) }
-    ensures { out.new ≡ map (λ column. shaded triangle.now interp (colour_of colours.now 0) (colour_of colours.now 1) (colour_of colours.now 2) column y) (range_with_len x (length out.old)) }
+    ensures { out.new ≡ map (λ column. shaded triangle.now interp (colour_of colours.now 0) (colour_of colours.now 1) (colour_of colours.now 2) column y)
+        (range_with_len x (length out.old)) }
 {
     match interp {
         Interp::Flat => out.fill(colours[0]),

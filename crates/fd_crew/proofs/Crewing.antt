@@ -10,10 +10,10 @@ use Rattle.std.proofs.lemmas.Bool.{cases_lt}
 use Rattle.atomic_table.proofs.Lists.{at_set, set_else}
 use Rattle.fd_events.specs.Table.{Table}
 use Rattle.fd_tile.specs.declared.place.Place.{Place}
-use Rattle.fd_owner.specs.History.{History, position, extend, extend_to, drop_last}
-use Rattle.fd_owner.proofs.Histories.{position_extend, extend_more, extend_none, drop_extend, position_extend_to, position_drop}
+use Rattle.fd_owner.specs.History.{History, position, extend, extend_to, drop_last, first_frames}
+use Rattle.fd_owner.proofs.Histories.{position_extend, extend_more, extend_none, drop_extend, position_drop, first_all, drop_first}
 use Rattle.fd_crew.specs.World.{Lane, Worker, World, Action, look, draw, refuse, lower, leave, home, IsIn, MayDraw, AllLeft, NoneAbove, with_worker}
-use Rattle.fd_crew.specs.World.{with_history, Acts, Runs, IsOpening, least_or, WentOn, CrewWorld}
+use Rattle.fd_crew.specs.World.{with_history, Acts, Runs, IsOpening, least_or, WentOn, CameBack, Moved, CrewWorld}
 
 abbrev At : {A : Type 0} → List A → ℕ → A → Type 0
 At l i a = get_elem? l i ≡ some a
@@ -30,9 +30,6 @@ placed [] i v w e = cc
 placed (x ∷ xs) zero v w e = refl
 placed (x ∷ xs) (suc i) v w e = placed xs i v w e
 
-abbrev Kin : Table → ℕ → Lane → Lane → Type 0
-Kin table o a b = WentOn table a b × (position a.history ≡ o)
-
 record Owed (x : World) (r : ℕ) : Type 0 where
   w : ℕ
   p : Worker
@@ -40,7 +37,7 @@ record Owed (x : World) (r : ℕ) : Type 0 where
   owes : p.owed ≡ some r
 
 record Inv (table : Table) (o target : ℕ) (x0 x : World) : Type 0 where
-  lanes : AllZip (Kin table o) x0.lanes x.lanes
+  lanes : AllZip (Moved table (AllLeft x)) x0.lanes x.lanes
   floor : o ≤ x.fence
   fence : (x.fence ≡ target) ⊎ In x.fence x.refused
   seen : (w : ℕ) (p : Worker) → At x.workers w p → (x.fence ≤ p.seen) × (p.seen ≤ target)
@@ -75,6 +72,7 @@ module _ (table : Table) (o target : ℕ) (x0 : World) where
   -- one worker changes, and perhaps the fence goes down
   record Change (x : World) (w : ℕ) (p p' : Worker) (fence' : ℕ) (refused' : List ℕ) : Type 0 where
     at : At x.workers w p
+    inside : p.left ≡ false
     lower : (fence' ≤ x.fence) × (o ≤ fence')
     least : (fence' ≡ target) ⊎ In fence' refused'
     seen : (fence' ≤ p'.seen) × (p'.seen ≤ target)
@@ -85,11 +83,24 @@ module _ (table : Table) (o target : ℕ) (x0 : World) where
         × ((fence' ≤ r) ⊎ ((p'.owed ≡ some r) ⊎ ((v : ℕ) × (u : Worker) × At x.workers v u × (u.owed ≡ some r) × (v ≢ w))))
     done : p'.left ≡ true → (t : ℕ) (l : Lane) → At x.lanes t l → l.owner ≡ w → fence' ≤ position l.history
 
+  -- who has not come back yet has gone on
+  still_on : {G H : Type 0} (a b : Lane) → Moved table G a b → (G → ⊥) → Moved table H a b
+  still_on a b m never = record { owner = m.owner; place = m.place; moved = ⊎_elim (λ on. inl on) (λ back. absurd (never back.0)) m.moved }
+
+  all_still_on : (G H : Type 0) (xs ys : List Lane) → AllZip (Moved table G) xs ys → (G → ⊥) → AllZip (Moved table H) xs ys
+  all_still_on G H [] [] a never = tt
+  all_still_on G H [] (y ∷ ys) a never = absurd a
+  all_still_on G H (x ∷ xs) [] a never = absurd a
+  all_still_on G H (x ∷ xs) (y ∷ ys) a never = (still_on x y a.0 never, all_still_on G H xs ys a.1 never)
+
+  not_gone : (x : World) (w : ℕ) (p : Worker) → At x.workers w p → p.left ≡ false → AllLeft x → ⊥
+  not_gone x w p at inside gone = true_false (sym (gone w p at) ∙ inside)
+
   changed : (x : World) (w : ℕ) (p p' : Worker) (fence' : ℕ) (refused' : List ℕ) → I x → Change x w p p' fence' refused'
       → I (record { lanes = x.lanes; workers = set x.workers w p'; fence = fence'; refused = refused' })
   changed x w p p' fence' refused' i c =
       record {
-        lanes = i.lanes;
+        lanes = all_still_on (AllLeft x) _ _ _ i.lanes (not_gone x w p c.at c.inside);
         floor = omega arith;
         fence = c.least;
         seen = λ j b e. ⊎_elim (λ t. subst (λ (u : Worker). (fence' ≤ u.seen) × (u.seen ≤ target)) t.1 c.seen)
@@ -112,8 +123,8 @@ module _ (table : Table) (o target : ℕ) (x0 : World) where
             (λ s. let d = i.done t l j b e s.1 own out in omega arith) (at_set x.workers w j p' b f);
       }
 
-  zip_set : (xs ys : List Lane) (t : ℕ) (l l' : Lane) → AllZip (Kin table o) xs ys → At ys t l → ((a : Lane) → Kin table o a l → Kin table o a l')
-      → AllZip (Kin table o) xs (set ys t l')
+  zip_set : {G : Type 0} (xs ys : List Lane) (t : ℕ) (l l' : Lane) → AllZip (Moved table G) xs ys → At ys t l
+      → ((a : Lane) → Moved table G a l → Moved table G a l') → AllZip (Moved table G) xs (set ys t l')
   zip_set [] [] t l l' a e f = cc
   zip_set [] (y ∷ ys) t l l' a e f = absurd a
   zip_set (x ∷ xs) [] t l l' a e f = absurd a
@@ -123,7 +134,8 @@ module _ (table : Table) (o target : ℕ) (x0 : World) where
   abbrev moved_lane : Lane → History → Lane
   moved_lane l h = record { owner = l.owner; place = l.place; history = h }
 
-  moved : (x : World) (t : ℕ) (l : Lane) (h : History) → I x → At x.lanes t l → ((a : Lane) → Kin table o a l → Kin table o a (moved_lane l h)) → o ≤ position h
+  moved : (x : World) (t : ℕ) (l : Lane) (h : History) → I x → At x.lanes t l
+      → ((a : Lane) → Moved table (AllLeft x) a l → Moved table (AllLeft x) a (moved_lane l h)) → o ≤ position h
       → ((w : ℕ) (p : Worker) → At x.workers w p → l.owner ≡ w → p.left ≡ true → x.fence ≤ position h) → I (with_history x t l h)
   moved x t l h i at kin le out = record {
     lanes = zip_set _ _ _ _ _ i.lanes at kin;
@@ -154,6 +166,7 @@ module _ (table : Table) (o target : ℕ) (x0 : World) where
       let floor = i.floor in
       changed _ _ _ _ _ _ i (record {
         at = in'.0;
+        inside = in'.1;
         lower = (omega arith, floor);
         least = i.fence;
         seen = (omega arith, top);
@@ -177,6 +190,7 @@ module _ (table : Table) (o target : ℕ) (x0 : World) where
       let floor = i.floor in
       changed _ _ _ _ _ _ i (record {
         at = at;
+        inside = may.0.1;
         lower = (omega arith, floor);
         least = ⊎_elim (λ e. inl e) (λ h. inr (inr h)) i.fence;
         seen = s;
@@ -210,6 +224,7 @@ module _ (table : Table) (o target : ℕ) (x0 : World) where
       let f = i.refused at there in
       changed _ _ _ _ _ _ i (record {
         at = in'.0;
+        inside = in'.1;
         lower = omega arith;
         least = min_in _ at x.refused i.fence there (le_cases _ at);
         seen = omega arith;
@@ -233,6 +248,7 @@ module _ (table : Table) (o target : ℕ) (x0 : World) where
       let floor = i.floor in
       changed _ _ _ _ _ _ i (record {
         at = in'.0;
+        inside = in'.1;
         lower = (omega arith, floor);
         least = i.fence;
         seen = s;
@@ -252,16 +268,16 @@ module _ (table : Table) (o target : ℕ) (x0 : World) where
       let h : History = extend table l.place l.history in
       let long : position h ≡ position l.history + 1 = position_extend _ _ _ in
       let low = i.after t l may.1 in
-      moved _ _ _ _ i may.1 (λ a k. let on = k.0 in let after = on.after in (
-        record {
-          owner = on.owner;
-          place = on.place;
+      moved _ _ _ _ i may.1 (λ a k. let on : WentOn table a l = ⊎_elim (λ o. o) (λ back. absurd (not_gone x w p may.0.0 may.0.1 back.0)) k.moved in
+      let after = on.after in record {
+        owner = k.owner;
+        place = k.place;
+        moved = inl (record {
           after = omega arith;
-          history = ap (λ (q : Place). extend table q l.history) on.place ∙ (ap (λ (g : History). extend table a.place g) on.history
+          history = ap (λ (q : Place). extend table q l.history) k.place ∙ (ap (λ (g : History). extend table a.place g) on.history
               ∙ (extend_more _ _ _ _ after ∙ ap (λ (n : ℕ). extend_to table a.place n a.history) (sym long)));
-        },
-        k.1,
-      )) (omega arith) (λ v u e own out. cc)
+        });
+      }) (omega arith) (λ v u e own out. cc)
 
   -- an extended list, one image shorter
   shorter : (place : Place) (to : ℕ) (h : History) → position h < to → drop_last (extend_to table place to h) ≡ extend_to table place (to - 1) h
@@ -269,14 +285,51 @@ module _ (table : Table) (o target : ℕ) (x0 : World) where
       let e : to - 1 + 1 ≡ to = omega arith in
       ap drop_last (ap (λ (n : ℕ). extend_to table place n h) (sym e) ∙ sym (extend_more table place (to - 1) h (omega arith))) ∙ drop_extend _ _ _
 
-  went_home : (x : World) (t : ℕ) (l : Lane) → I x → At x.lanes t l → x.fence < position l.history → I (with_history x t l (drop_last l.history))
-  went_home x t l i at above =
-      moved _ _ _ _ i at (λ a k. let on = k.0 in
+  -- a lane that goes back by one event, one that stood where it began, and one that stood below that already
+  home_on : (a l : Lane) → WentOn table a l → position a.history < position l.history → WentOn table a (moved_lane l (drop_last l.history))
+  home_on a l on less =
+      let long = position_drop l.history in
       let e : drop_last l.history ≡ extend_to table a.place (position l.history - 1) a.history = ap drop_last on.history
-      ∙ shorter a.place (position l.history) a.history (omega arith) in
-      let long : position (drop_last l.history) ≡ position l.history - 1 = ap position e ∙ position_extend_to _ _ _ _ (omega arith) in
-      (record { owner = on.owner; place = on.place; after = omega arith; history = e ∙ ap (λ (n : ℕ). extend_to table a.place n a.history) (sym long) }, k.1))
-      (omega (arith, position_drop l.history)) (omega (arith, position_drop l.history))
+      ∙ shorter a.place (position l.history) a.history less in
+      record { after = omega arith; history = e ∙ ap (λ (n : ℕ). extend_to table a.place n a.history) (sym long) }
+
+  home_from : (a l : Lane) → WentOn table a l → 0 < position l.history → position l.history ≤ position a.history
+      → CameBack a (moved_lane l (drop_last l.history))
+  home_from a l on above most =
+      let long = position_drop l.history in
+      let after = on.after in
+      let level : position l.history ≡ position a.history = omega arith in
+      let same : l.history ≡ a.history = on.history ∙ (ap (λ (n : ℕ). extend_to table a.place n a.history) level ∙ extend_none table a.place a.history) in
+      let all : a.history ≡ first_frames (position a.history) a.history = sym (first_all (position a.history) a.history (omega arith)) in
+      let one : position a.history - 1 ≡ position (drop_last l.history) = omega arith in
+      record {
+        before = omega arith;
+        history = ap drop_last (same ∙ all) ∙ (drop_first (position a.history) a.history (omega arith) ∙ ap (λ (n : ℕ). first_frames n a.history) one);
+      }
+
+  home_below : (a l : Lane) → CameBack a l → CameBack a (moved_lane l (drop_last l.history))
+  home_below a l back =
+      let long = position_drop l.history in
+      let before = back.before in
+      let one : position l.history - 1 ≡ position (drop_last l.history) = omega arith in
+      record {
+        before = omega arith;
+        history = ap drop_last back.history ∙ (drop_first (position l.history) a.history (omega arith) ∙ ap (λ (n : ℕ). first_frames n a.history) one);
+      }
+
+  home_moved : {G : Type 0} (a l : Lane) → Moved table G a l → G → 0 < position l.history → Moved table G a (moved_lane l (drop_last l.history))
+  home_moved a l k gone above = record {
+    owner = k.owner;
+    place = k.place;
+    moved = ⊎_elim (λ on. ⊎_elim (λ less. inl (home_on a l on less)) (λ most. inr (gone, home_from a l on above most))
+        (cases_lt (position a.history) (position l.history))) (λ back. inr (gone, home_below a l back.1)) k.moved;
+  }
+
+  went_home : (x : World) (t : ℕ) (l : Lane) → I x → AllLeft x → At x.lanes t l → x.fence < position l.history → I (with_history x t l (drop_last l.history))
+  went_home x t l i gone at above =
+      let floor = i.floor in
+      moved _ _ _ _ i at (λ a k. home_moved a l k gone (omega arith)) (omega (arith, position_drop l.history))
+      (λ w p e own out. omega (arith, position_drop l.history))
 
   step_kept : (x y : World) (a : Action) → I x → Acts table x a y → I y
   step_kept x y (look w) i s = subst I (sym s.2) (looked _ _ _ i s.1)
@@ -284,24 +337,24 @@ module _ (table : Table) (o target : ℕ) (x0 : World) where
   step_kept x y (refuse w t) i s = subst I (sym s.3) (refused' _ _ _ _ _ i s.2)
   step_kept x y (lower w) i s = subst I (sym s.4) (lowered _ _ _ _ i s.2 s.3)
   step_kept x y (leave w) i s = subst I (sym s.2) (left' _ _ _ i s.1.0 s.1.1 s.1.2)
-  step_kept x y (home t) i s = subst I (sym s.4) (went_home _ _ _ i s.2 s.3)
+  step_kept x y (home t) i s = subst I (sym s.4) (went_home _ _ _ i s.1 s.2 s.3)
 
   runs_kept : (actions : List Action) (x y : World) → I x → Runs table x actions y → I y
   runs_kept [] x y i r = subst I r i
   runs_kept (a ∷ actions) x y i r = runs_kept actions r.0 y (step_kept x r.0 a i r.1) r.2
 
-  went_none : (l : Lane) → WentOn table l l
-  went_none l = record { owner = refl; place = refl; after = omega arith; history = sym (extend_none table l.place l.history) }
+  went_none : {G : Type 0} (l : Lane) → Moved table G l l
+  went_none l = record { owner = refl; place = refl; moved = inl (record { after = omega arith; history = sym (extend_none table l.place l.history) }) }
 
-  kin_none : (ls : List Lane) → ((t : ℕ) (l : Lane) → At ls t l → position l.history ≡ o) → AllZip (Kin table o) ls ls
-  kin_none [] f = tt
-  kin_none (l ∷ ls) f = ((went_none l, f 0 l refl), kin_none ls (λ t m e. f (suc t) m e))
+  kin_none : (G : Type 0) (ls : List Lane) → AllZip (Moved table G) ls ls
+  kin_none G [] = tt
+  kin_none G (l ∷ ls) = (went_none l, kin_none G ls)
 
   opened : IsOpening o target x0 → I x0
   opened open' =
       let at_target = open'.fence in
       record {
-        lanes = kin_none _ (λ t l e. (open'.lanes t l e).0);
+        lanes = kin_none _ _;
         floor = omega arith;
         fence = inl at_target;
         seen = λ w p e. let h = open'.workers w p e in (omega arith, omega arith);
@@ -309,15 +362,9 @@ module _ (table : Table) (o target : ℕ) (x0 : World) where
         owed_in = λ w p q e owed. absurd (some-ne-none q (sym owed ∙ (open'.workers w p e).1));
         refused = λ r h. absurd (subst (λ (rs : List ℕ). In r rs) open'.refused h);
         owners = λ t l e. (open'.lanes t l e).1;
-        after = λ t l e. let at = (open'.lanes t l e).0 in omega arith;
+        after = λ t l e. (open'.lanes t l e).0;
         done = λ t l w p e f own out. true_false (sym out ∙ (open'.workers w p f).2);
       }
-
-  went_zip : (xs ys : List Lane) → AllZip (Kin table o) xs ys → AllZip (WentOn table) xs ys
-  went_zip [] [] a = tt
-  went_zip [] (y ∷ ys) a = absurd a
-  went_zip (x ∷ xs) [] a = absurd a
-  went_zip (x ∷ xs) (y ∷ ys) a = (a.0.0, went_zip xs ys a.1)
 
   ended : (y : World) → I y → AllLeft y → NoneAbove y → ((t : ℕ) (l : Lane) → At y.lanes t l → position l.history ≡ y.fence)
       × (y.fence ≡ least_or target y.refused)
@@ -330,4 +377,4 @@ module _ (table : Table) (o target : ℕ) (x0 : World) where
 pub world_law : CrewWorld
 world_law table o target x y actions open' runs =
     let i = runs_kept _ _ _ _ _ _ _ (opened _ _ _ _ open') runs in
-    (went_zip _ _ target x _ _ i.lanes, λ gone none_above. ended _ _ _ _ _ i gone none_above)
+    (i.lanes, i.after, λ gone none_above. ended _ _ _ _ _ i gone none_above)

@@ -1,11 +1,11 @@
 -- Working. The world of a crew: lanes, the workers that own them, and a fence that only goes down. The workers' steps may come in any order.
-use Rattle.std.specs.Prelude.{◌≡◌, ℕ, ◌<◌, ◌≤◌, Bool, true, false, List, [], ◌∷◌, min, slice_set}
+use Rattle.std.specs.Prelude.{◌≡◌, ◌⊎◌, ℕ, ◌<◌, ◌≤◌, Bool, true, false, List, [], ◌∷◌, min, slice_set}
 use mathlib.Core.Option.{Option, none, some}
 use lib.ListN.{get_elem?}
 use Rattle.std.specs.List.{AllZip}
 use Rattle.fd_events.specs.Table.{Table}
 use Rattle.fd_tile.specs.declared.place.Place.{Place}
-use Rattle.fd_owner.specs.History.{History, position, extend, extend_to, drop_last}
+use Rattle.fd_owner.specs.History.{History, position, extend, extend_to, drop_last, first_frames}
 
 -- a lane has one owner for the whole run
 pub record Lane : Type 0 where
@@ -101,12 +101,12 @@ abbrev pub Runs : Table → World → List Action → World → Type 0
 Runs table x [] y = x ≡ y
 Runs table x (a ∷ actions) y = (z : World) × Acts table x a z × Runs table z actions y
 
--- a world at its opening: all lanes at one position, each with an owner; all workers see the fence, which is at the target
-pub record IsOpening (opening target : ℕ) (x : World) : Type 0 where
-  pub within : opening ≤ target
+-- a world at its opening: no lane below this position, wherever each begins, and each with an owner; all workers see the fence, which is at the target
+pub record IsOpening (floor target : ℕ) (x : World) : Type 0 where
+  pub within : floor ≤ target
   pub fence : x.fence ≡ target
   pub refused : x.refused ≡ []
-  pub lanes : (t : ℕ) (l : Lane) → get_elem? x.lanes t ≡ some l → (position l.history ≡ opening) × ((p : Worker) × (get_elem? x.workers l.owner ≡ some p))
+  pub lanes : (t : ℕ) (l : Lane) → get_elem? x.lanes t ≡ some l → (floor ≤ position l.history) × ((p : Worker) × (get_elem? x.workers l.owner ≡ some p))
   pub workers : (w : ℕ) (p : Worker) → get_elem? x.workers w ≡ some p → (p.seen ≡ target) × (p.owed ≡ none) × (p.left ≡ false)
 
 -- ---- the law
@@ -118,15 +118,26 @@ least_or n (x ∷ xs) = min x (least_or x xs)
 
 -- the lane went on through the next events
 pub record WentOn (table : Table) (old new : Lane) : Type 0 where
-  pub owner : new.owner ≡ old.owner
-  pub place : new.place ≡ old.place
   pub after : position old.history ≤ position new.history
   pub history : new.history ≡ extend_to table old.place (position new.history) old.history
 
--- At any time each lane has gone on through the next events.
+-- the lane came back to before where it began
+pub record CameBack (old new : Lane) : Type 0 where
+  pub before : position new.history < position old.history
+  pub history : new.history ≡ first_frames (position new.history) old.history
+
+-- it is the same lane, and went on, or came back since this holds
+pub record Moved (table : Table) (Gone : Type 0) (old new : Lane) : Type 0 where
+  pub owner : new.owner ≡ old.owner
+  pub place : new.place ≡ old.place
+  pub moved : WentOn table old new ⊎ (Gone × CameBack old new)
+
+-- At any time each lane has gone on through the next events, or come back since all workers left, and none stands below the floor of all openings. So lanes
+-- that all begin there have gone on.
 -- When all workers have left and no lane is above the fence, all lanes stand at the fence: at the target, or at the least position at which one refused.
 abbrev pub CrewWorld : Type 0
 CrewWorld =
-    (table : Table) (opening target : ℕ) (x y : World) (actions : List Action) → IsOpening opening target x → Runs table x actions y
-    → AllZip (WentOn table) x.lanes y.lanes
+    (table : Table) (floor target : ℕ) (x y : World) (actions : List Action) → IsOpening floor target x → Runs table x actions y
+    → AllZip (Moved table (AllLeft y)) x.lanes y.lanes
+    × ((t : ℕ) (l : Lane) → get_elem? y.lanes t ≡ some l → floor ≤ position l.history)
     × (AllLeft y → NoneAbove y → ((t : ℕ) (l : Lane) → get_elem? y.lanes t ≡ some l → position l.history ≡ y.fence) × (y.fence ≡ least_or target y.refused))

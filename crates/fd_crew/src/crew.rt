@@ -69,7 +69,8 @@ fn draw_lane<L: Lane, G: Gate, S: Post>(
     ensures share { (S.view seat.new).share ≡ (S.view seat.old).share }
     ensures lower { ((S.view seat.new).low ≤ (S.view seat.old).low) × ((S.view seat.new).seen ≤ (S.view seat.old).seen) }
     ensures low { ((S.view seat.new).low ≡ (S.view seat.old).low) ⊎ RefusedAt (S.view seat.new).low (L.shown lane.old) (L.shown lane.new) }
-    ensures lane { Drawn course.now.table.now (target_of course.now.fence.now) (S.view seat.new).seen (S.view seat.new).low (L.shown lane.old) (L.shown lane.new) }
+    ensures lane { Drawn course.now.table.now (target_of course.now.fence.now) (S.view seat.new).seen (S.view seat.new).low (L.shown lane.old)
+        (L.shown lane.new) }
     ensures wanted { ((S.view seat.new).low ≡ (S.view seat.old).low) ⊎ L.wanted }
     ensures passed { IsPassed (G.opened course.now.gate.now number) (L.shown lane.old) (L.shown lane.new) }
     ensures fits { L.fits lane.new course.now.table.now }
@@ -129,19 +130,24 @@ fn run_both<R: Threads + Sync, L: Lane, G: Gate, S: Post>(
     lanes: &mut [L],
 )
     requires seats { S.stands course.now.fence.now seat.old × S.stands course.now.fence.now other.old }
-    requires can { CanWork (crew_of course.now.fence.now) (length course.now.table.now.events) (S.view seat.old) × CanWork (crew_of course.now.fence.now) (length course.now.table.now.events) (S.view other.old) }
+    requires can { CanWork (crew_of course.now.fence.now) (length course.now.table.now.events) (S.view seat.old)
+        × CanWork (crew_of course.now.fence.now) (length course.now.table.now.events) (S.view other.old) }
     requires workers { ((S.view seat.old).share ≡ halves.now.0.workers) × ((S.view other.old).share ≡ halves.now.1.workers) }
     requires parts { IsPart halves.now.0 × IsPart halves.now.1 }
     requires owned { (halves.now.0.first_lane ≤ halves.now.1.first_lane) × (halves.now.1.first_lane ≤ halves.now.0.first_lane + length lanes.old) }
     requires room { halves.now.0.first_lane + length lanes.old < 2 ^ 64 }
     requires fits { All (λ l. L.fits l course.now.table.now) lanes.old }
     ensures seats { S.stands course.now.fence.now seat.new × S.stands course.now.fence.now other.new }
-    ensures lower { Worked L.shown L.fits course.now.table.now (target_of course.now.fence.now) (S.view seat.old) (S.view seat.new) (lower_lanes halves.now.0 halves.now.1 lanes.old) (lower_lanes halves.now.0 halves.now.1 lanes.new) }
-    ensures upper { Worked L.shown L.fits course.now.table.now (target_of course.now.fence.now) (S.view other.old) (S.view other.new) (upper_lanes halves.now.0 halves.now.1 lanes.old) (upper_lanes halves.now.0 halves.now.1 lanes.new) }
+    ensures lower { Worked L.shown L.fits course.now.table.now (target_of course.now.fence.now) (S.view seat.old) (S.view seat.new)
+        (lower_lanes halves.now.0 halves.now.1 lanes.old) (lower_lanes halves.now.0 halves.now.1 lanes.new) }
+    ensures upper { Worked L.shown L.fits course.now.table.now (target_of course.now.fence.now) (S.view other.old) (S.view other.new)
+        (upper_lanes halves.now.0 halves.now.1 lanes.old) (upper_lanes halves.now.0 halves.now.1 lanes.new) }
     ensures lower_wanted { ((S.view seat.new).low ≡ (S.view seat.old).low) ⊎ L.wanted }
     ensures upper_wanted { ((S.view other.new).low ≡ (S.view other.old).low) ⊎ L.wanted }
-    ensures lower_passed { ArePassed L.shown (G.opened course.now.gate.now) halves.now.0.first_lane (lower_lanes halves.now.0 halves.now.1 lanes.old) (lower_lanes halves.now.0 halves.now.1 lanes.new) }
-    ensures upper_passed { ArePassed L.shown (G.opened course.now.gate.now) halves.now.1.first_lane (upper_lanes halves.now.0 halves.now.1 lanes.old) (upper_lanes halves.now.0 halves.now.1 lanes.new) }
+    ensures lower_passed { ArePassed L.shown (G.opened course.now.gate.now) halves.now.0.first_lane (lower_lanes halves.now.0 halves.now.1 lanes.old)
+        (lower_lanes halves.now.0 halves.now.1 lanes.new) }
+    ensures upper_passed { ArePassed L.shown (G.opened course.now.gate.now) halves.now.1.first_lane (upper_lanes halves.now.0 halves.now.1 lanes.old)
+        (upper_lanes halves.now.0 halves.now.1 lanes.new) }
 {
     let (front, back) = lanes.split_at_mut(halves.1.first_lane - halves.0.first_lane);
     join_mut(
@@ -155,7 +161,8 @@ fn run_both<R: Threads + Sync, L: Lane, G: Gate, S: Post>(
             requires room { halves.now.0.first_lane + length front.now < 2 ^ 64 }
             requires fits { All (λ l. L.fits l course.now.table.now) front.now }
             ensures seat { S.stands course.entry.now.fence.now seat.exit.now }
-            ensures worked { Worked L.shown L.fits course.entry.now.table.now (target_of course.entry.now.fence.now) (S.view seat.entry.now) (S.view seat.exit.now) front.entry.now front.exit.now }
+            ensures worked { Worked L.shown L.fits course.entry.now.table.now (target_of course.entry.now.fence.now) (S.view seat.entry.now)
+                (S.view seat.exit.now) front.entry.now front.exit.now }
             ensures wanted { ((S.view seat.exit.now).low ≡ (S.view seat.entry.now).low) ⊎ L.wanted }
             ensures passed { ArePassed L.shown (G.opened course.entry.now.gate.now) halves.entry.now.0.first_lane front.entry.now front.exit.now }
         { run_range(rt, course, &halves.0, seat, front) },
@@ -168,7 +175,8 @@ fn run_both<R: Threads + Sync, L: Lane, G: Gate, S: Post>(
             requires room { halves.now.1.first_lane + length back.now < 2 ^ 64 }
             requires fits { All (λ l. L.fits l course.now.table.now) back.now }
             ensures seat { S.stands course.entry.now.fence.now other.exit.now }
-            ensures worked { Worked L.shown L.fits course.entry.now.table.now (target_of course.entry.now.fence.now) (S.view other.entry.now) (S.view other.exit.now) back.entry.now back.exit.now }
+            ensures worked { Worked L.shown L.fits course.entry.now.table.now (target_of course.entry.now.fence.now) (S.view other.entry.now)
+                (S.view other.exit.now) back.entry.now back.exit.now }
             ensures wanted { ((S.view other.exit.now).low ≡ (S.view other.entry.now).low) ⊎ L.wanted }
             ensures passed { ArePassed L.shown (G.opened course.entry.now.gate.now) halves.entry.now.1.first_lane back.entry.now back.exit.now }
         { run_range(rt, course, &halves.1, other, back) },
@@ -218,8 +226,8 @@ pub fn run_back<L: Lane>(lanes: &mut [L], to: u32)
 
 /// Takes all lanes forward to the run's target, each worker those from the lane of its own number in `firsts` up to the next worker's first one. Where
 /// `firsts` has no lane for a worker, or one that lies among another worker's, the lanes are shared out by the workers that are left. A lane that stands
-/// above the target stays there. Where a lane refuses, all lanes end at the least position at which one refused, those above it too. An `Err` says that there was no
-/// memory for the fence; then no lane has moved.
+/// above the target stays there. Where a lane refuses, all lanes end at the least position at which one refused, those above it too. An `Err` says that there
+/// was no memory for the fence; then no lane has moved.
 ///
 /// So it ends for every number of workers, however the lanes are shared out, and every schedule. Which lanes refuse may differ from run to run, as memory may.
 /// The bound is `Threads` without `Wait`: nothing waits but the join of a thread, so the call returns if the lanes and the gate do.
@@ -233,7 +241,8 @@ pub fn run_shared<R: Threads + Sync, L: Lane, G: Gate>(
     requires target { run.now.target ≤ length run.now.table.now.events }
     requires workers { (1 ≤ run.now.workers) × (run.now.workers ≤ 64) }
     requires fits { All (λ l. L.fits l run.now.table.now) lanes.old }
-    ensures ended { MatchResult result (λ outcome. EndsApart L.shown run.now.table.now run.now.target lanes.old lanes.new outcome) (λ _. lanes.new ≡ lanes.old) }
+    ensures ended { MatchResult result (λ outcome. EndsApart L.shown run.now.table.now run.now.target lanes.old lanes.new outcome)
+        (λ _. lanes.new ≡ lanes.old) }
     ensures wanted { MatchResult result (OnStop L.wanted) (λ _. Wanted) }
     ensures passed { ArePassed L.shown (G.opened gate.now) 0 lanes.old lanes.new }
     ensures fits { All (λ l. L.fits l run.now.table.now) lanes.new }

@@ -16,7 +16,8 @@ use Rattle.fd_draw.specs.Writing.{keep_each}
 use Rattle.fd_draw.proofs.Painting.{PaintsIn}
 use Rattle.fd_draw.proofs.PixelTests.{Paints-filled}
 
-module _ (fresh_below : Bool) (t : TileImage) (colour : Colour) (depth : ℕ) (frames : List (List KeptPixel)) (filled : IsTileImage t) (flat : IsFlat t.place t.rows colour)
+module _ (fresh_below : Bool) (t : TileImage) (colour : Colour) (depth : ℕ) (frames : List (List KeptPixel)) (filled : IsTileImage t)
+    (flat : IsFlat t.place t.rows colour)
     (deep : IsFlat t.place t.depths depth) where
   abbrev frame : List KeptPixel
   frame = alike t.place (colour, depth)

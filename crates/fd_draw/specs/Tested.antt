@@ -8,7 +8,8 @@ use Rattle.fd_draw.specs.declared.tested.Tested.{Tested}
 use Rattle.fd_draw.specs.Mask.{has_bit}
 use Rattle.fd_draw.specs.Primitive.{triangle_of}
 
--- a triangle covers as many pixels of row y from column x on as it has depths there, which are right where the depth test is on, and a bit for each tells whether it is drawn
+-- a triangle covers as many pixels of row y from column x on as it has depths there, which are right where the depth test is on, and a bit for each tells
+-- whether it is drawn
 pub record AreTested (p : Primitive) (x y : ℕ) (t : TileImage) (tested : Tested) : Type 0 where
   pub few : length tested.depths.now ≤ 32
   pub bound : tested.passed < 2 ^ 32

@@ -33,7 +33,8 @@ fn keep_rows(area: Bounds, tile: &Tile, undo: &mut UndoStack)
     requires inside { LiesIn area tile.now.place }
     requires whole { IsWrittenIn (λ _ _. true) (λ _ _. true) tile.now.place area }
     requires room { HasRoom (spans_in (λ _ _. true) tile.now.place) (pixels_in (λ _ _. true) tile.now.place) undo.old }
-    ensures { WritesRegion (spans_in (λ _ _. true) tile.now.place) (pixels_in (λ _ _. true) tile.now.place) (λ _ _. true) as_it_is keep_each tile.now undo.old tile.now undo.new }
+    ensures { WritesRegion (spans_in (λ _ _. true) tile.now.place) (pixels_in (λ _ _. true) tile.now.place)
+        (λ _ _. true) as_it_is keep_each tile.now undo.old tile.now undo.new }
 {
     let place = tile.place();
     for y in area.top..area.bottom {
@@ -67,7 +68,8 @@ pub(crate) fn clear_rows(clear: Clear, area: Bounds, tile: &mut Tile, undo: &mut
 /// Draws a clear on a tile whose pixels are known to be alike, and puts a frame on top that keeps them as one colour and one depth. It says
 /// whether that is what was done: of other events and other tiles nothing changes. It makes the room itself, and none is left.
 pub fn clear_alike(event: &Event, tile: &mut Tile, undo: &mut UndoStack) -> Result<bool, Full>
-    ensures drawn { result ≡ Ok true → (state : Pipeline) → Paints (pixel_after event.now state) (kept_by event.now state) tile.old (without_room undo.old.opens_fresh (undo.old.frames ++ [] ∷ [])) tile.new undo.new }
+    ensures drawn { result ≡ Ok true → (state : Pipeline) → Paints (pixel_after event.now state) (kept_by event.now state) tile.old
+        (without_room undo.old.opens_fresh (undo.old.frames ++ [] ∷ [])) tile.new undo.new }
     ensures alike { result ≡ Ok true → IsAlike tile.old.place (top undo.new.frames) }
     ensures not { result ≡ Ok false → (tile.new ≡ tile.old) × (undo.new ≡ undo.old) }
     ensures full { OnErr result ((tile.new ≡ tile.old) × (undo.new ≡ without_room undo.old.opens_fresh undo.old.frames)) }

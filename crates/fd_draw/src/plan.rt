@@ -1,4 +1,5 @@
-ghost use Rattle.std.specs.Prelude.{◌≡◌, ℕ, ◌+◌, ◌*◌, ◌^◌, ◌<◌, ◌≤◌, ◌↔◌, pos, ◌≤ℤ◌, min, ◌∷◌, ◌++◌, ◌⊎◌, IsTrue, true, [], length, if◌then◌else◌, IfNone, IfSome};
+ghost use Rattle.std.specs.Prelude.{◌≡◌, ℕ, ◌+◌, ◌*◌, ◌^◌, ◌<◌, ◌≤◌, ◌↔◌, pos, ◌≤ℤ◌, min, ◌∷◌, ◌++◌, ◌⊎◌, IsTrue, true, [], length, if◌then◌else◌, IfNone};
+ghost use Rattle.std.specs.Prelude.{IfSome};
 ghost use Rattle.std.specs.List.{sum_by};
 ghost use Rattle.fd_cover.specs.Bounds.{is_empty};
 ghost use Rattle.fd_events.specs.Bounds.{CoverNone};
@@ -77,7 +78,8 @@ impl Plan {
         requires room_pixels { self.old.demand.pixels + TILE_SIDE * TILE_SIDE < 2 ^ 64 }
         ensures spans { self.new.demand.spans ≡ self.old.demand.spans + (if tested then found.demand.pixels else found.demand.spans) }
         ensures pixels { self.new.demand.pixels ≡ self.old.demand.pixels + found.demand.pixels }
-        ensures room { array_vec_len self.old.planned < MOST_PLANNED → (self.new.planned.items ≡ self.old.planned.items ++ (record { triangle = triangle; found = found }) ∷ []) × (self.new.rest ≡ self.old.rest) }
+        ensures room { array_vec_len self.old.planned < MOST_PLANNED
+            → (self.new.planned.items ≡ self.old.planned.items ++ (record { triangle = triangle; found = found }) ∷ []) × (self.new.rest ≡ self.old.rest) }
         ensures full { array_vec_len self.old.planned ≡ MOST_PLANNED → (self.new.planned ≡ self.old.planned) × (self.new.rest ≡ min self.old.rest triangle) }
     {
         let Demand { spans, pixels } = found.demand;
@@ -162,6 +164,21 @@ pub fn first_listed(event: &Event, place: Place) -> Option<u32>
             }
         }
         _ => Some(0),
+    }
+}
+
+/// Whether an event is seen to write nothing on a place in a state: a draw of which the scissor leaves nothing there, or whose triangles are all
+/// culled.
+pub fn draws_nothing(event: &Event, state: &Pipeline, place: Place) -> bool
+    requires { IsTilePlace place }
+    ensures { IsTrue result → (event_spans event.now state.now place ≡ 0) × (event_pixels event.now state.now place ≡ 0) }
+{
+    match event {
+        Event::Draw(draw) => {
+            let window = open_area(&state.raster, &state.scissor, place);
+            is_idle(draw, &state.raster, window)
+        }
+        _ => false,
     }
 }
 

@@ -49,10 +49,13 @@ fn draw_run(
     requires span { HasSpan x (x + length depths.now) y tile.old }
     requires ready { IsReady primitive.now }
     requires covered { (column : ℕ) → x ≤ column → column < x + length depths.now → covers primitive.now.corners column y ≡ true }
-    requires depths { primitive.now.state.depth.enable ≡ true → (column : ℕ) → x ≤ column → column < x + length depths.now → slice_index_or depths.now (column - x) 65535 ≡ source_depth (triangle_of primitive.now) column y }
-    requires drawn { (column : ℕ) → x ≤ column → column < x + length depths.now → is_drawn (triangle_of primitive.now) primitive.now.state column y (depth_in tile.old column y) ≡ true }
+    requires depths { primitive.now.state.depth.enable ≡ true → (column : ℕ) → x ≤ column → column < x + length depths.now
+        → slice_index_or depths.now (column - x) 65535 ≡ source_depth (triangle_of primitive.now) column y }
+    requires drawn { (column : ℕ) → x ≤ column → column < x + length depths.now
+        → is_drawn (triangle_of primitive.now) primitive.now.state column y (depth_in tile.old column y) ≡ true }
     requires room { HasRoom 1 (length depths.now) undo.old }
-    ensures { WritesRegion 1 (length depths.now) (in_row (columns_between x (x + length depths.now)) y) (painted_by primitive.now) (kept_of primitive.now) tile.old undo.old tile.new undo.new }
+    ensures { WritesRegion 1 (length depths.now) (in_row (columns_between x (x + length depths.now)) y) (painted_by primitive.now)
+        (kept_of primitive.now) tile.old undo.old tile.new undo.new }
 {
     write_span(primitive, x, x + depths.len() as u32, y, tile, undo);
     if primitive.state.depth.enable && primitive.state.depth.write {
@@ -78,10 +81,12 @@ fn test_span(
     tile: &Tile,
 ) -> u64
     requires span { HasSpan left right y tile.now }
-    requires depths { primitive.now.state.depth.enable ≡ true → (column : ℕ) → left ≤ column → column < right → slice_index depths.now (column - left) ≡ source_depth (triangle_of primitive.now) column y }
+    requires depths { primitive.now.state.depth.enable ≡ true → (column : ℕ) → left ≤ column → column < right
+        → slice_index depths.now (column - left) ≡ source_depth (triangle_of primitive.now) column y }
     requires reached { (column : ℕ) → left ≤ column → column < right → reached_by primitive.now column y ≡ true }
     ensures bound { result < 2 ^ 32 }
-    ensures passed { (column : ℕ) → left ≤ column → column < right → has_bit result (column - left) ≡ is_drawn (triangle_of primitive.now) primitive.now.state column y (depth_in tile.now column y) }
+    ensures passed { (column : ℕ) → left ≤ column → column < right
+        → has_bit result (column - left) ≡ is_drawn (triangle_of primitive.now) primitive.now.state column y (depth_in tile.now column y) }
 {
     let place = tile.place();
     let start = (left - place.left) as usize;
@@ -104,6 +109,9 @@ fn mask_of(picture: &Picture, left: u32, right: u32, y: u32) -> u64
     ensures bits { (k : ℕ) → k < right - left → has_bit result k ≡ is_some (texel picture.now (left + k) y) }
     ensures bound { result < 2 ^ 32 }
 {
+    if picture.fills(left, y, (right - left) as usize) {
+        return 0xffff_ffff;
+    }
     let mut mask: u64 = 0;
     let mut x = right;
     while left < x {
@@ -133,7 +141,8 @@ fn draw_runs(
     requires to_right { x + length tested.now.depths.now ≤ tile.old.place.left + tile.old.place.width }
     requires tested { AreTested primitive.now x y tile.old tested.now }
     requires room { HasRoom (length tested.now.depths.now) (length tested.now.depths.now) undo.old }
-    ensures { WritesRegion (length tested.now.depths.now) (length tested.now.depths.now) (in_row (columns_between x (x + length tested.now.depths.now)) y) (painted_by primitive.now) (kept_of primitive.now) tile.old undo.old tile.new undo.new }
+    ensures { WritesRegion (length tested.now.depths.now) (length tested.now.depths.now) (in_row (columns_between x (x + length tested.now.depths.now)) y)
+        (painted_by primitive.now) (kept_of primitive.now) tile.old undo.old tile.new undo.new }
 {
     let mut done = 0;
     while done < tested.depths.len() {
@@ -153,7 +162,8 @@ fn depths_on(depth_rows: &Option<DepthRows>, left: u32, y: u32, count: usize) ->
     requires row { y < most_pixels }
     requires columns { left + count ≤ most_pixels }
     requires covered { IfSome depth_rows.now (λ d. (column : ℕ) → left ≤ column → column < left + count → covers d.0 column y ≡ true) }
-    ensures { IfSome depth_rows.now (λ d. (column : ℕ) → left ≤ column → column < left + count → slice_index result (column - left) ≡ depth_at d.0 d.1 column y) }
+    ensures { IfSome depth_rows.now (λ d. (column : ℕ) → left ≤ column → column < left + count
+        → slice_index result (column - left) ≡ depth_at d.0 d.1 column y) }
 {
     let mut depths = [0; WIDEST];
     if let Some(depth_rows) = depth_rows {
@@ -178,7 +188,8 @@ pub(crate) fn draw_span(
     requires covered { (column : ℕ) → columns.0 ≤ column → column < columns.1 → covers primitive.now.corners column y ≡ true }
     requires reached { (column : ℕ) → columns.0 ≤ column → column < columns.1 → reached_by primitive.now column y ≡ true }
     requires room { HasRoom (if is_tested_by primitive.now then columns.1 - columns.0 else 1) (columns.1 - columns.0) undo.old }
-    ensures { WritesRegion (if is_tested_by primitive.now then columns.1 - columns.0 else 1) (columns.1 - columns.0) (in_row (columns_between columns.0 columns.1) y) (painted_by primitive.now) (kept_of primitive.now) tile.old undo.old tile.new undo.new }
+    ensures { WritesRegion (if is_tested_by primitive.now then columns.1 - columns.0 else 1) (columns.1 - columns.0)
+        (in_row (columns_between columns.0 columns.1) y) (painted_by primitive.now) (kept_of primitive.now) tile.old undo.old tile.new undo.new }
 {
     let (left, right) = columns;
     if !primitive.is_tested() {

@@ -1,8 +1,7 @@
 ghost use Rattle.std.specs.Prelude.{◌≡◌, ℕ, ◌+◌, ◌-◌, ◌<◌, ◌≤◌, false, true, IsTrue, Some, None, map, length};
 ghost use Rattle.std.specs.List.{range_with_len, sum_by};
-ghost use Rattle.fd_events.specs.Picture.{texel_or_none};
 ghost use Rattle.fd_events.specs.Draw.{triangles_of};
-ghost use Rattle.fd_events.specs.Image.{pixel_after, pixel_after_triangle, pixel_after_triangles, kept_by, kept_by_triangles};
+ghost use Rattle.fd_events.specs.Image.{source_of, pixel_after, pixel_after_triangle, pixel_after_triangles, kept_by, kept_by_triangles};
 ghost use Rattle.fd_tile.specs.Place.{HasRow};
 ghost use Rattle.fd_tile.specs.Tile.{IsTileImage};
 ghost use Rattle.fd_draw.specs.Demand.{is_reached, pixels_in, region_spans, triangle_pixels, triangle_spans, event_pixels, event_spans};
@@ -12,7 +11,7 @@ ghost use Rattle.fd_snap.specs.Limits.{most_pixels};
 ghost use Rattle.fd_tile.specs.declared.place.TheConstants.{TILE_SIDE};
 ghost use Rattle.fd_draw.specs.Row.{changed_row};
 ghost use Rattle.fd_draw.specs.Paints.{Paints};
-ghost use Rattle.fd_draw.specs.Primitive.{FindsDepths, IsReady, is_tested_by, picture_of, kept_of, painted_by, reached_by, triangle_of};
+ghost use Rattle.fd_draw.specs.Primitive.{FindsDepths, IsReady, is_tested_by, kept_of, painted_by, reached_by, triangle_of};
 ghost use Rattle.fd_draw.specs.Plan.{ArePlanned, IsFoundOn, IsPlan};
 ghost use Rattle.fd_draw.specs.Triangles.{triangle_at};
 ghost use Rattle.fd_draw.specs.Writing.{ChangesSpan, HasRoom, HasSpan, WritesRegion, columns_between, in_row, keep_each};
@@ -20,11 +19,11 @@ ghost use Rattle.fd_draw.specs.Writing.{ChangesSpan, HasRoom, HasSpan, WritesReg
 use crate::clear::{Clear, clear_rows};
 use crate::found::{Found, find};
 use crate::plan::{Plan, Planned, box_of, open_area};
-use crate::primitive::{Primitive, brush_of};
+use crate::primitive::{Ink, Primitive, ink_of};
 use crate::tested::draw_span;
-use fd_blend::{Colour, blend_row};
+use fd_blend::Colour;
 use fd_cover::{DepthRows, shade_row};
-use fd_events::{Draw, Event, Picture, Pipeline};
+use fd_events::{Draw, Event, Pipeline};
 use fd_tile::{TILE_SIDE, Tile};
 use fd_undo::UndoStack;
 
@@ -45,75 +44,39 @@ fn blend_triangle(row: &mut [Colour], x: u32, y: u32, primitive: &Primitive<'_>)
     requires row { y < most_pixels }
     requires columns { x + length row.old ≤ most_pixels }
     requires covered { (column : ℕ) → x ≤ column → column < x + length row.old → IsTrue (covers primitive.now.corners column y) }
-    ensures { row.new ≡ changed_row (λ column before. colour_blended (triangle_of primitive.now) primitive.now.interp primitive.now.state column y before) x row.old }
+    ensures { row.new ≡ changed_row (λ column before. colour_blended (triangle_of primitive.now) primitive.now.interp primitive.now.state column y before) x
+        row.old }
+{
+    match &primitive.ink {
+        Ink::One(brush) => brush.draw(row),
+        Ink::Rows(blender) => {
+            let mut sources = [NO_COLOUR; WIDEST];
+            let sources = &mut sources[..row.len()];
+            find_sources(primitive, x, y, sources);
+            blender.draw(sources, row);
+        }
+    }
+}
+
+/// The sources of a triangle at neighbouring pixels of row y from column x on, all of which it covers.
+fn find_sources(primitive: &Primitive<'_>, x: u32, y: u32, out: &mut [Colour])
+    requires few { length out.old ≤ TILE_SIDE }
+    requires row { y < most_pixels }
+    requires columns { x + length out.old ≤ most_pixels }
+    requires covered { (column : ℕ) → x ≤ column → column < x + length out.old → IsTrue (covers primitive.now.corners column y) }
+    ensures { out.new ≡ map (λ column. source_of (triangle_of primitive.now) primitive.now.interp column y) (range_with_len x (length out.old)) }
 {
     match primitive.picture {
-        Some(picture) => blend_painted(row, x, y, picture, primitive),
-        None => blend_plain(row, x, y, primitive),
+        Some(picture) => picture.copy_row(x, y, out),
+        None => shade_row(
+            &primitive.corners,
+            &primitive.colours,
+            primitive.interp,
+            x,
+            y,
+            out,
+        ),
     }
-}
-
-/// The same without a picture.
-fn blend_plain(row: &mut [Colour], x: u32, y: u32, primitive: &Primitive<'_>)
-    requires ready { IsReady primitive.now }
-    requires plain { picture_of primitive.now ≡ None }
-    requires few { length row.old ≤ TILE_SIDE }
-    requires row { y < most_pixels }
-    requires columns { x + length row.old ≤ most_pixels }
-    requires covered { (column : ℕ) → x ≤ column → column < x + length row.old → IsTrue (covers primitive.now.corners column y) }
-    ensures { row.new ≡ changed_row (λ column before. colour_blended (triangle_of primitive.now) primitive.now.interp primitive.now.state column y before) x row.old }
-{
-    match &primitive.brush {
-        Some(brush) => brush.draw(row),
-        None => blend_shaded(row, x, y, primitive),
-    }
-}
-
-/// The texels of a picture on neighbouring pixels of row y from column x on, with a transparent black where there is none.
-fn row_of_texels(picture: &Picture, x: u32, y: u32, out: &mut [Colour])
-    requires columns { x + length out.old ≤ most_pixels }
-    ensures { out.new ≡ map (λ column. texel_or_none picture.now column y) (range_with_len x (length out.old)) }
-{
-    for i in 0..out.len() {
-        out[i] = picture.texel_or_none(x + i as u32, y);
-    }
-}
-
-/// The same by the texels of its picture.
-fn blend_painted(row: &mut [Colour], x: u32, y: u32, picture: &Picture, primitive: &Primitive<'_>)
-    requires few { length row.old ≤ TILE_SIDE }
-    requires columns { x + length row.old ≤ most_pixels }
-    requires picture { picture_of primitive.now ≡ Some picture.now }
-    ensures { row.new ≡ changed_row (λ column before. colour_blended (triangle_of primitive.now) primitive.now.interp primitive.now.state column y before) x row.old }
-{
-    let Pipeline { blend, factor, .. } = primitive.state;
-    let mut sources = [NO_COLOUR; WIDEST];
-    let sources = &mut sources[..row.len()];
-    row_of_texels(picture, x, y, sources);
-    blend_row(&blend, factor, sources, row);
-}
-
-/// The same by the source of each pixel.
-fn blend_shaded(row: &mut [Colour], x: u32, y: u32, primitive: &Primitive<'_>)
-    requires plain { picture_of primitive.now ≡ None }
-    requires few { length row.old ≤ TILE_SIDE }
-    requires row { y < most_pixels }
-    requires columns { x + length row.old ≤ most_pixels }
-    requires covered { (column : ℕ) → x ≤ column → column < x + length row.old → IsTrue (covers primitive.now.corners column y) }
-    ensures { row.new ≡ changed_row (λ column before. colour_blended (triangle_of primitive.now) primitive.now.interp primitive.now.state column y before) x row.old }
-{
-    let Pipeline { blend, factor, .. } = primitive.state;
-    let mut sources = [NO_COLOUR; WIDEST];
-    let sources = &mut sources[..row.len()];
-    shade_row(
-        &primitive.corners,
-        &primitive.colours,
-        primitive.interp,
-        x,
-        y,
-        sources,
-    );
-    blend_row(&blend, factor, sources, row);
 }
 
 /// Keeps the pixels of row y from column `left` up to `right`.
@@ -161,7 +124,8 @@ pub(crate) fn write_span(
     requires ready { IsReady primitive.now }
     requires covered { (column : ℕ) → left ≤ column → column < right → covers primitive.now.corners column y ≡ true }
     requires room { HasRoom 1 (right - left) undo.old }
-    ensures { WritesRegion 1 (right - left) (in_row (columns_between left right) y) (pixel_blended (triangle_of primitive.now) primitive.now.interp primitive.now.state) keep_each tile.old undo.old tile.new undo.new }
+    ensures { WritesRegion 1 (right - left) (in_row (columns_between left right) y)
+        (pixel_blended (triangle_of primitive.now) primitive.now.interp primitive.now.state) keep_each tile.old undo.old tile.new undo.new }
 {
     keep_span(left, right, y, tile, undo);
     blend_span(primitive, left, right, y, tile);
@@ -183,8 +147,10 @@ fn draw_row(
     requires found { IsFoundOn (triangle_of primitive.now) primitive.now.state tile.old.place found.now }
     requires from_top { found.now.area.top ≤ y }
     requires to_bottom { y < found.now.area.bottom }
-    requires room { HasRoom (region_spans (is_tested_by primitive.now) (in_row (reached_by primitive.now) y) tile.old.place) (pixels_in (in_row (reached_by primitive.now) y) tile.old.place) undo.old }
-    ensures { WritesRegion (region_spans (is_tested_by primitive.now) (in_row (reached_by primitive.now) y) tile.old.place) (pixels_in (in_row (reached_by primitive.now) y) tile.old.place) (in_row (reached_by primitive.now) y)
+    requires room { HasRoom (region_spans (is_tested_by primitive.now) (in_row (reached_by primitive.now) y) tile.old.place)
+        (pixels_in (in_row (reached_by primitive.now) y) tile.old.place) undo.old }
+    ensures { WritesRegion (region_spans (is_tested_by primitive.now) (in_row (reached_by primitive.now) y) tile.old.place)
+        (pixels_in (in_row (reached_by primitive.now) y) tile.old.place) (in_row (reached_by primitive.now) y)
         (painted_by primitive.now) (kept_of primitive.now) tile.old undo.old tile.new undo.new }
 {
     if let Some(columns) = found.span(&primitive.corners, y) {
@@ -198,8 +164,10 @@ fn draw_primitive(primitive: &Primitive<'_>, found: &Found, tile: &mut Tile, und
     requires ready { IsReady primitive.now }
     requires filled { IsTileImage tile.old }
     requires found { IsFoundOn (triangle_of primitive.now) primitive.now.state tile.old.place found.now }
-    requires room { HasRoom (triangle_spans primitive.now.state tile.old.place (triangle_of primitive.now)) (triangle_pixels primitive.now.state tile.old.place (triangle_of primitive.now)) undo.old }
-    ensures { WritesRegion (triangle_spans primitive.now.state tile.old.place (triangle_of primitive.now)) (triangle_pixels primitive.now.state tile.old.place (triangle_of primitive.now)) (reached_by primitive.now)
+    requires room { HasRoom (triangle_spans primitive.now.state tile.old.place (triangle_of primitive.now))
+        (triangle_pixels primitive.now.state tile.old.place (triangle_of primitive.now)) undo.old }
+    ensures { WritesRegion (triangle_spans primitive.now.state tile.old.place (triangle_of primitive.now))
+        (triangle_pixels primitive.now.state tile.old.place (triangle_of primitive.now)) (reached_by primitive.now)
         (painted_by primitive.now) (kept_of primitive.now) tile.old undo.old tile.new undo.new }
 {
     let depth_rows = primitive.depth_rows();
@@ -221,21 +189,24 @@ fn draw_found(
     requires triangle { triangle < length (triangles_of draw.now) }
     requires filled { IsTileImage tile.old }
     requires found { IsFoundOn (triangle_at draw.now triangle) state.now tile.old.place found.now }
-    requires room { HasRoom (triangle_spans state.now tile.old.place (triangle_at draw.now triangle)) (triangle_pixels state.now tile.old.place (triangle_at draw.now triangle)) undo.old }
-    ensures { WritesRegion (triangle_spans state.now tile.old.place (triangle_at draw.now triangle)) (triangle_pixels state.now tile.old.place (triangle_at draw.now triangle)) (is_reached (triangle_at draw.now triangle) state.now)
-        (pixel_after_triangle (triangle_at draw.now triangle) draw.now.interp state.now) (kept_by_triangle (triangle_at draw.now triangle) state.now) tile.old undo.old tile.new undo.new }
+    requires room { HasRoom (triangle_spans state.now tile.old.place (triangle_at draw.now triangle))
+        (triangle_pixels state.now tile.old.place (triangle_at draw.now triangle)) undo.old }
+    ensures { WritesRegion (triangle_spans state.now tile.old.place (triangle_at draw.now triangle))
+        (triangle_pixels state.now tile.old.place (triangle_at draw.now triangle)) (is_reached (triangle_at draw.now triangle) state.now)
+        (pixel_after_triangle (triangle_at draw.now triangle) draw.now.interp state.now)
+        (kept_by_triangle (triangle_at draw.now triangle) state.now) tile.old undo.old tile.new undo.new }
 {
     let corners = draw.tri(triangle);
     let colours = draw.colours(triangle);
     let depths = draw.depths(triangle);
-    let interp = draw.interp();
+    let (interp, picture) = (draw.interp(), draw.picture());
     let primitive = Primitive {
         corners,
         colours,
         depths,
         interp,
-        picture: draw.picture(),
-        brush: brush_of(interp, state, colours[0]),
+        picture,
+        ink: ink_of(interp, picture, state, colours[0]),
         state: *state,
     };
     draw_primitive(&primitive, found, tile, undo);

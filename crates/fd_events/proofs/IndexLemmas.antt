@@ -1,7 +1,9 @@
 -- The index of a frame's events.
-use Rattle.std.proofs.Common.{◌≡◌, ℕ, suc, ◌+◌, ◌/◌, ◌^◌, ◌<◌, Bool, true, false, cond, Option, Some, None, option_map, slice_get, refl, sym}
+use Rattle.std.proofs.Common.{◌≡◌, ℕ, suc, ◌+◌, ◌<◌, Bool, true, false, cond, Option, Some, None, option_map, slice_get, refl, sym, subst, inl, inr, List}
 use Rattle.std.proofs.Common.{ap, ◌∙◌, arith}
 use Rattle.std.specs.Prelude.{IfSome, IsTrue}
+use Rattle.std.specs.List.{Contains}
+use Rattle.std.specs.List.Sorted.{IsNonDecreasing}
 use Rattle.std.proofs.lemmas.Bool.{false_from_ne_true}
 use Rattle.std.proofs.lemmas.Bool.Decides.{nat_tests}
 use Rattle.std.proofs.lemmas.Option.{slice_get_within}
@@ -14,79 +16,82 @@ use Rattle.fd_events.specs.declared.event.Event.TheVariants.{Clear, DepthClear, 
 use Rattle.fd_events.specs.declared.index.EventIndex.{EventIndex}
 use Rattle.fd_events.specs.Bounds.{bounds_of_triangles}
 use Rattle.fd_events.specs.Draw.{triangles_of}
-use Rattle.fd_events.specs.Reach.{clipped_box, reach_of, may_write, may_write_at}
+use Rattle.fd_events.specs.Reach.{reach_of, may_write, may_write_at}
 use Rattle.fd_events.specs.Table.{Table, is_set, event_at, active_event}
-use Rattle.fd_events.specs.Index.{Marks, MarksPixel, MarksEvent, KeepsIndex, IsIndex, IsPassedOver}
+use Rattle.fd_events.specs.declared.grid.Grid.{Grid}
+use Rattle.fd_events.specs.declared.packed.Packed.{Packed}
+use Rattle.fd_events.specs.Cells.{HasCell, cell_at, cell_count}
+use Rattle.fd_events.specs.Index.{ListsPixel, ListsEvent, ListEvents, IsIndex, IsUnlisted, IsPassedOver}
+use Rattle.fd_events.specs.Numbers.{AreOrdered, Grow, listed_at}
+use Rattle.fd_events.specs.Packed.{listed_in}
 use Rattle.fd_events.specs.Far.{LeavesAlone, IsFar, AreFar}
 use Rattle.fd_events.proofs.BoundsLemmas.{bounds_of_triangles-holds}
 use Rattle.fd_events.proofs.Images.{at_number-next}
-use Rattle.fd_events.proofs.GridLemmas.{from_left, to_right, from_top, to_bottom}
 use Rattle.fd_events.proofs.ReachLemmas.{outside_clipped, in_whole}
 
-pub Marks-kept : (before after : EventIndex) (event : ℕ) (box : Bounds) → KeepsIndex before after → Marks before event box → Marks after event box
-Marks-kept before after event box kept marks = grind arith
+-- ---- lists that grow keep what they list
 
--- ---- what is kept of other marks
-pub KeepsIndex-same : (index : EventIndex) → KeepsIndex index index
-KeepsIndex-same index = record {
-  shift = refl;
-  rows = λ band event was. was;
-  columns = λ band event was. was;
-  row_groups = λ band event was. was;
-  column_groups = λ band event was. was;
+pub ListsPixel-grown : (grid : Grid) (before after : List (List ℕ)) (number event x y : ℕ) → Grow number before after
+    → ListsPixel grid (listed_at before) event x y → ListsPixel grid (listed_at after) event x y
+ListsPixel-grown grid before after number event x y grown lists has = elim (lists has) [
+  | inl cell ↦ inl (grown.kept (cell_at grid x y) event cell)
+  | inr wide ↦ inr (grown.kept (cell_count grid) event wide)
+]
+
+pub ListsEvent-grown : (grid : Grid) (before after : List (List ℕ)) (number other : ℕ) (event : Event) → Grow number before after
+    → ListsEvent grid (listed_at before) other event → ListsEvent grid (listed_at after) other event
+ListsEvent-grown grid before after number other (Clear colour) grown lists = grown.kept (cell_count grid) other lists
+ListsEvent-grown grid before after number other (DepthClear depth) grown lists = grown.kept (cell_count grid) other lists
+ListsEvent-grown grid before after number other (Draw draw) grown lists = λ i t below at x y covered.
+    ListsPixel-grown grid before after number other x y grown (lists i t below at x y covered)
+ListsEvent-grown grid before after number other event grown lists = tt
+
+-- ---- the same lists, packed
+
+ListsPixel-same : (grid : Grid) (listed same : ℕ → List ℕ) (event x y : ℕ) → ((cell : ℕ) → same cell ≡ listed cell)
+    → ListsPixel grid listed event x y → ListsPixel grid same event x y
+ListsPixel-same grid listed same event x y are lists has = elim (lists has) [
+  | inl cell ↦ inl (subst (λ (xs : List ℕ). Contains xs event) (sym (are (cell_at grid x y))) cell)
+  | inr wide ↦ inr (subst (λ (xs : List ℕ). Contains xs event) (sym (are (cell_count grid))) wide)
+]
+
+ListsEvent-same : (grid : Grid) (listed same : ℕ → List ℕ) (number : ℕ) (event : Event) → ((cell : ℕ) → same cell ≡ listed cell)
+    → ListsEvent grid listed number event → ListsEvent grid same number event
+ListsEvent-same grid listed same number (Clear colour) are lists = subst (λ (xs : List ℕ). Contains xs number) (sym (are (cell_count grid))) lists
+ListsEvent-same grid listed same number (DepthClear depth) are lists = subst (λ (xs : List ℕ). Contains xs number) (sym (are (cell_count grid))) lists
+ListsEvent-same grid listed same number (Draw draw) are lists = λ i t below at x y covered.
+    ListsPixel-same grid listed same number x y are (lists i t below at x y covered)
+ListsEvent-same grid listed same number other are lists = tt
+
+pub packed_events : (grid : Grid) (lists : List (List ℕ)) (found : Option Packed) (count : ℕ) (events : List Event)
+    → IfSome found (λ packed. (cell : ℕ) → listed_in packed cell ≡ listed_at lists cell) → AreOrdered count lists
+    → ((number : ℕ) (event : Event) → slice_get events number ≡ Some event → ListsEvent grid (listed_at lists) number event)
+    → IfSome found (λ packed. ListEvents grid (listed_in packed) events)
+packed_events grid lists None count events are ordered all = tt
+packed_events grid lists (Some packed) count events are ordered all = record {
+  rise = λ cell. subst (λ (xs : List ℕ). IsNonDecreasing xs) (sym (are cell)) (ordered.rise cell);
+  lists = λ number event at. ListsEvent-same grid (listed_at lists) (listed_in packed) number event are (all number event at);
 }
-
-pub KeepsIndex-then : (first second third : EventIndex) → KeepsIndex first second → KeepsIndex second third → KeepsIndex first third
-KeepsIndex-then first second third one two = record {
-  shift = two.shift ∙ one.shift;
-  rows = λ band event was. two.rows band event (one.rows band event was);
-  columns = λ band event was. two.columns band event (one.columns band event was);
-  row_groups = λ band event was. two.row_groups band event (one.row_groups band event was);
-  column_groups = λ band event was. two.column_groups band event (one.column_groups band event was);
-}
-
-pub MarksPixel-kept : (before after : EventIndex) (event x y : ℕ) → KeepsIndex before after → MarksPixel before event x y → MarksPixel after event x y
-MarksPixel-kept before after event x y kept marks = record {
-  rows = rw kept.shift (kept.rows (y / 2 ^ before.shift) event marks.rows);
-  columns = rw kept.shift (kept.columns (x / 2 ^ before.shift) event marks.columns);
-  row_groups = rw kept.shift (kept.row_groups (y / 2 ^ before.shift) (event / 64) marks.row_groups);
-  column_groups = rw kept.shift (kept.column_groups (x / 2 ^ before.shift) (event / 64) marks.column_groups);
-}
-
-pub MarksEvent-kept : (before after : EventIndex) (width height number : ℕ) (event : Event) → KeepsIndex before after
-    → MarksEvent before width height number event → MarksEvent after width height number event
-MarksEvent-kept before after width height number (Clear colour) kept marks =
-    Marks-kept before after number (record { left = 0; top = 0; right = width; bottom = height }) kept marks
-MarksEvent-kept before after width height number (DepthClear depth) kept marks =
-    Marks-kept before after number (record { left = 0; top = 0; right = width; bottom = height }) kept marks
-MarksEvent-kept before after width height number (Draw draw) kept marks = λ i t below at x y column row covered.
-    MarksPixel-kept before after number x y kept (marks i t below at x y column row covered)
-MarksEvent-kept before after width height number other kept marks = tt
-
--- ---- a pixel of a box that is marked
-pub pixel_marked : (index : EventIndex) (event : ℕ) (box : Bounds) (x y : ℕ) → Marks index event box → IsTrue (is_within box x y)
-    → MarksPixel index event x y
-pixel_marked index event box x y marks inside = record {
-  rows = marks.rows y (from_top box x y inside) (to_bottom box x y inside);
-  columns = marks.columns x (from_left box x y inside) (to_right box x y inside);
-  row_groups = marks.row_groups y (from_top box x y inside) (to_bottom box x y inside);
-  column_groups = marks.column_groups x (from_left box x y inside) (to_right box x y inside);
-}
-
-pub within_clipped : (box : Bounds) (width height x y : ℕ) → x < width → y < height → IsTrue (is_within box x y)
-    → IsTrue (is_within (clipped_box width height box) x y)
-within_clipped box width height x y column row inside = grind (arith, nat_tests)
 
 -- ---- what the index passes over can't write in the window
-alone : (index : EventIndex) (width height number : ℕ) (event : Event) (x y : ℕ) → MarksEvent index width height number event
-    → (MarksPixel index number x y → ⊥) → x < width → y < height → LeavesAlone event x y
-alone index width height number (Clear colour) x y marks unmarked column row =
-    unmarked (pixel_marked index number (record { left = 0; top = 0; right = width; bottom = height }) x y marks (in_whole width height x y column row))
-alone index width height number (DepthClear depth) x y marks unmarked column row =
-    unmarked (pixel_marked index number (record { left = 0; top = 0; right = width; bottom = height }) x y marks (in_whole width height x y column row))
-alone index width height number (Draw draw) x y marks unmarked column row = λ i t at.
-    false_from_ne_true (covers t.corners x y) (λ covered. unmarked (marks i t (slice_get_within (triangles_of draw) i t at) at x y column row covered))
-alone index width height number other x y marks unmarked column row = tt
+
+alone : (grid : Grid) (listed : ℕ → List ℕ) (number : ℕ) (event : Event) (x y : ℕ) → ListsEvent grid listed number event → HasCell grid x y
+    → (Contains (listed (cell_at grid x y)) number → ⊥) → (Contains (listed (cell_count grid)) number → ⊥) → LeavesAlone event x y
+alone grid listed number (Clear colour) x y lists has unlisted unwide = unwide lists
+alone grid listed number (DepthClear depth) x y lists has unlisted unwide = unwide lists
+alone grid listed number (Draw draw) x y lists has unlisted unwide = λ i t at.
+    false_from_ne_true (covers t.corners x y) (λ covered. elim (lists i t (slice_get_within (triangles_of draw) i t at) at x y covered has) [
+      | inl cell ↦ unlisted cell
+      | inr wide ↦ unwide wide
+    ])
+alone grid listed number other x y lists has unlisted unwide = tt
+
+unlisted_alone : (grid : Grid) (lists : Option Packed) (events : List Event) (k : ℕ) (event : Event) (x y : ℕ)
+    → IfSome lists (λ packed. ListEvents grid (listed_in packed) events) → slice_get events k ≡ Some event → IsUnlisted grid lists k x y
+    → LeavesAlone event x y
+unlisted_alone grid None events k event x y is at unlisted = absurd unlisted
+unlisted_alone grid (Some packed) events k event x y is at unlisted =
+    alone grid (listed_in packed) k event x y (is.lists k event at) unlisted.0 unlisted.1.0 unlisted.1.1
 
 far_by : (on : Bool) (found : Option Event) (width height : ℕ) (window : Bounds)
     → ((event : Event) → found ≡ Some event → (x y : ℕ) → IsTrue (is_within window x y) → x < width → y < height → LeavesAlone event x y)
@@ -95,12 +100,11 @@ far_by true None width height window away = tt
 far_by true (Some event) width height window away = away event refl
 far_by false found width height window away = tt
 
-pub far_from : (t : Table) (index : EventIndex) (from to : ℕ) (window : Bounds) → IsIndex index t.width t.height t.events
+pub far_from : (t : Table) (index : EventIndex) (from to : ℕ) (window : Bounds) → IsIndex index t.events
     → IsPassedOver index window from to → AreFar t from to window
 far_from t index from to window is passed k above below =
     far_by (is_set t.flags (suc k)) (slice_get t.events k) t.width t.height window (λ event there x y within column row.
-    alone index t.width t.height k event x y (is.marks k event there)
-    (λ marked. passed k x y above below within marked.rows marked.columns marked.row_groups marked.column_groups) column row)
+    unlisted_alone index.grid index.lists t.events k event x y is.listed there (passed k x y above below within))
 
 -- what lies outside the box of an event is left alone by it
 pub outside_reach : (width height : ℕ) (event : Event) (x y : ℕ) → x < width → y < height → is_within (reach_of width height event) x y ≡ false

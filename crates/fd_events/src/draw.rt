@@ -1,4 +1,5 @@
-ghost use Rattle.std.specs.Prelude.{◌≡◌, ◌+◌, ◌-◌, ◌*◌, ◌/◌, ◌<◌, ◌≤◌, length, IsTrue, Some, IfSome, option_map, slice_get};
+ghost use Rattle.std.specs.Prelude.{◌≡◌, ◌+◌, ◌-◌, ◌*◌, ◌/◌, ◌<◌, ◌≤◌, length, IsTrue, Some, IfSome, option_map, slice_get, OnErr};
+ghost use Rattle.fd_memory.specs.Wanting.{Wanted};
 
 use crate::culled::Culled;
 use crate::finder::Finder;
@@ -288,10 +289,11 @@ impl Draw {
         height: u32,
         alloc: Global,
     ) -> Result<(), AllocError>
-        ensures { self.new ≡ self.old }
+        ensures same { self.new ≡ self.old }
+        ensures wanted { OnErr result Wanted }
     {
         if let Some(finder) = Finder::of(&self.list, width, height, alloc)? {
-            self.finder = Some(Box::new(alloc, finder)?);
+            self.finder = Some(fd_memory::boxed(alloc, finder)?);
         }
         self.culled = Some(Culled::of(&self.list));
         Ok(())

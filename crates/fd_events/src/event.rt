@@ -1,6 +1,7 @@
-ghost use Rattle.std.specs.Prelude.{◌≡◌, ◌≤◌};
+ghost use Rattle.std.specs.Prelude.{◌≡◌, ◌≤◌, OnErr};
 ghost use Rattle.fd_snap.specs.Limits.{most_pixels};
 ghost use Rattle.fd_events.specs.StateList.{is_state_event};
+ghost use Rattle.fd_memory.specs.Wanting.{Wanted};
 
 use crate::draw::Draw;
 use crate::label::Label;
@@ -76,7 +77,8 @@ impl Event {
         height: u32,
         alloc: Global,
     ) -> Result<(), AllocError>
-        ensures { self.new ≡ self.old }
+        ensures same { self.new ≡ self.old }
+        ensures wanted { OnErr result Wanted }
     {
         match self {
             Event::Draw(draw) => draw.list_triangles(width, height, alloc),

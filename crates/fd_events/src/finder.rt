@@ -1,6 +1,7 @@
-ghost use Rattle.std.specs.Prelude.{IfOk, IfSome};
+ghost use Rattle.std.specs.Prelude.{IfOk, OnErr, IfSome};
 ghost use Rattle.fd_events.specs.Draw.{triangles_of};
 ghost use Rattle.fd_events.specs.Finder.{Finds};
+ghost use Rattle.fd_memory.specs.Wanting.{Wanted};
 
 use crate::grid::Cells;
 use crate::list::TriangleList;
@@ -33,7 +34,8 @@ impl Finder {
         height: u32,
         alloc: Global,
     ) -> Result<Option<Finder>, AllocError>
-        ensures { IfOk result (λ finder. IfSome finder (λ finder. Finds finder (triangles_of list.now))) }
+        ensures finder { IfOk result (λ finder. IfSome finder (λ finder. Finds finder (triangles_of list.now))) }
+        ensures wanted { OnErr result Wanted }
     {
         let count = list.len();
         if count <= FEW_TRIANGLES {

@@ -1,4 +1,4 @@
-ghost use Rattle.std.specs.Prelude.{◌≡◌, ℕ, ◌+◌, ◌-◌, ◌*◌, ◌^◌, ◌<◌, ◌≤◌, IsTrue, IfOk, IfSome, length, map, Some, slice_get, vec_len};
+ghost use Rattle.std.specs.Prelude.{◌≡◌, ℕ, ◌+◌, ◌-◌, ◌*◌, ◌^◌, ◌<◌, ◌≤◌, IsTrue, IfOk, IfSome, length, map, Some, slice_get, vec_len, OnErr};
 ghost use Rattle.std.specs.List.{Contains};
 ghost use Rattle.std.specs.List.Sorted.{IsNonDecreasing};
 ghost use Rattle.fd_snap.specs.Limits.{most_pixels};
@@ -10,6 +10,7 @@ ghost use Rattle.fd_events.specs.Numbers.{numbers_of, AreOrdered, Grow};
 ghost use Rattle.fd_events.specs.Packed.{listed_in};
 ghost use Rattle.fd_events.specs.Under.{AreUnder};
 ghost use Rattle.fd_events.specs.Cells.{cell_count, cell_at, cell_place, IsGrid, IsPartUnder, HasCell, IsBeyond, ListCovered, ListAllCovered, ListTriangles};
+ghost use Rattle.fd_memory.specs.Wanting.{Wanted};
 
 use crate::list::TriangleList;
 use crate::numbers::{add_row, no_numbers};
@@ -73,7 +74,7 @@ fn cells_under(bounds: Bounds, shift: u32) -> Bounds
 }
 
 /// The first of these numbers that is at least `number`, or else `end`.
-fn first_from(numbers: &[u32], number: u32, end: u32) -> u32
+pub(crate) fn first_from(numbers: &[u32], number: u32, end: u32) -> u32
     requires order { number ≤ end }
     requires rise { IsNonDecreasing numbers.now }
     ensures from { number ≤ result }
@@ -110,8 +111,30 @@ impl Grid {
         None
     }
 
+    /// The finest grid over a target of this size that has no more than so many cells, or the coarsest one.
+    pub(crate) fn on_target(width: u32, height: u32, most: usize) -> Grid
+        ensures { IsGrid result }
+    {
+        let bounds = Bounds {
+            left: 0,
+            top: 0,
+            right: width,
+            bottom: height,
+        };
+        for shift in LEAST_SHIFT..GREATEST_SHIFT {
+            let area = cells_under(bounds, shift);
+            if area.count() <= most {
+                return Grid { shift, area };
+            }
+        }
+        Grid {
+            shift: GREATEST_SHIFT,
+            area: cells_under(bounds, GREATEST_SHIFT),
+        }
+    }
+
     /// The number of cells.
-    fn len(self) -> usize
+    pub(crate) fn len(self) -> usize
         requires { IsGrid self }
         ensures { result ≡ cell_count self }
     {
@@ -132,7 +155,7 @@ impl Grid {
     }
 
     /// The part of the grid that a box of pixels meets.
-    fn part_under(self, bounds: Bounds) -> Bounds
+    pub(crate) fn part_under(self, bounds: Bounds) -> Bounds
         requires { IsGrid self }
         ensures { IsPartUnder self result bounds }
     {
@@ -213,7 +236,7 @@ impl Grid {
     }
 
     /// Adds a triangle's number to the lists of the cells that it may reach. The box holds all that it covers.
-    fn add(
+    pub(crate) fn add(
         self,
         triangle: &Tri,
         bounds: Bounds,
@@ -222,8 +245,10 @@ impl Grid {
     ) -> Result<(), AllocError>
         requires grid { IsGrid self }
         requires covered { HoldsCovered bounds triangle.now }
-        requires lists { vec_len lists.old ≡ cell_count self }
-        ensures { IfOk result (λ _. Grow number (numbers_of lists.old.items) (numbers_of lists.new.items) × ListCovered self (numbers_of lists.new.items) number triangle.now) }
+        requires lists { cell_count self ≤ vec_len lists.old }
+        ensures listed { IfOk result (λ _. Grow number (numbers_of lists.old.items) (numbers_of lists.new.items)
+            × ListCovered self (numbers_of lists.new.items) number triangle.now) }
+        ensures wanted { OnErr result Wanted }
     {
         let part = self.part_under(bounds);
         if part.is_empty() {
@@ -247,7 +272,9 @@ impl Grid {
         requires few { length boxes.now ≤ most_triangles }
         requires all { length boxes.now ≡ length (triangles_of list.now) }
         requires boxes { AreTriangleBoxes boxes.now (triangles_of list.now) }
-        ensures { IfOk result (λ lists. AreOrdered (length boxes.now) (numbers_of lists.items) × ListAllCovered self (numbers_of lists.items) (triangles_of list.now)) }
+        ensures lists { IfOk result (λ lists. AreOrdered (length boxes.now) (numbers_of lists.items)
+            × ListAllCovered self (numbers_of lists.items) (triangles_of list.now)) }
+        ensures wanted { OnErr result Wanted }
     {
         let mut lists = no_numbers(self.len(), alloc)?;
         for number in 0..boxes.len() {
@@ -258,7 +285,7 @@ impl Grid {
     }
 
     /// The place of the cell in which a window lies, where it lies in one.
-    fn place_under(self, window: Bounds) -> Option<usize>
+    pub(crate) fn place_under(self, window: Bounds) -> Option<usize>
         requires { IsGrid self }
         ensures { IfSome result (λ place. (x y : ℕ) → IsTrue (is_within window x y) → HasCell self x y × (cell_at self x y ≡ place)) }
     {
@@ -286,7 +313,8 @@ impl Cells {
         requires few { length boxes.now ≤ most_triangles }
         requires all { length boxes.now ≡ length (triangles_of list.now) }
         requires boxes { AreTriangleBoxes boxes.now (triangles_of list.now) }
-        ensures { IfOk result (λ cells. IfSome cells (λ cells. ListTriangles cells (triangles_of list.now))) }
+        ensures cells { IfOk result (λ cells. IfSome cells (λ cells. ListTriangles cells (triangles_of list.now))) }
+        ensures wanted { OnErr result Wanted }
     {
         if boxes.len() < FEWEST_LISTED {
             return Ok(None);
@@ -313,7 +341,8 @@ impl Cells {
         requires few { length boxes.now ≤ most_triangles }
         requires all { length boxes.now ≡ length (triangles_of list.now) }
         requires boxes { AreTriangleBoxes boxes.now (triangles_of list.now) }
-        ensures { IfOk result (λ cells. IfSome cells (λ cells. ListTriangles cells (triangles_of list.now))) }
+        ensures cells { IfOk result (λ cells. IfSome cells (λ cells. ListTriangles cells (triangles_of list.now))) }
+        ensures wanted { OnErr result Wanted }
     {
         let target = Bounds {
             left: 0,
@@ -329,7 +358,8 @@ impl Cells {
         requires grid { IsGrid self.now.grid }
         requires rise { (cell : ℕ) → IsNonDecreasing (listed_in self.now.lists cell) }
         ensures rise { IfSome result (λ numbers. IsNonDecreasing numbers.now) }
-        ensures there { IfSome result (λ numbers. (x y : ℕ) → IsTrue (is_within window x y) → HasCell self.now.grid x y × (listed_in self.now.lists (cell_at self.now.grid x y) ≡ numbers.now)) }
+        ensures there { IfSome result (λ numbers. (x y : ℕ) → IsTrue (is_within window x y) → HasCell self.now.grid x y
+            × (listed_in self.now.lists (cell_at self.now.grid x y) ≡ numbers.now)) }
     {
         self.lists.get(self.grid.place_under(window)?)
     }
@@ -342,7 +372,8 @@ impl Cells {
         requires rise { (cell : ℕ) → IsNonDecreasing (listed_in self.now.lists cell) }
         ensures from { number ≤ result }
         ensures last { result ≤ end }
-        ensures missed { (i x y : ℕ) → number ≤ i → i < result → IsTrue (is_within window x y) → HasCell self.now.grid x y × (Contains (listed_in self.now.lists (cell_at self.now.grid x y)) i → ⊥) }
+        ensures missed { (i x y : ℕ) → number ≤ i → i < result → IsTrue (is_within window x y) → HasCell self.now.grid x y
+            × (Contains (listed_in self.now.lists (cell_at self.now.grid x y)) i → ⊥) }
     {
         match self.listed(window) {
             Some(numbers) => first_from(numbers, number, end),

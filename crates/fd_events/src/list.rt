@@ -1,6 +1,7 @@
-ghost use Rattle.std.specs.Prelude.{◌≡◌, ◌+◌, ◌-◌, ◌*◌, ◌/◌, ◌≤◌, ◌<◌, length, Some, option_map, slice_get, nat_lt};
+ghost use Rattle.std.specs.Prelude.{◌≡◌, ◌+◌, ◌-◌, ◌*◌, ◌/◌, ◌≤◌, ◌<◌, length, Some, option_map, slice_get, nat_lt, OnErr};
 ghost use Rattle.std.specs.List.{list_all};
 ghost use Rattle.fd_events.specs.Indices.{has_too_many, are_in_range};
+ghost use Rattle.fd_memory.specs.Wanting.{Wanted};
 
 use crate::draw::{DrawFault, GROUP_LEN, MAX_INDICES, MAX_VERTICES, Vertex};
 use crate::picture::Picture;
@@ -242,24 +243,27 @@ impl TriangleList {
 
     /// The boxes of all groups, in their order.
     pub(crate) fn groups(&self, alloc: Global) -> Result<Vec<Bounds>, AllocError>
-        ensures { IfOk result (λ groups. AreRoundGroups groups.items (triangles_of self.now)) }
+        ensures groups { IfOk result (λ groups. AreRoundGroups groups.items (triangles_of self.now)) }
+        ensures wanted { OnErr result Wanted }
     {
         let count = self.group_count();
-        let mut groups = Vec::with_capacity(alloc, count as usize)?;
+        let mut groups = fd_memory::room(alloc, count as usize)?;
         for group in 0..count {
-            groups.push(self.group_bounds(group))?;
+            fd_memory::push(&mut groups, self.group_bounds(group))?;
         }
         Ok(groups)
     }
 
     /// The boxes of all triangles, in their order.
     pub(crate) fn boxes(&self, alloc: Global) -> Result<Vec<Bounds>, AllocError>
-        ensures { IfOk result (λ boxes. AreTriangleBoxes boxes.items (triangles_of self.now) × (length boxes.items ≡ length (triangles_of self.now)) × (length boxes.items ≤ most_triangles)) }
+        ensures boxes { IfOk result (λ boxes. AreTriangleBoxes boxes.items (triangles_of self.now) × (length boxes.items ≡ length (triangles_of self.now))
+            × (length boxes.items ≤ most_triangles)) }
+        ensures wanted { OnErr result Wanted }
     {
         let count = self.len();
-        let mut boxes = Vec::with_capacity(alloc, count as usize)?;
+        let mut boxes = fd_memory::room(alloc, count as usize)?;
         for triangle in 0..count {
-            boxes.push(Bounds::of(&self.tri(triangle)))?;
+            fd_memory::push(&mut boxes, Bounds::of(&self.tri(triangle)))?;
         }
         Ok(boxes)
     }

@@ -1,6 +1,7 @@
-ghost use Rattle.std.specs.Prelude.{◌≡◌, ℕ, IfOk, IfSome};
+ghost use Rattle.std.specs.Prelude.{◌≡◌, ℕ, IfOk, OnErr, IfSome};
 ghost use Rattle.fd_events.specs.Numbers.{numbers_of, listed_at};
 ghost use Rattle.fd_events.specs.Packed.{listed_in};
+ghost use Rattle.fd_memory.specs.Wanting.{Wanted};
 
 use std::alloc::{AllocError, Global};
 
@@ -15,21 +16,22 @@ pub(crate) struct Packed {
 impl Packed {
     /// The same lists. None where they have more numbers together than a `u32` counts.
     pub(crate) fn of(lists: &[Vec<u32>], alloc: Global) -> Result<Option<Packed>, AllocError>
-        ensures { IfOk result (λ packed. IfSome packed (λ packed. (cell : ℕ) → listed_in packed cell ≡ listed_at (numbers_of lists.now) cell)) }
+        ensures lists { IfOk result (λ packed. IfSome packed (λ packed. (cell : ℕ) → listed_in packed cell ≡ listed_at (numbers_of lists.now) cell)) }
+        ensures wanted { OnErr result Wanted }
     {
         let mut count: usize = 0;
         for list in lists {
             count = count.saturating_add(list.len());
         }
-        let mut numbers = Vec::with_capacity(alloc, count)?;
-        let mut starts = Vec::with_capacity(alloc, lists.len() + 1)?;
-        starts.push(0)?;
+        let mut numbers = fd_memory::room(alloc, count)?;
+        let mut starts = fd_memory::room(alloc, lists.len() + 1)?;
+        fd_memory::push(&mut starts, 0)?;
         for cell in 0..lists.len() {
-            numbers.extend_from_slice(&lists[cell])?;
+            fd_memory::append(&mut numbers, &lists[cell])?;
             let Ok(end) = u32::try_from(numbers.len()) else {
                 return Ok(None);
             };
-            starts.push(end)?;
+            fd_memory::push(&mut starts, end)?;
         }
         Ok(Some(Packed { numbers, starts }))
     }

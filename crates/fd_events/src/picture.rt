@@ -1,4 +1,6 @@
-ghost use Rattle.std.specs.Prelude.{◌≡◌, ◌*◌, ◌/◌, ◌<◌, ◌≤◌, ◌^◌, ◌%◌, ◌==◌, slice_index_or, length, option_map};
+ghost use Rattle.std.specs.Prelude.{◌≡◌, ◌+◌, ◌*◌, ◌/◌, ◌<◌, ◌≤◌, ◌^◌, ◌%◌, ◌==◌, ℕ, Some, IfSome, slice_index_or, unwrap_or, is_some, length, drop, map, true};
+ghost use Rattle.std.specs.Prelude.{option_map};
+ghost use Rattle.std.specs.List.{range_with_len};
 
 use fd_blend::Colour;
 use std::marker::Model;
@@ -6,6 +8,14 @@ use thiserror::Error;
 
 /// The most columns and rows that a picture has.
 pub const MAX_SIDE: u32 = 16_384;
+
+/// What is drawn with where there is no texel: nothing.
+const NO_COLOUR: Colour = Colour {
+    r: 0,
+    g: 0,
+    b: 0,
+    a: 0,
+};
 
 /// Why there is no picture. The faults are checked in this order.
 #[derive(Clone, Copy, PartialEq, Eq, Debug, Error)]
@@ -47,7 +57,7 @@ impl Model for Picture {
         ≡ Ok (painting_of p.left p.top p.width p.height p.texels.items (option_map (λ v. v.items) p.holes)) };
 }
 
-ghost use Rattle.fd_events.specs.Picture.{is_place, are_holes, is_among, is_hole, first_colour};
+ghost use Rattle.fd_events.specs.Picture.{is_place, are_holes, is_among, is_hole, first_colour, no_colour};
 ghost use Rattle.fd_events.specs.Limits.{most_side};
 
 /// Whether this is a place on a target, and a size that one may have.
@@ -108,6 +118,35 @@ fn first_colour(bytes: &[u8]) -> Option<Colour>
     })
 }
 
+/// The bytes of so many texels from this number on, if there are so many.
+fn bytes_of(texels: &[u8], first: usize, count: usize) -> Option<&[u8]>
+    requires { first + count < 2 ^ 60 }
+    ensures long { IfSome result (λ bytes. length bytes.now ≡ 4 * count) }
+    ensures texels { IfSome result (λ bytes. (k : ℕ) → k < count → first_colour (drop (4 * (first + k)) texels.now) ≡ first_colour (drop (4 * k) bytes.now)) }
+{
+    let (from, past) = (4 * first, 4 * (first + count));
+    if past > texels.len() {
+        return None;
+    }
+    Some(&texels[from..past])
+}
+
+/// The colours that bytes are, four each.
+fn copy_colours(bytes: &[u8], out: &mut [Colour])
+    requires { length bytes.now ≡ 4 * length out.old }
+    ensures long { length out.new ≡ length out.old }
+    ensures colours { (k : ℕ) → (d : Colour) → k < length out.old → slice_index_or out.new k d ≡ unwrap_or (first_colour (drop (4 * k) bytes.now)) no_colour }
+{
+    for i in 0..out.len() {
+        out[i] = Colour {
+            r: bytes[4 * i],
+            g: bytes[4 * i + 1],
+            b: bytes[4 * i + 2],
+            a: bytes[4 * i + 3],
+        };
+    }
+}
+
 impl Picture {
     ghost use Rattle.fd_events.specs.Picture.{made_painting, texel, texel_or_none};
 
@@ -158,15 +197,60 @@ impl Picture {
         first_colour(self.texels.get(4 * number..)?)
     }
 
-    /// The same, with 0 0 0 0 in place of none.
+    /// The bytes of the texels on so many neighbouring pixels of row y from column x on, if all of them lie in the box and the picture has no holes.
+    #[tactic(auto, unfolding(crate::specs::Picture::texel))]
+    fn row_bytes(&self, x: u32, y: u32, count: usize) -> Option<&[u8]>
+        requires { x + count < 2 ^ 32 }
+        ensures long { IfSome result (λ bytes. length bytes.now ≡ 4 * count) }
+        ensures texels { IfSome result (λ bytes. (k : ℕ) → k < count → texel self.now (x + k) y ≡ first_colour (drop (4 * k) bytes.now)) }
+    {
+        let past = x as usize + count;
+        if self.holes.is_some() || x < self.left || !is_among(self.top, self.height, y) {
+            return None;
+        }
+        if past > self.left as usize + self.width as usize {
+            return None;
+        }
+        let first = (y - self.top) as usize * self.width as usize + (x - self.left) as usize;
+        bytes_of(&self.texels, first, count)
+    }
+
+    /// Whether each of so many neighbouring pixels of row y from column x on is seen to have a texel.
+    pub fn fills(&self, x: u32, y: u32, count: usize) -> bool
+        requires { x + count < 2 ^ 32 }
+        ensures { result ≡ true → (k : ℕ) → k < count → is_some (texel self.now (x + k) y) ≡ true }
+    {
+        match self.row_bytes(x, y, count) {
+            Some(_bytes) => true,
+            None => false,
+        }
+    }
+
+    /// The texels on neighbouring pixels of row y from column x on, with 0 0 0 0 in place of none.
+    pub fn copy_row(&self, x: u32, y: u32, out: &mut [Colour])
+        requires { x + length out.old < 2 ^ 32 }
+        ensures { out.new ≡ map (λ column. texel_or_none self.now column y) (range_with_len x (length out.old)) }
+    {
+        match self.row_bytes(x, y, out.len()) {
+            Some(bytes) => copy_colours(bytes, out),
+            None => self.look_up_row(x, y, out),
+        }
+    }
+
+    /// The same, each by itself.
+    fn look_up_row(&self, x: u32, y: u32, out: &mut [Colour])
+        requires { x + length out.old < 2 ^ 32 }
+        ensures { out.new ≡ map (λ column. texel_or_none self.now column y) (range_with_len x (length out.old)) }
+    {
+        for i in 0..out.len() {
+            out[i] = self.texel_or_none(x + i as u32, y);
+        }
+    }
+
+    /// The colour on a pixel, with 0 0 0 0 in place of none.
     pub fn texel_or_none(&self, x: u32, y: u32) -> Colour
         ensures { result ≡ texel_or_none self.now x y }
     {
-        self.texel(x, y).unwrap_or(Colour {
-            r: 0,
-            g: 0,
-            b: 0,
-            a: 0,
-        })
+        self.texel(x, y).unwrap_or(NO_COLOUR)
     }
 }

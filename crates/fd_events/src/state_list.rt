@@ -1,6 +1,7 @@
-ghost use Rattle.std.specs.Prelude.{◌≡◌, ◌≤◌, ◌<◌, ◌+◌, length, true, replicate, Some, slice_get, slice_set, IfOk, IsSome, if◌then◌else◌};
+ghost use Rattle.std.specs.Prelude.{◌≡◌, ◌≤◌, ◌<◌, ◌+◌, length, true, replicate, Some, slice_get, slice_set, IfOk, OnErr, IsSome, if◌then◌else◌};
 ghost use Rattle.fd_events.specs.Limits.{most_events};
 ghost use Rattle.fd_events.specs.Pipeline.{state_after};
+ghost use Rattle.fd_memory.specs.Wanting.{Wanted};
 ghost use Rattle.fd_events.specs.StateList.{place_past, ArePlaces, HasStatesTo, HasStates, listed_state};
 
 use crate::event::Event;
@@ -22,14 +23,15 @@ fn place_past(event: &Event, place: u32) -> u32
 /// The place of the state before each event, and of the one after the last.
 fn places_of(events: &[Event], alloc: Global) -> Result<Vec<u32>, AllocError>
     requires { length events.now ≤ most_events }
-    ensures { IfOk result (λ places. ArePlaces events.now places.items) }
+    ensures places { IfOk result (λ places. ArePlaces events.now places.items) }
+    ensures wanted { OnErr result Wanted }
 {
-    let mut places = Vec::with_capacity(alloc, events.len() + 1)?;
+    let mut places = fd_memory::room(alloc, events.len() + 1)?;
     let mut place: u32 = 0;
-    places.push(place)?;
+    fd_memory::push(&mut places, place)?;
     for event in events {
         place = place_past(event, place);
-        places.push(place)?;
+        fd_memory::push(&mut places, place)?;
     }
     Ok(places)
 }
@@ -57,6 +59,7 @@ impl StateList {
         requires { length events.now ≤ most_events }
         ensures flags { IfOk result (λ list. list.flags.items ≡ replicate (length events.now) true) }
         ensures states { IfOk result (λ list. HasStates events.now list) }
+        ensures wanted { OnErr result Wanted }
     {
         let mut list = StateList::fresh(events, alloc)?;
         list.recompute(events, 0);
@@ -68,11 +71,12 @@ impl StateList {
         requires { length events.now ≤ most_events }
         ensures flags { IfOk result (λ list. list.flags.items ≡ replicate (length events.now) true) }
         ensures states { IfOk result (λ list. HasStatesTo events.now 0 list) }
+        ensures wanted { OnErr result Wanted }
     {
-        let flags = vec![in alloc; true; events.len()]?;
+        let flags = fd_memory::filled(alloc, true, events.len())?;
         let places = places_of(events, alloc)?;
         let last = places[events.len()] as usize;
-        let states = vec![in alloc; Pipeline::default(); last + 1]?;
+        let states = fd_memory::filled(alloc, Pipeline::default(), last + 1)?;
         Ok(StateList {
             flags,
             places,

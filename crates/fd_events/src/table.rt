@@ -1,5 +1,6 @@
 ghost use Rattle.std.specs.Prelude.{◌≡◌, ◌≤◌, ◌+◌, ◌-◌, ◌&&◌, length, ℕ, Some, map, not};
-ghost use Rattle.std.specs.Prelude.{IfOk};
+ghost use Rattle.std.specs.Prelude.{IfOk, OnErr};
+ghost use Rattle.fd_memory.specs.Wanting.{Wanted};
 ghost use Rattle.fd_events.specs.Table.{is_side};
 ghost use Rattle.fd_snap.specs.Limits.{most_pixels};
 ghost use Rattle.fd_cover.specs.Bounds.{is_empty};
@@ -57,7 +58,8 @@ fn list_triangles(
     height: u32,
     alloc: Global,
 ) -> Result<(), AllocError>
-    ensures { events.new ≡ events.old }
+    ensures same { events.new ≡ events.old }
+    ensures wanted { OnErr result Wanted }
 {
     for event in events.iter_mut() {
         event.list_triangles(width, height, alloc)?;
@@ -74,11 +76,12 @@ fn reaches_of(
 ) -> Result<Vec<Reach>, AllocError>
     requires width { width ≤ most_pixels }
     requires height { height ≤ most_pixels }
-    ensures { IfOk result (λ reaches. AreReaches width height events.now reaches.items) }
+    ensures reaches { IfOk result (λ reaches. AreReaches width height events.now reaches.items) }
+    ensures wanted { OnErr result Wanted }
 {
-    let mut reaches = Vec::with_capacity(alloc, events.len())?;
+    let mut reaches = fd_memory::room(alloc, events.len())?;
     for event in events {
-        reaches.push(event.reach(width, height))?;
+        fd_memory::push(&mut reaches, event.reach(width, height))?;
     }
     Ok(reaches)
 }
@@ -92,11 +95,12 @@ fn may_write(on: bool, reach: Reach) -> bool
 
 /// The same of each event, where all are switched on.
 fn writers_of(reaches: &[Reach], alloc: Global) -> Result<Vec<bool>, AllocError>
-    ensures { IfOk result (λ writers. writers.items ≡ map (λ reach. not (is_empty (box_of reach))) reaches.now) }
+    ensures writers { IfOk result (λ writers. writers.items ≡ map (λ reach. not (is_empty (box_of reach))) reaches.now) }
+    ensures wanted { OnErr result Wanted }
 {
-    let mut writers = Vec::with_capacity(alloc, reaches.len())?;
+    let mut writers = fd_memory::room(alloc, reaches.len())?;
     for reach in reaches {
-        writers.push(may_write(true, *reach))?;
+        fd_memory::push(&mut writers, may_write(true, *reach))?;
     }
     Ok(writers)
 }
@@ -114,7 +118,7 @@ pub struct EventTable {
     reaches: Vec<Reach>,
     // whether each event is switched on and its box has a pixel: each tile asks this of every event
     writers: Vec<bool>,
-    // which events can write in which bands of rows and columns, whether they are switched on or off
+    // which events can write in which cells, whether they are switched on or off
     index: EventIndex,
 }
 
@@ -133,16 +137,16 @@ impl Model for EventTable {
         × HasStates t.events.items t.states
         × AreReaches t.width t.height t.events.items t.reaches.items
         × AreWriters t.states.flags.items t.reaches.items t.writers.items
-        × IsIndex t.index t.width t.height t.events.items };
+        × IsIndex t.index t.events.items };
 }
 
 impl EventTable {
-    ghost use Rattle.std.specs.Prelude.{◌≡◌, ◌<◌, ◌≤◌, ◌+◌, ◌-◌, length, true, IsTrue, not, Some, IfSome, IfOk, option_map};
+    ghost use Rattle.std.specs.Prelude.{◌≡◌, ◌<◌, ◌≤◌, ◌+◌, ◌-◌, length, true, IsTrue, not, Some, Err, IfSome, IfOk, OnErr, option_map};
     ghost use Rattle.fd_events.specs.Reach.{reach_of, may_write_at, HoldsWritten};
     ghost use Rattle.fd_events.specs.Far.{IsFar, AreFar};
     ghost use Rattle.fd_events.specs.Table.{IsTable, IsVersion, all_on, started, UnlessMemory, event_at, flag_at, state_at, with_flag};
 
-    /// A table of these events, all switched on. They are dropped on a refusal.
+    /// A table of these events, all switched on. They are dropped on a refusal. Memory is the reason only where it was wanted.
     pub fn start(
         alloc: Global,
         version: u32,
@@ -152,6 +156,7 @@ impl EventTable {
     ) -> Result<EventTable, TableFault>
         requires { IsVersion version events.items }
         ensures exact { UnlessMemory result (started version width height events.items) }
+        ensures wanted { result ≡ Err Memory → Wanted }
     {
         if !is_side(width) || !is_side(height) {
             return Err(TableFault::Size);
@@ -172,7 +177,8 @@ impl EventTable {
         events: Vec<Event>,
     ) -> Result<EventTable, AllocError>
         requires { IsTable (all_on version width height events.items) }
-        ensures { IfOk result (λ table. table ≡ all_on version width height events.items) }
+        ensures table { IfOk result (λ table. table ≡ all_on version width height events.items) }
+        ensures wanted { OnErr result Wanted }
     {
         let states = StateList::all_on(&events, alloc)?;
         let reaches = reaches_of(&events, width, height, alloc)?;
@@ -261,7 +267,7 @@ impl EventTable {
     }
 
     /// The first position from `from` on, and `to` at most, whose next event is switched on and has a box that meets a window. No event that is passed
-    /// over can write there in any state. A run of events that reach other bands of rows or columns takes one look at 4,096 of them.
+    /// over can write there in any state. Those that the window's cell doesn't list are passed over by one search.
     pub fn next_near(&self, from: u32, to: u32, window: Bounds) -> u32
         requires order { from ≤ to }
         requires last { to ≤ length self.now.events }
@@ -277,7 +283,7 @@ impl EventTable {
         near
     }
 
-    /// The same as far as the bands tell that the boxes reach, where an event that is switched off counts as well.
+    /// The same as far as the cells tell, where an event that is switched off counts as well.
     fn next_indexed(&self, from: u32, to: u32, window: Bounds) -> u32
         requires order { from ≤ to }
         requires last { to ≤ length self.now.events }

@@ -15,7 +15,7 @@ use Rattle.fd_cover.specs.Covers.{covers}
 use Rattle.fd_cover.specs.Verdict.{verdict_at}
 use Rattle.fd_cover.specs.Verdict.{unless_discarded}
 use Rattle.fd_events.specs.declared.pipeline.Pipeline.{Pipeline}
-use Rattle.fd_events.specs.Bounds.{HoldsTriangles, CoverNone}
+use Rattle.fd_events.specs.Bounds.{CoverNone}
 use Rattle.fd_events.specs.Draw.{Triangle}
 use Rattle.fd_events.specs.Image.{Pixel, is_discarded, verdict_of, pixel_after_triangle}
 use Rattle.fd_history.specs.declared.entry.Entry.{Entry}
@@ -90,16 +90,6 @@ outside_triangle ts i corners box event number interp s g is holds out = outside
 
 missed_enters : (v : Verdict) (e : Entry) → v ≡ Missed → (if is_missed v then [] else e ∷ []) ≡ []
 missed_enters v e missed = rw missed refl
-
--- triangles whose common box doesn't hold the pixel
-pub outside_triangles : (ts : List Triangle) (box : Bounds) (event number : ℕ) (interp : Interp) (s : Pipeline) (x y : ℕ) (before : Pixel)
-    → HoldsTriangles box ts → is_within box x y ≡ false → entries_of_triangles event number ts interp s x y before ≡ []
-outside_triangles [] box event number interp s x y before holds out = refl
-outside_triangles (t ∷ ts) box event number interp s x y before holds out =
-    let after = pixel_after_triangle t interp s x y before in
-    let missed = verdict_outside t s before.1 box x y (holds 0 t refl) out in
-    let rest = outside_triangles ts box event (number + 1) interp s x y after (λ i u at. holds (suc i) u at) out in
-    cc (missed_enters (verdict_of t s x y before.1) (entry_of_triangle event number t interp s x y before) missed, rest)
 
 -- ---- triangles that cover nothing of a window with the pixel
 missed_uncovered : (t : Triangle) (s : Pipeline) (x y stored : ℕ) → covers t.corners x y ≡ false → verdict_of t s x y stored ≡ Missed

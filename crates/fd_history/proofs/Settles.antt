@@ -4,7 +4,6 @@ use Rattle.std.proofs.Common.{arith, if◌then◌else◌, map, length-append, ap
 use Rattle.std.proofs.Common.{take}
 use Rattle.std.proofs.lemmas.List.{map-append, drop_all, take_all}
 use Rattle.std.proofs.lemmas.Bool.{true≢false}
-use Rattle.fd_blend.specs.Channel.{fresh}
 use Rattle.fd_cover.specs.declared.shading.Interp.{Interp}
 use Rattle.fd_cover.specs.declared.verdict.Verdict.{Verdict}
 use Rattle.fd_cover.specs.declared.verdict.Verdict.TheVariants.{Missed, Drawn}
@@ -18,11 +17,10 @@ use Rattle.fd_events.specs.Table.{Table, active_event, state_at, event_at, flag_
 use Rattle.fd_history.specs.declared.entry.Entry.{Entry}
 use Rattle.fd_history.specs.History.{entry_of, is_missed, entries_of_triangle, entries_of_triangles, entries_of_event, history_at}
 use Rattle.fd_history.specs.Gathered.{Gathering, depth_after_triangle, depth_after_triangles, depth_after_event}
-use Rattle.fd_history.specs.Gathered.{gathered_of_triangles, gathered_of, gathered_of_event, past_number, EntersNothing}
+use Rattle.fd_history.specs.Gathered.{gathered_of_triangles, gathered_of, gathered_of_event, past_number}
 use Rattle.fd_history.specs.Settled.{gathered_at, overwritten, overwritten_past, drawn_count, first, behind, entry_between, settled}
 use Rattle.fd_history.specs.Chain.{Leads, drawn_over}
 use Rattle.fd_history.proofs.Chains.{event_leads, history_leads}
-use Rattle.fd_history.proofs.Gathers.{gone_nowhere}
 use Rattle.fd_history.proofs.Keeping.{drawn_over-append, kept_is_drawn_over}
 
 -- ---- depths, whatever the colours
@@ -153,29 +151,9 @@ enough t k x y last =
     ap drawn_count (sym (blank_history t k x y)) ∙ drawn_count-blank (history_at t k x y) ∙ ap length (drawn_over-history t k x y) in
     omega (arith, same, length-append (overwritten t k x y) (last ∷ []))
 
--- ---- an event that enters nothing
+-- ---- an event that is on
 active_is : (t : Table) (number : ℕ) (event : Event) → event_at t number ≡ Some event → flag_at t number ≡ Some true → active_event t number ≡ Some event
 active_is t number event found on = rw on found
-
-module _ (t : Table) (number x y : ℕ) (event : Event) (least : 1 ≤ number) (found : event_at t number ≡ Some event) (on : flag_at t number ≡ Some true)
-    (nothing : EntersNothing event x y) where
-  no_entries : (s : Pipeline) (before : Pixel) → entries_of_event number (active_event t number) s x y before ≡ []
-  no_entries s before = rw (active_is t number event found on) (nothing number s before)
-
-  pub passes_by : (g : Gathering) → g.x ≡ x → g.y ≡ y → g ≡ past_number number (active_event t number) (state_at t (number - 1)) g
-  passes_by g column row =
-      let s = state_at t (number - 1) in
-      let before : Pixel = (fresh, g.depth) in
-      let none : entries_of_event number (active_event t number) s g.x g.y before ≡ [] = rw (column, row) (no_entries s before) in
-      rw (keeps_depth number (active_event t number) s g.x g.y before none, gathers_nothing number (active_event t number) s g.x g.y before none)
-      (sym (gone_nowhere g))
-
-  pub overwrites_nothing : (pixels : List Pixel) → pixels ≡ overwritten_past t (number - 1) x y pixels
-  overwrites_nothing pixels =
-      let again : suc (number - 1) ≡ number = omega (arith, least) in
-      let none = ap (λ n. entries_of_event n (active_event t n) (state_at t (number - 1)) x y (pixel_at t (number - 1) x y)) again
-      ∙ no_entries (state_at t (number - 1)) (pixel_at t (number - 1) x y) in
-      rw (keeps_nothing t (number - 1) x y none) (sym (append-nil pixels))
 
 -- ---- the entries that were lent to be settled
 length-settled : (es : List Entry) (pixels : List Pixel) → length (settled es pixels) ≡ length es

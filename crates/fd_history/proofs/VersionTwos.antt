@@ -7,10 +7,9 @@ use Rattle.fd_events.specs.declared.event.Event.{Event}
 use Rattle.fd_events.specs.declared.event.Event.TheVariants.{Draw}
 use Rattle.fd_events.specs.declared.pipeline.Pipeline.{Pipeline}
 use Rattle.fd_events.specs.Draw.{Triangle, triangles_of}
-use Rattle.fd_events.specs.Image.{Pixel, source_of, depth_of, verdict_of, pixel_after_triangle, pixel_at}
+use Rattle.fd_events.specs.Image.{Pixel, source_of, depth_of, pixel_after_triangle, pixel_at}
 use Rattle.fd_events.specs.Table.{Table, active_event, state_at}
 use Rattle.fd_events.specs.VersionOne as first
-use Rattle.fd_events.specs.VersionTwo as drawing
 use Rattle.fd_events.proofs.VersionOnes.{HaveNoPicture, no_pictures, verdict_plain, source_same}
 use Rattle.fd_events.proofs.VersionTwos.{HaveNone, HasNone, none_active, triangle_same, pixels_same}
 use Rattle.fd_history.specs.declared.entry.Entry.{Entry}

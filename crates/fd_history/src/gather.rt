@@ -4,7 +4,6 @@ ghost use Rattle.fd_cover.specs.Bounds.{is_within};
 ghost use Rattle.fd_snap.specs.Limits.{most_pixels};
 ghost use Rattle.fd_events.specs.Draw.{triangles_of};
 ghost use Rattle.fd_events.specs.Limits.{most_triangles};
-ghost use Rattle.fd_history.specs.Gathered.{EntersNothing};
 ghost use Rattle.fd_memory.specs.Wanting.{Wanted};
 
 use crate::entry::Entry;
@@ -66,7 +65,8 @@ impl Gather {
         state: &Pipeline,
     ) -> Result<(), AllocError>
         requires { triangle < length (triangles_of draw.now) }
-        ensures exact { OnOk result (IfSome (slice_get (triangles_of draw.now) triangle) (λ t. self.new ≡ past_triangle event triangle t draw.now.interp state.now self.old)) }
+        ensures exact { OnOk result (IfSome (slice_get (triangles_of draw.now) triangle)
+            (λ t. self.new ≡ past_triangle event triangle t draw.now.interp state.now self.old)) }
         ensures few { OnOk result (length self.new.entries ≤ length self.old.entries + 1) }
         ensures wanted { OnErr result Wanted }
     {
@@ -171,22 +171,5 @@ pub(crate) fn pixel_at(x: u32, y: u32) -> Bounds
         top: y,
         right: x + 1,
         bottom: y + 1,
-    }
-}
-
-/// Whether an event may have something to do with pixel (x, y): it clears, or the box round its triangles holds the pixel.
-pub(crate) fn may_reach(event: &Event, x: u32, y: u32) -> bool
-    ensures { result ≡ false → EntersNothing event.now x y }
-{
-    match event {
-        Event::Clear(_) => true,
-        Event::DepthClear(_) => true,
-        Event::Draw(draw) => draw.bounds().holds(x, y),
-        Event::SetRaster(_)
-        | Event::SetScissor(_)
-        | Event::SetBlend(_)
-        | Event::SetFactor(_)
-        | Event::SetDepth(_)
-        | Event::Marker(_) => false,
     }
 }

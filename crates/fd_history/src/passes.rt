@@ -11,7 +11,7 @@ ghost use Rattle.fd_history.specs.Settled.{overwritten_past};
 ghost use Rattle.fd_memory.specs.Wanting.{Wanted};
 
 use crate::entry::Entry;
-use crate::gather::{Gather, may_reach, pixel_at};
+use crate::gather::{Gather, pixel_at};
 use crate::settle::{count_drawn, settle};
 use fd_blend::Colour;
 use fd_events::EventTable;
@@ -41,9 +41,6 @@ fn pass_number(
         return Ok(());
     }
     let event = table.event(number);
-    if !may_reach(event, gather.x, gather.y) {
-        return Ok(());
-    }
     let before = gather.entries.len();
     gather.pass(number, event, table.state_before(number))?;
     let drawn = count_drawn(&gather.entries[before..]);
@@ -51,8 +48,9 @@ fn pass_number(
 }
 
 /// What the switched-on events up to an owner's position did to a pixel of its tile. Nothing is drawn: the colours are those that the
-/// owner kept, and the one that it shows; the depths follow from one entry to the next. The owner's history has to be the one that the table's events give a fresh tile.
-/// A clear of either kind has one entry, and a draw at most one for each triangle. An event that the table's index tells to be far from the pixel isn't looked at.
+/// owner kept, and the one that it shows; the depths follow from one entry to the next. The owner's history has to be the one that the table's events give a
+/// fresh tile. A clear of either kind has one entry, and a draw at most one for each triangle. An event that the table's index tells to be far from the pixel
+/// isn't looked at.
 pub fn history(
     alloc: Global,
     table: &EventTable,

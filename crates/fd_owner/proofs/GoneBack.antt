@@ -1,5 +1,5 @@
 -- An owner that goes back.
-use Rattle.std.proofs.Common.{◌≡◌, Bool, true, false, ℕ, ◌≤◌, List, [], ◌∷◌, ◌++◌, length, take, drop, refl, sym, ap, ◌∙◌, arith}
+use Rattle.std.proofs.Common.{◌≡◌, true, false, ℕ, ◌≤◌, List, [], ◌∷◌, ◌++◌, length, take, drop, refl, sym, ap, ◌∙◌, arith}
 use Rattle.std.proofs.lemmas.List.{length-take, take-append-drop}
 use Rattle.std.proofs.lemmas.List.Elements.{All-take}
 use Rattle.fd_tile.specs.Tile.{TileImage, painted, fresh_pixel, pixels_of}
@@ -46,7 +46,8 @@ module _ (t t' : TileImage) (u u' : Undo) (to : ℕ) (few : to ≤ length u.fram
   }
 
 -- ---- at once to the start, where nothing was drawn on the tile
-module _ (t t' : TileImage) (u u' : Undo) (blank : t' ≡ record (painted t.place (λ _ _. fresh_pixel)) { made = false }) (cleared : u' ≡ without_room u.opens_fresh []) where
+module _ (t t' : TileImage) (u u' : Undo) (blank : t' ≡ record (painted t.place (λ _ _. fresh_pixel)) { made = false })
+    (cleared : u' ≡ without_room u.opens_fresh []) where
   pub IsOwner-renewed : IsOwner t' u'
   IsOwner-renewed = grind arith
 

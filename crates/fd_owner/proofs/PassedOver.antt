@@ -1,6 +1,8 @@
--- Events whose reach misses a place write nothing there.
-use Rattle.std.proofs.Common.{◌≡◌, ℕ, suc, ◌+◌, ◌<◌, ◌≤◌, false, List, length, Option, Some, None, refl, arith, slice_get}
+-- Events whose reach misses a place, or whose state lets them draw nothing there, write nothing there.
+use Rattle.std.proofs.Common.{◌≡◌, ℕ, suc, ◌+◌, ◌<◌, ◌≤◌, Bool, true, false, cond, add-one, ◌∙◌, ap, sym, inl, inr, List, length, Option, Some, None, refl}
+use Rattle.std.proofs.Common.{arith, slice_get}
 use Rattle.std.specs.Prelude.{IsTrue, IfSome}
+use Rattle.std.proofs.lemmas.Bool.{cases_lt}
 use Rattle.fd_cover.specs.Bounds.{is_within}
 use Rattle.fd_cover.specs.declared.bounds.Bounds.{Bounds}
 use Rattle.fd_cover.specs.Covers.{covers}
@@ -11,13 +13,13 @@ use Rattle.fd_events.specs.declared.event.Event.TheVariants.{Clear, DepthClear, 
 use Rattle.fd_events.specs.declared.pipeline.Pipeline.{Pipeline}
 use Rattle.fd_events.specs.Draw.{Triangle, triangles_of}
 use Rattle.fd_events.specs.Far.{LeavesAlone, AreFar}
-use Rattle.fd_events.specs.Table.{Table, active_event, state_at}
+use Rattle.fd_events.specs.Table.{Table, active_event, event_at, is_set, state_at}
 use Rattle.fd_draw.specs.Area.{box_of_place}
 use Rattle.fd_draw.specs.Demand.{event_spans, event_pixels}
 use Rattle.fd_draw.proofs.Areas.{within_from}
 use Rattle.fd_draw.specs.Plan.{AreUnreached}
 use Rattle.fd_draw.proofs.Triangles.{no_pixels, no_spans}
-use Rattle.fd_owner.specs.Untouched.{AreUntouched, Misses}
+use Rattle.fd_owner.specs.Untouched.{IsUntouched, AreUntouched, Misses}
 use Rattle.fd_owner.specs.Shown.{IsInside}
 use Rattle.fd_owner.specs.Step.{spans_of, pixels_written}
 
@@ -65,3 +67,30 @@ untouched_from table from to window place placed inside is far k above below =
     let none = demands-none place table.width table.height placed inside.right inside.bottom window is (active_event table (suc k)) (state_at table k)
     (far k above below) in
     record { spans = none.0; pixels = none.1 }
+
+-- ---- an event that writes nothing in the state before it
+
+chosen : (on : Bool) (event : Event) (s : Pipeline) (place : Place) → event_spans event s place ≡ 0 → event_pixels event s place ≡ 0
+    → (spans_of (cond on (Some event) None) s place ≡ 0) × (pixels_written (cond on (Some event) None) s place ≡ 0)
+chosen true event s place spans pixels = (spans, pixels)
+chosen false event s place spans pixels = (refl, refl)
+
+pub untouched_idle : (table : Table) (k : ℕ) (event : Event) (s : Pipeline) (place : Place) → event_at table (k + 1) ≡ Some event → s ≡ state_at table k
+    → event_spans event s place ≡ 0 → event_pixels event s place ≡ 0 → IsUntouched table k place
+untouched_idle table k event s place there before spans pixels =
+    let at : event_at table (suc k) ≡ Some event = ap (event_at table) (sym (add-one k)) ∙ there in
+    let on = is_set table.flags (suc k) in
+    let is : active_event table (suc k) ≡ cond on (Some event) None = ap (λ (e : Option Event). cond on e None) at in
+    let none = chosen on event s place spans pixels in
+    record {
+      spans = rw (is, ← before) none.0;
+      pixels = rw (is, ← before) none.1;
+    }
+
+-- what was passed over so far, and more
+pub untouched_on : (table : Table) (from mid to : ℕ) (place : Place) → AreUntouched table from mid place → AreUntouched table mid to place
+    → AreUntouched table from to place
+untouched_on table from mid to place first more k above below = elim (cases_lt k mid) [
+  | inl before ↦ first k above before
+  | inr after ↦ more k after below
+]

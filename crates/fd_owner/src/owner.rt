@@ -268,7 +268,7 @@ impl Owner {
         self.undo.undo_to(to as usize, &mut self.tile);
     }
 
-    /// The first position from the owner's own on, and `to` at most, whose next event may write on the tile, as far as boxes and flags tell.
+    /// The first position from the owner's own on, and `to` at most, whose next event may write on the tile, as far as boxes, flags and its state tell.
     pub fn next_near(&self, table: &EventTable, to: u32) -> u32
         requires on { position self.now.history ≤ to }
         requires last { to ≤ length table.now.events }
@@ -277,7 +277,14 @@ impl Owner {
         ensures most { result ≤ to }
         ensures far { AreUntouched table.now (position self.now.history) result self.now.place }
     {
-        table.next_near(self.position(), to, self.bounds())
+        let (place, window) = (self.place(), self.bounds());
+        let mut near = table.next_near(self.position(), to, window);
+        let mut live = pass_idle(table, near, to, place);
+        while near < live {
+            near = table.next_near(live, to, window);
+            live = pass_idle(table, near, to, place);
+        }
+        near
     }
 
     /// Goes at once through next events that write nothing on the tile, to this position. It takes no memory, and can't be refused.
@@ -319,6 +326,33 @@ fn first_near(table: &EventTable, position: u32, place: Place) -> Option<u32>
     }
 }
 
+/// Whether the event after a position is seen to write nothing on a place in the state before it.
+fn is_idle(table: &EventTable, position: u32, place: Place) -> bool
+    requires below { position < length table.now.events }
+    requires placed { IsTilePlace place }
+    ensures { IsTrue result → IsUntouched table.now position place }
+{
+    let _len = table.len();
+    let number = position + 1;
+    fd_draw::draws_nothing(table.event(number), table.state_before(number), place)
+}
+
+/// The first position from this one on, and `to` at most, whose next event isn't seen to write nothing on a place.
+fn pass_idle(table: &EventTable, from: u32, to: u32, place: Place) -> u32
+    requires order { from ≤ to }
+    requires last { to ≤ length table.now.events }
+    requires placed { IsTilePlace place }
+    ensures from { from ≤ result }
+    ensures last { result ≤ to }
+    ensures idle { AreUntouched table.now from result place }
+{
+    let mut position = from;
+    while position < to && is_idle(table, position, place) {
+        position += 1;
+    }
+    position
+}
+
 /// What the event after a position, which is switched on, writes on a place. Of its triangles none before this one covers a pixel there.
 fn plan_past(table: &EventTable, position: u32, place: Place, first: u32) -> Plan
     requires below { position < length table.now.events }
@@ -342,7 +376,13 @@ fn make_room(demand: Demand, tile: &mut Tile, undo: &mut UndoStack) -> Result<()
     ensures frames { undo.new.frames ≡ undo.old.frames }
     ensures opening { undo.new.opens_fresh ≡ undo.old.opens_fresh }
     ensures made { OnOk result (0 < demand.pixels → tile.new.made ≡ true) }
-    ensures room { OnOk result (undo.new ≡ record { frames = undo.old.frames; opens_fresh = undo.old.opens_fresh; frame_left = true; spans_left = demand.spans; pixels_left = demand.pixels }) }
+    ensures room { OnOk result (undo.new ≡ record {
+      frames = undo.old.frames;
+      opens_fresh = undo.old.opens_fresh;
+      frame_left = true;
+      spans_left = demand.spans;
+      pixels_left = demand.pixels;
+    }) }
     ensures free { demand.spans ≡ 0 → demand.pixels ≡ 0 → length undo.old.frames + 1 < 2 ^ 64 → IsOk result }
     ensures wanted { OnErr result (length undo.old.frames < 4294967295 → Wanted) }
 {

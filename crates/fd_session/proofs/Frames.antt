@@ -97,31 +97,31 @@ stands_less f table k to o p le together at gone =
     stands_at f table to o.place p (ap (λ (s : Shown). s.place) gone)
     (ap (λ (s : Shown). s.history) gone ∙ ap (first_frames to) at.history ∙ kept_less table o.place k to f le together) at.inside
 
-pub stands_from : (f : Bool) (table : Table) (k : ℕ) (o : Shown) → Stands f table k o → StandsFrom f table k o
-stands_from f table k o at = record { at = k; stands = at; above = omega arith; together = λ _. refl }
+pub stands_from : (f g : Bool) (table : Table) (k : ℕ) (o : Shown) → Stands f table k o → StandsFrom f g table k o
+stands_from f g table k o at = record { at = k; stands = at; above = omega arith; level = λ _. refl }
 
-pub all_above : (table : Table) (k low : ℕ) (owners : List Shown) → low ≤ k → All (Stands false table k) owners → All (StandsFrom false table low) owners
-all_above table k low owners le each n d below = record { at = k; stands = each n d below; above = le; together = λ t. absurd (cc) }
+pub all_above : (table : Table) (k low : ℕ) (owners : List Shown) → low ≤ k → All (Stands false table k) owners → All (StandsFrom false false table low) owners
+all_above table k low owners le each n d below = record { at = k; stands = each n d below; above = le; level = λ t. absurd (cc) }
 
-pub from_lowest : (table : Table) (low lowest : ℕ) (owners : List Shown) → All (StandsFrom false table low) owners
-    → All (λ (o : Shown). lowest ≤ position o.history) owners → All (StandsFrom false table lowest) owners
+pub from_lowest : (table : Table) (low lowest : ℕ) (owners : List Shown) → All (StandsFrom false false table low) owners
+    → All (λ (o : Shown). lowest ≤ position o.history) owners → All (StandsFrom false false table lowest) owners
 from_lowest table low lowest owners from above n d below =
     let s = from n d below in
     record {
       at = s.at;
       stands = s.stands;
       above = omega (arith, above n d below, position_stands false table s.at (get_or owners n d) s.stands);
-      together = λ t. absurd (cc);
+      level = λ t. absurd (cc);
     }
 
-pub no_lower : (f : Bool) (table : Table) (low : ℕ) (o : Shown) → StandsFrom f table low o → low ≤ position o.history
-no_lower f table low o from = omega (arith, from.above, position_stands f table from.at o from.stands)
+pub no_lower : (f g : Bool) (table : Table) (low : ℕ) (o : Shown) → StandsFrom f g table low o → low ≤ position o.history
+no_lower f g table low o from = omega (arith, from.above, position_stands f table from.at o from.stands)
 
 -- it goes on
-further : (f : Bool) (table : Table) (low to : ℕ) (o p : Shown) (from : StandsFrom f table low o) → from.at ≤ to → GoneTo table to o p
-    → StandsFrom f table to (as_kept f p)
-further f table low to o p from le gone =
-    stands_from f table to (as_kept f p)
+further : (f g : Bool) (table : Table) (low to : ℕ) (o p : Shown) (from : StandsFrom f g table low o) → from.at ≤ to → GoneTo table to o p
+    → StandsFrom f g table to (as_kept f p)
+further f g table low to o p from le gone =
+    stands_from f g table to (as_kept f p)
     (stands_at f table to o.place (as_kept f p) gone.place
     (cc (gone.place, gone.history, from.stands.history, kept_further table o.place from.at to f le)) from.stands.inside)
 
@@ -129,13 +129,14 @@ no_further : (table : Table) (place : Place) (to : ℕ) (h : History) → to ≤
 no_further table place to h le = let none : to - position h ≡ 0 = omega (arith, le) in ap (λ (n : ℕ). extend_by table place n h) none
 
 -- or it stays
-goes_on : (f : Bool) (table : Table) (low to : ℕ) (o p : Shown) → low ≤ to → StandsFrom f table low o → StandsOn table to o p
-    → StandsFrom f table to (as_kept f p)
-goes_on true table low to o p le from on =
-    let there : from.at ≡ low = from.together refl in
-    further true table low to o p from (omega (arith, there, le))
-    (record { place = on.place; history = on.history; after = omega (arith, there, le, position_stands true table from.at o from.stands) })
-goes_on false table low to o p le from on =
+goes_on : (f g : Bool) (table : Table) (low to : ℕ) (o p : Shown) → (IsTrue f → IsTrue g) → low ≤ to → StandsFrom f g table low o → StandsOn table to o p
+    → StandsFrom f g table to (as_kept f p)
+goes_on true false table low to o p forgotten le from on = let never = forgotten refl in absurd (cc)
+goes_on f true table low to o p forgotten le from on =
+    let there : from.at ≡ low = from.level refl in
+    further f true table low to o p from (omega (arith, there, le))
+    (record { place = on.place; history = on.history; after = omega (arith, there, le, position_stands f table from.at o from.stands) })
+goes_on false false table low to o p forgotten le from on =
     let there : position o.history ≡ from.at = position_stands false table from.at o from.stands in
     elim (cases_lt to from.at) [
       | inl below ↦ record {
@@ -143,25 +144,26 @@ goes_on false table low to o p le from on =
         stands = stands_at false table from.at o.place p on.place
             (on.history ∙ no_further table o.place to o.history (omega (arith, there, below)) ∙ from.stands.history) from.stands.inside;
         above = omega (arith, below);
-        together = λ t. absurd (cc);
+        level = λ t. absurd (cc);
       }
-      | inr above ↦ further false table low to o p from above (record { place = on.place; history = on.history; after = omega (arith, there, above) })
+      | inr above ↦ further false false table low to o p from above (record { place = on.place; history = on.history; after = omega (arith, there, above) })
     ]
 
 -- or it comes down to where another one stopped
-comes : (f : Bool) (table : Table) (low to : ℕ) (o p : Shown) → low ≤ to → StandsFrom f table low o → CameTo table to o p
-    → StandsFrom f table to (as_kept f p)
-comes true table low to o p le from came =
-    let there : from.at ≡ low = from.together refl in
-    further true table low to o p from (omega (arith, there, le))
-    (came_further table to o p (omega (arith, there, le, position_stands true table from.at o from.stands)) came)
-comes false table low to o p le from came =
+comes : (f g : Bool) (table : Table) (low to : ℕ) (o p : Shown) → (IsTrue f → IsTrue g) → low ≤ to → StandsFrom f g table low o → CameTo table to o p
+    → StandsFrom f g table to (as_kept f p)
+comes true false table low to o p forgotten le from came = let never = forgotten refl in absurd (cc)
+comes f true table low to o p forgotten le from came =
+    let there : from.at ≡ low = from.level refl in
+    further f true table low to o p from (omega (arith, there, le))
+    (came_further table to o p (omega (arith, there, le, position_stands f table from.at o from.stands)) came)
+comes false false table low to o p forgotten le from came =
     let there : position o.history ≡ from.at = position_stands false table from.at o from.stands in
     elim (cases_lt to from.at) [
-      | inl below ↦ stands_from false table to p (stands_at false table to o.place p came.place
+      | inl below ↦ stands_from false false table to p (stands_at false table to o.place p came.place
           (came.history ∙ ap (first_frames to) (no_further table o.place to o.history (omega (arith, there, below)) ∙ from.stands.history)
           ∙ kept_less table o.place from.at to false (omega (arith, below)) (λ t. absurd (cc))) from.stands.inside)
-      | inr above ↦ further false table low to o p from above (came_further table to o p (omega (arith, there, above)) came)
+      | inr above ↦ further false false table low to o p from above (came_further table to o p (omega (arith, there, above)) came)
     ]
 
 -- ---- all owners
@@ -188,35 +190,44 @@ all_settled : (f : Bool) (P : Shown → Type 0) (old mid new : List Shown) → n
 all_settled f P old mid new is left = rw is (record { places = places_settled f mid ∙ left.places; each = All-map P (as_kept f) mid left.each })
 
 -- how a run of the crew ends
-module _ (f : Bool) (table : Table) (from to : ℕ) (old mid new : List Shown) (stand : All (StandsFrom f table from) old) (is : new ≡ map (as_kept f) mid) where
-  pub run_reached : from ≤ to → EndsApart (λ o. o) table to old mid Reached → Comes (StandsFrom f table) from to to old new
+module _ (f g : Bool) (forgotten : IsTrue f → IsTrue g) (table : Table) (from to : ℕ) (old mid new : List Shown)
+    (stand : All (StandsFrom f g table from) old) (is : new ≡ map (as_kept f) mid) where
+  pub run_reached : from ≤ to → EndsApart (λ o. o) table to old mid Reached → Comes (StandsFrom f g table) from to to old new
   run_reached ahead ended = record {
     ahead = ahead;
     within = omega arith;
-    left = all_settled f (StandsFrom f table to) old mid new is
-        (all_moved (StandsFrom f table from) (λ p. StandsFrom f table to (as_kept f p)) (λ o p. StandsOn table to o p × IsQuiet o p)
-        (λ o p s e. (e.0.place, goes_on f table from to o p ahead s e.0)) old mid stand ended);
+    left = all_settled f (StandsFrom f g table to) old mid new is
+        (all_moved (StandsFrom f g table from) (λ p. StandsFrom f g table to (as_kept f p)) (λ o p. StandsOn table to o p × IsQuiet o p)
+        (λ o p s e. (e.0.place, goes_on f g table from to o p forgotten ahead s e.0)) old mid stand ended);
   }
 
-  pub run_stopped : (at : ℕ) → EndsApart (λ o. o) table to old mid (Stopped at) → Comes (StandsFrom f table) from to at old new
+  pub run_stopped : (at : ℕ) → EndsApart (λ o. o) table to old mid (Stopped at) → Comes (StandsFrom f g table) from to at old new
   run_stopped at ended =
-      let low : from ≤ at = any_first (RefusedAt at) (StandsFrom f table from) (from ≤ at)
-      (λ o p s r. omega (arith, no_lower f table from o s, r.after)) old mid stand ended.2 in
+      let low : from ≤ at = any_first (RefusedAt at) (StandsFrom f g table from) (from ≤ at)
+      (λ o p s r. omega (arith, no_lower f g table from o s, r.after)) old mid stand ended.2 in
       record {
         ahead = low;
         within = omega (arith, ended.0);
-        left = all_settled f (StandsFrom f table at) old mid new is
-            (all_moved (StandsFrom f table from) (λ p. StandsFrom f table at (as_kept f p)) (λ o p. CameTo table at o p × RefusedNoLower at o p)
-            (λ o p s e. (e.0.place, comes f table from at o p low s e.0)) old mid stand ended.1);
+        left = all_settled f (StandsFrom f g table at) old mid new is
+            (all_moved (StandsFrom f g table from) (λ p. StandsFrom f g table at (as_kept f p)) (λ o p. CameTo table at o p × RefusedNoLower at o p)
+            (λ o p s e. (e.0.place, comes f g table from at o p forgotten low s e.0)) old mid stand ended.1);
       }
 
 -- the owners that none is left lower than a position go back to it
-pub left_down : (f : Bool) (table : Table) (low : ℕ) (old mid new : List Shown) → IsLeft (StandsFrom f table low) old mid
+pub left_down : (f g : Bool) → (IsTrue f → IsTrue g) → (table : Table) (low : ℕ) (old mid new : List Shown) → IsLeft (StandsFrom f g table low) old mid
     → AllZip (λ o p. p ≡ gone_back_to low o) mid new → IsLeft (Stands f table low) old new
-left_down f table low old mid new from gone =
-    let all = all_moved (StandsFrom f table low) (Stands f table low) (λ o p. p ≡ gone_back_to low o)
-    (λ o p s g. (ap (λ (s : Shown). s.place) g, stands_less f table s.at low o p s.above s.together s.stands g)) mid new from.each gone in
+left_down f g forgotten table low old mid new from gone =
+    let all = all_moved (StandsFrom f g table low) (Stands f table low) (λ o p. p ≡ gone_back_to low o)
+    (λ o p s g. (ap (λ (s : Shown). s.place) g, stands_less f table s.at low o p s.above (λ t. s.level (forgotten t)) s.stands g)) mid new from.each gone in
     record { places = all.places ∙ from.places; each = all.each }
+
+-- those that stand together are there
+pub level_left : (f g : Bool) → g ≡ true → (table : Table) (low : ℕ) (old new : List Shown) → IsLeft (StandsFrom f g table low) old new
+    → IsLeft (Stands f table low) old new
+level_left f g together table low old new from = record {
+  places = from.places;
+  each = λ n d below. let s = from.each n d below in subst (λ (k : ℕ). Stands f table k (get_or new n d)) (s.level together) s.stands;
+}
 
 -- one owner more stands no lower
 pub all_more : (owners : List Shown) (i : ℕ) (o : Shown) (was low : ℕ) → i < length owners → low ≤ was → low ≤ position o.history

@@ -1,8 +1,7 @@
 -- That the tiles passed the gate on the way.
-use Rattle.std.proofs.Common.{◌≡◌, ℕ, zero, suc, ◌+◌, ◌<◌, ◌≤◌, Bool, List, [], ◌∷◌, length, map, get_or, sym, ap, ◌∙◌, subst, arith, All}
+use Rattle.std.proofs.Common.{◌≡◌, ℕ, zero, suc, ◌+◌, ◌<◌, ◌≤◌, Bool, List, [], ◌∷◌, length, map, get_or, subst, arith, All}
 use Rattle.std.specs.Prelude.{None}
 use Rattle.std.proofs.lemmas.List.Elements.{All-get_or}
-use Rattle.fd_owner.specs.History.{position}
 use Rattle.fd_owner.specs.Shown.{Shown}
 use Rattle.fd_events.specs.Table.{Table}
 use Rattle.fd_crew.specs.Lanes.{IsPassed, ArePassed}

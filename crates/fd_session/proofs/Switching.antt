@@ -112,7 +112,7 @@ module _ (table : Table) (switch : Switch) where
       stands = stands_by (unswitched table switch) table switch.position o (size_with table switch.number switch.was_on)
           (spared switch.position (omega arith)) stood;
       above = omega (arith, reached);
-      together = λ t. absurd (cc);
+      level = λ t. absurd (cc);
     };
   }
 
@@ -122,11 +122,12 @@ module _ (table : Table) (switch : Switch) where
       → IsTakenBefore table switch o p
   taken_back o p first reached stood gone = record {
     place = ap (λ (s : Shown). s.place) gone;
-    stands = stands_from false table (switch.number - 1) p (stood_before table switch.number switch.was_on (switch.number - 1) p (omega (arith, first))
+    stands = stands_from false false table (switch.number - 1) p (stood_before table switch.number switch.was_on (switch.number - 1) p (omega (arith, first))
         (stands_less false (unswitched table switch) switch.position (switch.number - 1) o p (omega (arith, reached)) (λ t. absurd (cc)) stood gone));
   }
 
   -- all of them
-  pub all_taken : (old new : List Shown) → AllZip (IsTakenBefore table switch) old new → IsLeft (StandsFrom false table (switch.number - 1)) old new
-  all_taken old new taken = all_moved (λ o. Unit {0}) (StandsFrom false table (switch.number - 1)) (IsTakenBefore table switch) (λ o p u t. (t.place, t.stands))
+  pub all_taken : (old new : List Shown) → AllZip (IsTakenBefore table switch) old new → IsLeft (StandsFrom false false table (switch.number - 1)) old new
+  all_taken old new taken = all_moved (λ o. Unit {0}) (StandsFrom false false table (switch.number - 1)) (IsTakenBefore table switch)
+      (λ o p u t. (t.place, t.stands))
       old new (λ k d within. tt) taken

@@ -8,4 +8,4 @@ use Rattle.fd_session.specs.declared.switch.Switch.{Switch}
 -- The owner has the history of its place by the table as it is after the switch, up to before the event at least.
 pub record IsTakenBefore (table : Table) (switch : Switch) (old new : Shown) : Type 0 where
   pub place : new.place ≡ old.place
-  pub stands : StandsFrom false table (switch.number - 1) new
+  pub stands : StandsFrom false false table (switch.number - 1) new

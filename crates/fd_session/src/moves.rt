@@ -55,6 +55,8 @@ pub(crate) struct Drive<'a, G: Gate> {
     pub pace: Pace,
     /// Whether the owners forget after each slice what was overwritten.
     pub forgets: bool,
+    /// Whether the owners stand at one position. Those that forget do.
+    pub together: bool,
     /// The most that a slice starts.
     pub workers: u32,
     pub alloc: Global,
@@ -115,8 +117,9 @@ fn run_on<R: Threads + Sync, G: Gate>(
     slice: &Slice,
     drive: &Drive<'_, G>,
 ) -> Result<u32, AllocError>
-    requires { MayGo drive.now.forgets table.now slice.now.from slice.now.end slice.now.workers owners.old }
-    ensures comes { Comes (StandsFrom drive.now.forgets table.now) slice.now.from slice.now.end (result_unwrap_or result slice.now.from) owners.old owners.new }
+    requires { MayGo drive.now.forgets drive.now.together table.now slice.now.from slice.now.end slice.now.workers owners.old }
+    ensures comes { Comes (StandsFrom drive.now.forgets drive.now.together table.now) slice.now.from slice.now.end
+        (result_unwrap_or result slice.now.from) owners.old owners.new }
     ensures wanted { MatchResult result (λ at. at < slice.now.end → Wanted) (λ _. Wanted) }
     ensures passed { ArePassed (λ o. o) (G.opened drive.now.gate.now) 0 owners.old owners.new }
 {
@@ -137,8 +140,9 @@ fn go_slice<R: Threads + Sync, G: Gate>(
     slice: &Slice,
     drive: &Drive<'_, G>,
 ) -> Result<u32, AllocError>
-    requires { MayGo drive.now.forgets table.now slice.now.from slice.now.end slice.now.workers owners.old }
-    ensures comes { Comes (StandsFrom drive.now.forgets table.now) slice.now.from slice.now.end (result_unwrap_or result slice.now.from) owners.old owners.new }
+    requires { MayGo drive.now.forgets drive.now.together table.now slice.now.from slice.now.end slice.now.workers owners.old }
+    ensures comes { Comes (StandsFrom drive.now.forgets drive.now.together table.now) slice.now.from slice.now.end
+        (result_unwrap_or result slice.now.from) owners.old owners.new }
     ensures wanted { MatchResult result (λ at. at < slice.now.end → Wanted) (λ _. Wanted) }
     ensures passed { ArePassed (λ o. o) (G.opened drive.now.gate.now) 0 owners.old owners.new }
 {
@@ -175,8 +179,9 @@ fn go_on<R: Threads + Sync, G: Gate, T: Progress>(
     drive: &Drive<'_, G>,
     teller: &mut T,
 ) -> Result<u32, AllocError>
-    requires { MayGo drive.now.forgets table.now way.now.from way.now.to drive.now.workers owners.old }
-    ensures comes { Comes (StandsFrom drive.now.forgets table.now) way.now.from way.now.to (result_unwrap_or result way.now.from) owners.old owners.new }
+    requires { MayGo drive.now.forgets drive.now.together table.now way.now.from way.now.to drive.now.workers owners.old }
+    ensures comes { Comes (StandsFrom drive.now.forgets drive.now.together table.now) way.now.from way.now.to
+        (result_unwrap_or result way.now.from) owners.old owners.new }
     ensures wanted { MatchResult result (λ at. at < way.now.to → Wanted) (λ _. Wanted) }
     ensures passed { ArePassed (λ o. o) (G.opened drive.now.gate.now) 0 owners.old owners.new }
     ensures told { T.kept teller.new ≡ T.kept teller.old }
@@ -207,13 +212,16 @@ pub(crate) fn go_forward<R: Threads + Sync, G: Gate, T: Progress>(
     drive: &Drive<'_, G>,
     teller: &mut T,
 ) -> Result<u32, AllocError>
-    requires { MayGo drive.now.forgets table.now way.now.from way.now.to drive.now.workers owners.old }
+    requires { MayGo drive.now.forgets drive.now.together table.now way.now.from way.now.to drive.now.workers owners.old }
     ensures comes { Comes (Stands drive.now.forgets table.now) way.now.from way.now.to (result_unwrap_or result way.now.from) owners.old owners.new }
     ensures wanted { MatchResult result (λ at. at < way.now.to → Wanted) (λ _. Wanted) }
     ensures passed { ArePassed (λ o. o) (G.opened drive.now.gate.now) 0 owners.old owners.new }
     ensures told { T.kept teller.new ≡ T.kept teller.old }
 {
     let run = go_on(rt, owners, table, way, drive, teller);
+    if drive.together {
+        return run;
+    }
     run_back(owners, run.unwrap_or(way.from));
     run
 }

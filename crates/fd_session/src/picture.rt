@@ -82,6 +82,7 @@ impl Picture {
         let drive = Drive {
             pace: Pace::Slices,
             forgets: true,
+            together: true,
             workers: self.workers,
             alloc: self.alloc,
             gate: &Free,

@@ -36,7 +36,7 @@ fn take_all_before(owners: &mut [Owner], table: &EventTable, switch: &Switch) ->
     requires stood { All (Stands false (unswitched table.now switch.now) switch.now.position) owners.old }
     ensures low { switch.now.number ≤ result + 1 }
     ensures high { result ≤ switch.now.position }
-    ensures left { IsLeft (StandsFrom false table.now result) owners.old owners.new }
+    ensures left { IsLeft (StandsFrom false false table.now result) owners.old owners.new }
 {
     let mut lowest = switch.position;
     for owner in owners.iter_mut() {
@@ -74,5 +74,9 @@ pub(crate) fn go_again<R: Threads + Sync, G: Gate>(
         to: position,
         area: Area::round(table, switch.reach),
     };
-    go_forward(rt, owners, table, &way, drive, &mut Untold).unwrap_or(way.from)
+    let drive = Drive {
+        together: false,
+        ..*drive
+    };
+    go_forward(rt, owners, table, &way, &drive, &mut Untold).unwrap_or(way.from)
 }

@@ -1,4 +1,4 @@
-ghost use Rattle.std.specs.Prelude.{◌≡◌, ◌≤◌, ◌+◌, false, Some, not, length, IfOk, IfErr, OnErr, MatchResult};
+ghost use Rattle.std.specs.Prelude.{true, ◌≡◌, ◌≤◌, ◌+◌, false, Some, not, length, IfOk, IfErr, OnErr, MatchResult};
 ghost use Rattle.fd_memory.specs.Wanting.{Wanted};
 
 use crate::answer::{Answer, SessionFault};
@@ -85,11 +85,13 @@ impl Session {
     fn drive<'a, G: Gate>(&self, pace: Pace, gate: &'a G) -> Drive<'a, G>
         ensures workers { (1 ≤ result.workers) × (result.workers ≤ 64) }
         ensures whole { result.forgets ≡ false }
+        ensures together { result.together ≡ true }
         ensures gate { result.gate.now ≡ gate.now }
     {
         Drive {
             pace,
             forgets: false,
+            together: true,
             workers: self.workers,
             alloc: self.alloc,
             gate,

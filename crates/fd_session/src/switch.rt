@@ -1,8 +1,6 @@
 //! What a switch of an event that was gone through changes.
 ghost use Rattle.std.specs.Prelude.{◌≡◌, ℕ, ◌≤◌, Bool, IsTrue, Some, length};
 ghost use Rattle.fd_tile.specs.declared.place.Place.{Place};
-ghost use Rattle.fd_events.specs.declared.pipeline.Pipeline.{Pipeline};
-ghost use Rattle.fd_events.specs.Pipeline.{state_after};
 ghost use Rattle.fd_events.specs.Reach.{HoldsWritten};
 ghost use Rattle.fd_events.specs.Table.{with_flag, flag_at, state_at};
 ghost use Rattle.fd_owner.specs.Shown.{IsInside};
@@ -22,35 +20,6 @@ pub(crate) struct Switch {
     pub position: u32,
     /// A box round all that changes up to this position.
     pub reach: Bounds,
-}
-
-/// The state after an event.
-fn state_past(state: Pipeline, event: &Event) -> Pipeline
-    ensures { result ≡ state_after event.now state }
-{
-    match event {
-        Event::SetRaster(raster) => Pipeline {
-            raster: *raster,
-            ..state
-        },
-        Event::SetScissor(scissor) => Pipeline {
-            scissor: *scissor,
-            ..state
-        },
-        Event::SetBlend(blend) => Pipeline {
-            blend: *blend,
-            ..state
-        },
-        Event::SetFactor(factor) => Pipeline {
-            factor: *factor,
-            ..state
-        },
-        Event::SetDepth(depth) => Pipeline {
-            depth: *depth,
-            ..state
-        },
-        Event::Clear(_) | Event::DepthClear(_) | Event::Draw(_) | Event::Marker(_) => state,
-    }
 }
 
 /// Whether two states are the same.
@@ -86,7 +55,7 @@ fn changed_reach(table: &EventTable, number: u32, after: Pipeline, to: u32) -> B
         if table.is_on(at) {
             let event = table.event(at);
             reach = reach.join(reach_by_state(event, table.reach(at)));
-            state = state_past(state, event);
+            state = state.after(event);
         }
     }
     reach

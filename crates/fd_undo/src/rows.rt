@@ -1,4 +1,5 @@
-ghost use Rattle.std.specs.Prelude.{◌≡◌, ℕ, ◌+◌, ◌-◌, ◌^◌, ◌<◌, ◌≤◌, [], ◌∷◌, ◌++◌, length, take, drop, IfOk, OnErr, IfSome, slice_index_or, true, vec_capacity};
+ghost use Rattle.std.specs.Prelude.{◌≡◌, ℕ, ◌+◌, ◌-◌, ◌^◌, ◌<◌, ◌≤◌, [], ◌∷◌, ◌++◌, length, take, drop, IfOk, OnErr, IfSome, slice_index_or, true};
+ghost use Rattle.std.specs.Prelude.{vec_capacity};
 ghost use Rattle.std.specs.List.{zip};
 ghost use Rattle.fd_undo.specs.Span.{IsRowOf};
 ghost use Rattle.fd_blend.specs.Channel.{fresh};
@@ -97,8 +98,7 @@ impl Rows {
     {
         let deep = row.listed_depths();
         if let Some(grown) = self.grown(first, &row, old) {
-            take_last(&mut self.spans);
-            self.spans.push_reserved(grown);
+            replace_last(&mut self.spans, grown);
             add(&mut self.colours, &old[..row.more_colours()]);
             add(&mut self.depths, &depths[..deep]);
             return;
@@ -187,7 +187,10 @@ fn add<T: Copy>(values: &mut Vec<T>, more: &[T])
     ensures items { values.new.items ≡ values.old.items ++ more.now }
     ensures capacity { vec_capacity values.old ≤ vec_capacity values.new }
 {
-    values.extend_from_slice(more).unwrap();
+    // mostly there are none, where one colour or one depth is that of all
+    if !more.is_empty() {
+        values.extend_from_slice(more).unwrap();
+    }
 }
 
 /// How many pixels some spans have.
@@ -202,12 +205,12 @@ fn pixels_in(spans: &[Span]) -> usize
     pixels
 }
 
-/// Takes the last span off.
-fn take_last(spans: &mut SmallVec<Span, SPANS_INSIDE>) -> Span
+/// Puts another span in the place of the last one.
+fn replace_last(spans: &mut SmallVec<Span, SPANS_INSIDE>, span: Span)
     requires { 0 < length spans.old.items }
-    ensures items { spans.old.items ≡ spans.new.items ++ result ∷ [] }
-    ensures rest { spans.new.items ≡ take (length spans.old.items - 1) spans.old.items }
+    ensures items { spans.new.items ≡ take (length spans.old.items - 1) spans.old.items ++ span ∷ [] }
     ensures capacity { spans.new.capacity ≡ spans.old.capacity }
 {
-    spans.pop().unwrap()
+    let last = spans.len() - 1;
+    spans.as_mut_slice()[last] = span;
 }

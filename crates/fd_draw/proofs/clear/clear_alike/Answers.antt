@@ -14,5 +14,6 @@ returns-clause-drawn c = λ _ state.
     let stack : c.push_alike.new.self
     ≡ without_room c.args.undo.now.opens_fresh (c.args.undo.now.frames ++ alike c.args.tile.now.place (c.in-Some-Some.colour, c.in-Some-Some.depth) ∷ []) =
     c.in_ok-push_alike.ensures.ok ∙ ap (λ p. without_room c.args.undo.now.opens_fresh (frames ++ alike p q ∷ [])) c.place.ensures.value in
-    let painted = Paints-alike c.args.undo.now.opens_fresh t c.in-Some-Some.colour c.in-Some-Some.depth frames c.place.ensures.filled c.in-Some-Some.ensures c.in-Some-Some.ensures' in
+    let painted = Paints-alike c.args.undo.now.opens_fresh t c.in-Some-Some.colour c.in-Some-Some.depth frames c.place.ensures.filled c.in-Some-Some.ensures
+    c.in-Some-Some.ensures' in
     grind arith

@@ -2,7 +2,7 @@ use Rattle.std.proofs.Common.{◌≡◌, ◌+◌, ◌-◌, ◌*◌, true, false,
 use Rattle.std.specs.Prelude.{is_some}
 use Rattle.fd_events.specs.Picture.{texel}
 use Rattle.fd_draw.specs.Mask.{has_bit}
-use Rattle.fd_draw.proofs.Masks.{bits_grown, bound_grown}
+use Rattle.fd_draw.proofs.Masks.{bits_grown, bound_grown, ones_set}
 use Rattle.fd_draw.proofs.tested.mask_of.Goals as goal
 
 pub loop-x-preserved-then-is_some : goal.loop-x-preserved-then-is_some
@@ -32,3 +32,7 @@ loop-x-preserved c =
           (omega (arith, c.loop-x-test.true)) inv.to_right (omega arith) there inv.bits k low;
       bound = rw same at (bound_grown c.loop-x.mask x c.args.right 0 (omega (arith, c.loop-x-test.true)) inv.to_right (omega arith) inv.bound);
     }
+
+pub returns-then-fills-clause-bits : goal.returns-then-fills-clause-bits
+returns-then-fills-clause-bits c = λ k low. ones_set k (omega (arith, low, c.requires.few))
+    ∙ sym (c.fills.ensures c.if-fills.true k low)

@@ -8,12 +8,14 @@ pub draw_primitive-requires-clause-room : goal.draw_primitive-requires-clause-ro
 draw_primitive-requires-clause-room c =
     let same = triangle_found c.args.draw.now c.args.triangle c.tri-corners.result c.colours-colours.result c.depths-depths.result c.tri-corners.ensures
     c.colours-colours.ensures c.depths-depths.ensures
-    ∙ ap (λ (picture : Option Painting). triangle_with c.tri-corners.result c.colours-colours.result c.depths-depths.result picture) (sym c.picture.ensures) in
+    ∙ ap (λ (picture : Option Painting). triangle_with c.tri-corners.result c.colours-colours.result c.depths-depths.result picture)
+    (sym c.picture-picture.ensures) in
     rw same at c.requires.room
 
 pub returns : goal.returns
 returns c =
     let same = triangle_found c.args.draw.now c.args.triangle c.tri-corners.result c.colours-colours.result c.depths-depths.result c.tri-corners.ensures
     c.colours-colours.ensures c.depths-depths.ensures
-    ∙ ap (λ (picture : Option Painting). triangle_with c.tri-corners.result c.colours-colours.result c.depths-depths.result picture) (sym c.picture.ensures) in
+    ∙ ap (λ (picture : Option Painting). triangle_with c.tri-corners.result c.colours-colours.result c.depths-depths.result picture)
+    (sym c.picture-picture.ensures) in
     grind arith

@@ -6,7 +6,7 @@ use Rattle.fd_events.proofs.numbers.add_row.Goals as goal
 pub loop-cell-preserved : goal.loop-cell-preserved
 loop-cell-preserved c =
     let inv = c.loop-cell.invariant in
-    let more = c.in_ok-add.ensures in
+    let more = c.in_ok-add.ensures.listed in
     record {
       grown = Grow-then c.args.number _ _ _ inv.grown more.0;
       added = λ cell from to. elim (cases_lt cell c.loop-cell.cell) [

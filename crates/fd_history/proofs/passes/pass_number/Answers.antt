@@ -1,27 +1,12 @@
-use Rattle.std.proofs.Common.{◌≡◌, ◌+◌, ◌-◌, ◌∙◌, ◌++◌, true, Some, sym, ap, arith, length, take, drop, length-append}
+use Rattle.std.proofs.Common.{◌≡◌, ◌+◌, ◌-◌, ◌∙◌, ◌++◌, true, Some, ap, arith, length, take, drop, length-append}
 use Rattle.std.proofs.lemmas.List.{drop_at, take_all}
 use Rattle.fd_events.specs.Image.{kept_after}
 use Rattle.fd_events.specs.Table.{flag_at}
 use Rattle.fd_owner.specs.History.{position, pixels_kept}
 use Rattle.fd_owner.proofs.Drawn.{kept_drawn}
 use Rattle.fd_history.specs.Gathered.{Gathering, gathered_of}
-use Rattle.fd_history.proofs.Settles.{passes_by, overwrites_nothing, count_event}
+use Rattle.fd_history.proofs.Settles.{count_event}
 use Rattle.fd_history.proofs.passes.pass_number.Goals as goal
-
-pub returns-then-not-may_reach-clause-entries : goal.returns-then-not-may_reach-clause-entries
-returns-then-not-may_reach-clause-entries c =
-    let on : flag_at c.args.table.now c.args.number ≡ Some true = c.is_on.ensures ∙ ap (λ b. Some b) c.if-not-is_on.false in
-    passes_by c.args.table.now c.args.number c.gather.inside.x c.gather.inside.y c.event-event.result.now c.requires.first c.event-event.ensures on
-    (c.may_reach.ensures c.if-not-may_reach.true)
-    c.args.gather.now (sym (ap (λ (g : Gathering). g.x) c.gather.view_is)) (sym (ap (λ (g : Gathering). g.y) c.gather.view_is))
-
-pub returns-then-not-may_reach-clause-kept : goal.returns-then-not-may_reach-clause-kept
-returns-then-not-may_reach-clause-kept c =
-    let on : flag_at c.args.table.now c.args.number ≡ Some true = c.is_on.ensures ∙ ap (λ b. Some b) c.if-not-is_on.false in
-    rw (← c.gather.view_is)
-    (overwrites_nothing c.args.table.now c.args.number c.gather.inside.x c.gather.inside.y c.event-event.result.now c.requires.first c.event-event.ensures on
-    (c.may_reach.ensures c.if-not-may_reach.true)
-    c.args.kept.now.items)
 
 pub returns-clause-kept : goal.returns-clause-kept
 returns-clause-kept c =

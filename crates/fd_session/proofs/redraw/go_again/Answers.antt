@@ -14,6 +14,7 @@ go_forward-requires-after_bounds g c κs outlives =
     rw c.requires.whole (record {
       stand = c.take_all_before.ensures.left.each;
       ahead = omega (arith, c.take_all_before.ensures.high, c.make-switch.ensures.position);
+      forgotten = λ t. absurd (cc);
       within = omega (
         arith,
         c.requires.reached,

@@ -20,7 +20,7 @@ loop-owner-preserved c =
     let owners = c.loop-owner.owners in
     let o : Shown = get_or owners c.loop-owner.owner-index c.owner-item.result in
     let is = alike_at c.args.owners.now owners _ o c.loop-owner-test.true c.loop-owner.auto.owners (cc) c.loop-owner.invariant.rest in
-    let here = no_lower false _ (c.args.switch.now.number - 1) _ c.take_before.ensures.stands in
+    let here = no_lower false false _ (c.args.switch.now.number - 1) _ c.take_before.ensures.stands in
     record {
       taken = zip_next (IsTakenBefore c.args.table.now c.args.switch.now) _ _ _ _ _ c.loop-owner-test.true c.loop-owner.auto.owners is
           c.loop-owner.invariant.taken c.take_before.ensures;

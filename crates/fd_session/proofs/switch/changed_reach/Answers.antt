@@ -22,7 +22,7 @@ loop-at-preserved-then-is_on c =
       from = omega (arith, loop.invariant.from);
       to = omega (arith, c.loop-at-test.true);
       followed = λ was is.
-          rw c.state_past-state.ensures
+          rw c.after-state.ensures
           (followed_by table c.args.number was (Some event) loop.at loop.state loop.reach c.join-reach.result loop.invariant.from
           (active_is table (loop.at + 1) true on ∙ c.event-event.ensures)
           (λ x y out. (outside c.join-reach.result loop.reach c.reach_by_state.result x y c.join-reach.ensures.both out).0)

@@ -8,7 +8,7 @@ use Rattle.fd_events.proofs.grid.Grid.add.Goals as goal
 pub loop-row-preserved : goal.loop-row-preserved
 loop-row-preserved c =
     let inv = c.loop-row.invariant in
-    let more = c.in_ok-add_row.ensures in
+    let more = c.in_ok-add_row.ensures.listed in
     let grid = c.args.self in
     let part = c.part_under-part in
     let reached = c.reached-left.ensures in
@@ -36,8 +36,8 @@ loop-row-preserved c =
           ];
     }
 
-pub returns : goal.returns
-returns c =
+pub returns-clause-listed : goal.returns-clause-listed
+returns-clause-listed c =
     let inv = c.loop-row.invariant in
     let part = c.part_under-part in (
       inv.grown,

@@ -19,7 +19,7 @@ pub loop-number-preserved : goal.loop-number-preserved
 loop-number-preserved c =
     let inv = c.loop-number.invariant in
     let number = c.loop-number.number in
-    let more = c.in_ok-add.ensures in
+    let more = c.in_ok-add.ensures.listed in
     record {
       all = more.0.same ∙ inv.all;
       ordered = AreOrdered-more number _ (more.0.ordered inv.ordered);
@@ -32,8 +32,8 @@ loop-number-preserved c =
       ];
     }
 
-pub returns : goal.returns
-returns c =
+pub returns-clause-lists : goal.returns-clause-lists
+returns-clause-lists c =
     let inv = c.loop-number.invariant in
     let all : c.loop-number.number ≡ length c.args.boxes.now = omega (arith, c.loop-number-test.false, c.loop-number.auto.number-end) in
     (rw (← all) inv.ordered, λ i t at. inv.listed i t (omega (arith, all, c.requires.all, slice_get_within (triangles_of c.args.list.now) i t at)) at)

@@ -14,7 +14,7 @@ loop-triangle-preserved c =
     let own = IsTriangleBox-own ts i c.tri.result c.of.result c.tri.ensures c.of.ensures.value c.of.ensures.covered in
     let all : AreTriangleBoxes (boxes ++ c.of.result ∷ []) ts = each_box (λ box number. IsTriangleBox box number ts) boxes i
     c.of.result c.loop-triangle.invariant.0 c.loop-triangle.invariant.1 own in
-    let items : c.push.new.self.items ≡ boxes ++ c.of.result ∷ [] = c.in_ok-push.ensures.items in (
+    let items : c.push.new.list.items ≡ boxes ++ c.of.result ∷ [] = c.in_ok-push.ensures.items in (
       ap length items ∙ length_push boxes c.of.result ∙ omega (arith, c.loop-triangle.invariant.0),
       subst (λ (bs : List Bounds). AreTriangleBoxes bs ts)
           (sym items) all,

@@ -15,19 +15,20 @@ loop-cell-preserved c =
     let list = c.deref.result.now in
     let within : cell < length all = omega (arith, c.loop-cell-test.true) in
     let its : list ≡ listed_at (numbers_of all) cell = c.deref.ensures.value ∙ ap items c.index-lists-cell.is ∙ sym (get_or-map items all cell _ [] within) in
-    let longer = c.in_ok-extend_from_slice.ensures.items in
+    let longer = c.in_ok-append.ensures.items in
     let end : c.in-Ok.end ≡ length (numbers ++ list) =
     omega (
       arith,
       c.in-Ok.ensures,
       c.len-in-loop-cell.ensures,
-      c.in_ok-extend_from_slice.ensures.len,
+      c.append.new.list.ok.0,
       c.loop-cell.numbers.ok.0,
+      ap length longer,
       length-append numbers
           list,
     ) in
     let more = c.in_ok-push-2.ensures.items in
     rw (longer, more) (ArePacked-next numbers starts list (numbers_of all) cell c.in-Ok.end c.loop-cell.invariant its end)
 
-pub returns : goal.returns
-returns c = grind (arith, length-map, ArePacked-all)
+pub returns-clause-lists : goal.returns-clause-lists
+returns-clause-lists c = grind (arith, length-map, ArePacked-all)

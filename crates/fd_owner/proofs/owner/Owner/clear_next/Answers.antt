@@ -35,7 +35,8 @@ painted c drawn =
     let table : Table = c.args.table.now in
     let t : TileImage = c.self.inside.tile in
     let u : Undo = c.self.inside.undo in
-    Paints-past table (k c) c.event.result.now (state_at table (k c)) t c.clear_alike.new.tile (without_room u.opens_fresh (u.frames ++ [] ∷ [])) c.clear_alike.new.undo
+    Paints-past table (k c) c.event.result.now (state_at table (k c)) t c.clear_alike.new.tile
+    (without_room u.opens_fresh (u.frames ++ [] ∷ [])) c.clear_alike.new.undo
     (ap (event_at table) (sym c.requires.next) ∙ c.event.ensures) (rw c.requires.next at c.requires.on) refl
     (c.clear_alike.ensures.drawn (c.in-Ok.is ∙ ap Ok drawn) (state_at table (k c)))
 
@@ -58,7 +59,8 @@ invariant_of-self c =
     let u' = c.clear_alike.new.undo in
     either {X = IsOwner t' u' × OpensFresh t' u'} c.in-Ok.drawn
     (λ drawn. (
-      IsOwner-step c.args.table.now (k d) t t' u (without_room u.opens_fresh (u.frames ++ [] ∷ [])) u' c.place-place.ensures.filled c.self.invariant.0 (at d) refl
+      IsOwner-step c.args.table.now (k d) t t' u (without_room u.opens_fresh (u.frames ++ [] ∷ [])) u' c.place-place.ensures.filled c.self.invariant.0
+          (at d) refl
           (painted d drawn) fits (λ _. c.clear_alike.ensures.alike (c.in-Ok.is ∙ ap Ok drawn)),
       OpensFresh-kept t t' u u' (ap (λ (h : History). h.opening) (history d drawn)) (painted d drawn).placed (painted d drawn).opening c.self.invariant.1,
     ))

@@ -22,7 +22,8 @@ invariant_of-self c =
     let n = c.args.to - length u.frames in (
       rw c.pass_to.ensures (gone_on c.args.table.now t c.place-place.ensures.filled u c.self.invariant.0 c.args.to on c.ranges.to.fits far).0,
       OpensFresh-kept t t u c.pass_to.new.self
-          (rw (c.pass_to.ensures, all_restored-append u.frames (replicate n []) t, all_restored-empty n t) refl) refl (ap (λ (v : Undo). v.opens_fresh) c.pass_to.ensures) c.self.invariant.1,
+          (rw (c.pass_to.ensures, all_restored-append u.frames (replicate n []) t, all_restored-empty n t) refl) refl
+          (ap (λ (v : Undo). v.opens_fresh) c.pass_to.ensures) c.self.invariant.1,
     )
 
 pub returns : goal.returns

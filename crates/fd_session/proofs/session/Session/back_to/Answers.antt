@@ -10,19 +10,20 @@ use Rattle.fd_session.proofs.session.Session.back_to.Goals as goal
 
 -- what was lent of the owners stands no lower
 lent_from : (table : Table) (size : TargetSize) (to : ℕ) (old lent : List Shown) → lent ≡ old → HoldsAll false table size old → to ≤ opening_position old
-    → All (StandsFrom false table to) lent
+    → All (StandsFrom false false table to) lent
 lent_from table size to old lent is held within = rw is (all_above table (opening_position old) to old within held.stand)
 
 pub run_back-requires-after_bounds : goal.run_back-requires-after_bounds
 run_back-requires-after_bounds c κs k d below =
-    no_lower false _ c.args.to _ (lent_from _ _ c.args.to _ _ c.deref_mut.ensures.value c.self.invariant.0
+    no_lower false false _ c.args.to _ (lent_from _ _ c.args.to _ _ c.deref_mut.ensures.value c.self.invariant.0
     (omega (arith, c.requires, ap (λ (s : State). s.position) c.self.view_is)) k d below)
 
 pub invariant_of-self : goal.invariant_of-self
 invariant_of-self c =
     let held = c.self.invariant.0 in
     let within : c.args.to ≤ opening_position c.self.inside.owners.items = omega (arith, c.requires, ap (λ (s : State). s.position) c.self.view_is) in
-    let left = left_down false _ c.args.to _ _ _ (record { places = refl; each = lent_from _ _ c.args.to _ _ c.deref_mut.ensures.value held within })
+    let left = left_down false false (λ t. absurd (cc)) _ c.args.to _ _ _
+    (record { places = refl; each = lent_from _ _ c.args.to _ _ c.deref_mut.ensures.value held within })
     c.run_back.ensures.moved in
     let there = held_back false _ _ held.valid held.sized _ _ _ _ _ c.deref_mut.ensures.value c.self.inside.owners.ok.0 held.places left
     (omega (arith, within, held.reached)) in
