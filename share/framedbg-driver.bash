@@ -11,13 +11,13 @@ _framedbg_driver() {
     --device | --plant | --at | --bits | --tolerance | --scenes | --seed | --only | --scene | --seconds) return ;;
     --program) COMPREPLY=($(compgen -c -- "$word") $(compgen -f -- "$word")) && return ;;
     --junit) COMPREPLY=($(compgen -f -- "$word")) && return ;;
-    --write) COMPREPLY=($(compgen -d -- "$word")) && return ;;
+    --write | --pictures) COMPREPLY=($(compgen -d -- "$word")) && return ;;
   esac
   if ((COMP_CWORD == 1)); then
     COMPREPLY=($(compgen -W "draw compare try reduce rules --list --help" -- "$word"))
   elif [[ $word == -* ]]; then
     case $command in
-      draw) COMPREPLY=($(compgen -W "--at --each $driver" -- "$word")) ;;
+      draw) COMPREPLY=($(compgen -W "--at --each --pictures $driver" -- "$word")) ;;
       compare) COMPREPLY=($(compgen -W "--bits --going-on --all --blame --program --tolerance --json --junit $driver" -- "$word")) ;;
       try) COMPREPLY=($(compgen -W "--scenes --seed --only --bits --features --scene --write --program --tolerance --json --junit $driver" -- "$word")) ;;
       rules) COMPREPLY=($(compgen -W "--program --help" -- "$word")) ;;

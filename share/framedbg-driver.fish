@@ -15,6 +15,7 @@ complete -c framedbg-driver -x -l plant -d 'Draws as a driver with this fault wo
 complete -c framedbg-driver -l help -d 'Shows the options'
 complete -c framedbg-driver -n '__fish_seen_subcommand_from draw' -x -l at -d 'The position'
 complete -c framedbg-driver -n '__fish_seen_subcommand_from draw' -l each -d 'Sums for each position'
+complete -c framedbg-driver -n '__fish_seen_subcommand_from draw' -r -l pictures -d 'Keeps the image after each event'
 complete -c framedbg-driver -n '__fish_seen_subcommand_from compare' -l going-on -d 'What differs stays'
 complete -c framedbg-driver -n '__fish_seen_subcommand_from compare' -l all -d 'Events that are alike, too'
 complete -c framedbg-driver -n '__fish_seen_subcommand_from compare' -l blame -d 'What the driver ignored or mixed up'

@@ -7,7 +7,7 @@ _framedbg_night() {
     --program) COMPREPLY=($(compgen -c -- "$word") $(compgen -f -- "$word")) && return ;;
   esac
   if [[ $word == -* ]]; then
-    COMPREPLY=($(compgen -W "--results --tolerance --seconds --processes --slurm --sbatch --allow-missing --again --program --help" -- "$word"))
+    COMPREPLY=($(compgen -W "--results --tolerance --seconds --processes --slurm --sbatch --driver --allow-missing --again --program --help" -- "$word"))
   else
     COMPREPLY=($(compgen -d -- "$word"))
   fi

@@ -5,6 +5,7 @@ complete -c framedbg-night -x -l seconds -d 'The time for the search of one capt
 complete -c framedbg-night -x -l processes -a '1 2 4 8 16 32 64' -d 'Jobs at a time on this machine'
 complete -c framedbg-night -l slurm -d 'Runs the jobs as an array of Slurm'
 complete -c framedbg-night -x -l sbatch -d 'Further words for sbatch'
+complete -c framedbg-night -l driver -d 'Compares each capture with the graphics driver'
 complete -c framedbg-night -l allow-missing -d 'Captures without a picture are no fault'
 complete -c framedbg-night -l again -d 'Does also what is done'
 complete -c framedbg-night -r -l program -d 'framedbg'

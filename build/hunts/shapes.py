@@ -1,10 +1,16 @@
-"""Meshes made by rule: points, and faces as (three corners, colour) that run clockwise seen from outside on a target whose y grows down."""
+"""Meshes made by rule: points, and faces as (three corners, colour) that run clockwise seen from outside on a target
+whose y grows down."""
 import math
 
 
 def turned(profile, around, colour, start=0.0):
-    """A body of revolution round the y axis; profile is a list of (radius, height) from the top, colour a function of (row, column)."""
-    points = [(r * math.cos(start + 2 * math.pi * i / around), y, r * math.sin(start + 2 * math.pi * i / around)) for r, y in profile for i in range(around)]
+    """A body of revolution round the y axis; profile is a list of (radius, height) from the top, colour a function
+    of (row, column)."""
+    points = [
+        (r * math.cos(start + 2 * math.pi * i / around), y, r * math.sin(start + 2 * math.pi * i / around))
+        for r, y in profile
+        for i in range(around)
+    ]
     faces = []
     for row in range(len(profile) - 1):
         for i in range(around):
@@ -15,7 +21,10 @@ def turned(profile, around, colour, start=0.0):
 
 
 def ball(radius, rows, around, colour, middle=(0, 0, 0)):
-    profile = [(max(1e-6, radius * math.sin(math.pi * row / rows)), radius * math.cos(math.pi * row / rows)) for row in range(rows + 1)]
+    profile = [
+        (max(1e-6, radius * math.sin(math.pi * row / rows)), radius * math.cos(math.pi * row / rows))
+        for row in range(rows + 1)
+    ]
     return moved(turned(profile, around, colour), *middle)
 
 
@@ -69,5 +78,7 @@ def joined(*meshes):
 def upward(mesh):
     """A flat mesh with each face turned so that it is seen from above."""
     points, faces = mesh
-    up = lambda a, b, c: (points[c][0] - points[a][0]) * (points[b][2] - points[a][2]) - (points[b][0] - points[a][0]) * (points[c][2] - points[a][2])
+    up = lambda a, b, c: (points[c][0] - points[a][0]) * (points[b][2] - points[a][2]) - (
+        points[b][0] - points[a][0]
+    ) * (points[c][2] - points[a][2])
     return points, [((a, b, c) if up(a, b, c) < 0 else (a, c, b), colour) for (a, b, c), colour in faces]

@@ -8,7 +8,7 @@ WIDTH, HEIGHT = 120, 90
 LIGHT = (-0.45, 0.75, 0.55)
 OVER, ADDED = ["SRC_ALPHA", "INV_SRC_ALPHA", "ADD"], ["SRC_ALPHA", "ONE", "ADD"]
 KEEP = ["ZERO", "ONE", "ADD"]
-NEAR, FAR = 3.0, 9.0           # of the depth, in the meshes' units from the eye
+NEAR, FAR = 3.0, 9.0  # of the depth, in the meshes' units from the eye
 
 
 def clear(*colour):
@@ -50,7 +50,23 @@ def disc(x, y, radius, corners, centre, rim, tall=1.0):
     return shape([(x, y), *around, around[0]], [centre] + [rim] * (corners + 1), "linear")
 
 
+def textured(corners, texture, texel_of):
+    """A flat figure as a fan round its first corner, that reads a texture: texel_of gives the texel (u, v) on which a
+    pixel's centre lies. A texel of alpha 0 is discarded."""
+    columns, rows = zip(*corners)
+    left, top, right, bottom = int(min(columns)), int(min(rows)), math.ceil(max(columns)), math.ceil(max(rows))
+    texels = [texture.at(*texel_of(x + 0.5, y + 0.5)) for y in range(top, bottom) for x in range(left, right)]
+    holes = [not texel[3] for texel in texels]
+    rgba = bytes(value for texel in texels for value in texel)
+    box = captures.picture(left, top, right - left, bottom - top, rgba, holes if any(holes) else None)
+    fan = [k for i in range(1, len(corners) - 1) for k in (0, i, i + 1)]
+    places = [captures.corner(round(x * PIXEL), round(y * PIXEL), FARTHEST) for x, y in corners]
+    made = captures.picture_draw(places, box, fan)
+    return {**made, "source": {"textures": [texture.told()]}}
+
+
 # ---- Bodies, seen from the front: x to the right, y up, z towards the eye ------------------------------------
+
 
 def seen(point, eye=6.0, scale=150.0, middle=(WIDTH / 2, HEIGHT / 2)):
     x, y, z = point
@@ -104,5 +120,8 @@ def smooth_body(mesh, interp="linear", alpha=255, deep=False):
     kept = facing(mesh)
     named = sorted({c for corners, _ in kept for c in corners})
     place = {c: i for i, c in enumerate(named)}
-    vertices = [vertex(*seen(points[c]), lit(colours[c], normals[c], alpha), depth_of(points[c]) if deep else None) for c in named]
+    vertices = [
+        vertex(*seen(points[c]), lit(colours[c], normals[c], alpha), depth_of(points[c]) if deep else None)
+        for c in named
+    ]
     return draw(vertices, interp, [place[c] for corners, _ in kept for c in corners])

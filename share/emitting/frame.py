@@ -21,7 +21,13 @@ def quad(capture, turn, depth, colour, source):
 def decal(capture, source):
     places = [(x, y) for y in range(5) for x in range(8)]
     rgba = bytes(byte for x, y in places for byte in (30 * x, 40 * y, 255 - 30 * x, 255))
-    capture.draw_picture([(90, 50, 0.2), (90, 90, 0.2), (130, 50, 0.2)], (100, 60, 8, 5), rgba, [(x + y) % 4 == 0 for x, y in places], source={"event": source})
+    capture.draw_picture(
+        [(90, 50, 0.2), (90, 90, 0.2), (130, 50, 0.2)],
+        (100, 60, 8, 5),
+        rgba,
+        [(x + y) % 4 == 0 for x, y in places],
+        source={"event": source},
+    )
 
 
 capture = Capture(WIDTH, HEIGHT)
