@@ -1,19 +1,22 @@
-"""Where a vertex has to lie. A pixel whose wanted colour says which triangle of the vertex covers it, or that none does, bounds the vertex by lines: an
-edge runs on one side of the pixel's centre, and between its corners' colours a linear triangle has the wanted one along a line alone.
+"""Where a vertex has to lie. A pixel whose wanted colour says which triangle of the vertex covers it, or that none
+does, bounds the vertex by lines: an edge runs on one side of the pixel's centre, and between its corners' colours a
+linear triangle has the wanted one along a line alone.
 
-A line is (a, b, c): a x + b y + c is at least 0, with x and y in 1/256 pixel. It is a whole number there, so that half of one is room for rounding.
+A line is (a, b, c): a x + b y + c is at least 0, with x and y in 1/256 pixel. It is a whole number there, so that
+half of one is room for rounding.
 """
 import bisect
 import itertools
 from dataclasses import dataclass
 
-from .fragments import cross, least
+from rules.coverage import cross, culled_turn, least
+
 from .frame import order_of
 from .painting import has_picture
 
-REACH = 40 * 256         # how far a vertex is looked for
-MOST_TURNS = 300         # choices between alternatives
-MOST_POLYGONS, MOST_INSIDE, MOST_TRIED = 24, 40, 120      # that are looked at; places in one, and in all, that are tried
+REACH = 40 * 256  # how far a vertex is looked for
+MOST_TURNS = 300  # choices between alternatives
+MOST_POLYGONS, MOST_INSIDE, MOST_TRIED = 24, 40, 120  # that are looked at; places in one, and in all, that are tried
 SLACK = 0.5
 
 
@@ -46,12 +49,14 @@ def clipped(polygon, line):
 
 @dataclass(frozen=True)
 class Own:
-    """A triangle of the vertex: its number, the other two corners so that it runs clockwise, and which way it runs as it is drawn."""
+    """A triangle of the vertex: its number, the other two corners so that it runs clockwise, and which way it runs
+    as it is drawn."""
+
     number: int
     is_clockwise: bool
-    first: tuple         # (place, colour, depth)
+    first: tuple  # (place, colour, depth)
     second: tuple
-    flat: tuple          # its colour where it is flat
+    flat: tuple  # its colour where it is flat
 
     def covers(self, middle):
         """The lines by which it covers a pixel's centre, or None where its third edge forbids that."""
@@ -76,13 +81,14 @@ class Cell:
     """What the points say of a vertex of a draw, while it stands at a place."""
 
     def __init__(self, points, number, at, is_clockwise=None):
-        """`is_clockwise` says which way its triangles run where none is culled; else they run as they do with the vertex at a place."""
+        """`is_clockwise` says which way its triangles run where none is culled; else they run as they do with the
+        vertex at a place."""
         event = points.frame.events[number - 1]
         self.points, self.number, self.at, self.event = points, number, at, event
         self.state, self.is_clockwise = points.steps[number - 1][0], is_clockwise
         self.corners = [points.corner(vertex) for vertex in event["vertices"]]
         order = order_of(event)
-        self.triangles = [order[k:k + 3] for k in range(0, len(order) - 2, 3)]
+        self.triangles = [order[k : k + 3] for k in range(0, len(order) - 2, 3)]
         self.fixed = self._fixed()
 
     def _fixed(self):
@@ -96,9 +102,8 @@ class Cell:
 
     def own(self, place):
         """The triangles of the vertex as they run with it at a place, or as they do to be drawn."""
-        raster, forced = self.state["raster"], self.is_clockwise
-        if raster["cull"] != "none":
-            forced = (raster["cull"] == "back") != raster["front_ccw"]
+        culled = culled_turn(self.state["raster"])
+        forced = self.is_clockwise if culled is None else not culled
         for number, triangle in enumerate(self.triangles):
             if triangle.count(self.at) == 1:
                 k = triangle.index(self.at)
@@ -131,17 +136,22 @@ class Cell:
         return lines
 
     def bounds(self, point, triangle, source, depth, channel):
-        """The least and the greatest value of a channel of the source with which the point's is as wanted; None where there is none. More of a source is taken
-        to leave more in the end."""
+        """The least and the greatest value of a channel of the source with which the point's is as wanted; None
+        where there is none. More of a source is taken to leave more in the end."""
         hull = sorted([self.corners[self.at][1][channel], triangle.first[1][channel], triangle.second[1][channel]])
         wanted, by = self.points.wanted[point][channel], self.points.comparison.tolerance[channel]
         if by == 255:
             return hull[0], hull[2]
 
         def final(byte):
-            return self.with_own(point, triangle, tuple(byte if i == channel else other for i, other in enumerate(source)), depth)[channel]
+            return self.with_own(
+                point, triangle, tuple(byte if i == channel else other for i, other in enumerate(source)), depth
+            )[channel]
+
         values = range(hull[0], hull[2] + 1)
-        low, high = bisect.bisect_left(values, wanted - by, key=final), bisect.bisect_right(values, wanted + by, key=final)
+        low, high = bisect.bisect_left(values, wanted - by, key=final), bisect.bisect_right(
+            values, wanted + by, key=final
+        )
         return (values[low], values[high - 1]) if low < high else None
 
     def clauses(self, place):
@@ -151,7 +161,9 @@ class Cell:
             near = [triangle for triangle in own if self.reaches(triangle, point, place)]
             if not near or not self.points.is_inside(point, self.state) or self.is_discarded(point):
                 continue
-            is_bare = self.points.is_near(self.points.final(point, number, [fragment for _, fragment in self.fixed.get(point, ())]), wanted)
+            is_bare = self.points.is_near(
+                self.points.final(point, number, [fragment for _, fragment in self.fixed.get(point, ())]), wanted
+            )
             fitting = [lines for lines in (self.fits(point, triangle, place) for triangle in near) if lines]
             if is_bare and not fitting:
                 for triangle in near:
@@ -168,18 +180,25 @@ class Cell:
     def reaches(self, triangle, point, place):
         x, y = self.points.centres[point]
         xs, ys = zip(triangle.first[0], triangle.second[0])
-        return min(*xs, place[0] - REACH) <= x <= max(*xs, place[0] + REACH) and min(*ys, place[1] - REACH) <= y <= max(*ys, place[1] + REACH)
+        return min(*xs, place[0] - REACH) <= x <= max(*xs, place[0] + REACH) and min(*ys, place[1] - REACH) <= y <= max(
+            *ys, place[1] + REACH
+        )
 
     def places(self, place):
         """Places in 1/256 pixel that the points leave of the square round one, at most so many."""
         x, y = place
         square = [(x - REACH, y - REACH), (x + REACH, y - REACH), (x + REACH, y + REACH), (x - REACH, y + REACH)]
-        found = (spot for polygon in itertools.islice(polygons(square, list(self.clauses(place)), []), MOST_POLYGONS) for spot in inside(polygon))
+        found = (
+            spot
+            for polygon in itertools.islice(polygons(square, list(self.clauses(place)), []), MOST_POLYGONS)
+            for spot in inside(polygon)
+        )
         return itertools.islice(found, MOST_TRIED)
 
 
 def polygons(polygon, clauses, turns):
-    """What the clauses leave of a polygon: where one has several alternatives, of each what it leaves. `turns` counts how often that was so."""
+    """What the clauses leave of a polygon: where one has several alternatives, of each what it leaves. `turns`
+    counts how often that was so."""
     while True:
         narrower, rest = narrowed(polygon, clauses)
         if narrower is None or len(turns) > MOST_TURNS:
@@ -197,10 +216,13 @@ def polygons(polygon, clauses, turns):
 
 
 def narrowed(polygon, clauses):
-    """The polygon after each clause that leaves one alternative, and the clauses that leave more; no polygon where one leaves none."""
+    """The polygon after each clause that leaves one alternative, and the clauses that leave more; no polygon where
+    one leaves none."""
     rest = []
     for clause in clauses:
-        left = [lines for lines in clause if all(max(value(line, corner) for corner in polygon) >= -SLACK for line in lines)]
+        left = [
+            lines for lines in clause if all(max(value(line, corner) for corner in polygon) >= -SLACK for line in lines)
+        ]
         if any(all(value(line, corner) >= -SLACK for line in lines for corner in polygon) for lines in left):
             continue
         if len(left) > 1:

@@ -4,16 +4,16 @@ from dataclasses import dataclass
 
 from .comparing import pixels_of
 
-CELL = 4                 # pixels in cells of so many that touch, also at a corner, hang together
-MANY = 20_000            # pixels of a cluster, of which some stand for all
-BOXES, MARGIN = 3, 6     # clusters round which pixels that are right are taken, and how far round them
+CELL = 4  # pixels in cells of so many that touch, also at a corner, hang together
+MANY = 20_000  # pixels of a cluster, of which some stand for all
+BOXES, MARGIN = 3, 6  # clusters round which pixels that are right are taken, and how far round them
 ROUND, ANYWHERE = 24, 24
 
 
 @dataclass(frozen=True)
 class Cluster:
-    pixels: tuple        # their numbers, row by row
-    box: tuple           # left, top, right, bottom, the last two exclusive
+    pixels: tuple  # their numbers, row by row
+    box: tuple  # left, top, right, bottom, the last two exclusive
 
     def __len__(self):
         return len(self.pixels)
@@ -56,7 +56,8 @@ def box_of(pixels, width):
 
 
 def spread(pixels, width, most):
-    """At most so many of some pixels, from all over them: of one cell of sixteen by sixteen after the other, in turn."""
+    """At most so many of some pixels, from all over them: of one cell of sixteen by sixteen after the other, in
+    turn."""
     cells, pixels = {}, thinned(pixels)
     for pixel in pixels:
         y, x = divmod(pixel, width)
@@ -64,14 +65,14 @@ def spread(pixels, width, most):
     orders = [scattered(some) for some in cells.values()]
     found, turn = [], 0
     while len(found) < min(most, len(pixels)):
-        found += [order[turn] for order in orders if turn < len(order)][:most - len(found)]
+        found += [order[turn] for order in orders if turn < len(order)][: most - len(found)]
         turn += 1
     return found
 
 
 def thinned(pixels):
     """Some of very many pixels, as far apart in the list as each other."""
-    return pixels[::len(pixels) // MANY | 1]
+    return pixels[:: len(pixels) // MANY | 1]
 
 
 def outside(mask, clusters, width):
@@ -80,7 +81,9 @@ def outside(mask, clusters, width):
     boxes = [cluster.box for cluster in clusters[:BOXES] for _ in range(ROUND)] + [(0, 0, width, height)] * ANYWHERE
     found = {}
     for left, top, right, bottom in boxes:
-        x, y = chance.randrange(max(0, left - MARGIN), min(width, right + MARGIN)), chance.randrange(max(0, top - MARGIN), min(height, bottom + MARGIN))
+        x, y = chance.randrange(max(0, left - MARGIN), min(width, right + MARGIN)), chance.randrange(
+            max(0, top - MARGIN), min(height, bottom + MARGIN)
+        )
         if not mask[y * width + x]:
             found[y * width + x] = None
     return list(found)

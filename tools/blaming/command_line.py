@@ -3,6 +3,7 @@
     framedbg-blame frame.json wanted.png              a report, to be read from the top
     framedbg-blame frame.json wanted.png --json       the same for a script
     framedbg-blame frame.json driver.png --driver     the other way round: what did the driver that drew this picture ignore or mix up?
+    framedbg-blame frame.json pictures --driver       the same of a folder with its picture after each event, each event alone
 
 The picture is a PAM, PPM or PNG of the target's size. Changed captures are temporary files; --write alone keeps one.
 Statuses: 0 no pixel differs, 1 some differ, and an event is named, 2 a fault of the words, the capture or the picture, 3 a read or write fault,
@@ -48,12 +49,42 @@ def processes(text):
 def words(given=None):
     parser = Words(prog="framedbg-blame", description=__doc__, formatter_class=argparse.RawDescriptionHelpFormatter)
     parser.add_argument("capture", metavar="CAPTURE", help="the capture, a JSON file")
-    parser.add_argument("picture", metavar="PICTURE", help="the picture that it should be: PAM, PPM or PNG")
-    parser.add_argument("--json", action="store_true", help="differ, suspects, changes and findings as JSON, the best first")
-    parser.add_argument("--driver", action="store_true", help="the picture is what a driver drew: says what it ignored or mixed up")
-    parser.add_argument("--tolerance", type=tolerance, default=(0, 0, 0, 0), metavar="R,G,B,A", help="how far a channel may be off, in all or in each [0]")
-    parser.add_argument("--seconds", type=seconds, default=60.0, metavar="S", help="the time for a search; then the best so far is told [60]")
-    parser.add_argument("--processes", type=processes, default=os.cpu_count() or 1, metavar="N", help="runs of framedbg at a time [one a core]")
+    parser.add_argument(
+        "picture",
+        metavar="PICTURE",
+        help="the picture that it should be: PAM, PPM or PNG; with --driver also a folder of them",
+    )
+    parser.add_argument(
+        "--json", action="store_true", help="differ, suspects, changes and findings as JSON, the best first"
+    )
+    parser.add_argument(
+        "--driver",
+        action="store_true",
+        help="the picture is what a driver drew: says what it ignored or mixed up, in one event or in all of a kind",
+    )
+    parser.add_argument(
+        "--tolerance",
+        type=tolerance,
+        default=(0, 0, 0, 0),
+        metavar="R,G,B,A",
+        help="how far a channel may be off, in all or in each [0]",
+    )
+    parser.add_argument(
+        "--seconds",
+        type=seconds,
+        default=60.0,
+        metavar="S",
+        help="the time for a search; then the best so far is told [60]",
+    )
+    parser.add_argument(
+        "--processes",
+        type=processes,
+        default=os.cpu_count() or 1,
+        metavar="N",
+        help="runs of framedbg at a time [one a core]",
+    )
     parser.add_argument("--write", metavar="FILE", help="keeps the capture after the best change")
-    parser.add_argument("--program", help="framedbg [the one that was built or installed here, else the one on the path]")
+    parser.add_argument(
+        "--program", help="framedbg [the one that was built or installed here, else the one on the path]"
+    )
     return parser.parse_args(given)

@@ -1,11 +1,12 @@
-"""Which pixels of an image differ from a picture, with a tolerance for each channel. Whole rows are compared at once, as numbers of many bytes."""
+"""Which pixels of an image differ from a picture, with a tolerance for each channel. Whole rows are compared at
+once, as numbers of many bytes."""
 ONES = bytes([0] + [1] * 255)
 CHANNELS = 4
 
 
 class Comparison:
-    """What is wanted of each pixel of a target, or of a window of it: samples of four channels, and how far each channel may be from them. A picture
-    without an alpha says nothing about the alpha: its tolerance is 255."""
+    """What is wanted of each pixel of a target, or of a window of it: samples of four channels, and how far each
+    channel may be from them. A picture without an alpha says nothing about the alpha: its tolerance is 255."""
 
     def __init__(self, wanted, tolerance=(0, 0, 0, 0)):
         self.wanted, self.tolerance = bytes(wanted), tuple(tolerance)
@@ -47,7 +48,11 @@ class Comparison:
         return (passed ^ bit).to_bytes(2 * len(self), "little")[1::2]
 
     def is_near(self, colour, wanted):
-        return colour == wanted or not self.is_strict and all(abs(colour[c] - wanted[c]) <= self.tolerance[c] for c in self.looked_at)
+        return (
+            colour == wanted
+            or not self.is_strict
+            and all(abs(colour[c] - wanted[c]) <= self.tolerance[c] for c in self.looked_at)
+        )
 
 
 def lanes(plane):

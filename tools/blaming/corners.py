@@ -1,12 +1,15 @@
-"""Kinds of change: one vertex of a draw. Its colour is worked out from the wrong pixels; its place and its depth are looked for."""
+"""Kinds of change: one vertex of a draw. Its colour is worked out from the wrong pixels; its place and its depth are
+looked for."""
 import collections
 import itertools
 
 from captures import FARTHEST, PIXEL
+from rules.coverage import centre, cross
+from rules.shading import mean
+from rules.snapping import snapped
 
 from .blending import Chain
 from .cells import Cell
-from .fragments import centre, cross, mean, snapped
 from .frame import order_of
 from .kinds import kind, replaced
 from .painting import has_picture
@@ -14,9 +17,9 @@ from .slips import vertices_near
 from .states import allowed
 
 MOST_VERTICES = 5
-MOST_BEGUN = 20          # vertices whose places are tried from afar
-ROUNDS = 6               # of a search, as long as it gets better
-MOST_MORE = 60           # pixels that still differ that become points
+MOST_BEGUN = 20  # vertices whose places are tried from afar
+ROUNDS = 6  # of a search, as long as it gets better
+MOST_MORE = 60  # pixels that still differ that become points
 
 
 def with_vertex(case, number, at, **members):
@@ -27,12 +30,13 @@ def with_vertex(case, number, at, **members):
 
 
 def met(case, number):
-    """The vertices of the triangles that wrong pixels have met in a draw, the most often met first, each with (sample, entry) where it did."""
+    """The vertices of the triangles that wrong pixels have met in a draw, the most often met first, each with
+    (sample, entry) where it did."""
     order, found = order_of(case.frame.events[number - 1]), collections.defaultdict(list)
     for sample in case.samples:
         for entry in sample.entries:
             if entry.event == number and entry.triangle is not None:
-                for at in dict.fromkeys(order[3 * entry.triangle:3 * entry.triangle + 3]):
+                for at in dict.fromkeys(order[3 * entry.triangle : 3 * entry.triangle + 3]):
                     found[at].append((sample, entry))
     return sorted(found.items(), key=lambda item: -len({sample.pixel for sample, _ in item[1]}))[:MOST_VERTICES]
 
@@ -41,7 +45,7 @@ class Shade:
     """A fragment's source as a function of one vertex's colour."""
 
     def __init__(self, draw, triangle, at, pixel):
-        self.corners = order_of(draw)[3 * triangle:3 * triangle + 3]
+        self.corners = order_of(draw)[3 * triangle : 3 * triangle + 3]
         self.colours = [draw["vertices"][i]["color"] for i in self.corners]
         self.at, self.is_flat = at, draw["interp"] == "flat"
         places, middle = [snapped(draw["vertices"][i]) for i in self.corners], centre(*pixel)
@@ -63,16 +67,24 @@ def colours(case, number):
         for sample, entry in [(sample, entry) for sample, entry in places if entry.is_drawn][:40]:
             chain = Chain(case.frame, sample.entries)
             if entry in chain.entries:
-                held.append((sample, (chain, chain.entries.index(entry), Shade(draw, entry.triangle, at, (sample.x, sample.y)))))
+                held.append(
+                    (sample, (chain, chain.entries.index(entry), Shade(draw, entry.triangle, at, (sample.x, sample.y))))
+                )
         if not held:
             continue
 
         def finals(one, channel, value):
             chain, first, shade = one
-            return chain.final(first, chain.entries[first].before, source=shade.source(channel, value, chain.entries[first].source))
+            return chain.final(
+                first, chain.entries[first].before, source=shade.source(channel, value, chain.entries[first].source)
+            )
+
         was = draw["vertices"][at]["color"]
         for colour in possible(was, allowed(case, held, finals)):
-            yield f"vertex {at} with the colour {' '.join(map(str, colour))} in place of {' '.join(map(str, was))}", with_vertex(case, number, at, color=colour)
+            yield (
+                f"vertex {at} with the colour {' '.join(map(str, colour))} in place of {' '.join(map(str, was))}",
+                with_vertex(case, number, at, color=colour),
+            )
 
 
 def possible(was, found):
@@ -81,7 +93,11 @@ def possible(was, found):
     for channel, values in found:
         if not values:
             return
-        channels[channel] = [was[channel]] if was[channel] in values else list(dict.fromkeys([values[len(values) // 2], values[0], values[-1]]))
+        channels[channel] = (
+            [was[channel]]
+            if was[channel] in values
+            else list(dict.fromkeys([values[len(values) // 2], values[0], values[-1]]))
+        )
     for colour in itertools.islice(itertools.product(*channels), 27):
         if list(colour) != list(was):
             yield list(colour)
@@ -102,9 +118,13 @@ def spots(case, number):
 
 
 def likely(case, number):
-    """The vertices of a draw that may have moved: of triangles that wrong pixels met, near wrong pixels, and beside these in a triangle."""
-    order, near = order_of(case.frame.events[number - 1]), [*(at for at, _ in met(case, number)), *vertices_near(case, number)]
-    triangles = [order[k:k + 3] for k in range(0, len(order) - 2, 3)]
+    """The vertices of a draw that may have moved: of triangles that wrong pixels met, near wrong pixels, and beside
+    these in a triangle."""
+    order, near = order_of(case.frame.events[number - 1]), [
+        *(at for at, _ in met(case, number)),
+        *vertices_near(case, number),
+    ]
+    triangles = [order[k : k + 3] for k in range(0, len(order) - 2, 3)]
     beside = [at for triangle in triangles if not set(near).isdisjoint(triangle) for at in triangle]
     return list(dict.fromkeys([*near, *beside]))[:MOST_BEGUN]
 
@@ -117,7 +137,8 @@ def moved(case, number, at, place):
 
 
 def bounded(case, points, number, at, place=None):
-    """The best place for a vertex that some points leave it: (how many are wrong and how far, place). Looked for anew from each that is better."""
+    """The best place for a vertex that some points leave it: (how many are wrong and how far, place). Looked for
+    anew from each that is better."""
     best = (len(points) + 1, 0), place or snapped(case.frame.events[number - 1]["vertices"][at])
     for turn in (None, True, False):
         cell = Cell(points, number, at, turn)
@@ -144,7 +165,8 @@ def tried_until(case, points, number, at, places):
 
 
 def exactly(case, search, events_of):
-    """What a search over points finds, until no pixel differs with it: those that still do are points too, again and again."""
+    """What a search over points finds, until no pixel differs with it: those that still do are points too, again and
+    again."""
     points = case.points
     for _ in range(ROUNDS):
         found = search(points)
@@ -156,7 +178,7 @@ def exactly(case, search, events_of):
 
 
 def scattered_places(places):
-    return places[::max(1, len(places) // MOST_MORE)]
+    return places[:: max(1, len(places) // MOST_MORE)]
 
 
 @kind("depth of a vertex", "draw", searches=True)
@@ -179,5 +201,9 @@ def depth_of(case, points, deep):
         best = min([*((points.worth(deep(z)), z) for z in grid), *([best] if best else [])])
         (_, left), z = best
         step //= 4
-        grid = [other for other in range(z - 4 * step, z + 4 * step + 1, step or 1) if 0 <= other <= FARTHEST] if step and left else []
+        grid = (
+            [other for other in range(z - 4 * step, z + 4 * step + 1, step or 1) if 0 <= other <= FARTHEST]
+            if step and left
+            else []
+        )
     return best[1]

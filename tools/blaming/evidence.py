@@ -1,4 +1,5 @@
-"""What the histories of wrong pixels say of events: who drew them last, who drew over what is wanted, and by which state."""
+"""What the histories of wrong pixels say of events: who drew them last, who drew over what is wanted, and by which
+state."""
 import collections
 from dataclasses import dataclass, field
 
@@ -6,18 +7,24 @@ from captures import PIXEL, STATES
 
 
 DISCARDED = "discarded"  # by the draw's own picture, and with no colour that could be the wanted one
-BY_VERDICT = {"scissored": ("raster", "scissor"), "culled": ("raster",), DISCARDED: (), "depthfailed": ("depth", "depth_clear")}
+BY_VERDICT = {
+    "scissored": ("raster", "scissor"),
+    "culled": ("raster",),
+    DISCARDED: (),
+    "depthfailed": ("depth", "depth_clear"),
+}
 WEIGHTS = {"hidden": 3, "hider": 4, "over": 3, "last": 1, "blend": 3, "state": 0.9, "touched": 0.2, "reaches": 0.3}
 
 REACHES = "has vertices round the pixel, and doesn't cover it"
-REACH = 2                # pixels round a draw's vertices
-UNSEEN = 0.8             # of its weight that a state loses of whose draws nearly none met a wrong pixel
-CLEARED = 0.9            # of its weight that an event loses which shows at each pixel that is right
+REACH = 2  # pixels round a draw's vertices
+UNSEEN = 0.8  # of its weight that a state loses of whose draws nearly none met a wrong pixel
+CLEARED = 0.9  # of its weight that an event loses which shows at each pixel that is right
 
 
 @dataclass
 class Sample:
     """A wrong pixel: what is wanted of it, what it is, and the entries of its history."""
+
     pixel: int
     x: int
     y: int
@@ -49,7 +56,12 @@ def facts(frame, sample, is_near):
     right = [k for k, entry in enumerate(drawn) if is_near(entry.after, wanted)]
     if right and right[-1] + 1 < len(drawn):
         later = drawn[right[-1] + 1]
-        yield later.event, later.triangle, f"is drawn over the colour that is wanted, which event {drawn[right[-1]].event} had left", WEIGHTS["over"]
+        yield (
+            later.event,
+            later.triangle,
+            f"is drawn over the colour that is wanted, which event {drawn[right[-1]].event} had left",
+            WEIGHTS["over"],
+        )
     if drawn:
         yield from last(frame, drawn[-1], wanted, is_near)
     for entry in [entry for entry in drawn[:-1] if entry.event >= since]:
@@ -57,28 +69,36 @@ def facts(frame, sample, is_near):
         for kind in STATES if frame.kind(entry.event) == "draw" else ():
             by = frame.setter(entry.event, kind)
             if by:
-                yield by, None, f"sets the {kind} state with which event {entry.event} drew the pixel before", WEIGHTS["touched"]
+                yield by, None, f"sets the {kind} state with which event {entry.event} drew the pixel before", WEIGHTS[
+                    "touched"
+                ]
 
 
 def first_that_counts(frame, entries):
-    """The first event that can show at a pixel, or hide there what comes later: the last clear; where depths are tested behind it, the last of depths if that
-    is earlier."""
+    """The first event that can show at a pixel, or hide there what comes later: the last clear; where depths are
+    tested behind it, the last of depths if that is earlier."""
     last = lambda kind, some: max((entry.event for entry in some if frame.kind(entry.event) == kind), default=0)
     cleared = last("clear", entries)
     behind = [entry for entry in entries if entry.event > cleared]
-    is_tested = any(frame.kind(entry.event) == "draw" and frame.state(entry.event, "depth")["enable"] for entry in behind)
+    is_tested = any(
+        frame.kind(entry.event) == "draw" and frame.state(entry.event, "depth")["enable"] for entry in behind
+    )
     return min(cleared, last("depth_clear", entries)) if is_tested else cleared
 
 
 def hidden(frame, entry, is_wanted):
     if is_wanted:
-        yield entry.event, entry.triangle, f"is {entry.verdict} where its colour is the one that is wanted", WEIGHTS["hidden"]
+        yield entry.event, entry.triangle, f"is {entry.verdict} where its colour is the one that is wanted", WEIGHTS[
+            "hidden"
+        ]
     else:
         yield entry.event, entry.triangle, f"is {entry.verdict} there", WEIGHTS["touched"]
     for kind in BY_VERDICT[entry.verdict]:
         by = frame.setter(entry.event, kind)
         if by:
-            yield by, None, f"sets the {kind} state by which event {entry.event} is {entry.verdict}", WEIGHTS["hider"] if is_wanted else WEIGHTS["touched"]
+            yield by, None, f"sets the {kind} state by which event {entry.event} is {entry.verdict}", WEIGHTS[
+                "hider"
+            ] if is_wanted else WEIGHTS["touched"]
 
 
 def last(frame, entry, wanted, is_near):
@@ -89,19 +109,29 @@ def last(frame, entry, wanted, is_near):
         by = frame.setter(entry.event, kind)
         if by:
             is_blended = kind == "blend" and is_near(entry.source, wanted) and not is_near(entry.after, wanted)
-            yield by, None, f"sets the {kind} state with which event {entry.event} drew the pixel", WEIGHTS["blend" if is_blended else "state"]
+            yield by, None, f"sets the {kind} state with which event {entry.event} drew the pixel", WEIGHTS[
+                "blend" if is_blended else "state"
+            ]
 
 
 def reaching(frame, samples):
     """What can't be in a history: draws whose vertices lie round a pixel, which none of their triangles covers."""
-    met = [(sample, {entry.event for entry in sample.entries}, first_that_counts(frame, sample.entries)) for sample in samples]
+    met = [
+        (sample, {entry.event for entry in sample.entries}, first_that_counts(frame, sample.entries))
+        for sample in samples
+    ]
     for number, event in enumerate(frame.events, 1):
         if event["kind"] != "draw" or not event["vertices"]:
             continue
         x, y = ([vertex[name] for vertex in event["vertices"]] for name in "xy")
         box = min(x) / PIXEL - REACH, min(y) / PIXEL - REACH, max(x) / PIXEL + REACH, max(y) / PIXEL + REACH
         for sample, events, since in met:
-            if number > since and box[0] <= sample.x <= box[2] and box[1] <= sample.y <= box[3] and number not in events:
+            if (
+                number > since
+                and box[0] <= sample.x <= box[2]
+                and box[1] <= sample.y <= box[3]
+                and number not in events
+            ):
                 yield sample, (number, None, REACHES, WEIGHTS["reaches"])
 
 
@@ -120,10 +150,14 @@ def shown(frame, entries):
 
 
 def suspects_of(frame, samples, is_near, right=()):
-    """The suspects by the evidence of some pixels, the strongest first. What shows at pixels that are right is the less suspected, the more of them show it,
-    and a state the less, the fewer of the draws that have it met a pixel. `right` are the histories of right pixels."""
+    """The suspects by the evidence of some pixels, the strongest first. What shows at pixels that are right is the
+    less suspected, the more of them show it, and a state the less, the fewer of the draws that have it met a pixel.
+    `right` are the histories of right pixels."""
     found, weights = {}, collections.Counter()
-    for sample, (event, triangle, reason, weight) in [*((sample, fact) for sample in samples for fact in facts(frame, sample, is_near)), *reaching(frame, samples)]:
+    for sample, (event, triangle, reason, weight) in [
+        *((sample, fact) for sample in samples for fact in facts(frame, sample, is_near)),
+        *reaching(frame, samples),
+    ]:
         suspect = found.setdefault(event, Suspect(event))
         weights[id(sample), event] = max(weights[id(sample), event], weight)
         suspect.reasons[reason] += 1
@@ -142,8 +176,13 @@ def suspects_of(frame, samples, is_near, right=()):
 
 
 def seen_of(frame, samples):
-    """Of each event that sets a state what is left of its weight, by the draws that have the state and by those of them that met a pixel."""
-    met, having, seen = {entry.event for sample in samples for entry in sample.entries}, collections.Counter(), collections.Counter()
+    """Of each event that sets a state what is left of its weight, by the draws that have the state and by those of
+    them that met a pixel."""
+    met, having, seen = (
+        {entry.event for sample in samples for entry in sample.entries},
+        collections.Counter(),
+        collections.Counter(),
+    )
     for kind in frame.states:
         for number in (number for number in frame.draws() if frame.kind(number) == "draw"):
             by = frame.setter(number, kind)

@@ -1,28 +1,6 @@
-"""Which pixels a triangle covers, and its fragments there: the rules of docs/DEFINITIONS.md, for a few pixels at a time."""
-
-
-def snapped(vertex):
-    """A vertex in 1/256 pixel: the nearest, to even."""
-    return tuple(quotient + (rest > 128 or rest == 128 and quotient % 2) for quotient, rest in (divmod(vertex[name], 256) for name in "xy"))
-
-
-def cross(a, b, c):
-    return (b[0] - a[0]) * (c[1] - a[1]) - (b[1] - a[1]) * (c[0] - a[0])
-
-
-def centre(x, y):
-    return 256 * x + 128, 256 * y + 128
-
-
-def mean(weights, values, whole):
-    """The whole number nearest to a weighted mean, the larger on a tie."""
-    quotient, rest = divmod(sum(weight * value for weight, value in zip(weights, values)), whole)
-    return quotient + (2 * rest >= whole)
-
-
-def least(u, v):
-    """What the edge from u to v wants of a pixel's centre at least: edges at the left and at the top have those that lie on them."""
-    return 0 if v[1] < u[1] or v[1] == u[1] and v[0] > u[0] else 1
+"""Which pixels a triangle covers, and its fragments there, for a few pixels at a time."""
+from rules.coverage import cross, least
+from rules.shading import mean
 
 
 class Triangle:
@@ -50,5 +28,9 @@ class Triangle:
 
     def fragment(self, weights):
         """(whether it runs clockwise, source, depth) where its corners have these weights."""
-        source = self.colours[0] if self.is_flat else tuple(mean(weights, values, self.whole) for values in zip(*self.colours))
+        source = (
+            self.colours[0]
+            if self.is_flat
+            else tuple(mean(weights, values, self.whole) for values in zip(*self.colours))
+        )
         return self.is_clockwise, source, mean(weights, self.depths, self.whole)

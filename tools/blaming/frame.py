@@ -1,8 +1,8 @@
-"""A capture as blame changes it: its events, the state before each, and the text of any list of events, of the whole target or of a window of it.
+"""A capture as blame changes it: its events, the state before each, and the text of any list of events, of the whole
+target or of a window of it.
 
 A list of events is never changed: a change makes another list, in which the events that stay are the same objects.
 """
-import bisect
 import itertools
 import json
 import operator
@@ -10,14 +10,10 @@ import pathlib
 
 import captures
 from captures import LEAST_EDGE, MOST_BYTES, MOST_EDGE, MOST_POSITION, PIXEL, STATES, compact
+from rules.states import AT_START, Setters
 
 from .faults import READING, Fault
 from .painting import Album, has_picture
-
-AT_START = {
-    "raster": captures.raster(), "scissor": captures.scissor(0, 0, 0, 0), "blend": captures.blend(False), "factor": captures.factor(255, 255, 255, 255),
-    "depth": captures.depth(False),
-}
 
 
 def read_capture(path):
@@ -49,7 +45,9 @@ def without_colours(capture):
     """Without the colours that stand at the corners of draws with pictures, which framedbg passes over."""
     for event in capture["events"] if capture.get("version") == 3 else ():
         if has_picture(event):
-            event["vertices"] = [{name: what for name, what in vertex.items() if name != "color"} for vertex in event["vertices"]]
+            event["vertices"] = [
+                {name: what for name, what in vertex.items() if name != "color"} for vertex in event["vertices"]
+            ]
     return capture
 
 
@@ -75,18 +73,22 @@ def first_other(some, others, most):
     return next(itertools.compress(range(most), map(operator.is_not, some, others)), most)
 
 
-class Frame:
+class CaptureFrame:
+    """The frame of a capture."""
+
     def __init__(self, capture):
         self.capture, self.events = capture, capture["events"]
         self.version, self.width, self.height = capture["version"], capture["width"], capture["height"]
         self.states = [kind for kind in STATES if kind != "depth" or self.version > 1]
         self.album = Album()
-        self._setters, self._ways = {}, {}
-        self._differing = None           # the list that was asked about last, and the answer
-        self._texts = {}                 # by an event's identity and a window; the event is kept with it, so that its identity stays its own
+        self.setters, self._ways = Setters([event["kind"] for event in self.events]), {}
+        self._differing = None  # the list that was asked about last, and the answer
+        self._texts = (
+            {}
+        )  # by an event's identity and a window; the event is kept with it, so that its identity stays its own
 
     def with_events(self, events):
-        made = Frame(self.capture | {"events": events})
+        made = CaptureFrame(self.capture | {"events": events})
         made._texts, made.album = self._texts, self.album
         return made
 
@@ -101,21 +103,14 @@ class Frame:
 
     def setter(self, number, kind):
         """The event that set a part of the state with which an event is drawn, or None: it is as at the start."""
-        places = self.setters(kind)
-        at = bisect.bisect_left(places, number)
-        return places[at - 1] if at else None
-
-    def setters(self, kind):
-        """The events that set a part of the state."""
-        if kind not in self._setters:
-            self._setters[kind] = [i for i, event in enumerate(self.events, 1) if event["kind"] == kind]
-        return self._setters[kind]
+        return self.setters.before(number, kind)
 
     def settings(self, number, kind, most):
-        """Of each way in which a part of the state is set the first event that sets it so; where there are many, those that are set nearest to an event."""
+        """Of each way in which a part of the state is set the first event that sets it so; where there are many,
+        those that are set nearest to an event."""
         if kind not in self._ways:
             ways = {}
-            for by in self.setters(kind):
+            for by in self.setters.of(kind):
                 ways.setdefault(key_of(self.events[by - 1]), []).append(by)
             self._ways[kind] = list(ways.values())
         near = sorted(self._ways[kind], key=lambda numbers: min(abs(by - number) for by in numbers))[:most]
@@ -132,7 +127,12 @@ class Frame:
     def can_have(self, window):
         """Whether no vertex comes to stand farther away than a capture may say."""
         least = [window[0] * PIXEL - MOST_POSITION, window[1] * PIXEL - MOST_POSITION]
-        return all(corner["x"] >= least[0] and corner["y"] >= least[1] for event in self.events if event["kind"] == "draw" for corner in event["vertices"])
+        return all(
+            corner["x"] >= least[0] and corner["y"] >= least[1]
+            for event in self.events
+            if event["kind"] == "draw"
+            for corner in event["vertices"]
+        )
 
     def text(self, events, window=None):
         """A capture with these events; of a window alone where one is given, as a target of its own."""
@@ -161,12 +161,16 @@ def moved(event, window, album):
     left, top, right, bottom = window
     if event["kind"] == "scissor":
         by = (left, top, left, top)
-        return event | {"rect": [min(max(edge - offset, LEAST_EDGE), MOST_EDGE) for edge, offset in zip(event["rect"], by)]}
+        return event | {
+            "rect": [min(max(edge - offset, LEAST_EDGE), MOST_EDGE) for edge, offset in zip(event["rect"], by)]
+        }
     if event["kind"] != "draw":
         return event
     box = [left * PIXEL, top * PIXEL, right * PIXEL, bottom * PIXEL]
     vertices, order = event["vertices"], order_of(event)
-    named = [order[k:k + 3] for k in range(0, len(order) - 2, 3) if meets([vertices[i] for i in order[k:k + 3]], box)]
+    named = [
+        order[k : k + 3] for k in range(0, len(order) - 2, 3) if meets([vertices[i] for i in order[k : k + 3]], box)
+    ]
     if not named:
         return None
     numbers = {number: at for at, number in enumerate(dict.fromkeys(i for triangle in named for i in triangle))}

@@ -1,4 +1,5 @@
-"""The pictures of draws: the colour that one puts out at a pixel, and the part of it that lies on a window. A picture is no part that a change changes."""
+"""The pictures of draws: the colour that one puts out at a pixel, and the part of it that lies on a window. A
+picture is no part that a change changes."""
 from captures import PICTURE, picture, unspelled
 
 
@@ -24,7 +25,7 @@ class Painting:
     def texel(self, x, y):
         """The colour at a pixel, or None where none is put out."""
         number = self.place(x, y)
-        return None if number is None or self.is_hole(number) else tuple(self.texels[4 * number:4 * number + 4])
+        return None if number is None or self.is_hole(number) else tuple(self.texels[4 * number : 4 * number + 4])
 
     def on(self, window):
         """The picture of the part that lies on a window, which is a target of its own; None where none does."""
@@ -33,16 +34,23 @@ class Painting:
         if left >= right or top >= bottom:
             return None
         starts = [self.place(left, y) for y in range(top, bottom)]
-        texels = b"".join(self.texels[4 * start:4 * (start + right - left)] for start in starts)
-        holes = None if self.holes is None else [self.is_hole(number) for start in starts for number in range(start, start + right - left)]
+        texels = b"".join(self.texels[4 * start : 4 * (start + right - left)] for start in starts)
+        holes = (
+            None
+            if self.holes is None
+            else [self.is_hole(number) for start in starts for number in range(start, start + right - left)]
+        )
         return picture(left - window[0], top - window[1], right - left, bottom - top, texels, holes)
 
 
 class Album:
-    """The pictures of a frame's draws, each read once, and cut for a window once. A changed draw has the picture of the draw that it was."""
+    """The pictures of a frame's draws, each read once, and cut for a window once. A changed draw has the picture of
+    the draw that it was."""
 
     def __init__(self):
-        self.kept = {}       # by a picture's identity and a window; the picture is kept with it, so that its identity stays its own
+        self.kept = (
+            {}
+        )  # by a picture's identity and a window; the picture is kept with it, so that its identity stays its own
 
     def painting(self, event):
         return self._kept(event["picture"], None, lambda: Painting(event["picture"]))

@@ -5,14 +5,13 @@ import zlib
 from dataclasses import dataclass
 
 from captures import MOST_SIDE
-from framedbg_client.image import END, fields_of
+from framedbg_client.image import END, PNG, fields_of
 
 from .faults import READING, Fault
 from .unfiltering import unfiltered
 
-SIGNATURE = b"\x89PNG\r\n\x1a\n"
-CHANNELS = {0: 1, 2: 3, 3: 1, 4: 2, 6: 4}        # of a PNG, by its colour type
-BLANK = re.compile(rb"\s+|#[^\n]*\n")           # of a PPM's header, some of which lie between two numbers
+CHANNELS = {0: 1, 2: 3, 3: 1, 4: 2, 6: 4}  # of a PNG, by its colour type
+BLANK = re.compile(rb"\s+|#[^\n]*\n")  # of a PPM's header, some of which lie between two numbers
 NUMBER = re.compile(rb"\d{1,5}(?!\d)")
 
 
@@ -20,11 +19,11 @@ NUMBER = re.compile(rb"\d{1,5}(?!\d)")
 class Picture:
     width: int
     height: int
-    samples: bytes          # red, green, blue, alpha of each pixel, row by row from the top
+    samples: bytes  # red, green, blue, alpha of each pixel, row by row from the top
     has_alpha: bool
 
     def pixel(self, number):
-        return tuple(self.samples[4 * number:4 * number + 4])
+        return tuple(self.samples[4 * number : 4 * number + 4])
 
 
 def read_picture(path, size=None):
@@ -60,7 +59,7 @@ def made(width, height, samples, channels):
     """A picture from samples of three or four channels."""
     if len(samples) < channels * width * height:
         raise Fault("a picture that is shorter than its header says")
-    samples = samples[:channels * width * height]
+    samples = samples[: channels * width * height]
     if channels == 4:
         return Picture(width, height, bytes(samples), True)
     four = bytearray(b"\xff") * (4 * width * height)
@@ -86,12 +85,12 @@ def of_ppm(data, size):
     width, end = number_of_ppm(data, len(b"P6"))
     height, end = number_of_ppm(data, end)
     most, end = number_of_ppm(data, end)
-    if not data[end:end + 1].isspace():
+    if not data[end : end + 1].isspace():
         raise Fault("a PPM without a whole header")
     if most != 255:
         raise Fault(f"a PPM up to {most}: 255 is wanted")
     check_size(width, height, size)
-    return made(width, height, data[end + 1:], 3)
+    return made(width, height, data[end + 1 :], 3)
 
 
 def number_of_ppm(data, at):
@@ -124,10 +123,10 @@ def of_png(data, size):
 
 def pieces(data):
     """Name and body of each chunk; one whose sum is wrong is a fault."""
-    at = len(SIGNATURE)
+    at = len(PNG)
     while at < len(data):
-        size, name = struct.unpack(">I4s", data[at:at + 8])
-        body, summed = data[at + 8:at + 8 + size], data[at + 8 + size:at + 12 + size]
+        size, name = struct.unpack(">I4s", data[at : at + 8])
+        body, summed = data[at + 8 : at + 8 + size], data[at + 8 + size : at + 12 + size]
         if struct.unpack(">I", summed)[0] != zlib.crc32(name + body):
             raise Fault("a PNG that is cut or broken")
         yield name, body
@@ -160,4 +159,4 @@ def by_palette(indices, palette):
     return bytes(samples)
 
 
-READERS = {SIGNATURE: of_png, b"P7": of_pam, b"P6": of_ppm}
+READERS = {PNG: of_png, b"P7": of_pam, b"P6": of_ppm}

@@ -1,25 +1,27 @@
-"""What comes out at some pixels after a change, worked out here without a run of framedbg. It says which of many changes are worth a picture, and proves
-nothing: what is told of a change in the end was drawn by framedbg."""
+"""What comes out at some pixels after a change, worked out here without a run of framedbg. It says which of many
+changes are worth a picture, and proves nothing: what is told of a change in the end was drawn by framedbg."""
 import bisect
-import operator
 
 from captures import FARTHEST, PIXEL
+from rules.blending import blended
+from rules.coverage import centre, culled_turn
+from rules.depth import PASSES
+from rules.snapping import snapped
+from rules.states import AT_START
 
-from .blending import blended
-from .frame import AT_START, order_of
-from .fragments import Triangle, centre, snapped
+from .frame import order_of
+from .fragments import Triangle
 from .painting import has_picture
 
-PASSES = {"NEVER": lambda source, stored: False, "LESS": operator.lt, "EQUAL": operator.eq, "LESS_EQUAL": operator.le, "GREATER": operator.gt,
-          "NOT_EQUAL": operator.ne, "GREATER_EQUAL": operator.ge, "ALWAYS": lambda source, stored: True}
-NO_COLOUR = (0, 0, 0, 0)            # of a corner whose draw has a picture
-FRESH = (0, 0, 0, 0), FARTHEST      # a pixel's colour and depth before the first event
-FEW = 16                 # points that are looked at first
-MOST_KEPT = 100_000      # triangles whose fragments are kept
+NO_COLOUR = (0, 0, 0, 0)  # of a corner whose draw has a picture
+FRESH = (0, 0, 0, 0), FARTHEST  # a pixel's colour and depth before the first event
+FEW = 16  # points that are looked at first
+MOST_KEPT = 100_000  # triangles whose fragments are kept
 
 
 class Points:
-    """Some pixels of a frame, each with what is wanted there: those that are wrong come first, and others that are right behind them."""
+    """Some pixels of a frame, each with what is wanted there: those that are wrong come first, and others that are
+    right behind them."""
 
     def __init__(self, frame, wrong, right, comparison):
         """`wrong` and `right` are lists of (x, y, wanted)."""
@@ -28,7 +30,9 @@ class Points:
         self.wanted = [wanted for _, _, wanted in [*wrong, *right]]
         self.centres = [centre(x, y) for x, y in self.places]
         self.triangles, self.covered, self.corners, self.paths = {}, {}, {}, {}
-        self.settings, self.drawing = {kind: [] for kind in AT_START}, []       # places of the list: that set a part of the state, that draw at a point
+        self.settings, self.drawing = {
+            kind: [] for kind in AT_START
+        }, []  # places of the list: that set a part of the state, that draw at a point
         self.steps = self._steps()
 
     def __len__(self):
@@ -36,13 +40,13 @@ class Points:
 
     def few(self):
         """The first of the wrong ones, as points of their own."""
-        some = list(zip(*zip(*self.places[:self.wrong][:FEW]), self.wanted))
+        some = list(zip(*zip(*self.places[: self.wrong][:FEW]), self.wanted))
         return Points(self.frame, some, [], self.comparison)
 
     def more(self, some):
         """These and more: (x, y, wanted)."""
         there = [(*place, wanted) for place, wanted in zip(self.places, self.wanted)]
-        return Points(self.frame, there[:self.wrong], there[self.wrong:] + some, self.comparison)
+        return Points(self.frame, there[: self.wrong], there[self.wrong :] + some, self.comparison)
 
     # ---- What covers them
     def corner(self, vertex):
@@ -63,7 +67,7 @@ class Points:
             return []
         corners = [self.corner(vertex) for vertex in vertices]
         for at in range(0, len(order) - 2, 3):
-            for point, fragment in self.put_out(event, [corners[number] for number in order[at:at + 3]]):
+            for point, fragment in self.put_out(event, [corners[number] for number in order[at : at + 3]]):
                 found.setdefault(point, []).append(fragment)
         return list(found.items())
 
@@ -101,7 +105,8 @@ class Points:
 
     # ---- What comes out
     def _steps(self):
-        """Before each event of the frame the state, and the colours and depths of all points; those that stay the same are shared."""
+        """Before each event of the frame the state, and the colours and depths of all points; those that stay the
+        same are shared."""
         state, colours, depths, made = AT_START, [FRESH[0]] * len(self), [FRESH[1]] * len(self), []
         for at, event in enumerate(self.frame.events):
             made.append((state, colours, depths))
@@ -122,7 +127,7 @@ class Points:
         start, behind = self.frame.differing_part(events)
         state, colours, depths = self.steps[start]
         state, colours, depths = dict(state), list(colours), list(depths)
-        for event in events[start:len(events) - behind]:
+        for event in events[start : len(events) - behind]:
             if event["kind"] in state:
                 state[event["kind"]] = event
             elif event["kind"] != "draw" or self.covering(event):
@@ -130,11 +135,16 @@ class Points:
         return self._to_the_end(len(base) - behind, state, colours, depths)
 
     def _to_the_end(self, at, state, colours, depths):
-        """The colours where the frame's events from a place of the list on are drawn over others. What comes out as in the frame isn't drawn anew."""
+        """The colours where the frame's events from a place of the list on are drawn over others. What comes out as
+        in the frame isn't drawn anew."""
         held, was, was_deep = self.steps[at]
         kinds = {kind: self.until(kind, at) for kind in state if state[kind] is not held[kind]}
-        points = {point: (colours[point], depths[point]) for point in range(len(self)) if colours[point] != was[point] or depths[point] != was_deep[point]}
-        for k in self.drawing[bisect.bisect_left(self.drawing, at):]:
+        points = {
+            point: (colours[point], depths[point])
+            for point in range(len(self))
+            if colours[point] != was[point] or depths[point] != was_deep[point]
+        }
+        for k in self.drawing[bisect.bisect_left(self.drawing, at) :]:
             kinds = {kind: end for kind, end in kinds.items() if k < end}
             if not kinds and not points:
                 break
@@ -151,14 +161,16 @@ class Points:
         return places[k] if k < len(places) else len(self.frame.events)
 
     def _step(self, k, other, points):
-        """Draws an event of the frame at the points that are otherwise than in the frame, or at all that it covers where its state is; the points that
-        come out otherwise are kept."""
+        """Draws an event of the frame at the points that are otherwise than in the frame, or at all that it covers
+        where its state is; the points that come out otherwise are kept."""
         event, (state, colours, depths), (_, after, after_deep) = self.frame.events[k], self.steps[k], self.steps[k + 1]
         if event["kind"] == "draw":
             covering = self.fragments(k)
             state = state | other if other else state
-            found = {point: self._drawn(point, covering[point], state, *points.get(point, (colours[point], depths[point])))
-                     for point in (covering if other else points.keys() & covering.keys())}
+            found = {
+                point: self._drawn(point, covering[point], state, *points.get(point, (colours[point], depths[point])))
+                for point in (covering if other else points.keys() & covering.keys())
+            }
         elif event["kind"] == "clear":
             found = {point: (after[point], depth) for point, (_, depth) in points.items()}
         else:
@@ -179,7 +191,7 @@ class Points:
         """A point's colour in the end, where the draw that stands at a place of the list has some fragments there."""
         state, colours, depths = self.steps[at]
         colour, depth = self._drawn(point, fragments, state, colours[point], depths[point])
-        for k in self.drawing[bisect.bisect_right(self.drawing, at):]:
+        for k in self.drawing[bisect.bisect_right(self.drawing, at) :]:
             event = self.frame.events[k]
             if event["kind"] == "clear":
                 colour = tuple(event["color"])
@@ -218,25 +230,33 @@ class Points:
 
     def _counted(self, colours):
         bad = [not self.is_near(colour, wanted) for colour, wanted in zip(colours, self.wanted)]
-        wrong = sum(bad[:self.wrong])
+        wrong = sum(bad[: self.wrong])
         return wrong, sum(bad) - wrong
 
     def still(self, events):
         """The places of those that are wrong after some events."""
-        return [place for place, colour, wanted in zip(self.places, self.after(events), self.wanted) if not self.is_near(colour, wanted)]
+        return [
+            place
+            for place, colour, wanted in zip(self.places, self.after(events), self.wanted)
+            if not self.is_near(colour, wanted)
+        ]
 
     def worth(self, events):
         """How far all of them are from what is wanted, in colours, and how many differ: less is better."""
-        other = [(colour, wanted) for colour, wanted in zip(self.after(events), self.wanted) if not self.is_near(colour, wanted)]
+        other = [
+            (colour, wanted)
+            for colour, wanted in zip(self.after(events), self.wanted)
+            if not self.is_near(colour, wanted)
+        ]
         return sum(abs(a - b) for colour, wanted in other for a, b in zip(colour, wanted)), len(other)
 
 
 def drawn(fragments, state, colour, depth):
     """A pixel's colour and depth after a draw's fragments there."""
-    raster, blend, test = state["raster"], state["blend"], state["depth"]
+    culled, blend, test = culled_turn(state["raster"]), state["blend"], state["depth"]
     is_plain, passes = not blend["enable"] and blend["mask"] == 15, PASSES[test["func"]]
     for is_clockwise, source, own in fragments:
-        if raster["cull"] == ("front" if is_clockwise != raster["front_ccw"] else "back"):
+        if is_clockwise == culled:
             continue
         if test["enable"]:
             if not passes(own, depth):

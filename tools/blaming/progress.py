@@ -2,7 +2,7 @@
 import sys
 import time
 
-BETWEEN = 0.1            # seconds
+BETWEEN = 0.1  # seconds
 
 
 class Progress:

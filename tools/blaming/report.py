@@ -1,11 +1,9 @@
 """The report, which a person reads from the top: who, since when, why, what mends it, and how sure that is."""
+from writing.counting import counted
+
 from .verdicts import reasons, since, state_lines, verdicts_of
 
 SHOWN_CHANGES, SHOWN_SUSPECTS, SHOWN_LINES = 4, 3, 8
-
-
-def counted(number, what="pixel"):
-    return f"{number:,} {what}{'' if number == 1 else 's'}"
 
 
 def colour(four):
@@ -23,7 +21,10 @@ def lines(frame, outcome, is_driver=False):
         yield "no pixel differs"
         return
     size = outcome.width * outcome.height
-    yield f"{outcome.wrong:,} of {counted(size)} differ{'s' if outcome.wrong == 1 else ''}, in {counted(len(outcome.clusters), 'place')}"
+    yield (
+        f"{outcome.wrong:,} of {counted(size)} differ{'s' if outcome.wrong == 1 else ''}, in "
+        f"{counted(len(outcome.clusters), 'place')}"
+    )
     if not outcome.suspects:
         yield "no event touches a pixel that differs: an event is missing, or the picture is of another frame"
         return
@@ -42,12 +43,18 @@ def named(frame, outcome, is_driver):
     if found:
         sample, entry = found
         drawn = "" if entry.event == suspect.event else ", which is drawn with it"
-        yield f"since   event {entry.event}{drawn}: pixel {sample.x} {sample.y} is {colour(last_colour(sample))} in the end, and should be {colour(sample.wanted)}"
+        yield (
+            f"since   event {entry.event}{drawn}: pixel {sample.x} {sample.y} is {colour(last_colour(sample))} "
+            f"in the end, and should be {colour(sample.wanted)}"
+        )
     for number, (text, count, asked) in enumerate(reasons(suspect, len(outcome.samples))):
         yield f"{'why' if not number else '':<8}it {text} ({count} of {asked} pixels asked)"
     if found:
         for number, (kind, said, by) in enumerate(state_lines(frame, outcome.events, found[1].event)):
-            yield f"{'state' if not number else '':<8}{kind:<8}{said + ', set by event ' + str(by) if by else 'as at the start'}"
+            yield (
+                f"{'state' if not number else '':<8}{kind:<8}"
+                f"{said + ', set by event ' + str(by) if by else 'as at the start'}"
+            )
     yield from mended(outcome, is_driver)
 
 
@@ -74,13 +81,19 @@ def findings(outcome):
     """The clusters, the largest first; those with one verdict in one line."""
     groups = {}
     for verdict in verdicts_of(outcome):
-        key = (id(verdict.change), verdict.left == 0) if verdict.change else (None, verdict.suspect and verdict.suspect.event)
+        key = (
+            (id(verdict.change), verdict.left == 0)
+            if verdict.change
+            else (None, verdict.suspect and verdict.suspect.event)
+        )
         groups.setdefault(key, []).append(verdict)
     for group in groups.values():
-        places = "; ".join(f"{counted(verdict.pixels)} in the box {' '.join(map(str, verdict.box))}" for verdict in group)
+        places = "; ".join(
+            f"{counted(verdict.pixels)} in the box {' '.join(map(str, verdict.box))}" for verdict in group
+        )
         yield f"{'finding' if len(group) == 1 else 'findings'} {told_numbers(group)}: {places}"
         yield f"  {told_verdict(group)}"
-    rest = outcome.clusters[sum(map(len, groups.values())):]
+    rest = outcome.clusters[sum(map(len, groups.values())) :]
     if rest:
         yield f"and {counted(len(rest), 'smaller place')} with {counted(sum(map(len, rest)))}"
 
@@ -92,14 +105,21 @@ def told_numbers(group):
 def told_verdict(group):
     verdict = group[0]
     if verdict.change is None:
-        return f"event {verdict.suspect.event} by evidence; no change that was tried mends it" if verdict.suspect else "nobody is named"
+        return (
+            f"event {verdict.suspect.event} by evidence; no change that was tried mends it"
+            if verdict.suspect
+            else "nobody is named"
+        )
     left = sum(one.left for one in group)
     said = f"event {verdict.change.change.event}, {verdict.change.change.says}"
     return f"mended by {said}" if not left else f"{left:,} of these pixels are left by {said}"
 
 
 def others(outcome):
-    yield f"{counted(outcome.count, 'change')} tried{', and then the time was over' if outcome.is_over else ''}; the best of them"
+    yield (
+        f"{counted(outcome.count, 'change')} tried{', and then the time was over' if outcome.is_over else ''}; "
+        f"the best of them"
+    )
     for one in outcome.changes[:SHOWN_CHANGES]:
         yield f"  {counted(one.left)} differ: event {one.change.event}, {one.change.says}"
     yield "suspects"
@@ -112,4 +132,7 @@ def told_alone(outcome, event):
     if alone is None or not alone.is_whole:
         return ""
     still = alone.of_clusters[-1]
-    return f"; without it {outcome.wrong - still:,} of the {outcome.wrong:,} are right, and {alone.left - still:,} others become wrong"
+    return (
+        f"; without it {outcome.wrong - still:,} of the {outcome.wrong:,} are right, and {alone.left - still:,} "
+        f"others become wrong"
+    )

@@ -1,4 +1,6 @@
 """A run of framedbg-blame, from its words to its status."""
+import json
+import os
 import signal
 import subprocess
 import sys
@@ -9,10 +11,10 @@ from framedbg_client import Ended, Garbled, Refusal, find_program
 from framedbg_client.program import as_word
 from writing import files
 
-from . import report, telling_json
+from . import alone, report, telling_json
 from .comparing import Comparison
 from .faults import MEMORY, NOBODY, READING, WORDS, Fault
-from .frame import Frame, read_capture
+from .frame import CaptureFrame, read_capture
 from .pictures import read_picture
 from .progress import Progress
 from .searching import searched
@@ -22,7 +24,8 @@ ALIKE, NAMED = 0, 1
 
 
 def run(given):
-    """The status of a run. What went wrong is told on standard error. Who ends it by a signal is told so too, and nothing is left behind."""
+    """The status of a run. What went wrong is told on standard error. Who ends it by a signal is told so too, and
+    nothing is left behind."""
     sys.stdout.reconfigure(errors="backslashreplace")
     signal.signal(signal.SIGTERM, signal.default_int_handler)
     try:
@@ -30,7 +33,11 @@ def run(given):
     except Fault as fault:
         return told(fault, fault.status)
     except Ended as ended:
-        return told(ended.said or str(ended), ended.status if 2 <= ended.status <= 5 and ended.status != NOBODY else READING, is_plain=bool(ended.said))
+        return told(
+            ended.said or str(ended),
+            ended.status if 2 <= ended.status <= 5 and ended.status != NOBODY else READING,
+            is_plain=bool(ended.said),
+        )
     except (Garbled, Refusal) as fault:
         return told(fault, READING)
     except OSError as fault:
@@ -46,9 +53,33 @@ def told(why, status, is_plain=False):
 
 
 def blamed(given):
-    frame, outcome = found(given.capture, given.picture, given)
+    if given.driver and os.path.isdir(given.picture):
+        return blamed_alone(given)
+    return tell(given, *found(given.capture, given.picture, given))
+
+
+def blamed_alone(given):
+    """The first event that differs by itself; what else does is told too."""
+    program = program_of(given)
+    frame = checked_frame(program, given.capture)
+    some, total = list(alone.judged(program, frame, given.capture, given)), len(frame.events)
+    if not given.json:
+        for line in alone.lines(some, total):
+            print(line)
+    elif not some:
+        print(json.dumps({"alone": []}))
+    if not some:
+        return ALIKE
+    made, path, folder = alone.cut(frame, some[0].number)
+    with folder:
+        outcome = searched_in(program, (made, path), some[0].wanted, given)
+    return tell(given, made, outcome, some)
+
+
+def tell(given, frame, outcome, some=()):
+    """Tells an Outcome, keeps what is to be kept, and gives the status."""
     if given.json:
-        print(telling_json.text_of(outcome))
+        print(telling_json.text_of(outcome, some))
     else:
         for line in report.lines(frame, outcome, given.driver):
             print(line)
@@ -63,16 +94,29 @@ def status_of(outcome):
 
 def found(capture, picture, given, is_quiet=False):
     """The frame and the Outcome over a capture and a picture."""
-    program = given.program or find_program()
-    if not program:
-        raise Fault("framedbg isn't built or installed here", READING)
+    program = program_of(given)
     frame = checked_frame(program, capture)
     wanted = read_picture(picture, (frame.width, frame.height))
     tolerance = given.tolerance if wanted.has_alpha else (*given.tolerance[:3], 255)
+    return frame, searched_in(program, (frame, capture), Comparison(wanted.samples, tolerance), given, is_quiet)
+
+
+def program_of(given):
+    program = given.program or find_program()
+    if not program:
+        raise Fault("framedbg isn't built or installed here", READING)
+    return program
+
+
+def searched_in(program, frame_and_path, comparison, given, is_quiet=False):
+    """The Outcome over a frame and the file that it stands in, within the time."""
     progress = Progress(is_quiet=is_quiet)
     try:
-        with Trials(program, given.processes, time.monotonic() + given.seconds, progress, getattr(given, "most", None)) as trials:
-            return frame, searched(frame, Comparison(wanted.samples, tolerance), trials, capture)
+        with Trials(
+            program, given.processes, time.monotonic() + given.seconds, progress, getattr(given, "most", None)
+        ) as trials:
+            frame, path = frame_and_path
+            return searched(frame, comparison, trials, path, getattr(given, "driver", False))
     except FileNotFoundError as fault:
         raise Fault(f"{fault.filename}: {fault.strerror}", READING) from None
     finally:
@@ -83,14 +127,20 @@ def checked_frame(program, capture):
     """The frame of a capture that framedbg accepts; why it is refused is framedbg's to say."""
     try:
         with as_word(capture) as (word, descriptors):
-            ran = subprocess.run([program, "events", "--", word], stdin=subprocess.DEVNULL, stdout=subprocess.DEVNULL, stderr=subprocess.PIPE, check=False,
-                                 pass_fds=descriptors)
+            ran = subprocess.run(
+                [program, "events", "--", word],
+                stdin=subprocess.DEVNULL,
+                stdout=subprocess.DEVNULL,
+                stderr=subprocess.PIPE,
+                check=False,
+                pass_fds=descriptors,
+            )
     except OSError as fault:
         raise Fault(f"{fault.filename or program}: {fault.strerror}", READING) from None
     if ran.returncode:
         said = ran.stderr.decode("utf-8", "replace").strip().removeprefix("framedbg: ")
         raise Fault(f"{capture}: {said}", ran.returncode if ran.returncode in (WORDS, READING, MEMORY) else READING)
-    return Frame(read_capture(capture))
+    return CaptureFrame(read_capture(capture))
 
 
 def keep(path, text):

@@ -1,4 +1,5 @@
-"""The search: from the pixels that differ to suspects, and from those to changes, the likeliest first, as long as the time allows."""
+"""The search: from the pixels that differ to suspects, and from those to changes, the likeliest first, as long as
+the time allows."""
 import collections
 import itertools
 import pathlib
@@ -7,44 +8,54 @@ from dataclasses import dataclass, field
 from captures import STATES
 from framedbg_client import Client, Ended, History
 
-from . import states, orders, splitting, slips, corners     # noqa: F401  each puts kinds into the table, which are tried in this order
+# each puts kinds into the table, which are tried in this order
+from . import everywhere, states, orders, splitting, slips, corners  # noqa: F401
 from .clusters import clusters_of, outside, spread
+from .everywhere import EVERYWHERE
 from .evidence import REACHES, Sample, suspects_of
 from .faults import MEMORY, Fault
 from .frame import differing_part
-from .kinds import KINDS, Case, changes_of, searching, simple
+from .kinds import KINDS, Case, changes_of, for_drivers, searching, simple
 from .orders import WITHOUT
 from .points import Points
 from .trying import Change, View
 from .windows import comparison_on, cut, window_of
 
-NAMED_CLUSTERS = 8       # the largest: each has its own verdict
-TURNS = 3, 8, 24, 200    # up to so many suspects, whose simple changes are tried in turn, as long as nothing mends all
-SEARCHED, LATER = 5, 16  # suspects for which a search is worth its time; others, for which it is where none of these mends all
+NAMED_CLUSTERS = 8  # the largest: each has its own verdict
+TURNS = 3, 8, 24, 200  # up to so many suspects, whose simple changes are tried in turn, as long as nothing mends all
+ALL_OF = 24  # suspects by which all events of their kind are changed, where the picture is a driver's
+SEARCHED, LATER = (
+    5,
+    16,
+)  # suspects for which a search is worth its time; others, for which it is where none of these mends all
 PAIRED, FOLLOWED = 10, 3  # best changes that are tried in pairs; that are taken to look for a second one
-MOST_BLIND = 40          # simple changes of an event that are tried with those of another, where none is better alone
-CHECKED = 12             # best changes of a window that are drawn whole
-PARTIAL, OF_EVENT = 12, 2      # changes after which some points are right that are drawn, where none mends all; of one event
-TOLD_EVERY = 64          # changes, after so many of which it is told how far the search has come
-MOST_PERFECT = 32        # changes of a step after which all points are right that are drawn
-SHOWN_AT = 1             # draws that are suspects behind the event that set their state
-TOLD_ALONE = 3           # suspects of which it is told what differs without them
+MOST_BLIND = 40  # simple changes of an event that are tried with those of another, where none is better alone
+CHECKED = 12  # best changes of a window that are drawn whole
+PARTIAL, OF_EVENT = (
+    12,
+    2,
+)  # changes after which some points are right that are drawn, where none mends all; of one event
+TOLD_EVERY = 64  # changes, after so many of which it is told how far the search has come
+MOST_PERFECT = 32  # changes of a step after which all points are right that are drawn
+SHOWN_AT = 1  # draws that are suspects behind the event that set their state
+TOLD_ALONE = 3  # suspects of which it is told what differs without them
 
 
 @dataclass
 class Outcome:
     """What a search has found; `tried` are changes over the whole target, the best first."""
+
     width: int
     height: int
     events: list
     mask: bytes
-    drawn: bytes             # samples of what is drawn, and of what is wanted
+    drawn: bytes  # samples of what is drawn, and of what is wanted
     wanted: bytes
     clusters: list = field(default_factory=list)
     samples: list = field(default_factory=list)
     suspects: list = field(default_factory=list)
     tried: list = field(default_factory=list)
-    alone: dict = field(default_factory=dict)      # by event: what differs without it
+    alone: dict = field(default_factory=dict)  # by event: what differs without it
     count: int = 0
     is_over: bool = False
 
@@ -62,7 +73,8 @@ class Outcome:
 
 
 def asked(path, program):
-    """The image at the end of a capture, its events as framedbg tells them, and a call that gives the histories of some pixels there."""
+    """The image at the end of a capture, its events as framedbg tells them, and a call that gives the histories of
+    some pixels there."""
     client = Client(path, program)
     try:
         events = client.events()
@@ -81,8 +93,9 @@ def history_of(client, pixel, width):
 class Search:
     """Over one frame; a second one stands on a frame that is changed already."""
 
-    def __init__(self, frame, comparison, trials, path):
-        self.frame, self.trials = frame, trials
+    def __init__(self, frame, comparison, trials, path, is_driver=False):
+        """What is wanted may be what a driver drew: then all events of a kind are changed at once too."""
+        self.frame, self.trials, self.is_driver = frame, trials, is_driver
         client, self.image, self.told = asked(path, trials.program)
         with client:
             self.mask = comparison.differing(self.image.samples)
@@ -92,15 +105,26 @@ class Search:
             right = [history_of(client, pixel, frame.width) for pixel in self.right]
         self.is_near = comparison.is_near
         self.suspects = suspects_of(frame, self.samples, comparison.is_near, right)
-        self.case = Case(frame, self.samples, self.clusters, {one.event: one for one in self.suspects}, comparison.is_near, comparison.looked_at, trials, mask=self.mask)
+        self.case = Case(
+            frame,
+            self.samples,
+            self.clusters,
+            {one.event: one for one in self.suspects},
+            comparison.is_near,
+            comparison.looked_at,
+            trials,
+            mask=self.mask,
+        )
         self.whole = self._view(comparison, None)
         window = window_of(frame, self.clusters) if self.clusters else None
         self.case.view = self.view = self._view(comparison, window) if window else self.whole
         self.case.points = self.points = self._points(comparison)
         self.few = self.points.few()
         self.tried, self.checked, self.breadths, self.hints = [], {}, {}, []
-        self.looked_at = set()           # the events whose simple changes were tried
-        self.met = collections.Counter(event for sample in self.samples for event in {entry.event for entry in sample.entries})
+        self.looked_at = set()  # the events whose simple changes were tried
+        self.met = collections.Counter(
+            event for sample in self.samples for event in {entry.event for entry in sample.entries}
+        )
 
     def _view(self, comparison, window):
         named = [cluster.mask(len(self.mask)) for cluster in self.clusters[:NAMED_CLUSTERS]] + [self.mask]
@@ -111,13 +135,26 @@ class Search:
         """Wrong pixels from all over the largest clusters, with their histories."""
         width, most = self.frame.width, 96
         named = self.clusters[:NAMED_CLUSTERS]
-        places = [(number, pixel) for number, cluster in enumerate(named) for pixel in spread(cluster.pixels, width, max(12, most * len(cluster) // self.mask.count(1)))]
+        places = [
+            (number, pixel)
+            for number, cluster in enumerate(named)
+            for pixel in spread(cluster.pixels, width, max(12, most * len(cluster) // self.mask.count(1)))
+        ]
         others = [pixel for cluster in self.clusters[NAMED_CLUSTERS:] for pixel in cluster.pixels]
         places += [(len(named), pixel) for pixel in spread(others, width, 24)]
         made = []
         for number, pixel in places:
             y, x = divmod(pixel, width)
-            made.append(Sample(pixel, x, y, tuple(comparison.wanted[4 * pixel:4 * pixel + 4]), history_of(client, pixel, width), number))
+            made.append(
+                Sample(
+                    pixel,
+                    x,
+                    y,
+                    tuple(comparison.wanted[4 * pixel : 4 * pixel + 4]),
+                    history_of(client, pixel, width),
+                    number,
+                )
+            )
         return made
 
     def _points(self, comparison):
@@ -127,14 +164,25 @@ class Search:
         for sample in self.samples:
             wrong.append((turns[sample.cluster], sample.cluster, (sample.x, sample.y, sample.wanted)))
             turns[sample.cluster] += 1
-        places = [(pixel % self.frame.width, pixel // self.frame.width, tuple(comparison.wanted[4 * pixel:4 * pixel + 4])) for pixel in self.right]
+        places = [
+            (pixel % self.frame.width, pixel // self.frame.width, tuple(comparison.wanted[4 * pixel : 4 * pixel + 4]))
+            for pixel in self.right
+        ]
         return Points(self.frame, [point for _, _, point in sorted(wrong)], places, comparison)
 
     # ---- The steps, each of which ends the search where no pixel differs any more
     def run(self, deep=True):
         ranked = [suspect.event for suspect in self.suspects]
-        simple_ = [lambda some=ranked[start:end]: self.attempt(self._simple(some)) for start, end in zip((0, *TURNS), TURNS)]
-        first, later = (lambda some=some: self.attempt(self._searched(*some), stops=True) for some in ((0, SEARCHED), (SEARCHED, LATER)))
+        simple_ = [
+            lambda some=ranked[start:end], has_all=not start: self.attempt(
+                self._turn(some, ranked[:ALL_OF] if has_all else ())
+            )
+            for start, end in zip((0, *TURNS), TURNS)
+        ]
+        first, later = (
+            lambda some=some: self.attempt(self._searched(*some), stops=True)
+            for some in ((0, SEARCHED), (SEARCHED, LATER))
+        )
         for step in [*simple_, first, lambda: self.attempt(self._pairs()), later] if deep else [*simple_[:2], first]:
             if self.is_mended or self.trials.is_over():
                 break
@@ -142,15 +190,24 @@ class Search:
         self.attempt(self._simple(self._stood_in_for()))
         return self
 
+    def _turn(self, events, everywhere_):
+        """The simple changes of some events; and before them those of all events of a kind."""
+        for event in everywhere_ if self.is_driver else ():
+            yield from changes_of(self.case, event, for_drivers())
+        yield from self._simple(events)
+
     def _simple(self, events):
         for event in events:
             self.looked_at.add(event)
             yield from changes_of(self.case, event, simple())
 
     def _stood_in_for(self):
-        """The state events that a mending change of another event stands in for: a change of their own is as good, and says more."""
-        mending = [one.change for one in self.checked.values() if one.left == 0]
-        return sorted({event for change in mending for event in change.also if self.frame.kind(event) in STATES} - self.looked_at)
+        """The state events that a mending change of another event stands in for: a change of their own is as good,
+        and says more."""
+        mending = [one.change for one in self.checked.values() if one.left == 0 and one.change.kind != EVERYWHERE]
+        return sorted(
+            {event for change in mending for event in change.also if self.frame.kind(event) in STATES} - self.looked_at
+        )
 
     def _searched(self, start, end):
         helped = {}
@@ -172,7 +229,8 @@ class Search:
         return any(one.left == 0 for one in self.checked.values())
 
     def attempt(self, changes, stops=False):
-        """Tries changes: those after which all points are right are drawn, and the others that help are kept as hints."""
+        """Tries changes: those after which all points are right are drawn, and the others that help are kept as
+        hints."""
         perfect = []
         for change in changes:
             if self.trials.is_over():
@@ -201,7 +259,11 @@ class Search:
 
     def look_alone(self, events):
         """What differs without each of some events, on the whole target."""
-        changes = [change for event in events for change in changes_of(self.case, event, [kind for kind in KINDS if kind.name == WITHOUT])]
+        changes = [
+            change
+            for event in events
+            for change in changes_of(self.case, event, [kind for kind in KINDS if kind.name == WITHOUT])
+        ]
         self.case.alone = {one.change.event: one for one in self.trials.all_of(changes, self.whole, is_late=True)}
 
     def check(self, some):
@@ -218,39 +280,63 @@ class Search:
         return suspect.weight if suspect else 0
 
     def order(self, one):
-        """Of changes after which as many pixels differ the kind that stands first in the table, the event that has to do with the fewest draws, and the one
-        with the most evidence."""
+        """Of changes after which as many pixels differ the kind that stands first in the table, the event that has
+        to do with the fewest draws, and the one with the most evidence."""
         names, event = [kind.name for kind in KINDS], one.change.event
-        return one.left, names.index(one.change.kind) if one.change.kind in names else len(names), self.breadth(event), -self.weight(event)
+        return (
+            one.left,
+            names.index(one.change.kind) if one.change.kind in names else len(names),
+            self.breadth(event),
+            -self.weight(event),
+        )
 
     def breadth(self, event):
         """How many draws have the state that an event sets; a draw has to do with itself."""
         if event not in self.breadths:
             kind, events = self.frame.kind(event), self.frame.events[event:]
-            ends = next((at for at, other in enumerate(events) if other["kind"] == kind), len(events)) if kind in STATES else 0
+            ends = (
+                next((at for at, other in enumerate(events) if other["kind"] == kind), len(events))
+                if kind in STATES
+                else 0
+            )
             self.breadths[event] = sum(other["kind"] == "draw" for other in events[:ends])
         return self.breadths[event]
 
     def ranked(self):
-        """All suspects: those of the best changes, each with the events that it has to do with, and then the others by evidence. Behind the state event of the
-        best change stand the draws at which it shows."""
+        """All suspects: those of the best changes, each with the events that it has to do with, and then the others
+        by evidence. Behind the state event of the best change stand the draws at which it shows."""
         whole = sorted((self.checked.get(id(one.change), one) for one in self.tried), key=self.order)
         changes = [*(one.change for one in whole), *(change for _, _, change in sorted(self.hints, key=by_rank))]
         first = [changes[0].event, *changes[0].also, *self.shows_at(changes[0].event)] if changes else []
         by_change = [event for change in changes for event in (change.event, *change.also)]
-        return [self.case.suspects[event] for event in dict.fromkeys([*first, *by_change, *(suspect.event for suspect in self.suspects)]) if event in self.case.suspects]
+        return [
+            self.case.suspects[event]
+            for event in dict.fromkeys([*first, *by_change, *(suspect.event for suspect in self.suspects)])
+            if event in self.case.suspects
+        ]
 
     def shows_at(self, event):
         """The draws with a state that an event sets which the most wrong pixels have met."""
         kind = self.frame.kind(event)
-        drawn = [other for other, _ in self.met.most_common() if self.frame.kind(other) == "draw" and self.frame.setter(other, kind) == event] if kind in STATES else []
+        drawn = (
+            [
+                other
+                for other, _ in self.met.most_common()
+                if self.frame.kind(other) == "draw" and self.frame.setter(other, kind) == event
+            ]
+            if kind in STATES
+            else []
+        )
         return drawn[:SHOWN_AT]
 
     def specific(self, event):
-        """Draws that all wrong pixels have to do with before others, and of those the smallest first: a bug in one draw shows nowhere else."""
+        """Draws that all wrong pixels have to do with before others, and of those the smallest first: a bug in one
+        draw shows nowhere else."""
         count = self.met[event] + self.case.suspects[event].reasons[REACHES]
         corners_ = self.frame.events[event - 1].get("vertices") or [{"x": 0, "y": 0}]
-        wide, high = (max(corner[name] for corner in corners_) - min(corner[name] for corner in corners_) for name in "xy")
+        wide, high = (
+            max(corner[name] for corner in corners_) - min(corner[name] for corner in corners_) for name in "xy"
+        )
         return -count, wide * high, event
 
     def best(self):
@@ -280,17 +366,20 @@ def together(first, event, says, events):
 
 def joined(events, one, other):
     """The events after two changes that touch different parts of the list; None where they touch the same."""
-    (first, behind_first), (second, behind_second) = differing_part(events, one), differing_part(events, other)
+    (first, behind_first), (second, _) = differing_part(events, one), differing_part(events, other)
     if second < first:
         return joined(events, other, one)
     if second < len(events) - behind_first or second == first:
         return None
-    return one[:len(one) - behind_first] + events[len(events) - behind_first:second] + other[second:]
+    return one[: len(one) - behind_first] + events[len(events) - behind_first : second] + other[second:]
 
 
 def blind_pairs(search):
     """Two simple changes of the first suspects, for where neither alone is any better."""
-    simple_ = [list(itertools.islice(changes_of(search.case, suspect.event, simple()), MOST_BLIND)) for suspect in search.suspects[:FOLLOWED + 1]]
+    simple_ = [
+        list(itertools.islice(changes_of(search.case, suspect.event, simple()), MOST_BLIND))
+        for suspect in search.suspects[: FOLLOWED + 1]
+    ]
     for some, others in itertools.combinations(simple_, 2):
         for one, other in itertools.product(some, others):
             events = joined(search.frame.events, one.events, other.events)
@@ -310,7 +399,7 @@ def followed(search, comparison):
         path = pathlib.Path(trials.room.name) / "second.json"
         path.write_text(frame.text(frame.events), encoding="utf-8")
         try:
-            second = Search(frame, comparison, trials, str(path)).run(deep=False)
+            second = Search(frame, comparison, trials, str(path), search.is_driver).run(deep=False)
         except Ended:
             continue
         for found in second.best()[:CHECKED]:
@@ -321,14 +410,24 @@ def followed(search, comparison):
 
 
 def number_before(frame, change, event):
-    """The number in the first frame of an event of a changed one; of one that the change made or put there, the change's own."""
+    """The number in the first frame of an event of a changed one; of one that the change made or put there, the
+    change's own."""
     return next((i for i, other in enumerate(frame.events, 1) if other is event), change.event)
 
 
-def searched(frame, comparison, trials, path):
+def searched(frame, comparison, trials, path, is_driver=False):
     """The Outcome over a frame whose capture is in a file."""
-    search = Search(frame, comparison, trials, path)
-    outcome = Outcome(frame.width, frame.height, search.told, search.mask, search.image.samples, comparison.wanted, search.clusters, search.samples)
+    search = Search(frame, comparison, trials, path, is_driver)
+    outcome = Outcome(
+        frame.width,
+        frame.height,
+        search.told,
+        search.mask,
+        search.image.samples,
+        comparison.wanted,
+        search.clusters,
+        search.samples,
+    )
     if outcome.wrong:
         search.run()
         if not search.is_mended:

@@ -1,4 +1,5 @@
-"""Kinds of change: the indices of a draw. One to three of them left out, doubled, exchanged or wrong, and triangles that run the other way round."""
+"""Kinds of change: the indices of a draw. One to three of them left out, doubled, exchanged or wrong, and triangles
+that run the other way round."""
 import itertools
 import math
 
@@ -8,17 +9,17 @@ from .frame import order_of
 from .kinds import kind, replaced
 
 SLIPS = (1, 2, 3)
-GRID = 24                # places that a search looks at in each of its rounds
-WINDOW = 4               # indices before and behind the best place that are tried one by one
-NEIGHBOURS = 12          # indices before and behind, whose vertices a missing one is looked for among
+GRID = 24  # places that a search looks at in each of its rounds
+WINDOW = 4  # indices before and behind the best place that are tried one by one
+NEIGHBOURS = 12  # indices before and behind, whose vertices a missing one is looked for among
 MOST_CORNERS = {1: 64, 2: 20, 3: 10}
 MOST_TRIANGLES = 24
-MOST_NEAR = 8            # vertices near what still differs
-MOST_HOLES = 12          # holes that are closed at each place
-CLOSEST = 8              # triangles whose indices are tried one by one
-REACH = 3                # pixels from a wrong pixel within which a vertex may be a corner of a triangle that is missing
-WORTH = 0.8              # of what differs: a slip that leaves more than so much, wherever it is, is none
-FAR = 7                  # indices that two exchanged ones lie apart at most
+MOST_NEAR = 8  # vertices near what still differs
+MOST_HOLES = 12  # holes that are closed at each place
+CLOSEST = 8  # triangles whose indices are tried one by one
+REACH = 3  # pixels from a wrong pixel within which a vertex may be a corner of a triangle that is missing
+WORTH = 0.8  # of what differs: a slip that leaves more than so much, wherever it is, is none
+FAR = 7  # indices that two exchanged ones lie apart at most
 
 
 def with_order(case, number, order):
@@ -26,7 +27,8 @@ def with_order(case, number, order):
 
 
 def triangles_of(case, number):
-    """The triangles of a draw that wrong pixels have met, the most often met first, and behind them those beside wrong pixels."""
+    """The triangles of a draw that wrong pixels have met, the most often met first, and behind them those beside
+    wrong pixels."""
     suspect = case.suspects.get(number)
     met = [triangle for triangle, _ in suspect.triangles.most_common(MOST_TRIANGLES)] if suspect else []
     return list(dict.fromkeys([*met, *beside(case, number)]))[:MOST_TRIANGLES]
@@ -36,7 +38,14 @@ def beside(case, number):
     """The triangles with most of their corners near wrong pixels, those before others that were asked."""
     order, near = order_of(case.frame.events[number - 1]), set(vertices_near(case, number))
     asked = set(vertices_round(case, number, [(sample.x, sample.y) for sample in case.samples]))
-    counted = [(*(-sum(corner in some for corner in order[3 * t:3 * t + 3]) for some in (asked, near)), t) for t in range(len(order) // 3)] if near else []
+    counted = (
+        [
+            (*(-sum(corner in some for corner in order[3 * t : 3 * t + 3]) for some in (asked, near)), t)
+            for t in range(len(order) // 3)
+        ]
+        if near
+        else []
+    )
     return [t for _, count, t in sorted(counted) if count][:MOST_TRIANGLES]
 
 
@@ -53,7 +62,14 @@ def directions(case, number):
     order, met = order_of(case.frame.events[number - 1]), sorted(triangles_of(case, number))
     count = len(order) // 3
     yield "its triangles the other way round", with_order(case, number, turned(order, range(count)))
-    culled = sorted({entry.triangle for sample in case.samples for entry in sample.entries if entry.event == number and entry.verdict == "culled"})
+    culled = sorted(
+        {
+            entry.triangle
+            for sample in case.samples
+            for entry in sample.entries
+            if entry.event == number and entry.verdict == "culled"
+        }
+    )
     runs = {(t, t + 1) for t in met} | {(some[0], some[-1] + 1) for some in (met, culled) if some}
     for first, end in sorted(runs, key=lambda run: run[0] - run[1]):
         if (first, end) != (0, count):
@@ -65,7 +81,9 @@ def directions(case, number):
 def triangles_left_out(case, number):
     order = order_of(case.frame.events[number - 1])
     for triangle in triangles_of(case, number):
-        yield f"without its triangle {triangle}", with_order(case, number, order[:3 * triangle] + order[3 * triangle + 3:])
+        yield f"without its triangle {triangle}", with_order(
+            case, number, order[: 3 * triangle] + order[3 * triangle + 3 :]
+        )
 
 
 @kind("indices doubled", "draw", searches=True)
@@ -73,7 +91,7 @@ def doubled(case, number):
     """One to three too many: all that come behind them slip."""
     order = order_of(case.frame.events[number - 1])
     for slip in SLIPS:
-        took = lambda at, slip=slip: order[:at] + order[at + slip:]
+        took = lambda at, slip=slip: order[:at] + order[at + slip :]
         for at in places(case, number, took, len(order) - slip + 1):
             yield f"without its {told(slip)} at {at}", with_order(case, number, took(at))
 
@@ -84,14 +102,15 @@ def left_out(case, number):
     order = order_of(case.frame.events[number - 1])
     for slip in SLIPS:
         padded = lambda at, slip=slip: order[:at] + [order[min(at, len(order) - 1)]] * slip + order[at:]
-        for at in (places(case, number, padded, len(order) + 1) if order else []):
+        for at in places(case, number, padded, len(order) + 1) if order else []:
             for corners in missing_corners(case, number, at, padded(at), slip):
                 made = order[:at] + list(corners) + order[at:]
                 yield f"{told(slip)} more at {at}: {' '.join(map(str, corners))}", with_order(case, number, made)
 
 
 def missing_corners(case, number, at, padded, slip):
-    """The vertices that may be missing, so many at a time: those near what still differs with any vertex there, and those of the indices beside."""
+    """The vertices that may be missing, so many at a time: those near what still differs with any vertex there, and
+    those of the indices beside."""
     near = vertices_round(case, number, case.points.still(with_order(case, number, padded)))[:MOST_NEAR]
     some = dict.fromkeys(itertools.product(near, repeat=slip))
     return list(some | dict.fromkeys(itertools.product(corners_for(case, number, at, slip), repeat=slip)))
@@ -100,8 +119,13 @@ def missing_corners(case, number, at, padded, slip):
 @kind("indices exchanged", "draw", searches=True)
 def exchanges(case, number):
     order = order_of(case.frame.events[number - 1])
-    pairs = {(min(i, j), max(i, j)): None for t in triangles_of(case, number)[:CLOSEST] for i in range(3 * t, 3 * t + 3) for j in range(max(0, i - FAR), min(len(order), i + FAR + 1))
-             if order[i] != order[j]}
+    pairs = {
+        (min(i, j), max(i, j)): None
+        for t in triangles_of(case, number)[:CLOSEST]
+        for i in range(3 * t, 3 * t + 3)
+        for j in range(max(0, i - FAR), min(len(order), i + FAR + 1))
+        if order[i] != order[j]
+    }
     for i, j in sorted(pairs, key=lambda pair: pair[1] - pair[0]):
         made = list(order)
         made[i], made[j] = made[j], made[i]
@@ -115,24 +139,34 @@ def wrong_indices(case, number):
         for at in range(3 * triangle, 3 * triangle + 3):
             for corner in corners_for(case, number, at, 1)[:20]:
                 if corner != order[at]:
-                    yield f"index {at} {corner} in place of {order[at]}", with_order(case, number, order[:at] + [corner] + order[at + 1:])
+                    yield f"index {at} {corner} in place of {order[at]}", with_order(
+                        case, number, order[:at] + [corner] + order[at + 1 :]
+                    )
 
 
 @kind("a triangle that is missing", "draw", searches=True)
 def missing(case, number):
-    """A triangle more: one that closes a hole of the mesh, or one between vertices near the wrong pixels; behind one beside it, or at the end."""
+    """A triangle more: one that closes a hole of the mesh, or one between vertices near the wrong pixels; behind one
+    beside it, or at the end."""
     draw = case.frame.events[number - 1]
-    order, near = order_of(draw), vertices_near(case, number)[:MOST_CORNERS[3]]
+    order, near = order_of(draw), vertices_near(case, number)[: MOST_CORNERS[3]]
     turns = 3 if draw["interp"] == "flat" else 1
     closing = [corners[i:] + corners[:i] for corners in holes(order, set(near)) for i in range(turns)]
     for corners in dict.fromkeys([*closing, *itertools.permutations(near, 3)]):
         beside = [at // 3 * 3 + 3 for at, corner in enumerate(order) if corner in corners] + [len(order) // 3 * 3]
-        for at in dict.fromkeys([max(beside[:-1], default=0), min(beside), *beside] if corners in closing[:MOST_HOLES] else [max(beside[:-1], default=beside[-1])]):
-            yield f"a triangle more at {at}: {' '.join(map(str, corners))}", with_order(case, number, order[:at] + list(corners) + order[at:])
+        for at in dict.fromkeys(
+            [max(beside[:-1], default=0), min(beside), *beside]
+            if corners in closing[:MOST_HOLES]
+            else [max(beside[:-1], default=beside[-1])]
+        ):
+            yield f"a triangle more at {at}: {' '.join(map(str, corners))}", with_order(
+                case, number, order[:at] + list(corners) + order[at:]
+            )
 
 
 def holes(order, near):
-    """Triangles that would close a hole: their edges run against edges that no other triangle has run against. Those near wrong pixels come first."""
+    """Triangles that would close a hole: their edges run against edges that no other triangle has run against. Those
+    near wrong pixels come first."""
     edges = {(order[3 * t + i], order[3 * t + (i + 1) % 3]) for t in range(len(order) // 3) for i in range(3)}
     after = {}
     for a, b in edges:
@@ -143,7 +177,7 @@ def holes(order, near):
     found = {}
     for a, b, c in paths:
         found.setdefault(min((a, b, c), (b, c, a), (c, a, b)), (a, b, c))
-    return list(found.values())[:4 * MOST_HOLES]
+    return list(found.values())[: 4 * MOST_HOLES]
 
 
 def told(slip):
@@ -151,7 +185,8 @@ def told(slip):
 
 
 def places(case, number, made, count):
-    """Where a slip is most likely: of places all over the draw the best, and then ever nearer to it; each of the last ones."""
+    """Where a slip is most likely: of places all over the draw the best, and then ever nearer to it; each of the
+    last ones."""
     low, high = 0, count
     while high - low > 2 * WINDOW + 1:
         step = max(1, (high - low) // GRID)
@@ -159,7 +194,11 @@ def places(case, number, made, count):
         (left, _), at = min((worth_of(case, number, made(at)), at) for at in grid)
         if left > WORTH * case.points.wrong or case.trials.is_over():
             return []
-        low, high = (max(low, at - 2 * step), min(high, at + 2 * step + 1)) if step > 1 else (max(0, at - WINDOW), min(count, at + WINDOW + 1))
+        low, high = (
+            (max(low, at - 2 * step), min(high, at + 2 * step + 1))
+            if step > 1
+            else (max(0, at - WINDOW), min(count, at + WINDOW + 1))
+        )
         if step == 1:
             break
     tried = sorted((worth_of(case, number, made(at)), at) for at in range(low, high))
@@ -172,21 +211,36 @@ def worth_of(case, number, order):
 
 
 def corners_for(case, number, at, slip):
-    """The vertices that an index may be meant to name, the likeliest first: those of the indices round it, those near the wrong pixels, and others."""
+    """The vertices that an index may be meant to name, the likeliest first: those of the indices round it, those
+    near the wrong pixels, and others."""
     order, vertices = order_of(case.frame.events[number - 1]), case.frame.events[number - 1]["vertices"]
     beside = sorted(range(max(0, at - NEIGHBOURS), min(len(order), at + NEIGHBOURS)), key=lambda i: abs(i - at))
     likely = dict.fromkeys([order[i] for i in beside])
     if slip < 3:
         likely |= dict.fromkeys(vertices_near(case, number)[:12])
-        likely |= dict.fromkeys(corner + by for corner in list(likely)[:6] for by in (1, -1) if 0 <= corner + by < len(vertices))
-    return list(likely)[:MOST_CORNERS[slip]]
+        likely |= dict.fromkeys(
+            corner + by for corner in list(likely)[:6] for by in (1, -1) if 0 <= corner + by < len(vertices)
+        )
+    return list(likely)[: MOST_CORNERS[slip]]
 
 
 def vertices_near(case, number):
-    """The vertices of a draw that lie within a few pixels of one that is wrong: those near the pixels that were asked, the nearest first, and then the others."""
+    """The vertices of a draw that lie within a few pixels of one that is wrong: those near the pixels that were
+    asked, the nearest first, and then the others."""
     if number not in case.near:
         asked = vertices_round(case, number, [(sample.x, sample.y) for sample in case.samples])
-        case.near[number] = list(dict.fromkeys([*asked, *(at for at, vertex in enumerate(case.frame.events[number - 1]["vertices"]) if is_near_wrong(case, vertex))]))
+        case.near[number] = list(
+            dict.fromkeys(
+                [
+                    *asked,
+                    *(
+                        at
+                        for at, vertex in enumerate(case.frame.events[number - 1]["vertices"])
+                        if is_near_wrong(case, vertex)
+                    ),
+                ]
+            )
+        )
     return case.near[number]
 
 

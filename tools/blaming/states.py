@@ -1,19 +1,22 @@
-"""Kinds of change: parts of the state, clears, and how a draw is shaded. One thing of one event, by the values that it can have."""
+"""Kinds of change: parts of the state, clears, and how a draw is shaded. One thing of one event, by the values that
+it can have."""
 import collections
 
 from captures import ALPHA_FACTORS, CULLS, FACTORS, FARTHEST, FUNCTIONS, INTERPOLATIONS, OPERATIONS, depth, scissor
+from rules.states import AT_START
 
 from .blending import Chain
-from .frame import AT_START, key_of
+from .everywhere import last_corner
+from .frame import key_of
 from .kinds import inserted, kind, replaced
 
-MOST_VALUES = 4          # of several values that all pixels allow
-MOST_HELD = 48           # states that other events set, of those that differ the nearest
+MOST_VALUES = 4  # of several values that all pixels allow
+MOST_HELD = 48  # states that other events set, of those that differ the nearest
 
 
 def with_members(case, number, says, **members):
     event = case.frame.events[number - 1]
-    if any(event[name] != value for name, value in members.items()):
+    if any(event.get(name) != value for name, value in members.items()):
         yield says, replaced(case.frame.events, number, event | members)
 
 
@@ -37,7 +40,20 @@ def factors(case, number):
         for at, side in ((0, "source"), (1, "destination")):
             for name in names:
                 three = [name if i == at else was for i, was in enumerate(event[part])]
-                yield from with_members(case, number, f"the {side} factor of {word} {name} in place of {event[part][at]}", **{part: three, "enable": True})
+                yield from with_members(
+                    case,
+                    number,
+                    f"the {side} factor of {word} {name} in place of {event[part][at]}",
+                    **{part: three, "enable": True},
+                )
+    alike = [name.replace("_COLOR", "_ALPHA") for name in event["rgb"]]
+    yield from with_members(
+        case,
+        number,
+        f"the alpha part like the colour part, {' '.join(alike)} in place of {' '.join(event['alpha'])}",
+        alpha=alike,
+        enable=True,
+    )
 
 
 @kind("operation of blending", "blend")
@@ -45,7 +61,12 @@ def operations(case, number):
     event = case.frame.events[number - 1]
     for part, word in (("rgb", "colour"), ("alpha", "alpha")):
         for name in OPERATIONS:
-            yield from with_members(case, number, f"the operation of {word} {name} in place of {event[part][2]}", **{part: [*event[part][:2], name], "enable": True})
+            yield from with_members(
+                case,
+                number,
+                f"the operation of {word} {name} in place of {event[part][2]}",
+                **{part: [*event[part][:2], name], "enable": True},
+            )
 
 
 @kind("cull", "raster")
@@ -74,11 +95,15 @@ def rectangles(case, number):
     whole = [0, 0, case.frame.width, case.frame.height]
     yield from with_members(case, number, "the whole target as its rectangle", rect=whole)
     boxes = [cluster.box for cluster in case.clusters[:6]]
-    ends = [sorted({box[at % 2] for box in boxes} | {box[at % 2 + 2] for box in boxes} | {whole[at]}) for at in range(4)]
+    ends = [
+        sorted({box[at % 2] for box in boxes} | {box[at % 2 + 2] for box in boxes} | {whole[at]}) for at in range(4)
+    ]
     single = [(at, end) for at in range(4) for end in ends[at] if end != was[at]]
     for at, end in single:
         rect = [end if i == at else edge for i, edge in enumerate(was)]
-        yield from with_members(case, number, f"{('left', 'top', 'right', 'bottom')[at]} {end} in place of {was[at]}", rect=rect)
+        yield from with_members(
+            case, number, f"{('left', 'top', 'right', 'bottom')[at]} {end} in place of {was[at]}", rect=rect
+        )
     for box in boxes[:2]:
         rect = [min(was[0], box[0]), min(was[1], box[1]), max(was[2], box[2]), max(was[3], box[3])]
         yield from with_members(case, number, f"the rectangle {' '.join(map(str, rect))}", rect=rect)
@@ -107,11 +132,18 @@ def functions(case, number):
 def depths(case, number):
     """The two ends, and values between the depths that the wrong pixels' entries have."""
     was = case.frame.events[number - 1]["depth"]
-    met = sorted({entry.depths.source for sample in case.samples for entry in sample.entries if entry.event > number and entry.depths})
+    met = sorted(
+        {
+            entry.depths.source
+            for sample in case.samples
+            for entry in sample.entries
+            if entry.event > number and entry.depths
+        }
+    )
     between = [met[round(i * (len(met) - 1) / 15)] for i in range(16)] if met else []
-    for depth in dict.fromkeys([FARTHEST, 0, *(value for least in between for value in (least, least + 1)), 32768]):
-        if depth <= FARTHEST:
-            yield from with_members(case, number, f"depth {depth} in place of {was}", depth=depth)
+    for value in dict.fromkeys([FARTHEST, 0, *(near for least in between for near in (least, least + 1)), 32768]):
+        if value <= FARTHEST:
+            yield from with_members(case, number, f"depth {value} in place of {was}", depth=value)
 
 
 @kind("interpolation", "draw")
@@ -121,13 +153,26 @@ def interpolations(case, number):
         yield from with_members(case, number, f"{other} in place of {was}", interp=other)
 
 
+@kind("corner of the flat colour", "draw")
+def flat_corners(case, number):
+    """A flat triangle has its first corner's colour; OpenGL's has its last one's, unless it is told otherwise."""
+    yield from with_members(
+        case, number, "the last corner's colour in flat triangles", **last_corner(case.frame.events[number - 1])
+    )
+
+
 # ---- Values that are worked out from the pixels
 def allowed(case, chains, finals):
-    """For each channel that is looked at the values with which every pixel comes out as wanted; `finals` gives a pixel's colour by chain, channel and value."""
+    """For each channel that is looked at the values with which every pixel comes out as wanted; `finals` gives a
+    pixel's colour by chain, channel and value."""
     for channel in case.looked_at:
         values = range(256)
         for sample, chain in chains:
-            values = [value for value in values if case.is_near(only(finals(chain, channel, value), sample.wanted, channel), sample.wanted)]
+            values = [
+                value
+                for value in values
+                if case.is_near(only(finals(chain, channel, value), sample.wanted, channel), sample.wanted)
+            ]
             if not values:
                 break
         yield channel, list(values)
@@ -152,14 +197,23 @@ def filled(was, found):
 def clears(case, number):
     was = case.frame.events[number - 1]["color"]
     says = lambda colour: f"clear {' '.join(map(str, colour))} in place of {' '.join(map(str, was))}"
-    seen = collections.Counter(sample.wanted for sample in case.samples if sample.drawn and sample.drawn[-1].event == number)
+    seen = collections.Counter(
+        sample.wanted for sample in case.samples if sample.drawn and sample.drawn[-1].event == number
+    )
     for colour, _ in seen.most_common(MOST_VALUES):
         colour = [value if channel in case.looked_at else was[channel] for channel, value in enumerate(colour)]
         yield from with_members(case, number, says(colour), color=colour)
-    chains = [(sample, chain, at) for sample in case.samples[:24] for chain in [Chain(case.frame, sample.entries)]
-              for at, entry in enumerate(chain.entries) if entry.event == number]
+    chains = [
+        (sample, chain, at)
+        for sample in case.samples[:24]
+        for chain in [Chain(case.frame, sample.entries)]
+        for at, entry in enumerate(chain.entries)
+        if entry.event == number
+    ]
     if chains:
-        finals = lambda held, channel, value: held[0].final(held[1] + 1, tuple(value if i == channel else byte for i, byte in enumerate(was)))
+        finals = lambda held, channel, value: held[0].final(
+            held[1] + 1, tuple(value if i == channel else byte for i, byte in enumerate(was))
+        )
         for colour in filled(was, allowed(case, [(sample, (chain, at)) for sample, chain, at in chains], finals)):
             yield from with_members(case, number, says(colour), color=colour)
 
@@ -168,22 +222,40 @@ def clears(case, number):
 def factor_values(case, number):
     was = case.frame.events[number - 1]["color"]
     by = {event for event in case.touched() if case.frame.setter(event, "factor") == number}
-    chains = [(sample, Chain(case.frame, sample.entries)) for sample in case.samples[:24] if any(entry.event in by for entry in sample.entries)]
+    chains = [
+        (sample, Chain(case.frame, sample.entries))
+        for sample in case.samples[:24]
+        if any(entry.event in by for entry in sample.entries)
+    ]
     if chains:
+
         def finals(chain, channel, value):
             colour = [value if i == channel else byte for i, byte in enumerate(was)]
             return chain.final(0, (0, 0, 0, 0), factors=dict.fromkeys(by, colour))
+
         for colour in filled(was, allowed(case, chains, finals)):
-            yield from with_members(case, number, f"factor {' '.join(map(str, colour))} in place of {' '.join(map(str, was))}", color=colour)
+            yield from with_members(
+                case, number, f"factor {' '.join(map(str, colour))} in place of {' '.join(map(str, was))}", color=colour
+            )
 
 
 # ---- What is missing before a draw
 def blends(*parts):
-    return [AT_START["blend"] | {"enable": True, "rgb": part.split(), "alpha": ["ONE", "INV_SRC_ALPHA", "ADD"]} for part in parts]
+    return [
+        AT_START["blend"] | {"enable": True, "rgb": part.split(), "alpha": ["ONE", "INV_SRC_ALPHA", "ADD"]}
+        for part in parts
+    ]
 
 
-USUAL = {                # states that a program often sets, for where the one that is wanted is nowhere in the frame
-    "blend": blends("SRC_ALPHA INV_SRC_ALPHA ADD", "ONE INV_SRC_ALPHA ADD", "SRC_ALPHA ONE ADD", "ONE ONE ADD", "DEST_COLOR ZERO ADD", "ZERO SRC_COLOR ADD"),
+USUAL = {  # states that a program often sets, for where the one that is wanted is nowhere in the frame
+    "blend": blends(
+        "SRC_ALPHA INV_SRC_ALPHA ADD",
+        "ONE INV_SRC_ALPHA ADD",
+        "SRC_ALPHA ONE ADD",
+        "ONE ONE ADD",
+        "DEST_COLOR ZERO ADD",
+        "ZERO SRC_COLOR ADD",
+    ),
     "raster": [AT_START["raster"] | {"cull": cull, "front_ccw": ccw} for ccw in (False, True) for cull in CULLS],
     "depth": [depth(write=write, func=func) for write in (True, False) for func in ("LESS", "LESS_EQUAL", "ALWAYS")],
 }
@@ -191,14 +263,20 @@ USUAL = {                # states that a program often sets, for where the one t
 
 @kind("a part of the state before a draw", "draw")
 def before(case, number):
-    """As at the start, as another event sets it, or as is usual: a state that was never set, or never taken back. Before a draw that covers no point it does
-    what it does before the next one that covers some."""
+    """As at the start, as another event sets it, or as is usual: a state that was never set, or never taken back.
+    Before a draw that covers no point it does what it does before the next one that covers some."""
     if not case.points.covering(case.frame.events[number - 1]):
         return
     for part in case.frame.states:
         by = case.frame.setter(number, part)
-        held = [("as at the start", AT_START[part]), *((f"as event {i} sets it", case.frame.events[i - 1]) for i in case.frame.settings(number, part, MOST_HELD)),
-                *((told(event), event) for event in (round_clusters(case) if part == "scissor" else USUAL.get(part, ())))]
+        held = [
+            ("as at the start", AT_START[part]),
+            *(
+                (f"as event {i} sets it", case.frame.events[i - 1])
+                for i in case.frame.settings(number, part, MOST_HELD)
+            ),
+            *((told(event), event) for event in (round_clusters(case) if part == "scissor" else USUAL.get(part, ()))),
+        ]
         seen = {key_of(case.frame.state(number, part))}
         for says, event in held:
             if key_of(event) not in seen:
@@ -225,5 +303,20 @@ def both_factors(case, number):
     event = case.frame.events[number - 1]
     for first in FACTORS:
         for second in FACTORS:
-            yield from with_members(case, number, f"the factors of colour {first} {second} in place of {event['rgb'][0]} {event['rgb'][1]}",
-                                    rgb=[first, second, event["rgb"][2]], enable=True)
+            yield from with_members(
+                case,
+                number,
+                f"the factors of colour {first} {second} in place of {event['rgb'][0]} {event['rgb'][1]}",
+                rgb=[first, second, event["rgb"][2]],
+                enable=True,
+            )
+
+
+@kind("both factors of alpha", "blend", searches=True)
+def both_alpha_factors(case, number):
+    event = case.frame.events[number - 1]
+    was, operation = " ".join(event["alpha"][:2]), event["alpha"][2]
+    for first in ALPHA_FACTORS:
+        for second in ALPHA_FACTORS:
+            says = f"the factors of alpha {first} {second} in place of {was}"
+            yield from with_members(case, number, says, alpha=[first, second, operation], enable=True)

@@ -7,7 +7,11 @@ from .verdicts import verdicts_of
 def value_of(outcome):
     """`differ`, `suspects`, `changes` (the best first of each), `findings`, and how much was tried."""
     return {
-        "differ": outcome.wrong, "pixels": outcome.width * outcome.height, "mended": outcome.is_mended, "tried": outcome.count, "over": outcome.is_over,
+        "differ": outcome.wrong,
+        "pixels": outcome.width * outcome.height,
+        "mended": outcome.is_mended,
+        "tried": outcome.count,
+        "over": outcome.is_over,
         "suspects": [suspect_of(outcome, suspect) for suspect in outcome.suspects],
         "changes": [change_of(one) for one in outcome.changes],
         "findings": [finding_of(verdict) for verdict in verdicts_of(outcome)],
@@ -16,8 +20,13 @@ def value_of(outcome):
 
 def suspect_of(outcome, suspect):
     event = outcome.events[suspect.event - 1]
-    told = {"event": suspect.event, "kind": event.kind, "line": " ".join([event.kind, *event.words]), "weight": round(suspect.weight, 1),
-            "reasons": [{"text": text, "pixels": count} for text, count in suspect.reasons.most_common(4)]}
+    told = {
+        "event": suspect.event,
+        "kind": event.kind,
+        "line": " ".join([event.kind, *event.words]),
+        "weight": round(suspect.weight, 1),
+        "reasons": [{"text": text, "pixels": count} for text, count in suspect.reasons.most_common(4)],
+    }
     alone = outcome.alone.get(suspect.event)
     if alone is not None and alone.is_whole:
         still = alone.of_clusters[-1]
@@ -26,13 +35,29 @@ def suspect_of(outcome, suspect):
 
 
 def change_of(one):
-    return {"event": one.change.event, "change": one.change.says, "differ": one.left, "kind": one.change.kind, "also": list(one.change.also)}
+    return {
+        "event": one.change.event,
+        "change": one.change.says,
+        "differ": one.left,
+        "kind": one.change.kind,
+        "also": list(one.change.also),
+    }
 
 
 def finding_of(verdict):
-    told = {"number": verdict.number, "pixels": verdict.pixels, "box": list(verdict.box), "pixel": list(verdict.place), "event": verdict.suspect and verdict.suspect.event}
+    told = {
+        "number": verdict.number,
+        "pixels": verdict.pixels,
+        "box": list(verdict.box),
+        "pixel": list(verdict.place),
+        "event": verdict.suspect and verdict.suspect.event,
+    }
     return told | ({"change": verdict.change.change.says, "left": verdict.left} if verdict.change else {})
 
 
-def text_of(outcome):
-    return json.dumps(value_of(outcome), indent=1, ensure_ascii=False)
+def text_of(outcome, alone=()):
+    """The outcome; and where events were judged alone those that differ, of which it tells the first."""
+    value = value_of(outcome)
+    if alone:
+        value["alone"] = [{"event": one.number, "differ": one.count} for one in alone]
+    return json.dumps(value, indent=1, ensure_ascii=False)

@@ -10,16 +10,19 @@ from dataclasses import dataclass
 
 from framedbg_client import Fault as NoImage
 from framedbg_client import read_pam
+from writing.counting import counted
 
 from .comparing import both, pixels_of
 
-CHUNK = 4                # changes a process that are given out at once
-LONGEST = 120            # seconds that framedbg may take for one picture
+CHUNK = 4  # changes a process that are given out at once
+LONGEST = 120  # seconds that framedbg may take for one picture
 
 
 @dataclass(frozen=True)
 class Change:
-    """One change of a frame: of which event, of which kind, what it says, and the events after it. `also` are further events that it touches."""
+    """One change of a frame: of which event, of which kind, what it says, and the events after it. `also` are
+    further events that it touches."""
+
     event: int
     kind: str
     says: str
@@ -29,7 +32,9 @@ class Change:
 
 @dataclass(frozen=True)
 class Tried:
-    """A change, how many pixels differ after it, and how many of each cluster; on the window alone where `is_whole` is false."""
+    """A change, how many pixels differ after it, and how many of each cluster; on the window alone where `is_whole`
+    is false."""
+
     change: Change
     left: int
     of_clusters: tuple
@@ -40,8 +45,8 @@ class Trials:
     """Draws lists of events over a frame's window, or over the whole target, and counts what differs."""
 
     def __init__(self, program, processes, deadline, progress, most=None):
-        """`most` bounds the number of changes, where the time mustn't: a measurement on a busy machine. `count` is of those that were looked at in
-        whatever way; few of them are drawn."""
+        """`most` bounds the number of changes, where the time mustn't: a measurement on a busy machine. `count` is
+        of those that were looked at in whatever way; few of them are drawn."""
         self.program, self.deadline, self.progress, self.most = program, deadline, progress, most
         self.pool = concurrent.futures.ThreadPoolExecutor(processes)
         self.chunk = CHUNK * processes
@@ -72,7 +77,9 @@ class Trials:
             pathlib.Path(name).unlink()
 
     def answer(self, words):
-        with subprocess.Popen(words, stdin=subprocess.DEVNULL, stdout=subprocess.PIPE, stderr=subprocess.DEVNULL) as run:
+        with subprocess.Popen(
+            words, stdin=subprocess.DEVNULL, stdout=subprocess.PIPE, stderr=subprocess.DEVNULL
+        ) as run:
             self.runs.add(run)
             try:
                 out, _ = run.communicate(timeout=LONGEST)
@@ -84,7 +91,8 @@ class Trials:
                 self.runs.discard(run)
 
     def mask_of(self, events, view):
-        """Which pixels of a view differ after some events, as numbers of the whole target's; none where they can't be drawn."""
+        """Which pixels of a view differ after some events, as numbers of the whole target's; none where they can't
+        be drawn."""
         samples = self.drawn(view.frame.text(events, view.window))
         left, top, right, _ = view.window or (0, 0, view.frame.width, 0)
         found = pixels_of(view.comparison.differing(samples)) if samples else []
@@ -106,7 +114,10 @@ class Trials:
 
     def tell(self):
         if self.best is not None:
-            self.progress.say(f"{self.count} changes tried, after the best of them {self.best} pixels differ")
+            self.progress.say(
+                f"{counted(self.count, 'change')} tried, after the best of them {counted(self.best)} "
+                f"{'differs' if self.best == 1 else 'differ'}"
+            )
 
     def one(self, change, view):
         """A change tried on a view; None where it can't be drawn."""
@@ -122,11 +133,13 @@ class Trials:
 
 @dataclass(frozen=True)
 class View:
-    """What of the target is looked at: a window of it with what is wanted there, and the clusters as masks of it. Without a window it is the whole."""
+    """What of the target is looked at: a window of it with what is wanted there, and the clusters as masks of it.
+    Without a window it is the whole."""
+
     frame: object
     comparison: object
-    window: tuple = None
-    masks: tuple = ()        # of the largest clusters, and of all that differs last
+    window: tuple | None = None
+    masks: tuple = ()  # of the largest clusters, and of all that differs last
 
     @property
     def wrong(self):

@@ -1,4 +1,5 @@
-"""The filters of a PNG's rows, taken away. A row is one number, where what is added doesn't depend on what comes of it."""
+"""The filters of a PNG's rows, taken away. A row is one number, where what is added doesn't depend on what comes of
+it."""
 
 
 def unfiltered(data, channels, width, height):
@@ -10,7 +11,7 @@ def unfiltered(data, channels, width, height):
     for start in range(0, (stride + 1) * height, stride + 1):
         if data[start] >= len(FILTERS):
             return None
-        above = FILTERS[data[start]](data[start + 1:start + 1 + stride], above, channels)
+        above = FILTERS[data[start]](data[start + 1 : start + 1 + stride], above, channels)
         out.append(above)
     return b"".join(out)
 

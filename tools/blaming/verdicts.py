@@ -1,4 +1,5 @@
-"""What is said of a frame in the end: findings, each of one cluster, with who did it, since when, by which state, and what mends it."""
+"""What is said of a frame in the end: findings, each of one cluster, with who did it, since when, by which state,
+and what mends it."""
 from dataclasses import dataclass
 
 from .searching import NAMED_CLUSTERS
@@ -9,14 +10,16 @@ MOST_REASONS = 2
 
 @dataclass(frozen=True)
 class Verdict:
-    """Of one cluster: its best change, and how many of its pixels differ after it. Both are None where no change helps it."""
+    """Of one cluster: its best change, and how many of its pixels differ after it. Both are None where no change
+    helps it."""
+
     number: int
     pixels: int
     box: tuple
     change: object
     left: object
     suspect: object
-    place: tuple             # a pixel of it
+    place: tuple  # a pixel of it
 
 
 def verdicts_of(outcome):
@@ -27,7 +30,17 @@ def verdicts_of(outcome):
         best = min(helped, key=lambda one: (one.left > 0, left_of(one, number), one.left), default=None)
         suspects = [suspect for suspect in outcome.suspects if suspect.clusters[number]]
         of_best = next((suspect for suspect in outcome.suspects if best and suspect.event == best.change.event), None)
-        made.append(Verdict(number + 1, len(cluster), cluster.box, best, best and left_of(best, number), of_best or next(iter(suspects), None), place_in(cluster, outcome.width)))
+        made.append(
+            Verdict(
+                number + 1,
+                len(cluster),
+                cluster.box,
+                best,
+                best and left_of(best, number),
+                of_best or next(iter(suspects), None),
+                place_in(cluster, outcome.width),
+            )
+        )
     return made
 
 
@@ -37,7 +50,8 @@ def place_in(cluster, width):
 
 
 def left_of(tried, number):
-    """How many pixels of a cluster differ after a change; all that are left, where the change was looked at as a whole."""
+    """How many pixels of a cluster differ after a change; all that are left, where the change was looked at as a
+    whole."""
     return tried.of_clusters[number] if number < len(tried.of_clusters) else tried.left
 
 
@@ -46,7 +60,12 @@ def since(frame, outcome, suspect):
     number, kind = suspect.event, frame.kind(suspect.event)
     for sample in outcome.samples:
         for entry in reversed(sample.entries):
-            if entry.event == number or kind not in ("draw", "clear", "depth_clear") and frame.kind(entry.event) == "draw" and frame.setter(entry.event, kind) == number:
+            if (
+                entry.event == number
+                or kind not in ("draw", "clear", "depth_clear")
+                and frame.kind(entry.event) == "draw"
+                and frame.setter(entry.event, kind) == number
+            ):
                 return sample, entry
     return None
 

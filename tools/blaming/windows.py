@@ -2,14 +2,16 @@
 from .clusters import thinned
 from .comparing import Comparison
 
-SIDE = 144               # pixels of a window's side at most
+SIDE = 144  # pixels of a window's side at most
 MARGIN = 24
-SMALL = 128 * 128        # pixels of a target that is tried whole
-LIGHT = 6000             # vertices and indices of a frame that is tried whole
+SMALL = 128 * 128  # pixels of a target that is tried whole
+LIGHT = 6000  # vertices and indices of a frame that is tried whole
 
 
 def is_small(frame):
-    corners = sum(len(event["vertices"]) + len(event.get("indices", ())) for event in frame.events if event["kind"] == "draw")
+    corners = sum(
+        len(event["vertices"]) + len(event.get("indices", ())) for event in frame.events if event["kind"] == "draw"
+    )
     return frame.width * frame.height <= SMALL and corners <= LIGHT
 
 
@@ -17,8 +19,12 @@ def window_of(frame, clusters):
     """Left, top, right, bottom of the window round what differs, or None where the whole target is as good."""
     if is_small(frame):
         return None
-    box = [min(cluster.box[0] for cluster in clusters), min(cluster.box[1] for cluster in clusters),
-           max(cluster.box[2] for cluster in clusters), max(cluster.box[3] for cluster in clusters)]
+    box = [
+        min(cluster.box[0] for cluster in clusters),
+        min(cluster.box[1] for cluster in clusters),
+        max(cluster.box[2] for cluster in clusters),
+        max(cluster.box[3] for cluster in clusters),
+    ]
     left, right = side(box[0], box[2], frame.width, lambda: fullest(clusters, 0, frame.width))
     top, bottom = side(box[1], box[3], frame.height, lambda: fullest(clusters, 1, frame.width))
     window = left, top, right, bottom
@@ -44,7 +50,7 @@ def fullest(clusters, axis, width):
 def cut(samples, width, window, depth=4):
     """The samples of a window, row by row."""
     left, top, right, bottom = window
-    return b"".join(samples[depth * (y * width + left):depth * (y * width + right)] for y in range(top, bottom))
+    return b"".join(samples[depth * (y * width + left) : depth * (y * width + right)] for y in range(top, bottom))
 
 
 def comparison_on(comparison, width, window):

@@ -5,8 +5,8 @@ from captures import FARTHEST
 
 from .model import Fault
 
-EYE = 4.0                    # from the model's middle, in radii of the model
-FILLED = 0.88                # of the target, by the model
+EYE = 4.0  # from the model's middle, in radii of the model
+FILLED = 0.88  # of the target, by the model
 LIGHT = (-0.45, 0.75, 0.48)
 
 
@@ -27,7 +27,10 @@ def looked_at(points, width, height, azimuth, elevation):
     flat = [(x / (EYE - z), -y / (EYE - z), EYE - z) for x, y, z in seen]
     left, top, right, bottom = (f(p[i] for p in flat) for i, f in ((0, min), (1, min), (0, max), (1, max)))
     scale = FILLED * min(width / (right - left or 1), height / (bottom - top or 1))
-    return seen, [(width / 2 + scale * (x - (left + right) / 2), height / 2 + scale * (y - (top + bottom) / 2), d) for x, y, d in flat]
+    return seen, [
+        (width / 2 + scale * (x - (left + right) / 2), height / 2 + scale * (y - (top + bottom) / 2), d)
+        for x, y, d in flat
+    ]
 
 
 def depth_of(distance):

@@ -1,4 +1,5 @@
-"""The events that draw a model: a backdrop, and each part with its state; and the bugs that may be planted in one of them."""
+"""The events that draw a model: a backdrop, and each part with its state; and the bugs that may be planted in one of
+them."""
 from dataclasses import dataclass
 
 import captures
@@ -26,13 +27,13 @@ BUGS = {
 
 @dataclass
 class Look:
-    size: tuple                 # of the target
-    view: tuple                 # degrees round the model and above it
-    by: str = "part"            # what is drawn from far to near: part, or depth
+    size: tuple  # of the target
+    view: tuple  # degrees round the model and above it
+    by: str = "part"  # what is drawn from far to near: part, or depth
     smooth: bool = False
-    depth: bool = False         # a capture of version 2, whose test hides what is behind
+    depth: bool = False  # a capture of version 2, whose test hides what is behind
     bug: str = ""
-    part: int = 0               # where the bug is, from 1
+    part: int = 0  # where the bug is, from 1
 
 
 def capture(model, look):
@@ -86,7 +87,10 @@ def parts_of(faces, placed, by):
     if by == "depth":
         faces = sorted(faces, key=distance)
         step = max(1, -(-len(faces) // LAYERS))
-        return [(f"layer {i // step + 1}", all(f[2][3] >= 1 for f in faces[i:i + step]), faces[i:i + step]) for i in range(0, len(faces), step)]
+        return [
+            (f"layer {i // step + 1}", all(f[2][3] >= 1 for f in faces[i : i + step]), faces[i : i + step])
+            for i in range(0, len(faces), step)
+        ]
     named = {}
     for face in faces:
         named.setdefault(face[1], []).append(face)
@@ -100,15 +104,18 @@ def draws(faces, seen, placed, look, wrong):
     faces = faces[::-1] if wrong == "order" else faces
     for at in range(0, len(faces), MOST_TRIANGLES):
         vertices = []
-        for corners, _, colour in faces[at:at + MOST_TRIANGLES]:
+        for corners, _, colour in faces[at : at + MOST_TRIANGLES]:
             n = normal(*(seen[c] for c in corners))
             for c in in_turn(corners, placed, look, wrong):
-                vertices.append(vertex(*placed[c], lit(colour, normals[c] if look.smooth or wrong == "flat" else n), look.depth))
+                vertices.append(
+                    vertex(*placed[c], lit(colour, normals[c] if look.smooth or wrong == "flat" else n), look.depth)
+                )
         yield slipped(vertices, wrong) | {"interp": "linear" if smooth else "flat"}
 
 
 def in_turn(corners, placed, look, wrong):
-    """Where back faces are culled, as the model has its corners: counter-clockwise from outside, so turned here, where y grows down."""
+    """Where back faces are culled, as the model has its corners: counter-clockwise from outside, so turned here,
+    where y grows down."""
     if look.bug != "winding":
         return corners
     (ax, ay, _), (bx, by, _), (cx, cy, _) = (placed[c] for c in corners)

@@ -10,8 +10,8 @@ MAGIC, JSON_CHUNK, BINARY_CHUNK = 0x46546C67, 0x4E4F534A, 0x004E4942
 COMPONENTS = {5120: "b", 5121: "B", 5122: "h", 5123: "H", 5125: "I", 5126: "f"}
 WIDE = {"SCALAR": 1, "VEC2": 2, "VEC3": 3, "VEC4": 4, "MAT4": 16}
 TRIANGLES, STRIP, FAN = 4, 5, 6
-MOST_PLACED = 200_000        # primitives, counted at each node that has them
-ONE = (1, 0, 0, 0, 0, 1, 0, 0, 0, 0, 1, 0, 0, 0, 0, 1)       # columns one after another, as glTF has them
+MOST_PLACED = 200_000  # primitives, counted at each node that has them
+ONE = (1, 0, 0, 0, 0, 1, 0, 0, 0, 0, 1, 0, 0, 0, 0, 1)  # columns one after another, as glTF has them
 
 
 def read(path):
@@ -40,7 +40,7 @@ def chunks(data):
         size, kind = struct.unpack_from("<II", data, at)
         if at + 8 + size > length:
             raise Fault("a chunk ends behind the file")
-        found.setdefault(kind, data[at + 8:at + 8 + size])
+        found.setdefault(kind, data[at + 8 : at + 8 + size])
         at += 8 + size
     try:
         tree = json.loads(found[JSON_CHUNK])
@@ -64,7 +64,10 @@ class File:
         if not scenes:
             yield from ((mesh, ONE) for mesh in range(len(self.tree.get("meshes", []))))
             return
-        waiting, seen = collections.deque((node, ONE) for node in item(scenes, self.tree.get("scene", 0)).get("nodes", [])), set()
+        waiting, seen = (
+            collections.deque((node, ONE) for node in item(scenes, self.tree.get("scene", 0)).get("nodes", [])),
+            set(),
+        )
         while waiting:
             index, above = waiting.popleft()
             node = item(self.tree["nodes"], index)
@@ -82,7 +85,7 @@ class File:
             self.placed_primitives += 1
             if self.placed_primitives > MOST_PLACED:
                 raise Fault(f"more than {MOST_PLACED} primitives are placed")
-            if primitive.get("mode", TRIANGLES) in (TRIANGLES, STRIP, FAN):      # points and lines aren't drawn
+            if primitive.get("mode", TRIANGLES) in (TRIANGLES, STRIP, FAN):  # points and lines aren't drawn
                 self.add_primitive(model, primitive, text_or(mesh.get("name"), f"mesh {index}"), matrix)
 
     def add_primitive(self, model, primitive, name, matrix):
@@ -90,13 +93,19 @@ class File:
         for point in positions:
             model.add_point(applied(matrix, point))
         count = len(positions)
-        order = [whole(i) for i, in self.values(primitive["indices"], "SCALAR")] if "indices" in primitive else list(range(count))
+        order = (
+            [whole(i) for i, in self.values(primitive["indices"], "SCALAR")]
+            if "indices" in primitive
+            else list(range(count))
+        )
         name, colour = self.material(primitive, name)
-        turned = determinant(matrix) < 0                # a mirror turns the winding
+        turned = determinant(matrix) < 0  # a mirror turns the winding
         for a, b, c in triangles(order, primitive.get("mode", TRIANGLES)):
             if max(a, b, c) >= count:
                 raise Fault(f"an index names point {max(a, b, c)} of {count}")
-            model.add_polygon([first + a, first + c, first + b] if turned else [first + a, first + b, first + c], name, colour)
+            model.add_polygon(
+                [first + a, first + c, first + b] if turned else [first + a, first + b, first + c], name, colour
+            )
 
     def material(self, primitive, name):
         if "material" not in primitive:
@@ -105,18 +114,27 @@ class File:
         base = material.get("pbrMetallicRoughness", {}).get("baseColorFactor", [1, 1, 1, 1])
         red, green, blue, alpha = (number(channel) for channel in base)
         opaque = material.get("alphaMode", "OPAQUE") == "OPAQUE"
-        return text_or(material.get("name"), name), (*(encoded(c) for c in (red, green, blue)), 1.0 if opaque else alpha)
+        return text_or(material.get("name"), name), (
+            *(encoded(c) for c in (red, green, blue)),
+            1.0 if opaque else alpha,
+        )
 
     def values(self, index, kind):
         """The rows of an accessor."""
         accessor = item(self.tree["accessors"], index)
         if accessor["type"] != kind or "sparse" in accessor:
-            raise Fault(f"accessor {index} is {'sparse' if 'sparse' in accessor else accessor['type']}, and a plain {kind} is wanted")
+            raise Fault(
+                f"accessor {index} is {'sparse' if 'sparse' in accessor else accessor['type']}, and a plain "
+                f"{kind} is wanted"
+            )
         view = item(self.tree["bufferViews"], accessor["bufferView"])
         if item(self.tree["buffers"], view["buffer"]).get("uri") is not None:
             raise Fault("its buffer is another file; only a .glb that has all is read")
         row = struct.Struct("<" + str(WIDE[kind]) + COMPONENTS[accessor["componentType"]])
-        start, stride = whole(view.get("byteOffset", 0)) + whole(accessor.get("byteOffset", 0)), whole(view.get("byteStride", 0)) or row.size
+        start, stride = (
+            whole(view.get("byteOffset", 0)) + whole(accessor.get("byteOffset", 0)),
+            whole(view.get("byteStride", 0)) or row.size,
+        )
         end = start + stride * (accessor["count"] - 1) + row.size
         if whole(accessor["count"]) > MOST_POINTS:
             raise Fault(f"accessor {index} has more than {MOST_POINTS} rows, which no capture has room for")
@@ -145,7 +163,7 @@ def text_or(value, other):
 
 def triangles(order, mode):
     if mode == TRIANGLES:
-        return (order[i:i + 3] for i in range(0, len(order) - 2, 3))
+        return (order[i : i + 3] for i in range(0, len(order) - 2, 3))
     if mode == FAN:
         return ((order[0], b, c) for b, c in zip(order[1:], order[2:]))
     return ((order[i], order[i + 1 + i % 2], order[i + 2 - i % 2]) for i in range(len(order) - 2))
@@ -167,9 +185,22 @@ def matrix_of(node):
     t = tuple(map(number, node.get("translation", (0, 0, 0))))
     length = math.sqrt(x * x + y * y + z * z + w * w) or 1
     x, y, z, w = x / length, y / length, z / length, w / length
-    return (a * (1 - 2 * (y * y + z * z)), a * 2 * (x * y + z * w), a * 2 * (x * z - y * w), 0,
-            b * 2 * (x * y - z * w), b * (1 - 2 * (x * x + z * z)), b * 2 * (y * z + x * w), 0,
-            c * 2 * (x * z + y * w), c * 2 * (y * z - x * w), c * (1 - 2 * (x * x + y * y)), 0, *t, 1)
+    return (
+        a * (1 - 2 * (y * y + z * z)),
+        a * 2 * (x * y + z * w),
+        a * 2 * (x * z - y * w),
+        0,
+        b * 2 * (x * y - z * w),
+        b * (1 - 2 * (x * x + z * z)),
+        b * 2 * (y * z + x * w),
+        0,
+        c * 2 * (x * z + y * w),
+        c * 2 * (y * z - x * w),
+        c * (1 - 2 * (x * x + y * y)),
+        0,
+        *t,
+        1,
+    )
 
 
 def times(m, n):
@@ -182,4 +213,6 @@ def applied(m, point):
 
 
 def determinant(m):
-    return (m[0] * (m[5] * m[10] - m[6] * m[9]) - m[4] * (m[1] * m[10] - m[2] * m[9]) + m[8] * (m[1] * m[6] - m[2] * m[5]))
+    return (
+        m[0] * (m[5] * m[10] - m[6] * m[9]) - m[4] * (m[1] * m[10] - m[2] * m[9]) + m[8] * (m[1] * m[6] - m[2] * m[5])
+    )

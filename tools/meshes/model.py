@@ -3,8 +3,8 @@ import math
 from dataclasses import dataclass, field
 
 GREY = (0.75, 0.74, 0.72, 1.0)
-MOST_FILE = 1 << 28          # bytes of a model that are read
-MOST_FACES = 700_000         # triangles: a capture's 67,108,864 bytes have room for fewer
+MOST_FILE = 1 << 28  # bytes of a model that are read
+MOST_FACES = 700_000  # triangles: a capture's 67,108,864 bytes have room for fewer
 MOST_POINTS = 3 * MOST_FACES
 
 
@@ -14,8 +14,10 @@ class Fault(Exception):
 
 @dataclass
 class Model:
-    points: list = field(default_factory=list)       # (x, y, z)
-    faces: list = field(default_factory=list)        # (three corners, the part's name, its colour as red, green, blue, alpha from 0 to 1)
+    points: list = field(default_factory=list)  # (x, y, z)
+    faces: list = field(
+        default_factory=list
+    )  # (three corners, the part's name, its colour as red, green, blue, alpha from 0 to 1)
 
     def add_point(self, point):
         if not all(map(math.isfinite, point)):

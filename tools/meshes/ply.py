@@ -4,8 +4,24 @@ import struct
 
 from .model import GREY, Fault, Model, number, read_bytes
 
-TYPES = {"char": "b", "int8": "b", "uchar": "B", "uint8": "B", "short": "h", "int16": "h", "ushort": "H", "uint16": "H",
-         "int": "i", "int32": "i", "uint": "I", "uint32": "I", "float": "f", "float32": "f", "double": "d", "float64": "d"}
+TYPES = {
+    "char": "b",
+    "int8": "b",
+    "uchar": "B",
+    "uint8": "B",
+    "short": "h",
+    "int16": "h",
+    "ushort": "H",
+    "uint16": "H",
+    "int": "i",
+    "int32": "i",
+    "uint": "I",
+    "uint32": "I",
+    "float": "f",
+    "float32": "f",
+    "double": "d",
+    "float64": "d",
+}
 FLOATS = ("float", "float32", "double", "float64")
 SCALARS, CORNERS = ("x", "y", "z", "red", "green", "blue", "alpha"), ("vertex_indices", "vertex_index")
 FORMATS = {"ascii": None, "binary_little_endian": "<", "binary_big_endian": ">"}
@@ -17,7 +33,7 @@ def read(path):
     if not data.startswith(b"ply") or not mark or b"\n" not in body:
         raise Fault("a PLY begins with ply and has an end_header")
     elements, form = header(head.decode("ascii", "replace").splitlines())
-    body = body[body.index(b"\n") + 1:]
+    body = body[body.index(b"\n") + 1 :]
     take = text_taker(body) if FORMATS[form] is None else byte_taker(body, FORMATS[form])
     model, colours = Model(), []
     for kind, count, properties in elements:
@@ -75,7 +91,11 @@ def add_row(model, colours, kind, row, kinds, name):
         model.add_point(tuple(number(row[axis]) for axis in "xyz"))
         scale = 1 if kinds.get("red") in FLOATS else 255
         has_colour = {"red", "green", "blue"} <= set(row)
-        colours.append((*(row[c] / scale for c in ("red", "green", "blue")), row.get("alpha", scale) / scale) if has_colour else GREY)
+        colours.append(
+            (*(row[c] / scale for c in ("red", "green", "blue")), row.get("alpha", scale) / scale)
+            if has_colour
+            else GREY
+        )
     elif kind == "face":
         corners = [length(c) for c in next((row[name] for name in CORNERS if name in row), [])]
         if corners and corners[0] < len(colours):
@@ -108,6 +128,7 @@ def text_taker(body):
         if word is None:
             raise Fault("the file ends too early")
         return number(word.decode("ascii", "replace"))
+
     return take
 
 
@@ -117,9 +138,10 @@ def byte_taker(body, order):
     def take(kind):
         nonlocal at
         try:
-            value, = struct.unpack_from(order + TYPES[kind], body, at)
+            (value,) = struct.unpack_from(order + TYPES[kind], body, at)
         except struct.error:
             raise Fault("the file ends too early") from None
         at += struct.calcsize(TYPES[kind])
         return value
+
     return take

@@ -3,7 +3,7 @@ from captures import MOST_BYTES, MOST_EVENTS, compact, joined
 
 from .model import Fault
 
-MOST_HEAD = 100          # bytes before and after the events
+MOST_HEAD = 100  # bytes before and after the events
 
 
 def text_of(made, triangles):
@@ -13,5 +13,8 @@ def text_of(made, triangles):
         lines.append(compact(event))
         length += len(lines[-1].encode()) + 2
         if length > MOST_BYTES - MOST_HEAD or len(lines) > MOST_EVENTS:
-            raise Fault(f"a capture has at most {MOST_BYTES} bytes and {MOST_EVENTS} events, and its {triangles} triangles take more: make them fewer")
+            raise Fault(
+                f"a capture has at most {MOST_BYTES} bytes and {MOST_EVENTS} events, and its {triangles} "
+                f"triangles take more: make them fewer"
+            )
     return joined(made, lines)

@@ -8,6 +8,7 @@ from . import numbers as gl
 @dataclass(frozen=True)
 class Pointer:
     """Where glVertexPointer says that vertices are: bytes of the program's own, or a place in a buffer."""
+
     size: int = 4
     kind: int = 0x1406
     stride: int = 0
@@ -19,14 +20,14 @@ class Buffers:
     """Contents by name; contexts share them."""
 
     def __init__(self):
-        self.contents, self.mapped = {}, {}         # mapped: name: (address, offset)
+        self.contents, self.mapped = {}, {}  # mapped: name: (address, offset)
 
     def data(self, name, size, content):
         self.contents[name] = (bytes(content) if content else b"").ljust(size, b"\0")[:size]
 
     def write(self, name, offset, content):
         old = self.contents.get(name, b"")
-        self.contents[name] = old[:offset] + content + old[offset + len(content):]
+        self.contents[name] = old[:offset] + content + old[offset + len(content) :]
 
     def copied(self, address, content):
         """The program wrote to an address: it is a buffer's where one is mapped there."""
@@ -44,7 +45,7 @@ class Arrays:
         self.buffers = buffers
         self.bound = {}
         self.pointer, self.is_on = Pointer(), False
-        self.kept = []                              # of glPushClientAttrib
+        self.kept = []  # of glPushClientAttrib
 
     def do(self, call):
         """Does a call on arrays or buffers; whether it was one."""
@@ -64,7 +65,9 @@ class Arrays:
         elif call.name == "memcpy":
             self.buffers.copied(words["dest"], words["src"])
         elif call.name == "glVertexPointer":
-            self.pointer = Pointer(words["size"], words["type"], words["stride"], words["pointer"], self.bound.get(gl.ARRAY_BUFFER, 0))
+            self.pointer = Pointer(
+                words["size"], words["type"], words["stride"], words["pointer"], self.bound.get(gl.ARRAY_BUFFER, 0)
+            )
         elif call.name in ("glEnableClientState", "glDisableClientState"):
             if words["array"] == gl.VERTEX_ARRAY:
                 self.is_on = call.name == "glEnableClientState"
@@ -87,10 +90,14 @@ class Arrays:
         letter = gl.TYPES.get(pointer.kind)
         if not self.is_on or letter is None:
             return None
-        content, start = (pointer.place, 0) if isinstance(pointer.place, bytes) else (self.buffers.contents.get(pointer.buffer, b""), pointer.place or 0)
+        content, start = (
+            (pointer.place, 0)
+            if isinstance(pointer.place, bytes)
+            else (self.buffers.contents.get(pointer.buffer, b""), pointer.place or 0)
+        )
         form = struct.Struct(f"<{pointer.size}{letter}")
         stride = pointer.stride or form.size
-        rest = (0.0, 0.0, 0.0, 1.0)[pointer.size:]
+        rest = (0.0, 0.0, 0.0, 1.0)[pointer.size :]
         try:
             return [form.unpack_from(content, start + number * stride) + rest for number in numbers]
         except struct.error:
@@ -98,7 +105,11 @@ class Arrays:
 
     def indices(self, count, kind, place):
         """The numbers of a draw, or None."""
-        content, start = (place, 0) if isinstance(place, bytes) else (self.buffers.contents.get(self.bound.get(gl.ELEMENT_BUFFER, 0), b""), place or 0)
+        content, start = (
+            (place, 0)
+            if isinstance(place, bytes)
+            else (self.buffers.contents.get(self.bound.get(gl.ELEMENT_BUFFER, 0), b""), place or 0)
+        )
         try:
             return list(struct.unpack_from(f"<{count}{gl.TYPES[kind]}", content, start))
         except (struct.error, KeyError):

@@ -7,7 +7,7 @@ from dataclasses import dataclass
 
 from real_frames.fault import Fault
 
-RENDERS, ENDS_FRAME = 1 << 3, 1 << 5            # apitrace's flags of a call
+RENDERS, ENDS_FRAME = 1 << 3, 1 << 5  # apitrace's flags of a call
 SUFFIXES = ("ARB", "EXT", "ATI", "NV", "OES")
 MISSING = "there is no {}; on Debian: apt install apitrace"
 
@@ -15,7 +15,7 @@ MISSING = "there is no {}; on Debian: apt install apitrace"
 @dataclass(frozen=True)
 class Call:
     number: int
-    name: str                   # without the suffix of an extension
+    name: str  # without the suffix of an extension
     words: dict
     result: object = None
     flags: int = 0
@@ -38,7 +38,7 @@ class Reader(pickle.Unpickler):
 def plain(name):
     for suffix in SUFFIXES:
         if name.endswith(suffix) and len(name) > len(suffix) + 2:
-            return name[:-len(suffix)]
+            return name[: -len(suffix)]
     return name
 
 
@@ -71,7 +71,16 @@ def read(stream):
     while stream.peek(1):
         try:
             number, name, words, result, flags = reader.load()
-        except (pickle.UnpicklingError, EOFError, ValueError, TypeError, AttributeError, IndexError, KeyError, UnicodeDecodeError) as fault:
+        except (
+            pickle.UnpicklingError,
+            EOFError,
+            ValueError,
+            TypeError,
+            AttributeError,
+            IndexError,
+            KeyError,
+            UnicodeDecodeError,
+        ) as fault:
             raise Fault(f"a call of the trace can't be read: {fault}") from None
         yield Call(number, plain(name), dict(words), result, flags)
 

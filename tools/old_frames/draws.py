@@ -15,21 +15,22 @@ NO_VERTICES = "vertices that aren't in the arrays"
 @dataclass
 class Done:
     """What a call did. Primitives are ((0, number), three, two or one corners in clip space)."""
+
     number: int
     name: str
-    kind: str                   # draw, clear, copy or marker
+    kind: str  # draw, clear, copy or marker
     target: int
     settings: object = None
     mode: int = 0
     primitives: list = field(default_factory=list)
     trouble: str = ""
-    buffers: int = 0            # glClear's
-    matrices: tuple = (matrices.IDENTITY, matrices.IDENTITY)        # projection and modelview
+    buffers: int = 0  # glClear's
+    matrices: tuple = (matrices.IDENTITY, matrices.IDENTITY)  # projection and modelview
 
 
 def padded(values):
     """Two, three or four coordinates as four."""
-    return tuple(values) + (0.0, 0.0, 0.0, 1.0)[len(values):]
+    return tuple(values) + (0.0, 0.0, 0.0, 1.0)[len(values) :]
 
 
 def rectangle(values):
@@ -52,15 +53,24 @@ def element_part(words, arrays, count, place, base=0):
 
 
 def of_many_arrays(words, arrays):
-    return [(words["mode"], arrays.vertices(range(first, first + count))) for first, count in zip(words["first"], words["count"])]
+    return [
+        (words["mode"], arrays.vertices(range(first, first + count)))
+        for first, count in zip(words["first"], words["count"])
+    ]
 
 
 def of_many_elements(words, arrays):
     return [element_part(words, arrays, count, place) for count, place in zip(words["count"], words["indices"])]
 
 
-READERS = {"glDrawArrays": of_arrays, "glDrawElements": of_elements, "glDrawRangeElements": of_elements, "glDrawElementsBaseVertex": of_elements,
-           "glMultiDrawArrays": of_many_arrays, "glMultiDrawElements": of_many_elements}
+READERS = {
+    "glDrawArrays": of_arrays,
+    "glDrawElements": of_elements,
+    "glDrawRangeElements": of_elements,
+    "glDrawElementsBaseVertex": of_elements,
+    "glMultiDrawArrays": of_many_arrays,
+    "glMultiDrawElements": of_many_elements,
+}
 
 
 def parts(call, arrays):
@@ -72,8 +82,15 @@ def done(machine, call, name, some):
     """A Done for each mode of the parts, with what the context is at."""
     found = []
     for mode, vertices in some:
-        one = Done(call.number, f"{name}({gl.MODE_NAMES.get(mode, mode)})", "draw", machine.target, machine.settings.copy(), mode,
-                   matrices=(machine.stacks.top(gl.PROJECTION), machine.stacks.top(gl.MODELVIEW)))
+        one = Done(
+            call.number,
+            f"{name}({gl.MODE_NAMES.get(mode, mode)})",
+            "draw",
+            machine.target,
+            machine.settings.copy(),
+            mode,
+            matrices=(machine.stacks.top(gl.PROJECTION), machine.stacks.top(gl.MODELVIEW)),
+        )
         if machine.shared.programs.has_own_vertices(machine.program) or gl.VERTEX_PROGRAM in machine.settings.enabled:
             one.trouble = OWN_SHADER
         elif vertices is None:
@@ -95,7 +112,10 @@ def primitives(mode, vertices, stacks, planes):
     placed = [matrices.applied(whole, vertex) for vertex in vertices]
     if planes:
         eyes = [matrices.applied(view, vertex) for vertex in vertices]
-        placed = [corner + tuple(sum(p * e for p, e in zip(plane, eye)) for plane in planes) for corner, eye in zip(placed, eyes)]
+        placed = [
+            corner + tuple(sum(p * e for p, e in zip(plane, eye)) for plane in planes)
+            for corner, eye in zip(placed, eyes)
+        ]
     found = []
     for primitive, numbers in shapes(mode, len(vertices)):
         for corners in within([placed[number] for number in numbers], len(planes)):
@@ -104,7 +124,8 @@ def primitives(mode, vertices, stacks, planes):
 
 
 def within(corners, planes):
-    """The parts of a primitive whose distances from all planes, which its corners have from the fifth number on, are at least zero."""
+    """The parts of a primitive whose distances from all planes, which its corners have from the fifth number on, are
+    at least zero."""
     for number in range(planes):
         inside = [corner[4 + number] >= 0 for corner in corners]
         if not any(inside):

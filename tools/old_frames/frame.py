@@ -1,4 +1,4 @@
-"""One frame of a trace, for real_frames.gather: what replay.Frame is for RenderDoc's."""
+"""One frame of a trace, for real_frames.gather: what replay.ReplayedFrame is for RenderDoc's."""
 import struct
 from contextlib import contextmanager
 from types import SimpleNamespace
@@ -15,8 +15,14 @@ from .retrace import Snapshots, otherwise, state_at
 from .unblending import is_blended, noted, without_blending
 from .words import mask, scissor, state_of
 
-WINDOW = 0                      # the target of a window's own
-MAKES_CURRENT = {"glXMakeCurrent": "ctx", "glXMakeContextCurrent": "ctx", "wglMakeCurrent": "hglrc", "eglMakeCurrent": "ctx", "CGLSetCurrentContext": "ctx"}
+WINDOW = 0  # the target of a window's own
+MAKES_CURRENT = {
+    "glXMakeCurrent": "ctx",
+    "glXMakeContextCurrent": "ctx",
+    "wglMakeCurrent": "hglrc",
+    "eglMakeCurrent": "ctx",
+    "CGLSetCurrentContext": "ctx",
+}
 
 
 @contextmanager
@@ -24,8 +30,20 @@ def understood(call):
     """A call whose words aren't those that OpenGL's has is a fault of the trace."""
     try:
         yield
-    except (KeyError, TypeError, ValueError, IndexError, AttributeError, ArithmeticError, MemoryError, struct.error) as fault:
-        raise Fault(f"call {call.number}, {printable(call.name)}: its words can't be understood ({type(fault).__name__} {printable(fault)})") from None
+    except (
+        KeyError,
+        TypeError,
+        ValueError,
+        IndexError,
+        AttributeError,
+        ArithmeticError,
+        MemoryError,
+        struct.error,
+    ) as fault:
+        raise Fault(
+            f"call {call.number}, {printable(call.name)}: its words can't be understood ({type(fault).__name__} "
+            f"{printable(fault)})"
+        ) from None
 
 
 def done_in(some, frame):
@@ -35,7 +53,9 @@ def done_in(some, frame):
     done = []
     for call in some:
         if call.name in MAKES_CURRENT:
-            machine = machines.setdefault(call.words.get(MAKES_CURRENT[call.name], 0), machine if not machines else Machine(shared))
+            machine = machines.setdefault(
+                call.words.get(MAKES_CURRENT[call.name], 0), machine if not machines else Machine(shared)
+            )
         machine.done, machine.is_kept = done, at == frame
         with understood(call):
             machine.do(call)
@@ -58,10 +78,13 @@ def list_frames(path):
     """A line for each frame of a trace that draws."""
     first, draws, at = 0, 0, 0
     for call in calls(path):
-        draws += call.name in ("glEnd", "glCallList", "glCallLists", "glClear") or call.name.startswith(("glDraw", "glMultiDraw", "glRect"))
+        draws += call.name in ("glEnd", "glCallList", "glCallLists", "glClear") or call.name.startswith(
+            ("glDraw", "glMultiDraw", "glRect")
+        )
         if call.flags & ENDS_FRAME:
             if draws:
-                yield f"frame {at}: calls {first} to {call.number}, {draws} draws and clears"
+                told = "1 draw or clear" if draws == 1 else f"{draws} draws and clears"
+                yield f"frame {at}: calls {first} to {call.number}, {told}"
             first, draws, at = call.number + 1, 0, at + 1
 
 
@@ -96,8 +119,12 @@ class TracedFrame:
         if not any(one.kind == "draw" and one.target == WINDOW for one in done):
             raise Fault(f"{path}: frame {number} draws nothing on its window")
         self.snapshots = Snapshots(retracer, path, wanted_in([one.number for one in done], span), say)
-        self.own = None                         # pictures with draws' own colours in the place of blended ones
-        blended = [one.number for one in done if one.kind == "draw" and one.target == WINDOW and span[0] <= one.number <= span[1] and is_blended(one)]
+        self.own = None  # pictures with draws' own colours in the place of blended ones
+        blended = [
+            one.number
+            for one in done
+            if one.kind == "draw" and one.target == WINDOW and span[0] <= one.number <= span[1] and is_blended(one)
+        ]
         if blended and with_own:
             with without_blending(path, changes) as changed:
                 self.own = Snapshots(retracer, changed, blended, say)
@@ -157,7 +184,12 @@ class TracedFrame:
         own, buffers, whole = action.done.settings, action.done.buffers, [0, 0, width, height]
         with understood(action.done):
             box = meet(scissor(own, height), whole) if own.is_on(gl.SCISSOR_TEST) else whole
-            return bool(buffers & gl.COLOUR_BIT), bool(buffers & gl.DEPTH_BIT and own.depth_mask), [None if box == whole else box], mask(own)
+            return (
+                bool(buffers & gl.COLOUR_BIT),
+                bool(buffers & gl.DEPTH_BIT and own.depth_mask),
+                [None if box == whole else box],
+                mask(own),
+            )
 
     @staticmethod
     def depth_value(action, *_):
@@ -172,6 +204,10 @@ class TracedFrame:
     def state(action, width, height, losses):
         with understood(action.done):
             return state_of(action.done, width, height, losses)
+
+    @staticmethod
+    def told(*_):
+        return {}, {}
 
     @staticmethod
     def reads_textures(action):

@@ -1,4 +1,5 @@
-"""OpenGL's contexts, as far as calls of fixed function move them: what each draw, clear and copy does, and with which state."""
+"""OpenGL's contexts, as far as calls of fixed function move them: what each draw, clear and copy does, and with
+which state."""
 import re
 from dataclasses import replace
 
@@ -11,10 +12,18 @@ from .programs import Programs
 
 VERTEX = re.compile(r"glVertex[234][sifd]v?")
 RECTANGLE = re.compile(r"glRect[sifd]v?")
-NOT_IN_LISTS = re.compile(r"gl(Enable|Disable)ClientState|gl\w*Pointer|gl(Push|Pop)ClientAttrib|gl\w*Buffer\w*|gl(Gen|Delete)Lists|memcpy|(glX|wgl|CGL|egl)\w*|glFlush|glFinish|gl(Get|Is)\w*")
+NOT_IN_LISTS = re.compile(
+    r"gl(Enable|Disable)ClientState|gl\w*Pointer|gl(Push|Pop)ClientAttrib|gl\w*Buffer\w*|gl(Gen|Delete)Lists|mem"
+    r"cpy|(glX|wgl|CGL|egl)\w*|glFlush|glFinish|gl(Get|Is)\w*"
+)
 COPIES = {"glBlitFramebuffer", "glCopyPixels", "glDrawPixels", "glBitmap", "glAccum"}
-MARKERS = {"glPushDebugGroup": "message", "glStringMarkerGREMEDY": "string", "glPushGroupMarker": "marker", "glInsertEventMarker": "marker"}
-MOST_DEEP = 64                  # lists that call lists
+MARKERS = {
+    "glPushDebugGroup": "message",
+    "glStringMarkerGREMEDY": "string",
+    "glPushGroupMarker": "marker",
+    "glInsertEventMarker": "marker",
+}
+MOST_DEEP = 64  # lists that call lists
 TRANSFORM_BIT = 0x1000
 
 
@@ -32,7 +41,7 @@ class Machine:
         self.shared, self.done, self.is_kept = shared, [], False
         self.settings, self.stacks, self.arrays = settings.Settings(), stacks.Stacks(), Arrays(shared.buffers)
         self.attributes, self.target, self.program = [], 0, 0
-        self.mode, self.corners = None, []          # between glBegin and glEnd
+        self.mode, self.corners = None, []  # between glBegin and glEnd
         self.recorded, self.executes = None, False  # between glNewList and glEndList
         self.deep = 0
 
@@ -117,7 +126,9 @@ class Machine:
 
     def glClipPlane(self, call):
         """A plane is kept in eye coordinates, as it is where the matrix is when it is given."""
-        turned = matrices.applied(matrices.transposed(matrices.inverse(self.stacks.top(gl.MODELVIEW))), call.words["equation"])
+        turned = matrices.applied(
+            matrices.transposed(matrices.inverse(self.stacks.top(gl.MODELVIEW))), call.words["equation"]
+        )
         number = call.words["plane"]
         self.settings.planes = (*(one for one in self.settings.planes if one[0] != number), (number, turned))
 

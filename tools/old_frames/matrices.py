@@ -5,7 +5,9 @@ IDENTITY = (1.0, 0.0, 0.0, 0.0, 0.0, 1.0, 0.0, 0.0, 0.0, 0.0, 1.0, 0.0, 0.0, 0.0
 
 
 def multiplied(first, second):
-    return tuple(sum(first[4 * k + row] * second[4 * column + k] for k in range(4)) for column in range(4) for row in range(4))
+    return tuple(
+        sum(first[4 * k + row] * second[4 * column + k] for k in range(4)) for column in range(4) for row in range(4)
+    )
 
 
 def applied(matrix, vertex):
@@ -32,28 +34,78 @@ def rotation(angle, x, y, z):
     x, y, z = x / length, y / length, z / length
     c, s = math.cos(math.radians(angle)), math.sin(math.radians(angle))
     rest = 1 - c
-    return (x * x * rest + c, y * x * rest + z * s, z * x * rest - y * s, 0.0,
-            x * y * rest - z * s, y * y * rest + c, z * y * rest + x * s, 0.0,
-            x * z * rest + y * s, y * z * rest - x * s, z * z * rest + c, 0.0, 0.0, 0.0, 0.0, 1.0)
+    return (
+        x * x * rest + c,
+        y * x * rest + z * s,
+        z * x * rest - y * s,
+        0.0,
+        x * y * rest - z * s,
+        y * y * rest + c,
+        z * y * rest + x * s,
+        0.0,
+        x * z * rest + y * s,
+        y * z * rest - x * s,
+        z * z * rest + c,
+        0.0,
+        0.0,
+        0.0,
+        0.0,
+        1.0,
+    )
 
 
 def frustum(left, right, bottom, top, near, far):
     if left == right or bottom == top or near == far or near <= 0 or far <= 0:
-        return IDENTITY         # OpenGL passes over such a call
-    return (2 * near / (right - left), 0.0, 0.0, 0.0, 0.0, 2 * near / (top - bottom), 0.0, 0.0,
-            (right + left) / (right - left), (top + bottom) / (top - bottom), -(far + near) / (far - near), -1.0, 0.0, 0.0, -2 * far * near / (far - near), 0.0)
+        return IDENTITY  # OpenGL passes over such a call
+    return (
+        2 * near / (right - left),
+        0.0,
+        0.0,
+        0.0,
+        0.0,
+        2 * near / (top - bottom),
+        0.0,
+        0.0,
+        (right + left) / (right - left),
+        (top + bottom) / (top - bottom),
+        -(far + near) / (far - near),
+        -1.0,
+        0.0,
+        0.0,
+        -2 * far * near / (far - near),
+        0.0,
+    )
 
 
 def ortho(left, right, bottom, top, near, far):
     if left == right or bottom == top or near == far:
         return IDENTITY
-    return (2 / (right - left), 0.0, 0.0, 0.0, 0.0, 2 / (top - bottom), 0.0, 0.0, 0.0, 0.0, -2 / (far - near), 0.0,
-            -(right + left) / (right - left), -(top + bottom) / (top - bottom), -(far + near) / (far - near), 1.0)
+    return (
+        2 / (right - left),
+        0.0,
+        0.0,
+        0.0,
+        0.0,
+        2 / (top - bottom),
+        0.0,
+        0.0,
+        0.0,
+        0.0,
+        -2 / (far - near),
+        0.0,
+        -(right + left) / (right - left),
+        -(top + bottom) / (top - bottom),
+        -(far + near) / (far - near),
+        1.0,
+    )
 
 
 def inverse(matrix):
     """By Gauss and Jordan, or the identity where there is none."""
-    rows = [[matrix[4 * column + row] for column in range(4)] + [float(row == column) for column in range(4)] for row in range(4)]
+    rows = [
+        [matrix[4 * column + row] for column in range(4)] + [float(row == column) for column in range(4)]
+        for row in range(4)
+    ]
     for column in range(4):
         best = max(range(column, 4), key=lambda row: abs(rows[row][column]))
         if abs(rows[best][column]) < 1e-30:

@@ -8,7 +8,7 @@ AS_FIXED = re.compile(r"gl_Position\s*=\s*(ftransform\s*\(\s*\)|gl_ModelViewProj
 
 class Programs:
     def __init__(self):
-        self.own = {}               # shader: whether it is one of vertices that has its own way
+        self.own = {}  # shader: whether it is one of vertices that has its own way
         self.kinds, self.attached = {}, {}
 
     def do(self, call):
@@ -22,10 +22,13 @@ class Programs:
         elif call.name in ("glAttachShader", "glAttachObject"):
             self.attached.setdefault(words[0], set()).add(words[1])
         elif call.name in ("glDetachShader", "glDetachObject"):
-            pass                    # a linked program stays as it was linked
+            pass  # a linked program stays as it was linked
         else:
             return False
         return True
 
     def has_own_vertices(self, program):
-        return any(self.kinds.get(shader) == gl.VERTEX_SHADER and self.own.get(shader, True) for shader in self.attached.get(program, ()))
+        return any(
+            self.kinds.get(shader) == gl.VERTEX_SHADER and self.own.get(shader, True)
+            for shader in self.attached.get(program, ())
+        )

@@ -9,7 +9,7 @@ from real_frames.reel import Reel
 from . import numbers as gl
 from .calls import said, started
 
-TRY = "; try LIBGL_ALWAYS_SOFTWARE=1, another --frame, or take_frame --zink"       # a driver may end what it replays
+TRY = "; try LIBGL_ALWAYS_SOFTWARE=1, another --frame, or take_frame --zink"  # a driver may end what it replays
 HEAD = re.compile(rb"P6\n(?:#([^\n]*)\n)?(\d+) (\d+)\n255\n")
 
 
@@ -63,17 +63,27 @@ def state_at(retracer, path, number):
         told = process.stdout.read().decode(errors="replace")
         process.stderr.read()
     try:
-        return json.JSONDecoder(strict=False).raw_decode(told[told.index("{"):])[0]["parameters"]
+        return json.JSONDecoder(strict=False).raw_decode(told[told.index("{") :])[0]["parameters"]
     except (ValueError, KeyError, TypeError):
         return {}
 
 
 def otherwise(done, told):
-    """The names of what glretrace's state of a draw has otherwise than it was worked out; none where it tells nothing."""
+    """The names of what glretrace's state of a draw has otherwise than it was worked out; none where it tells
+    nothing."""
     own = done.settings
-    here = {"GL_VIEWPORT": own.viewport, "GL_SCISSOR_BOX": own.scissor, "GL_DEPTH_RANGE": own.depth_range, "GL_POLYGON_OFFSET_FACTOR": (own.offset[0],),
-            "GL_POLYGON_OFFSET_UNITS": (own.offset[1],), "GL_PROJECTION_MATRIX": done.matrices[0], "GL_MODELVIEW_MATRIX": done.matrices[1],
-            "GL_DEPTH_WRITEMASK": (own.depth_mask,), "GL_COLOR_WRITEMASK": own.mask, **{name: (own.is_on(number),) for name, number in gl.SWITCHES.items()}}
+    here = {
+        "GL_VIEWPORT": own.viewport,
+        "GL_SCISSOR_BOX": own.scissor,
+        "GL_DEPTH_RANGE": own.depth_range,
+        "GL_POLYGON_OFFSET_FACTOR": (own.offset[0],),
+        "GL_POLYGON_OFFSET_UNITS": (own.offset[1],),
+        "GL_PROJECTION_MATRIX": done.matrices[0],
+        "GL_MODELVIEW_MATRIX": done.matrices[1],
+        "GL_DEPTH_WRITEMASK": (own.depth_mask,),
+        "GL_COLOR_WRITEMASK": own.mask,
+        **{name: (own.is_on(number),) for name, number in gl.SWITCHES.items()},
+    }
     return [name for name, values in here.items() if name in told and not is_alike(values, told[name])]
 
 

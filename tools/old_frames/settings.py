@@ -7,6 +7,7 @@ from . import numbers as gl
 @dataclass
 class Settings:
     """As a context has it at its beginning, but for viewport and scissor, which its first window gives it."""
+
     viewport: tuple = (0, 0, 0, 0)
     depth_range: tuple = (0.0, 1.0)
     scissor: tuple = (0, 0, 0, 0)
@@ -15,17 +16,17 @@ class Settings:
     clear_depth: float = 1.0
     depth_function: int = 0x201
     depth_mask: int = 1
-    blend: tuple = (1, 0, 1, 0)                         # source and destination of colour, then of alpha
+    blend: tuple = (1, 0, 1, 0)  # source and destination of colour, then of alpha
     equation: tuple = (0x8006, 0x8006)
     constant: tuple = (0.0, 0.0, 0.0, 0.0)
     cull: int = gl.BACK
     front: int = gl.CCW
-    fill: tuple = (gl.FILL, gl.FILL)                    # of front and back
-    offset: tuple = (0.0, 0.0)                          # factor and units
+    fill: tuple = (gl.FILL, gl.FILL)  # of front and back
+    offset: tuple = (0.0, 0.0)  # factor and units
     line_width: float = 1.0
     point_size: float = 1.0
     list_base: int = 0
-    planes: tuple = ()                                  # (number, four numbers in eye coordinates)
+    planes: tuple = ()  # (number, four numbers in eye coordinates)
     enabled: frozenset = frozenset({gl.DITHER})
 
     def is_on(self, what):
@@ -39,23 +40,45 @@ class Settings:
 
 
 NAMES = {field.name for field in fields(Settings)}
-SETTERS = {"glViewport": "viewport", "glDepthRange": "depth_range", "glScissor": "scissor", "glColorMask": "mask", "glClearColor": "clear_colour",
-           "glClearDepth": "clear_depth", "glClearDepthf": "clear_depth", "glDepthRangef": "depth_range", "glDepthFunc": "depth_function",
-           "glDepthMask": "depth_mask", "glBlendFuncSeparate": "blend", "glBlendEquationSeparate": "equation", "glBlendColor": "constant",
-           "glCullFace": "cull", "glFrontFace": "front", "glPolygonOffset": "offset", "glLineWidth": "line_width", "glPointSize": "point_size",
-           "glListBase": "list_base"}
+SETTERS = {
+    "glViewport": "viewport",
+    "glDepthRange": "depth_range",
+    "glScissor": "scissor",
+    "glColorMask": "mask",
+    "glClearColor": "clear_colour",
+    "glClearDepth": "clear_depth",
+    "glClearDepthf": "clear_depth",
+    "glDepthRangef": "depth_range",
+    "glDepthFunc": "depth_function",
+    "glDepthMask": "depth_mask",
+    "glBlendFuncSeparate": "blend",
+    "glBlendEquationSeparate": "equation",
+    "glBlendColor": "constant",
+    "glCullFace": "cull",
+    "glFrontFace": "front",
+    "glPolygonOffset": "offset",
+    "glLineWidth": "line_width",
+    "glPointSize": "point_size",
+    "glListBase": "list_base",
+}
 
-GROUPS = {      # glPushAttrib's bits: what stands under each, and what glEnable takes of it
+GROUPS = {  # glPushAttrib's bits: what stands under each, and what glEnable takes of it
     0x2: ({"point_size"}, {gl.POINT_SMOOTH}),
     0x4: ({"line_width"}, {gl.LINE_SMOOTH, gl.LINE_STIPPLE}),
-    0x8: ({"cull", "front", "fill", "offset"}, {gl.CULL_FACE, gl.POLYGON_SMOOTH, gl.POLYGON_STIPPLE, gl.OFFSET_POINT, gl.OFFSET_LINE, gl.OFFSET_FILL}),
+    0x8: (
+        {"cull", "front", "fill", "offset"},
+        {gl.CULL_FACE, gl.POLYGON_SMOOTH, gl.POLYGON_STIPPLE, gl.OFFSET_POINT, gl.OFFSET_LINE, gl.OFFSET_FILL},
+    ),
     0x40: (set(), {gl.LIGHTING, gl.COLOR_MATERIAL, *gl.LIGHTS}),
     0x80: (set(), {gl.FOG}),
     0x100: ({"depth_function", "depth_mask", "clear_depth"}, {gl.DEPTH_TEST}),
     0x400: (set(), {gl.STENCIL_TEST}),
     0x800: ({"viewport", "depth_range"}, set()),
     0x1000: ({"planes"}, {gl.NORMALIZE, *gl.CLIP_PLANES}),
-    0x4000: ({"mask", "clear_colour", "blend", "equation", "constant"}, {gl.ALPHA_TEST, gl.BLEND, gl.DITHER, gl.COLOR_LOGIC_OP}),
+    0x4000: (
+        {"mask", "clear_colour", "blend", "equation", "constant"},
+        {gl.ALPHA_TEST, gl.BLEND, gl.DITHER, gl.COLOR_LOGIC_OP},
+    ),
     0x20000: ({"list_base"}, set()),
     0x40000: (set(), gl.TEXTURES),
     0x80000: ({"scissor"}, {gl.SCISSOR_TEST}),

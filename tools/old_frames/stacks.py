@@ -2,8 +2,24 @@
 from . import matrices
 from . import numbers as gl
 
-MAKERS = {"glTranslate": matrices.translation, "glScale": matrices.scaling, "glRotate": matrices.rotation, "glFrustum": matrices.frustum, "glOrtho": matrices.ortho}
-CALLS = {"glMatrixMode", "glPushMatrix", "glPopMatrix", "glLoadIdentity", "glLoadMatrix", "glMultMatrix", "glLoadTransposeMatrix", "glMultTransposeMatrix", *MAKERS}
+MAKERS = {
+    "glTranslate": matrices.translation,
+    "glScale": matrices.scaling,
+    "glRotate": matrices.rotation,
+    "glFrustum": matrices.frustum,
+    "glOrtho": matrices.ortho,
+}
+CALLS = {
+    "glMatrixMode",
+    "glPushMatrix",
+    "glPopMatrix",
+    "glLoadIdentity",
+    "glLoadMatrix",
+    "glMultMatrix",
+    "glLoadTransposeMatrix",
+    "glMultTransposeMatrix",
+    *MAKERS,
+}
 
 
 def plain(name):

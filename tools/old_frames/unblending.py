@@ -13,7 +13,12 @@ from .words import blending
 
 ZERO, ONE, ALPHA, REST = 0, 1, 0x302, 0x303
 HIDES, ADDS = ("GL_SRC_ALPHA GL_ONE", "GL_ONE_MINUS_SRC_ALPHA GL_ZERO"), ("GL_ONE GL_ZERO", "GL_SRC_ALPHA GL_ONE")
-WORDS = {(ALPHA, REST): HIDES, (ONE, REST): HIDES, (ALPHA, ZERO): HIDES, (ALPHA, ONE): ADDS}       # what is exchanged in a call of these factors, in turn
+WORDS = {
+    (ALPHA, REST): HIDES,
+    (ONE, REST): HIDES,
+    (ALPHA, ZERO): HIDES,
+    (ALPHA, ONE): ADDS,
+}  # what is exchanged in a call of these factors, in turn
 
 
 def noted(some, changes):
@@ -42,6 +47,9 @@ def without_blending(path, changes):
             with started(["apitrace", "sed", f"--calls=@{chosen}", *exchanges, "-o", made, path]) as process:
                 told = b"".join(process.communicate())
             if process.returncode or not made.exists():
-                raise Fault(f"apitrace sed can't change the trace: {told.decode(errors='replace').strip()[-200:]}; with --fast it isn't asked to")
+                raise Fault(
+                    f"apitrace sed can't change the trace: {told.decode(errors='replace').strip()[-200:]}; with "
+                    f"--fast it isn't asked to"
+                )
             path = made
         yield path

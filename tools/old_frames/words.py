@@ -6,9 +6,14 @@ from real_frames.viewport import Viewport, meet, rectangle
 
 from . import numbers as gl
 
-DEPTH_STEP = 1 / 0xffffff       # of depths of 24 bits, as Mesa gives a window
-SMOOTH = {gl.POINT_SMOOTH: "draws of smooth points", gl.LINE_SMOOTH: "draws of smooth lines", gl.LINE_STIPPLE: "draws of stippled lines",
-          gl.POLYGON_SMOOTH: "draws of smooth triangles", gl.POLYGON_STIPPLE: "draws of stippled triangles"}
+DEPTH_STEP = 1 / 0xFFFFFF  # of depths of 24 bits, as Mesa gives a window
+SMOOTH = {
+    gl.POINT_SMOOTH: "draws of smooth points",
+    gl.LINE_SMOOTH: "draws of smooth lines",
+    gl.LINE_STIPPLE: "draws of stippled lines",
+    gl.POLYGON_SMOOTH: "draws of smooth triangles",
+    gl.POLYGON_STIPPLE: "draws of stippled triangles",
+}
 LINES, TRIANGLES = {1, 2, 3}, set(range(4, 10))
 
 
@@ -41,7 +46,13 @@ def count(done, losses):
     if own.is_on(gl.COLOR_LOGIC_OP):
         losses.add("draws with a logic operation")
     for switch, what in SMOOTH.items():
-        if own.is_on(switch) and done.mode in ({gl.POINTS} if switch == gl.POINT_SMOOTH else LINES if switch in (gl.LINE_SMOOTH, gl.LINE_STIPPLE) else TRIANGLES):
+        if own.is_on(switch) and done.mode in (
+            {gl.POINTS}
+            if switch == gl.POINT_SMOOTH
+            else LINES
+            if switch in (gl.LINE_SMOOTH, gl.LINE_STIPPLE)
+            else TRIANGLES
+        ):
             losses.add(what, "drawn as others")
     if done.mode in TRIANGLES and set(own.fill) != {gl.FILL}:
         losses.add("draws of edges or points alone (fill mode)", "drawn as solid triangles")
@@ -55,7 +66,9 @@ def state_of(done, width, height, losses):
     count(done, losses)
     left, bottom, wide, high = own.viewport
     near, far = (min(max(float(value), 0.0), 1.0) for value in own.depth_range)
-    view = Viewport(left, height - bottom - high, wide, high, near, far, y_up=True, half_depth=False, rows_from_below=True)
+    view = Viewport(
+        left, height - bottom - high, wide, high, near, far, y_up=True, half_depth=False, rows_from_below=True
+    )
     box = meet(meet(scissor(own, height) if own.is_on(gl.SCISSOR_TEST) else whole, view.box()), whole)
     cull = "none"
     if own.is_on(gl.CULL_FACE):
@@ -63,7 +76,16 @@ def state_of(done, width, height, losses):
         box = box if own.cull in gl.CULLS else [0, 0, 0, 0]
     blend, factor = blending(own, losses)
     factor_of, units = own.offset if own.is_on(gl.OFFSET_FILL) and done.mode in TRIANGLES else (0.0, 0.0)
-    return states.State(view, box, states.raster(cull, own.front == gl.CCW, box != whole), blend, factor,
-                        states.depth(own.is_on(gl.DEPTH_TEST), own.depth_mask, states.COMPARES[gl.COMPARES.get(own.depth_function, "Less")]),
-                        bias=Bias(units, factor_of, step=DEPTH_STEP), width=own.point_size if done.mode == gl.POINTS else own.line_width,
-                        discards=own.is_on(gl.ALPHA_TEST) or own.is_on(gl.STENCIL_TEST))
+    return states.State(
+        view,
+        box,
+        states.raster(cull, own.front == gl.CCW, box != whole),
+        blend,
+        factor,
+        states.depth(
+            own.is_on(gl.DEPTH_TEST), own.depth_mask, states.COMPARES[gl.COMPARES.get(own.depth_function, "Less")]
+        ),
+        bias=Bias(units, factor_of, step=DEPTH_STEP),
+        width=own.point_size if done.mode == gl.POINTS else own.line_width,
+        discards=own.is_on(gl.ALPHA_TEST) or own.is_on(gl.STENCIL_TEST),
+    )

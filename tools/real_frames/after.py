@@ -3,7 +3,8 @@ from .names import BEFORE
 
 
 def positions_of(capture):
-    """{RenderDoc's event: the position after it} of draws, clears and copies, in their order; draws that are there for their depths alone are left out."""
+    """{RenderDoc's event: the position after it} of draws, clears and copies, in their order; draws that are there
+    for their depths alone are left out."""
     found = {}
     for position, event in enumerate(capture["events"], 1):
         source = event.get("source", {})
@@ -18,5 +19,7 @@ def apart(theirs, ours, width):
         return 0, 0, None
     both = zip(memoryview(theirs).cast("I"), memoryview(ours).cast("I"))
     places = [at for at, (one, other) in enumerate(both) if one != other]
-    most = max(abs(one - other) for at in places for one, other in zip(theirs[4 * at:4 * at + 4], ours[4 * at:4 * at + 4]))
+    most = max(
+        abs(one - other) for at in places for one, other in zip(theirs[4 * at : 4 * at + 4], ours[4 * at : 4 * at + 4])
+    )
     return len(places), most, (places[0] % width, places[0] // width)

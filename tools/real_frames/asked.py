@@ -1,4 +1,5 @@
-"""What a shader gave at some pixels of a draw, asked of RenderDoc's histories where the draw can't be drawn alone: which pixels are asked, and what lies between."""
+"""What a shader gave at some pixels of a draw, asked of RenderDoc's histories where the draw can't be drawn alone:
+which pixels are asked, and what lies between."""
 from .pieces import Piece
 from .planes import CHANNELS, Table
 
@@ -6,13 +7,16 @@ MOST_OF_A_DRAW = 12
 
 
 def pixels_to_ask(shapes, size, pictures, most):
-    """[(x, y)] over the triangles of a draw, where its picture isn't as before: so many in all, at least one, and as many of each triangle."""
+    """[(x, y)] over the triangles of a draw, where its picture isn't as before: so many in all, at least one, and as
+    many of each triangle."""
     width, height = size
     before, after = (memoryview(picture).cast("I") for picture in pictures)
     shown = []
     for number, corners in shapes:
         spans = Piece(number, [(x, y, 0) for x, y, _ in corners]).shape.spans(width, height)
-        changed = [(x, y) for y, x0, x1 in spans for x in range(x0, x1) if before[y * width + x] != after[y * width + x]]
+        changed = [
+            (x, y) for y, x0, x1 in spans for x in range(x0, x1) if before[y * width + x] != after[y * width + x]
+        ]
         if changed:
             shown.append(changed)
     chosen = evenly(shown, most)
@@ -23,11 +27,14 @@ def evenly(some, most):
     """At most so many of a list, the first and the last among them."""
     if len(some) <= most:
         return list(some)
-    return [some[number * (len(some) - 1) // (most - 1)] for number in range(most)] if most > 1 else [some[len(some) // 2]]
+    return (
+        [some[number * (len(some) - 1) // (most - 1)] for number in range(most)] if most > 1 else [some[len(some) // 2]]
+    )
 
 
 class Model:
-    """The plane through what was given at some pixels, for each primitive; for one that wasn't asked the mean of the others."""
+    """The plane through what was given at some pixels, for each primitive; for one that wasn't asked the mean of the
+    others."""
 
     def __init__(self, known):
         """known: {(x, y): {primitive: (r, g, b, a)}}"""
@@ -40,7 +47,9 @@ class Model:
     def at(self, primitive, x, y):
         if primitive in self.planes:
             return self.planes[primitive].at(x, y)
-        return tuple(sum(plane.middle[channel] for plane in self.planes.values()) / len(self.planes) for channel in CHANNELS)
+        return tuple(
+            sum(plane.middle[channel] for plane in self.planes.values()) / len(self.planes) for channel in CHANNELS
+        )
 
 
 class Plane:
@@ -52,4 +61,6 @@ class Plane:
 
     def at(self, x, y):
         right, down = x - self.centre[0], y - self.centre[1]
-        return tuple(min(max(middle + b * right + c * down, 0.0), 255.0) for middle, (b, c) in zip(self.middle, self.slopes))
+        return tuple(
+            min(max(middle + b * right + c * down, 0.0), 255.0) for middle, (b, c) in zip(self.middle, self.slopes)
+        )

@@ -6,21 +6,28 @@ import renderdoc as rd
 from .losses import Losses
 from .viewport import meet, rectangle
 
-COLOUR, DEPTH = 1, 2                    # Vulkan's aspects
+COLOUR, DEPTH = 1, 2  # Vulkan's aspects
 
 
 def pass_clears(action, name):
-    """(colour, depth) of what the beginning of a Vulkan pass clears. Its name says `C=` only where there are depths too."""
+    """(colour, depth) of what the beginning of a Vulkan pass clears. Its name says `C=` only where there are depths
+    too."""
     if not action.flags & rd.ActionFlags.BeginPass:
         return False, False
     return bool(re.search(r"\((C=)?Clear\b", name)), bool(re.search(r"\bDS?=Clear", name))
 
 
 def of(frame, action, width, height):
-    """(whether it clears colour, whether depth, its rectangles, None for all, the mask) of the clear that was gone to."""
+    """(whether it clears colour, whether depth, its rectangles, None for all, the mask) of the clear that was gone
+    to."""
     whole = [0, 0, width, height]
     colour, depth, boxes, mask = of_gl(frame, action, whole) if frame.is_gl() else of_vulkan(frame, action, whole)
-    return colour, depth and int(action.depthOut) in frame.textures, [None if box == whole else box for box in boxes], mask
+    return (
+        colour,
+        depth and int(action.depthOut) in frame.textures,
+        [None if box == whole else box for box in boxes],
+        mask,
+    )
 
 
 def of_gl(frame, action, whole):
@@ -39,9 +46,16 @@ def of_vulkan(frame, action, whole):
     if not action.flags & rd.ActionFlags.Clear:
         areas = [rectangle_of(area) for area in named(chunk, "renderArea")]
         return *pass_clears(action, frame.name(action)), [meet(area, whole) for area in areas] or [whole], 15
-    aspects = [aspect.data.basic.u for aspect in named(chunk, "aspectMask")] if "Attachments" in frame.name(action) else []
+    aspects = (
+        [aspect.data.basic.u for aspect in named(chunk, "aspectMask")] if "Attachments" in frame.name(action) else []
+    )
     if not aspects:
-        return bool(action.flags & rd.ActionFlags.ClearColor), bool(action.flags & rd.ActionFlags.ClearDepthStencil), [whole], 15
+        return (
+            bool(action.flags & rd.ActionFlags.ClearColor),
+            bool(action.flags & rd.ActionFlags.ClearDepthStencil),
+            [whole],
+            15,
+        )
     colour, depth = (any(aspect & wanted for aspect in aspects) for wanted in (COLOUR, DEPTH))
     return colour, depth, [meet(rectangle_of(area), whole) for area in named(chunk, "rect")], 15
 

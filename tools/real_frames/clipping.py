@@ -1,12 +1,16 @@
-"""Triangles, lines and points in clip space, cut to what a capture can say: in front of the eye, and within 16,384 pixels of the target's corner."""
+"""Triangles, lines and points in clip space, cut to what a capture can say: in front of the eye, and within 16,384
+pixels of the target's corner."""
 from captures import MOST_SIDE
 
-GUARD = MOST_SIDE - 0.25        # pixels from the upper left corner of the target, whose last centre lies at 16,383.5; a little is left for rounding
+GUARD = (
+    MOST_SIDE - 0.25
+)  # pixels from the upper left corner of the target, whose last centre lies at 16,383.5; a little is left for rounding
 LEAST_W = 1e-6
 
 
 def sides(axis, middle, half):
-    """Two half spaces: what lies within the guard, of an axis on which clip space has its middle at one place and reaches so far from it."""
+    """Two half spaces: what lies within the guard, of an axis on which clip space has its middle at one place and
+    reaches so far from it."""
     return [lambda v: (GUARD - middle) * v[3] - half * v[axis], lambda v: (GUARD + middle) * v[3] + half * v[axis]]
 
 
@@ -17,11 +21,16 @@ def planes(viewport, clip_depth):
         kept.append((lambda v: v[2]) if viewport.half_depth else (lambda v: v[2] + v[3]))
         kept.append(lambda v: v[3] - v[2])
     across, down = viewport.width / 2, viewport.height / 2
-    return kept + sides(0, viewport.left + across, across) + sides(1, viewport.top + down, -down if viewport.y_up else down)
+    return (
+        kept
+        + sides(0, viewport.left + across, across)
+        + sides(1, viewport.top + down, -down if viewport.y_up else down)
+    )
 
 
 def cut(polygon, plane):
-    """Cuts a convex polygon at one plane. A new vertex is worked out from the inner end, so that two neighbours agree."""
+    """Cuts a convex polygon at one plane. A new vertex is worked out from the inner end, so that two neighbours
+    agree."""
     kept = []
     for i, here in enumerate(polygon):
         there = polygon[(i + 1) % len(polygon)]
@@ -29,7 +38,9 @@ def cut(polygon, plane):
         if inside >= 0:
             kept.append(here)
         if (inside >= 0) != (outside >= 0):
-            first, last, at_first, at_last = (here, there, inside, outside) if inside >= 0 else (there, here, outside, inside)
+            first, last, at_first, at_last = (
+                (here, there, inside, outside) if inside >= 0 else (there, here, outside, inside)
+            )
             part = at_first / (at_first - at_last)
             kept.append(tuple(f + (l - f) * part for f, l in zip(first, last)))
     return kept

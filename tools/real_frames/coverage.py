@@ -1,4 +1,5 @@
-"""The pixels that each draw of a converted frame covers, and those at which it passes, as framedbg has them; and how two such sets agree."""
+"""The pixels that each draw of a converted frame covers, and those at which it passes, as framedbg has them; and how
+two such sets agree."""
 from captures import scissor
 
 from . import program, states
@@ -35,7 +36,7 @@ def covered(framedbg, capture, places):
 def passing(framedbg, capture, places):
     """All that comes before, and then the draw, where only the draw writes colour."""
     events, wanted = [], set(places)
-    for at, event in enumerate(capture["events"][:places[-1] + 1]):
+    for at, event in enumerate(capture["events"][: places[-1] + 1]):
         if event["kind"] in ("blend", "clear"):
             continue
         if event["kind"] == "draw":
@@ -46,7 +47,8 @@ def passing(framedbg, capture, places):
 
 
 class Agreement:
-    """Of sets of pixels, each a byte of 0 or 1 for every pixel: how many are in both, in either, and which are in one alone."""
+    """Of sets of pixels, each a byte of 0 or 1 for every pixel: how many are in both, in either, and which are in
+    one alone."""
 
     def __init__(self):
         self.both = self.either = 0
@@ -74,6 +76,9 @@ def near(first, second, by):
     """The share of pixels whose red, green and blue are no more than so many bytes apart."""
     apart = 0
     for at in range(0, len(first), 4):
-        if first[at:at + 3] != second[at:at + 3] and max(abs(p - q) for p, q in zip(first[at:at + 3], second[at:at + 3])) > by:
+        if (
+            first[at : at + 3] != second[at : at + 3]
+            and max(abs(p - q) for p, q in zip(first[at : at + 3], second[at : at + 3])) > by
+        ):
             apart += 1
     return 1 - 4 * apart / len(first)

@@ -1,10 +1,12 @@
-"""Fragments that a shader discards, or that fail the alpha or the stencil test: where a draw's picture shows nothing of a triangle, that part of it is left out."""
+"""Fragments that a shader discards, or that fail the alpha or the stencil test: where a draw's picture shows nothing
+of a triangle, that part of it is left out."""
 
 LEFT_OUT = "what fails it is left out where the picture is as it was; with --detail, within triangles too"
 
 
 class Unseen:
-    """The pixels of a triangle at which it passes: those where the picture is as it was before, and how many there are otherwise."""
+    """The pixels of a triangle at which it passes: those where the picture is as it was before, and how many there
+    are otherwise."""
 
     def __init__(self, passed, same):
         """passed: spans (y, x0, x1); same: {y: the x of pixels that are as they were}."""
@@ -26,7 +28,8 @@ class Unseen:
 
 
 def parts(piece, cover, unseen, size, smallest):
-    """[(piece, its spans)] of what is left of a piece. It is cut while it is seen at some pixels and at others not, and at more than so many; None: never cut."""
+    """[(piece, its spans)] of what is left of a piece. It is cut while it is seen at some pixels and at others not,
+    and at more than so many; None: never cut."""
     gone, there = unseen.over(cover)
     if not gone:
         return [(piece, cover)]

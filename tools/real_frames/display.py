@@ -7,12 +7,13 @@ import subprocess
 from .fault import Fault
 from .orphans import end_with_parent
 
-PATIENCE = 30                   # seconds until an Xvfb has to be up
+PATIENCE = 30  # seconds until an Xvfb has to be up
 SIZE = "1280x1024x24"
 
 
 class Display:
-    """In a `with` statement. The Xvfb chooses a number that is free, and ends with the statement or with this process."""
+    """In a `with` statement. The Xvfb chooses a number that is free, and ends with the statement or with this
+    process."""
 
     def __enter__(self):
         self.process = None
@@ -22,8 +23,14 @@ class Display:
             raise Fault("there is no screen (DISPLAY) and no Xvfb; on Debian: apt install xvfb")
         reader, writer = os.pipe()
         words = ["Xvfb", "-displayfd", str(writer), "-screen", "0", SIZE, "-nolisten", "tcp"]
-        self.process = subprocess.Popen(words, pass_fds=[writer], stdin=subprocess.DEVNULL, stdout=subprocess.DEVNULL, stderr=subprocess.DEVNULL,
-                                        preexec_fn=end_with_parent)
+        self.process = subprocess.Popen(
+            words,
+            pass_fds=[writer],
+            stdin=subprocess.DEVNULL,
+            stdout=subprocess.DEVNULL,
+            stderr=subprocess.DEVNULL,
+            preexec_fn=end_with_parent,
+        )
         os.close(writer)
         number = self.number(reader)
         os.close(reader)

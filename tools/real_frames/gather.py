@@ -11,35 +11,41 @@ from .placing import placed
 from .records import ClearRecord, DrawRecord, MarkerRecord, PictureRecord
 from .reel import Reel
 
-MULTISAMPLED, IN_SRGB, OF_FLOATS = "samples of each pixel beyond the first", "target in sRGB", "target of floats: what lies beyond 0 to 1 is cut off, and the rest rounded to bytes"
+MULTISAMPLED, IN_SRGB, OF_FLOATS = (
+    "samples of each pixel beyond the first",
+    "target in sRGB",
+    "target of floats: what lies beyond 0 to 1 is cut off, and the rest rounded to bytes",
+)
 READS_TEXTURES = "draws that read textures"
 
 
 @dataclass(frozen=True)
 class Wanted:
     """Which part of a frame is carried over, and how dearly its colours are got."""
+
     first: int = 0
     last: int = 1 << 62
     with_colours: bool = True
-    with_alone: bool = True     # blended draws are drawn alone or unblended too, or asked about, to have their alpha
-    histories: int = 400        # pixels that may be asked about in all, or one for each draw
+    with_alone: bool = True  # blended draws are drawn alone or unblended too, or asked about, to have their alpha
+    histories: int = 400  # pixels that may be asked about in all, or one for each draw
 
 
 class Gatherer:
-    """The frame is a replay.Frame, or what stands in for one."""
+    """The frame is a replay.ReplayedFrame, or what stands in for one."""
 
     def __init__(self, frame, target, losses, wanted=Wanted(), say=lambda text: None):
         self.frame, self.target, self.losses, self.wanted, self.say = frame, target, losses, wanted, say
         self.size = self.width, self.height = frame.size(target)
         self.records, self.reel, self.own_reel = [], Reel(), Reel()
-        self.before = 0             # the event before the one at hand
-        self.touched = False        # something has been laid on the target
-        self.carried = False        # a draw or a clear is there for its own sake
+        self.before = 0  # the event before the one at hand
+        self.touched = False  # something has been laid on the target
+        self.carried = False  # a draw or a clear is there for its own sake
         self.done = 0
         self.all = sum(1 for action in frame.actions if frame.kind(action) == "draw" and self.is_here(action))
 
     def gather(self):
-        """The records of the part that is wanted, behind those that bring the depths of what comes before it, where it has a depth test."""
+        """The records of the part that is wanted, behind those that bring the depths of what comes before it, where
+        it has a depth test."""
         for note, count in self.frame.notes(self.target).items():
             self.losses.add(note, count=count)
         early = [action for action in self.frame.actions if self.is_early(action)]
@@ -53,7 +59,13 @@ class Gatherer:
         return self.records + records
 
     def walk(self, actions):
-        readers = {"draw": self.draw, "clear": self.clear, "marker": self.mark, "dispatch": self.dispatch, "copy": self.copy}
+        readers = {
+            "draw": self.draw,
+            "clear": self.clear,
+            "marker": self.mark,
+            "dispatch": self.dispatch,
+            "copy": self.copy,
+        }
         for action in actions:
             reader = readers.get(self.frame.kind(action))
             if reader:
@@ -138,7 +150,7 @@ class Gatherer:
         record = ClearRecord(action.eventId, self.frame.name(action), rectangle=box, mask=mask)
         if colour and mask:
             at = (y * self.width + x) * 4
-            record.colour = tuple(self.frame.picture(self.target)[at:at + 4])
+            record.colour = tuple(self.frame.picture(self.target)[at : at + 4])
         if depth:
             record.depth = self.frame.depth_value(action, x, y)
         return record
@@ -167,6 +179,7 @@ class Gatherer:
         record = DrawRecord(action.eventId, name, state, placed(primitives, state, losses), depth_alone=early)
         if not early:
             self.carried = True
+            record.told, record.set_by = self.frame.told(action, state.viewport, self.size)
             self.count(action)
             self.take_pictures(record)
         self.records.append(record)
@@ -185,7 +198,8 @@ class Gatherer:
                 self.take_source(record)
 
     def take_source(self, record):
-        """What tells of a blended draw's own colours and alpha: the draw alone, its histories, or the draw unblended."""
+        """What tells of a blended draw's own colours and alpha: the draw alone, its histories, or the draw
+        unblended."""
         if self.frame.can_draw_alone():
             record.alone = zlib.compress(self.frame.alone(self.target), 1)
         elif self.frame.can_ask():
@@ -201,5 +215,8 @@ class Gatherer:
         before = self.frame.picture(self.target)
         self.frame.go(record.event)
         most = max(min(self.wanted.histories // max(self.all, 1), MOST_OF_A_DRAW), 1)
-        known = {pixel: self.frame.given_at(self.target, *pixel) for pixel in pixels_to_ask(record.shapes, self.size, (before, after), most)}
+        known = {
+            pixel: self.frame.given_at(self.target, *pixel)
+            for pixel in pixels_to_ask(record.shapes, self.size, (before, after), most)
+        }
         return {pixel: given for pixel, given in known.items() if given}

@@ -1,12 +1,13 @@
-"""A picture as rectangles of one plane of colours each: what lay on the target before the first draw that is carried over."""
+"""A picture as rectangles of one plane of colours each: what lay on the target before the first draw that is carried
+over."""
 from itertools import islice
 
 from .planes import Table, fit
 
-WIDEST = 64                     # sides of a rectangle in pixels
-NARROWEST = (1, 2, 4, 8)        # the first of which there are few enough rectangles
+WIDEST = 64  # sides of a rectangle in pixels
+NARROWEST = (1, 2, 4, 8)  # the first of which there are few enough rectangles
 MOST_CELLS = 40_000
-MOST_OFF = 0.5                  # bytes, the root of the mean square
+MOST_OFF = 0.5  # bytes, the root of the mean square
 
 
 def cells(picture, width, height):
@@ -28,7 +29,7 @@ def all_cells(words, width, height, narrowest):
 def split(words, width, box, narrowest):
     left, top, right, bottom = box
     first = words[top * width + left]
-    rows = [words[y * width + left:y * width + right].tolist() for y in range(top, bottom)]
+    rows = [words[y * width + left : y * width + right].tolist() for y in range(top, bottom)]
     if all(row.count(first) == right - left for row in rows):
         yield box, [tuple(first.to_bytes(4, "little"))] * 4
         return
@@ -46,6 +47,11 @@ def split(words, width, box, narrowest):
 def plane(rows, box):
     """Colours of the corners (upper left, upper right, lower right, lower left), and how far they are off."""
     left, top, right, bottom = box
-    table = Table({y: [(x, tuple(word.to_bytes(4, "little"))) for x, word in enumerate(row, left)] for y, row in enumerate(rows, top)})
+    table = Table(
+        {
+            y: [(x, tuple(word.to_bytes(4, "little"))) for x, word in enumerate(row, left)]
+            for y, row in enumerate(rows, top)
+        }
+    )
     corners = [(left, top), (right, top), (right, bottom), (left, bottom)]
     return fit(corners, table.over([(y, left, right) for y in range(top, bottom)]))

@@ -1,17 +1,29 @@
-"""Pixel histories, by RenderDoc and by framedbg, in the same words: (RenderDoc's event, primitive or None, verdict, colour after)."""
+"""Pixel histories, by RenderDoc and by framedbg, in the same words: (RenderDoc's event, primitive or None, verdict,
+colour after)."""
 import renderdoc as rd
 
 from .names import BEFORE
 from .pictures import WHOLE
 from .states import byte
 
-VERDICTS = (("backfaceCulled", "culled"), ("scissorClipped", "scissored"), ("shaderDiscarded", "discarded"), ("stencilTestFailed", "stencilfailed"),
-            ("depthTestFailed", "depthfailed"), ("viewClipped", "clipped"), ("depthClipped", "depthclipped"), ("sampleMasked", "masked"))
+VERDICTS = (
+    ("backfaceCulled", "culled"),
+    ("scissorClipped", "scissored"),
+    ("shaderDiscarded", "discarded"),
+    ("stencilTestFailed", "stencilfailed"),
+    ("depthTestFailed", "depthfailed"),
+    ("viewClipped", "clipped"),
+    ("depthClipped", "depthclipped"),
+    ("sampleMasked", "masked"),
+)
 
 
 def by_renderdoc(frame, target, x, y):
     entries = frame.controller.PixelHistory(frame.textures[target].resourceId, x, y, WHOLE, rd.CompType.Typeless)
-    return [(entry.eventId, entry.primitiveID, verdict(entry), tuple(byte(v) for v in entry.postMod.col.floatValue)) for entry in entries]
+    return [
+        (entry.eventId, entry.primitiveID, verdict(entry), tuple(byte(v) for v in entry.postMod.col.floatValue))
+        for entry in entries
+    ]
 
 
 def verdict(entry):
@@ -23,11 +35,13 @@ def by_framedbg(session, capture, x, y):
     for told in session.history(x, y):
         source = capture["events"][told.event - 1].get("source", {})
         if source.get("name") == BEFORE:
-            continue            # no call of the frame's
-        primitive = None if told.triangle is None or "primitives" not in source else source["primitives"][told.triangle][1]
+            continue  # no call of the frame's
+        primitive = (
+            None if told.triangle is None or "primitives" not in source else source["primitives"][told.triangle][1]
+        )
         entry = (source.get("event"), primitive, told.verdict, tuple(told.after))
         if primitive is None and found and found[-1][:3] == entry[:3]:
-            found.pop()         # a clear of colour and of depth is one event of RenderDoc's
+            found.pop()  # a clear of colour and of depth is one event of RenderDoc's
         found.append(entry)
     return found
 
@@ -39,5 +53,6 @@ def compared(theirs, ours):
         "the draws that wrote": {entry[0] for entry in a} == {entry[0] for entry in b},
         "the last that wrote": [entry[0] for entry in a[-1:]] == [entry[0] for entry in b[-1:]],
         "its primitive": [entry[:2] for entry in a[-1:]] == [(entry[0], entry[1] or 0) for entry in b[-1:]],
-        "its colour, within 8 of 255": bool(a) == bool(b) and all(abs(p - q) <= 8 for one, other in zip(a[-1:], b[-1:]) for p, q in zip(one[3][:3], other[3][:3])),
+        "its colour, within 8 of 255": bool(a) == bool(b)
+        and all(abs(p - q) <= 8 for one, other in zip(a[-1:], b[-1:]) for p, q in zip(one[3][:3], other[3][:3])),
     }

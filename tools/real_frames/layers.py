@@ -2,7 +2,7 @@
 from array import array
 
 ONE_MORE = bytes([*range(1, 256), 255])
-MOST = 255                      # that are counted
+MOST = 255  # that are counted
 
 
 class Layers:
@@ -14,7 +14,16 @@ class Layers:
             start, end = y * width + x0, y * width + x1
             self.counts[start:end] = self.counts[start:end].translate(ONE_MORE)
         self.total = len(self.counts) - self.counts.count(0)
-        self.box = (min(x0 for _, x0, _ in spans), min(y for y, _, _ in spans), max(x1 for _, _, x1 in spans), max(y for y, _, _ in spans) + 1) if spans else (0, 0, 0, 0)
+        self.box = (
+            (
+                min(x0 for _, x0, _ in spans),
+                min(y for y, _, _ in spans),
+                max(x1 for _, _, x1 in spans),
+                max(y for y, _, _ in spans) + 1,
+            )
+            if spans
+            else (0, 0, 0, 0)
+        )
 
     def rows(self):
         """Gives where each row of the box begins and where it ends, as places of pixels."""
@@ -27,5 +36,5 @@ class Layers:
         for number, piece in enumerate(self.pieces):
             for y, x0, x1 in piece.passed:
                 start = y * self.width + x0
-                found[start:start + x1 - x0] = array("L", [number]) * (x1 - x0)
+                found[start : start + x1 - x0] = array("L", [number]) * (x1 - x0)
         return found

@@ -15,7 +15,10 @@ class Losses:
     def entries(self):
         """The largest first, as the capture keeps them."""
         order = sorted(self.counts.items(), key=lambda item: (-item[1], item[0]))
-        return [{"what": what, "count": count, **({"note": self.notes[what]} if what in self.notes else {})} for what, count in order]
+        return [
+            {"what": what, "count": count, **({"note": self.notes[what]} if what in self.notes else {})}
+            for what, count in order
+        ]
 
     def lines(self):
         for entry in self.entries():

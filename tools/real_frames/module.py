@@ -1,4 +1,5 @@
-"""RenderDoc's Python module, which is built for one Python, that of the system; and which ends the process where a driver does."""
+"""RenderDoc's Python module, which is built for one Python, that of the system; and which ends the process where a
+driver does."""
 import os
 import signal
 import sys
@@ -15,7 +16,7 @@ MISSING = "RenderDoc's Python module isn't here; on Debian: apt install renderdo
 
 def is_here():
     try:
-        import renderdoc    # noqa: F401
+        import renderdoc  # noqa: F401
     except ImportError:
         return False
     return True
@@ -28,14 +29,15 @@ def run_by_its_python():
     other = os.path.realpath(SYSTEM_S_PYTHON)
     if os.path.realpath(sys.executable) != other and os.access(other, os.X_OK):
         sys.stdout.flush()
-        if sys.stdout.fileno() != 1:        # it is kept apart
+        if sys.stdout.fileno() != 1:  # it is kept apart
             os.dup2(sys.stdout.fileno(), 1)
         os.execv(SYSTEM_S_PYTHON, [SYSTEM_S_PYTHON, *sys.argv])
     return False
 
 
 def guarded(tool, main):
-    """Runs a tool in a process of its own, so that a line tells where RenderDoc or a driver ended it; ends with its status."""
+    """Runs a tool in a process of its own, so that a line tells where RenderDoc or a driver ended it; ends with its
+    status."""
     ending.hear_interrupts()
     child = os.fork()
     if child == 0:
@@ -43,7 +45,7 @@ def guarded(tool, main):
         os._exit(status_of(tool, lambda: kept_apart(main)))
     try:
         status = os.waitpid(child, 0)[1]
-    except KeyboardInterrupt:           # the child has it too
+    except KeyboardInterrupt:  # the child has it too
         status = os.waitpid(child, 0)[1]
     if os.WIFSIGNALED(status):
         sys.exit(f"{tool}: {ENDED} by {signal.Signals(os.WTERMSIG(status)).name}; try again")
@@ -51,7 +53,8 @@ def guarded(tool, main):
 
 
 def kept_apart(main):
-    """Runs a tool whose standard output is its own: what RenderDoc, a driver or its compiler of shaders prints there goes to standard error."""
+    """Runs a tool whose standard output is its own: what RenderDoc, a driver or its compiler of shaders prints there
+    goes to standard error."""
     sys.stdout.flush()
     sys.stdout = ending.outlet(os.dup(1), sys.stdout)
     os.dup2(2, 1)
@@ -64,6 +67,6 @@ def status_of(tool, main):
         return ending.status_of(tool, main)
     except OSError as fault:
         print(f"{tool}: {fault}", file=sys.stderr)
-    except Exception:                   # a fault of the tool itself, for its report
+    except Exception:  # a fault of the tool itself, for its report
         traceback.print_exc()
     return ending.FAULT

@@ -2,7 +2,7 @@
 import ctypes
 import signal
 
-DEATH_OF_PARENT = 1             # prctl's word for: send me a signal when my parent has ended
+DEATH_OF_PARENT = 1  # prctl's word for: send me a signal when my parent has ended
 
 
 def end_with_parent():

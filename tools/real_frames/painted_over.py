@@ -1,5 +1,7 @@
 """Whether a draw paints each pixel of the target anew, so that nothing which lay there before shows after it."""
-from .raster import Triangle, snap
+from rules.snapping import snap
+
+from .raster import Triangle
 
 
 def replaces(state):
@@ -11,10 +13,10 @@ def replaces(state):
 def paints_all(record, width, height):
     if not (record.after and replaces(record.state)):
         return False
-    rows, raster = [0] * height, record.state.raster
+    rows = [0] * height
     for _, corners in record.shapes:
         shape = Triangle([(snap(x), snap(y)) for x, y, _ in corners])
-        if not shape.is_culled(raster["cull"], raster["front_ccw"]):
+        if not shape.is_culled(record.state.raster):
             for y, x0, x1 in shape.spans(width, height, record.state.rectangle()):
                 rows[y] |= (1 << x1) - (1 << x0)
     return all(row == (1 << width) - 1 for row in rows)

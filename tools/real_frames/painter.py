@@ -14,19 +14,25 @@ STRAYS = "pixels that change where no triangle of the draw passes"
 @dataclass(frozen=True)
 class Detail:
     """When a triangle is cut: its colours are off by more than so many bytes, at more than so many pixels."""
-    most: float = None
+
+    most: float | None = None
     smallest: int = 16
 
 
 class Painter:
     def __init__(self, width, height, losses, detail, passes):
         self.width, self.height, self.losses, self.detail = width, height, losses, detail
-        self.passes = passes                # how many draws with the depth test have a triangle at a place
-        self.faults = []                    # (event, name, pixels, how far off) of each draw
+        self.passes = passes  # how many draws with the depth test have a triangle at a place
+        self.faults = []  # (event, name, pixels, how far off) of each draw
 
     def paint(self, record, pieces, before):
         """The pieces with their colours, cut into smaller ones where detail asks for it."""
-        pictures = (before, record.after.picture(), zlib.decompress(record.alone) if record.alone else b"", record.own.picture() if record.own else b"")
+        pictures = (
+            before,
+            record.after.picture(),
+            zlib.decompress(record.alone) if record.alone else b"",
+            record.own.picture() if record.own else b"",
+        )
         own = DrawPixels(self.width, record, pieces, pictures)
         fitted = []
         for number, piece in enumerate(pieces):
@@ -38,7 +44,9 @@ class Painter:
         self.count(record, own)
         known = [(fault, count) for _, fault, count in fitted if count]
         total = sum(count for _, count in known)
-        self.faults.append((record.event, record.name, total, sum(fault * count for fault, count in known) / total if total else 0.0))
+        self.faults.append(
+            (record.event, record.name, total, sum(fault * count for fault, count in known) / total if total else 0.0)
+        )
         return [piece for piece, _, _ in fitted]
 
     def seen(self, record, piece, unchanged):
@@ -47,7 +55,13 @@ class Painter:
         if not (record.state.discards and unchanged):
             return [(piece, cover)]
         is_cut = self.detail.most is not None and not (record.state.depth["enable"] and self.passes[piece.root] > 1)
-        left = parts(piece, cover, Unseen(piece.passed, unchanged), (self.width, self.height), self.detail.smallest if is_cut else None)
+        left = parts(
+            piece,
+            cover,
+            Unseen(piece.passed, unchanged),
+            (self.width, self.height),
+            self.detail.smallest if is_cut else None,
+        )
         gone = pixels(cover) - sum(pixels(spans) for _, spans in left)
         if gone:
             record.left_out += gone
@@ -59,16 +73,31 @@ class Painter:
             self.losses.add("pixels of draws", "their colours are planes over triangles", own.total)
         strays = own.strays()
         if strays:
-            self.losses.add(STRAYS, "seen in the picture; the triangles as they were worked out don't reach there", strays)
+            self.losses.add(
+                STRAYS, "seen in the picture; the triangles as they were worked out don't reach there", strays
+            )
         if own.unchanged:
-            self.losses.add("pixels of draws that stay as they were", "discarded, hidden by finer depths, or of the same colour", own.unchanged)
+            self.losses.add(
+                "pixels of draws that stay as they were",
+                "discarded, hidden by finer depths, or of the same colour",
+                own.unchanged,
+            )
         if own.unexplained:
-            self.losses.add("pixels of blended draws that the draws' own colours don't explain", "their alpha is made up", own.unexplained)
+            self.losses.add(
+                "pixels of blended draws that the draws' own colours don't explain",
+                "their alpha is made up",
+                own.unexplained,
+            )
         if record.state.blend["enable"] and not (record.alone or record.own):
             if record.known:
-                self.losses.add("blended draws whose alpha is known at some pixels", "asked of their histories; between them it is a plane")
+                self.losses.add(
+                    "blended draws whose alpha is known at some pixels",
+                    "asked of their histories; between them it is a plane",
+                )
             else:
-                self.losses.add("blended draws whose alpha is made up", "where they can't be drawn alone, nor asked about")
+                self.losses.add(
+                    "blended draws whose alpha is made up", "where they can't be drawn alone, nor asked about"
+                )
 
     def fitted(self, piece, cover, table, is_deep):
         """[(piece, how far off, samples)]: the piece with its colours, or what it was cut into."""
@@ -97,13 +126,21 @@ class Painter:
                 for corner, colour in zip(piece.corners, piece.colours):
                     by_place.setdefault(corner, []).append(colour)
         weight = sum(count for _, count in known)
-        middle = tuple(round(sum(sum(c[k] for c in p.colours) / 3 * n for p, n in known) / weight) for k in range(4)) if weight else GREY
+        middle = (
+            tuple(round(sum(sum(c[k] for c in p.colours) / 3 * n for p, n in known) / weight) for k in range(4))
+            if weight
+            else GREY
+        )
         hidden = [piece for piece, _, count in fitted if not count]
         for piece in hidden:
             near = [colour for corner in piece.corners for colour in by_place.get(corner, ())]
             piece.colours = [mean(by_place.get(corner) or near or [middle]) for corner in piece.corners]
         if hidden:
-            self.losses.add("triangles whose own colour never shows", "coloured as their neighbours, or as the draw's mean", len(hidden))
+            self.losses.add(
+                "triangles whose own colour never shows",
+                "coloured as their neighbours, or as the draw's mean",
+                len(hidden),
+            )
 
 
 def distinct(number):

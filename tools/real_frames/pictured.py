@@ -1,19 +1,20 @@
-"""Records of a frame as a capture of version 3: the colours of a draw are those that its shader gave, pixel by pixel, as far as they can be had. What comes out
-of framedbg after each draw is the frame's own picture, byte for byte: a pixel for which no source is found is replaced by a draw behind."""
+"""Records of a frame as a capture of version 3: the colours of a draw are those that its shader gave, pixel by
+pixel, as far as they can be had. What comes out of framedbg after each draw is the frame's own picture, byte for
+byte: a pixel for which no source is found is replaced by a draw behind."""
 import zlib
 
 import captures
-from captures import FARTHEST, MOST_TRIANGLES, PIXEL, label
+from captures import FARTHEST, MOST_TRIANGLES, PIXEL
 
-from . import states
+from . import states, wide
 from .discards import LEFT_OUT
 from .gather import READS_TEXTURES
 from .layers import Layers
 from .painter import STRAYS
 from .shown import SOURCE, Shown, words_of
-from .viewport import meet
 from .writer import Writer
 
+HOLES = bytes(kind != SOURCE for kind in range(256))
 OVER_ALL = (states.raster("none", False, False), states.plain(), states.depth(False, True, "LESS"))
 
 
@@ -46,9 +47,20 @@ class PicturedWriter(Writer):
         if record.state.depth["enable"] and record.state.depth["write"]:
             self.leave(kept, shown.holes)
         record.left_out += len(shown.holes)
-        self.put_shown(pieces, shown, {**source, **({"left_out": record.left_out} if record.left_out else {}), "colours": dict(shown.counted)})
+        self.put_shown(
+            pieces,
+            shown,
+            {
+                **source,
+                **record.told,
+                **({"left_out": record.left_out} if record.left_out else {}),
+                "colours": dict(shown.counted),
+            },
+        )
         if shown.replaced:
-            self.losses.add("pixels whose blending gives no source", "replaced by what the frame has there", len(shown.replaced))
+            self.losses.add(
+                "pixels whose blending gives no source", "replaced by what the frame has there", len(shown.replaced)
+            )
             self.log.set(states.plain(), source)
             self.put(pieces, picture_of(shown.replaced, self.width), {**source, "baked": "after"})
         strays = differing(self.picture, after, self.width, layers.counts)
@@ -57,22 +69,6 @@ class PicturedWriter(Writer):
             self.replace(strays, {**source, "baked": "after"})
         self.picture = after
 
-    def begin(self, record):
-        """The marker and the state of a draw; gives its source."""
-        state, source = record.state, {"event": record.event, "name": record.name}
-        view = meet(state.viewport.box(), [0, 0, self.width, self.height])
-        if view != [0, 0, self.width, self.height]:
-            source["viewport"] = view
-        self.draws += 1
-        self.add(captures.marker(label(f"{record.event} {record.name}")), source)
-        for event in (state.blend, state.raster, state.depth):
-            self.log.set(event, source)
-        if state.rectangle():
-            self.log.set(captures.scissor(*state.scissor), source)
-        if any("BLEND_FACTOR" in word for word in state.blend["rgb"] + state.blend["alpha"]):
-            self.log.set(state.factor, source)
-        return source
-
     def leave(self, kept, holes):
         """What is discarded leaves the depth as it was."""
         for at in holes:
@@ -80,24 +76,32 @@ class PicturedWriter(Writer):
             self.depth.writable(y)[x] = kept[y][x]
 
     def put_shown(self, pieces, shown, source):
-        """The triangles of a draw with the source of each pixel that has one, the others being holes. One source at all of them is a flat draw."""
+        """The triangles of a draw with the source of each pixel that has one, the others being holes. One source at
+        all of them is a flat draw."""
         count, flat = shown.sources()
         left, top, right, bottom = shown.layers.box
         if count and flat and count == shown.layers.total:
             self.put(pieces, None, source, flat)
         elif count:
-            holes = [kind != SOURCE for kind in shown.kinds] if count < len(shown.kinds) else None
-            self.put(pieces, captures.picture(left, top, right - left, bottom - top, shown.texels.tobytes(), holes), source)
+            holes = shown.kinds.translate(HOLES) if count < len(shown.kinds) else None
+            self.put(
+                pieces, captures.picture(left, top, right - left, bottom - top, shown.texels.tobytes(), holes), source
+            )
 
     def put(self, pieces, box, source, flat=None):
         """The triangles of a draw with a picture, or in one colour."""
         for start in range(0, len(pieces), MOST_TRIANGLES):
-            part = pieces[start:start + MOST_TRIANGLES]
+            part = pieces[start : start + MOST_TRIANGLES]
             corners = [corner for piece in part for corner in piece.corners]
-            numbers = {corner: number for number, corner in enumerate(dict.fromkeys(corners))}      # neighbours share corners
+            numbers = {
+                corner: number for number, corner in enumerate(dict.fromkeys(corners))
+            }  # neighbours share corners
             order = [numbers[corner] for corner in corners]
-            made = (captures.draw([captures.vertex(x, y, flat, z) for x, y, z in numbers], "flat", order) if flat
-                    else captures.picture_draw([captures.corner(*corner) for corner in numbers], box, order))
+            made = (
+                captures.draw([captures.vertex(x, y, flat, z) for x, y, z in numbers], "flat", order)
+                if flat
+                else captures.picture_draw([captures.corner(*corner) for corner in numbers], box, order)
+            )
             self.add(made, {**source, "primitives": [list(piece.number) for piece in part]})
 
     def replace(self, sources, source):
@@ -105,19 +109,30 @@ class PicturedWriter(Writer):
         for event in OVER_ALL:
             self.log.set(event, source)
         box = picture_of(sources, self.width)
-        (left, top), (right, bottom) = (box["left"], box["top"]), (box["left"] + box["width"], box["top"] + box["height"])
-        corners = [captures.corner(x * PIXEL, y * PIXEL, FARTHEST) for x, y in ((left, top), (right, top), (right, bottom), (left, bottom))]
+        (left, top), (right, bottom) = (box["left"], box["top"]), (
+            box["left"] + box["width"],
+            box["top"] + box["height"],
+        )
+        corners = [
+            captures.corner(x * PIXEL, y * PIXEL, FARTHEST)
+            for x, y in ((left, top), (right, top), (right, bottom), (left, bottom))
+        ]
         self.add(captures.picture_draw(corners, box, [0, 1, 3, 1, 2, 3]), source)
 
 
 def differing(before, after, width, counts=None):
     """{place: colour} of the pixels that changed where no triangle passes."""
+    if wide.numpy:
+        return {at: after[4 * at : 4 * at + 4] for at in wide.differing(before, after, counts)}
     found, was, now = {}, words_of(before), words_of(after)
     for start in range(0, len(now), width):
-        row = now[start:start + width]
-        if was[start:start + width] != row:
-            found.update((at, after[4 * at:4 * at + 4]) for at, one, other in zip(range(start, start + width), was[start:start + width], row)
-                         if one != other and not (counts and counts[at]))
+        row = now[start : start + width]
+        if was[start : start + width] != row:
+            found.update(
+                (at, after[4 * at : 4 * at + 4])
+                for at, one, other in zip(range(start, start + width), was[start : start + width], row)
+                if one != other and not (counts and counts[at])
+            )
     return found
 
 
@@ -129,6 +144,6 @@ def picture_of(sources, width):
     texels, holes = bytearray(4 * across * down), bytearray(b"\1") * (across * down)
     for at, colour in sources.items():
         place = (at // width - top) * across + at % width - left
-        texels[4 * place:4 * place + 4] = bytes(colour)
+        texels[4 * place : 4 * place + 4] = bytes(colour)
         holes[place] = 0
     return captures.picture(left, top, across, down, bytes(texels), holes if any(holes) else None)

@@ -1,10 +1,11 @@
 """Triangles of a draw on the target, and how one is cut in two."""
 from captures import PIXEL
+from rules.snapping import snap
 
-from .raster import Triangle, snap
+from .raster import Triangle
 
 WHITE = (255, 255, 255, 255)
-SHARES = (128, 112, 144, 96, 160)                   # places along a side at which it may be cut, in 256ths
+SHARES = (128, 112, 144, 96, 160)  # places along a side at which it may be cut, in 256ths
 
 
 def place(corners):
@@ -18,8 +19,8 @@ class Piece:
     def __init__(self, number, corners, root=None):
         self.number, self.corners = number, corners
         self.shape = Triangle([(snap(x), snap(y)) for x, y, _ in corners])
-        self.root = root or place(corners)          # the whole triangle's place
-        self.passed = []                            # spans at which it passes
+        self.root = root or place(corners)  # the whole triangle's place
+        self.passed = []  # spans at which it passes
         self.colours = [WHITE] * 3
 
     def places(self):
@@ -28,9 +29,11 @@ class Piece:
 
     def sides(self):
         """The numbers of the sides, the longest first; side i runs from corner i to the next."""
+
         def length(i):
             (ax, ay, _), (bx, by, _) = self.corners[i], self.corners[(i + 1) % 3]
             return (bx - ax) ** 2 + (by - ay) ** 2
+
         return sorted(range(3), key=length, reverse=True)
 
     def halves(self, side, share):
@@ -58,7 +61,9 @@ def is_shared_out(whole, first, second):
         rows.setdefault(y, []).append((x0, x1))
     for y, x0, x1 in whole:
         parts = sorted(rows.pop(y, []))
-        joined = parts == [(x0, x1)] or (len(parts) == 2 and parts[0][0] == x0 and parts[0][1] == parts[1][0] and parts[1][1] == x1)
+        joined = parts == [(x0, x1)] or (
+            len(parts) == 2 and parts[0][0] == x0 and parts[0][1] == parts[1][0] and parts[1][1] == x1
+        )
         if not joined:
             return False
     return not rows

@@ -1,4 +1,5 @@
-"""The pipeline state at an event, of OpenGL, Vulkan and Direct3D, in framedbg's words. That of Direct3D is read by RenderDoc's documented types: no frame of it was at hand."""
+"""The pipeline state at an event, of OpenGL, Vulkan and Direct3D, in framedbg's words. That of Direct3D is read by
+RenderDoc's documented types: no frame of it was at hand."""
 from dataclasses import dataclass
 
 import renderdoc as rd
@@ -13,15 +14,16 @@ from .viewport import Viewport, meet, rectangle
 @dataclass
 class Read:
     """What differs between the two: words as the API has them."""
+
     viewport: Viewport
     scissor: list
     raster: object
     front_ccw: bool
     blend_factor: object
-    depth: tuple                # enable, write, function
+    depth: tuple  # enable, write, function
     clip_depth: bool
     stencil: bool
-    bias: tuple                 # constant, slope, most
+    bias: tuple  # constant, slope, most
 
 
 def of_gl(controller, pipe, height, from_above):
@@ -29,24 +31,60 @@ def of_gl(controller, pipe, height, from_above):
     own = controller.GetGLPipelineState()
     view, cut = pipe.GetViewport(0), pipe.GetScissor(0)
     lower = own.vertexProcessing.clipOriginLowerLeft
-    top = lambda box: box.y if from_above else height - box.y - box.height       # noqa: E731
-    viewport = Viewport(view.x, top(view), view.width, view.height, view.minDepth, view.maxDepth, y_up=lower != from_above,
-                        half_depth=not own.vertexProcessing.clipNegativeOneToOne, rows_from_below=lower and not from_above)
+    top = lambda box: box.y if from_above else height - box.y - box.height  # noqa: E731
+    viewport = Viewport(
+        view.x,
+        top(view),
+        view.width,
+        view.height,
+        view.minDepth,
+        view.maxDepth,
+        y_up=lower != from_above,
+        half_depth=not own.vertexProcessing.clipNegativeOneToOne,
+        rows_from_below=lower and not from_above,
+    )
     raster, depth = own.rasterizer.state, own.depthState
-    return Read(viewport, rectangle(cut.x, top(cut), cut.width, cut.height), raster, raster.frontCCW == (lower != from_above),
-                own.framebuffer.blendState.blendFactor, (depth.depthEnable, depth.depthWrites, depth.depthFunction),
-                not raster.depthClamp, own.stencilState.stencilEnable, (raster.depthBias, raster.slopeScaledDepthBias, raster.offsetClamp))
+    return Read(
+        viewport,
+        rectangle(cut.x, top(cut), cut.width, cut.height),
+        raster,
+        raster.frontCCW == (lower != from_above),
+        own.framebuffer.blendState.blendFactor,
+        (depth.depthEnable, depth.depthWrites, depth.depthFunction),
+        not raster.depthClamp,
+        own.stencilState.stencilEnable,
+        (raster.depthBias, raster.slopeScaledDepthBias, raster.offsetClamp),
+    )
 
 
 def of_vulkan(controller, pipe, *_):
     own = controller.GetVulkanPipelineState()
     view, cut = pipe.GetViewport(0), pipe.GetScissor(0)
-    viewport = Viewport(view.x, view.y, view.width, view.height, view.minDepth, view.maxDepth,
-                        y_up=False, half_depth=not own.viewportScissor.depthNegativeOneToOne)
+    viewport = Viewport(
+        view.x,
+        view.y,
+        view.width,
+        view.height,
+        view.minDepth,
+        view.maxDepth,
+        y_up=False,
+        half_depth=not own.viewportScissor.depthNegativeOneToOne,
+    )
     raster, depth = own.rasterizer, own.depthStencil
-    bias = (raster.depthBias, raster.slopeScaledDepthBias, raster.depthBiasClamp) if raster.depthBiasEnable else (0, 0, 0)
-    return Read(viewport, rectangle(cut.x, cut.y, cut.width, cut.height), raster, raster.frontCCW, own.colorBlend.blendFactor,
-                (depth.depthTestEnable, depth.depthWriteEnable, depth.depthFunction), raster.depthClipEnable, depth.stencilTestEnable, bias)
+    bias = (
+        (raster.depthBias, raster.slopeScaledDepthBias, raster.depthBiasClamp) if raster.depthBiasEnable else (0, 0, 0)
+    )
+    return Read(
+        viewport,
+        rectangle(cut.x, cut.y, cut.width, cut.height),
+        raster,
+        raster.frontCCW,
+        own.colorBlend.blendFactor,
+        (depth.depthTestEnable, depth.depthWriteEnable, depth.depthFunction),
+        raster.depthClipEnable,
+        depth.stencilTestEnable,
+        bias,
+    )
 
 
 def of_direct3d(own, pipe):
@@ -54,15 +92,36 @@ def of_direct3d(own, pipe):
     view, cut = pipe.GetViewport(0), pipe.GetScissor(0)
     raster, output = own.rasterizer.state, own.outputMerger
     depth = output.depthStencilState
-    viewport = Viewport(view.x, view.y, view.width, view.height, view.minDepth, view.maxDepth, y_up=True, half_depth=True, rows_from_below=False)
-    return Read(viewport, rectangle(cut.x, cut.y, cut.width, cut.height), raster, raster.frontCCW, output.blendState.blendFactor,
-                (depth.depthEnable, depth.depthWrites, depth.depthFunction), raster.depthClip, depth.stencilEnable,
-                (raster.depthBias, raster.slopeScaledDepthBias, raster.depthBiasClamp))
+    viewport = Viewport(
+        view.x,
+        view.y,
+        view.width,
+        view.height,
+        view.minDepth,
+        view.maxDepth,
+        y_up=True,
+        half_depth=True,
+        rows_from_below=False,
+    )
+    return Read(
+        viewport,
+        rectangle(cut.x, cut.y, cut.width, cut.height),
+        raster,
+        raster.frontCCW,
+        output.blendState.blendFactor,
+        (depth.depthEnable, depth.depthWrites, depth.depthFunction),
+        raster.depthClip,
+        depth.stencilEnable,
+        (raster.depthBias, raster.slopeScaledDepthBias, raster.depthBiasClamp),
+    )
 
 
-READERS = {rd.GraphicsAPI.OpenGL: of_gl, rd.GraphicsAPI.Vulkan: of_vulkan,
-           rd.GraphicsAPI.D3D11: lambda controller, pipe, *_: of_direct3d(controller.GetD3D11PipelineState(), pipe),
-           rd.GraphicsAPI.D3D12: lambda controller, pipe, *_: of_direct3d(controller.GetD3D12PipelineState(), pipe)}
+READERS = {
+    rd.GraphicsAPI.OpenGL: of_gl,
+    rd.GraphicsAPI.Vulkan: of_vulkan,
+    rd.GraphicsAPI.D3D11: lambda controller, pipe, *_: of_direct3d(controller.GetD3D11PipelineState(), pipe),
+    rd.GraphicsAPI.D3D12: lambda controller, pipe, *_: of_direct3d(controller.GetD3D12PipelineState(), pipe),
+}
 
 
 def read(controller, textures, size, from_above, losses):
@@ -86,9 +145,18 @@ def read(controller, textures, size, from_above, losses):
     discards = discards_of(pipe)
     if discards:
         losses.add("draws whose shader may discard", LEFT_OUT)
-    return states.State(own.viewport, box, states.raster(states.CULLS.get(cull, "none"), own.front_ccw, box != whole), blend, factor,
-                        states.depth(enable and target, write, states.COMPARES[function.name]), own.clip_depth, Bias(*own.bias, step=depth_step(target)),
-                        width_of(pipe, own.raster), discards or bool(own.stencil))
+    return states.State(
+        own.viewport,
+        box,
+        states.raster(states.CULLS.get(cull, "none"), own.front_ccw, box != whole),
+        blend,
+        factor,
+        states.depth(enable and target, write, states.COMPARES[function.name]),
+        own.clip_depth,
+        Bias(*own.bias, step=depth_step(target)),
+        width_of(pipe, own.raster),
+        discards or bool(own.stencil),
+    )
 
 
 def discards_of(pipe):
@@ -109,7 +177,9 @@ def blending(pipe, constant, losses):
     first = blends[0] if len(blends) else rd.ColorBlend()
     if first.logicOperationEnabled:
         losses.add("draws with a logic operation")
-    colour, alpha = ((e.source.name, e.destination.name, e.operation.name) for e in (first.colorBlend, first.alphaBlend))
+    colour, alpha = (
+        (e.source.name, e.destination.name, e.operation.name) for e in (first.colorBlend, first.alphaBlend)
+    )
     state = states.blend(colour, alpha, first.writeMask, losses) if first.enabled else states.plain(first.writeMask)
     return state, states.factor(constant, colour, losses)
 
@@ -119,8 +189,12 @@ def depth_step(target):
     if not target:
         return 0.0
     kind = target.format
-    if kind.type in (rd.ResourceFormatType.D24S8, ) or (kind.type == rd.ResourceFormatType.Regular and kind.compByteWidth == 3):
-        return 1 / 0xffffff
-    if kind.type in (rd.ResourceFormatType.D16S8, ) or (kind.type == rd.ResourceFormatType.Regular and kind.compByteWidth == 2):
-        return 1 / 0xffff
+    if kind.type in (rd.ResourceFormatType.D24S8,) or (
+        kind.type == rd.ResourceFormatType.Regular and kind.compByteWidth == 3
+    ):
+        return 1 / 0xFFFFFF
+    if kind.type in (rd.ResourceFormatType.D16S8,) or (
+        kind.type == rd.ResourceFormatType.Regular and kind.compByteWidth == 2
+    ):
+        return 1 / 0xFFFF
     return 0.0

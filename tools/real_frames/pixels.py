@@ -28,13 +28,15 @@ class DrawPixels:
         before, after = (memoryview(picture).cast("I") for picture in (self.before, self.after))
         found, row = 0, 4 * self.width
         for left in range(0, len(self.before), row):
-            if self.before[left:left + row] != self.after[left:left + row]:
-                found += sum(before[at] != after[at] and at not in self.layers for at in range(left // 4, left // 4 + self.width))
+            if self.before[left : left + row] != self.after[left : left + row]:
+                found += sum(
+                    before[at] != after[at] and at not in self.layers for at in range(left // 4, left // 4 + self.width)
+                )
         return found
 
     def samples(self, number, piece):
-        """The samples {y: [(x, colour)]} that tell most of a piece: where it alone shows, else where others of the draw do, else where nothing changed;
-        and {y: [x]} where nothing changed."""
+        """The samples {y: [(x, colour)]} that tell most of a piece: where it alone shows, else where others of the
+        draw do, else where nothing changed; and {y: [x]} where nothing changed."""
         single, shared, same, any_alpha = {}, {}, {}, {}
         kinds = {"single": single, "shared": shared, "same": same, "open": any_alpha}
         for y, x0, x1 in piece.passed:
@@ -50,7 +52,7 @@ class DrawPixels:
 
     def sample(self, number, primitive, at):
         """(kind, source colour) of a pixel for a piece; None for a kind that tells nothing."""
-        was, now = self.before[4 * at:4 * at + 4], self.after[4 * at:4 * at + 4]
+        was, now = self.before[4 * at : 4 * at + 4], self.after[4 * at : 4 * at + 4]
         if not self.blend["enable"]:
             if self.owner[at] != number:
                 return None, None
@@ -60,13 +62,15 @@ class DrawPixels:
             if found:
                 return self.counted(*found)
         if not self.alone:
-            given = self.model and sources.with_alpha(self.blend, self.layers[at], self.model.at(primitive, at % self.width, at // self.width), was, now)
+            given = self.model and sources.with_alpha(
+                self.blend, self.layers[at], self.model.at(primitive, at % self.width, at // self.width), was, now
+            )
             if given:
                 return self.counted("single" if self.layers[at] == 1 else "shared", self.masked(given))
             if was == now:
                 return self.counted("same", self.unseen(now))
             return self.counted("single" if self.owner[at] == number else None, sources.plainest(self.blend, was, now))
-        own = self.alone[4 * at:4 * at + 4]
+        own = self.alone[4 * at : 4 * at + 4]
         if was == now and not any(own[:3]):
             return self.counted("same", NOTHING)
         colour = self.worked_out(Pixel(self.layers[at], own, was, now))
@@ -75,8 +79,9 @@ class DrawPixels:
         return self.counted("single" if self.layers[at] == 1 else "shared", colour)
 
     def by_its_own(self, at, was, now):
-        """(kind, source colour) of a pixel, where the colour that the draw gave there is known and its alpha isn't; None where no alpha explains the pixel."""
-        how, colour = unblended.source_at(self.blend, self.layers[at], self.own[4 * at:4 * at + 3], was[:3], now)
+        """(kind, source colour) of a pixel, where the colour that the draw gave there is known and its alpha isn't;
+        None where no alpha explains the pixel."""
+        how, colour = unblended.source_at(self.blend, self.layers[at], self.own[4 * at : 4 * at + 3], was[:3], now)
         if how == unblended.APART:
             self.unexplained += 1
             return None
@@ -85,14 +90,19 @@ class DrawPixels:
         return "open" if how == unblended.OPEN else "single" if self.layers[at] == 1 else "shared", self.masked(colour)
 
     def unseen(self, now):
-        """A source that leaves a pixel as it is: with no alpha, and not darker than what it lies beside, where colours are multiplied by alpha."""
+        """A source that leaves a pixel as it is: with no alpha, and not darker than what it lies beside, where
+        colours are multiplied by alpha."""
         source, destination, _ = self.blend["rgb"]
         return tuple(now) if destination == "ZERO" else (*now[:3], 0) if source == "SRC_ALPHA" else NOTHING
 
     def masked(self, colour):
         """A colour with zeros in the channels that aren't written, since nothing tells what the draw's own are."""
         mask = self.blend["mask"]
-        return tuple(colour) if mask == 15 else tuple(value if mask >> channel & 1 else 0 for channel, value in enumerate(colour))
+        return (
+            tuple(colour)
+            if mask == 15
+            else tuple(value if mask >> channel & 1 else 0 for channel, value in enumerate(colour))
+        )
 
     def counted(self, kind, colour):
         self.total += 1

@@ -3,21 +3,23 @@ import math
 from dataclasses import dataclass
 
 from captures import PIXEL
+from rules.coverage import CENTRE, cross, culled_turn
+from rules.snapping import snap
 
 from .clipping import GUARD, clip, clip_line, planes
-from .raster import CENTRE, snap
 
-WHOLE = 256                     # a pixel after snapping
+WHOLE = 256  # a pixel after snapping
 STEP = PIXEL // WHOLE
 
 
 @dataclass(frozen=True)
 class Bias:
     """What is added to the depths of a triangle: so many steps of the depth target, and so much of its steepness."""
+
     constant: float = 0.0
     slope: float = 0.0
-    most: float = 0.0           # zero: as much as it is
-    step: float = 0.0           # the depth target's; zero: that of a float as large as the triangle's farthest depth
+    most: float = 0.0  # zero: as much as it is
+    step: float = 0.0  # the depth target's; zero: that of a float as large as the triangle's farthest depth
 
     def of(self, corners):
         if not (self.constant or self.slope):
@@ -33,7 +35,7 @@ class Bias:
 def steepness(corners):
     """The larger of a triangle's two rises of depth a pixel; zero where it has no area."""
     (ax, ay, az), (bx, by, bz), (cx, cy, cz) = corners
-    area = (bx - ax) * (cy - ay) - (by - ay) * (cx - ax)
+    area = cross(*corners)
     if abs(area) < 1e-12:
         return 0.0
     along_x = ((bz - az) * (cy - ay) - (cz - az) * (by - ay)) / area
@@ -55,8 +57,9 @@ def placed(primitives, state, losses):
 
 
 def lowered(shapes):
-    """OpenGL counts rows from below: where an edge runs along the middles of a row, that row belongs to what lies over the edge, and in framedbg to what lies
-    below it. The ends of such edges are moved down by the least step, in each triangle that has them."""
+    """OpenGL counts rows from below: where an edge runs along the middles of a row, that row belongs to what lies
+    over the edge, and in framedbg to what lies below it. The ends of such edges are moved down by the least step, in
+    each triangle that has them."""
     ends = set()
     for _, corners in shapes:
         for (ax, ay, _), (bx, by, _) in zip(corners, corners[1:] + corners[:1]):
@@ -72,7 +75,14 @@ def triangles(corners, state, kept, losses):
     if len(corners) < 3:
         losses.add("lines and points", "drawn as quads of their width")
         ends = clip_line(corners, kept)
-        return [turned(half, state.raster) for half in quad([state.viewport.place(end) for end in ends], max(round(state.width), 1))] if ends else []
+        return (
+            [
+                turned(half, state.raster)
+                for half in quad([state.viewport.place(end) for end in ends], max(round(state.width), 1))
+            ]
+            if ends
+            else []
+        )
     pieces, was_cut = clip(corners, kept)
     if was_cut and pieces:
         losses.add("triangles cut at the near plane or far outside", "carried over in pieces")
@@ -83,24 +93,27 @@ def quad(ends, width=1):
     """Two triangles along a line, so many pixels wide across its longer way; round a point, a square of so many."""
     half = width / 2
     if len(ends) == 1:
-        (x, y, z), = ends
+        ((x, y, z),) = ends
         x, y = (snap(round(place * PIXEL)) / WHOLE for place in (x, y))
         x, y = (math.floor(place) + 0.5 if width % 2 else math.floor(place + 0.5) for place in (x, y))
         ends = (x - half, y, z), (x + half, y, z)
     (ax, ay, az), (bx, by, bz) = ends
     dx, dy = (0, half) if abs(bx - ax) >= abs(by - ay) else (half, 0)
-    a, b, c, d = (guarded(*corner) for corner in ((ax - dx, ay - dy, az), (bx - dx, by - dy, bz), (bx + dx, by + dy, bz), (ax + dx, ay + dy, az)))
+    a, b, c, d = (
+        guarded(*corner)
+        for corner in ((ax - dx, ay - dy, az), (bx - dx, by - dy, bz), (bx + dx, by + dy, bz), (ax + dx, ay + dy, az))
+    )
     return [a, b, c], [a, c, d]
 
 
 def guarded(x, y, z):
-    """A corner that a line's width brings out of what a capture takes, moved to its border: both lie far beside the target."""
+    """A corner that a line's width brings out of what a capture takes, moved to its border: both lie far beside the
+    target."""
     return min(max(x, -GUARD), GUARD), min(max(y, -GUARD), GUARD), z
 
 
 def turned(corners, raster):
     """A triangle of a line, which has no back: turned so that it isn't culled."""
-    (ax, ay, _), (bx, by, _), (cx, cy, _) = corners
-    clockwise = (bx - ax) * (cy - ay) - (by - ay) * (cx - ax) > 0
-    front = clockwise != raster["front_ccw"]
-    return [corners[0], corners[2], corners[1]] if front == (raster["cull"] == "front") else corners
+    culled = culled_turn(raster)
+    away = raster["front_ccw"] if culled is None else culled
+    return [corners[0], corners[2], corners[1]] if (cross(*corners) > 0) == away else corners

@@ -1,6 +1,8 @@
-"""Colours of corners from colours of pixels: the plane that lies nearest to what a draw gave at the pixels of a triangle.
+"""Colours of corners from colours of pixels: the plane that lies nearest to what a draw gave at the pixels of a
+triangle.
 
-Sums are kept for each row of samples, added up from its left end, so that the sums over any part of a triangle cost as much as it has rows.
+Sums are kept for each row of samples, added up from its left end, so that the sums over any part of a triangle cost
+as much as it has rows.
 """
 from itertools import accumulate
 
@@ -15,7 +17,8 @@ class Table:
 
     @staticmethod
     def row(some):
-        """The first x, and sums over the samples before each place: how many, of x and x squared; of v, x v and v squared for each channel."""
+        """The first x, and sums over the samples before each place: how many, of x and x squared; of v, x v and v
+        squared for each channel."""
         left, width = some[0][0], some[-1][0] - some[0][0] + 1
         there = {x: colour for x, colour in some}
         xs = [x if x in there else 0 for x in range(left, left + width)]
@@ -54,7 +57,7 @@ class Sums:
         self.xy += x * y
         self.yy += count * y * y
         for channel in CHANNELS:
-            v, xv, vv = row[3 + 3 * channel:6 + 3 * channel]
+            v, xv, vv = row[3 + 3 * channel : 6 + 3 * channel]
             self.v[channel] += v
             self.xv[channel] += xv
             self.yv[channel] += v * y
@@ -65,12 +68,20 @@ class Sums:
 
     def spreads(self):
         """The sums of squares about the middle: of x, of x and y, of y."""
-        return self.xx - self.x * self.x / self.count, self.xy - self.x * self.y / self.count, self.yy - self.y * self.y / self.count
+        return (
+            self.xx - self.x * self.x / self.count,
+            self.xy - self.x * self.y / self.count,
+            self.yy - self.y * self.y / self.count,
+        )
 
     def rises(self, channel):
         """The sums of the channel with x and with y, and of its own squares, about the middle."""
         mean = self.mean(channel)
-        return self.xv[channel] - self.x * mean, self.yv[channel] - self.y * mean, max(self.vv[channel] - self.v[channel] * mean, 0.0)
+        return (
+            self.xv[channel] - self.x * mean,
+            self.yv[channel] - self.y * mean,
+            max(self.vv[channel] - self.v[channel] * mean, 0.0),
+        )
 
     def slopes(self, channel):
         """Least squares of v = mean + b (x - middle) + c (y - middle); zeros where the samples lie on a line."""
@@ -83,7 +94,8 @@ class Sums:
 
 
 def fit(corners, sums):
-    """Three colours for corners in pixels, and how far the samples are off: the root of the mean square, of the channel where it is largest.
+    """Three colours for corners in pixels, and how far the samples are off: the root of the mean square, of the
+    channel where it is largest.
 
     The plane keeps the samples' mean. Where it would leave 0 to 255 at a corner its slope is lessened until it doesn't.
     """

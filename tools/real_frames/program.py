@@ -8,7 +8,7 @@ from framedbg_client import Client, Ended, Garbled, Refusal, read_pam
 
 from .fault import Fault
 
-PATIENCE = 600                  # seconds for one image: a machine may be busy
+PATIENCE = 600  # seconds for one image: a machine may be busy
 SOME = bytes([0]) + bytes([1]) * 255
 
 

@@ -1,35 +1,22 @@
-"""The rules of framedbg for snapping, coverage and depth, in whole numbers; docs/DEFINITIONS.md has them."""
+"""Triangles row by row: the pixels that they cover, and those at which they pass the depth test."""
 from captures import FARTHEST
-
-CENTRE = 128                    # of a pixel, in 1/256 pixel
-COMPARES = {
-    "NEVER": lambda s, d: False, "LESS": lambda s, d: s < d, "EQUAL": lambda s, d: s == d, "LESS_EQUAL": lambda s, d: s <= d,
-    "GREATER": lambda s, d: s > d, "NOT_EQUAL": lambda s, d: s != d, "GREATER_EQUAL": lambda s, d: s >= d, "ALWAYS": lambda s, d: True,
-}
-
-
-def snap(position):
-    """1/65536 pixel to 1/256 pixel, the nearest, ties to even."""
-    quotient, rest = divmod(position, 256)
-    if rest > 128 or (rest == 128 and quotient & 1):
-        quotient += 1
-    return quotient
+from rules.coverage import CENTRE, cross, culled_turn, least
+from rules.depth import PASSES
+from rules.shading import means_along
 
 
 class Triangle:
     """A snapped triangle with its edges as whole-number functions of the pixel."""
 
     def __init__(self, corners):
-        (ax, ay), (bx, by), (cx, cy) = corners
-        self.winding = (bx - ax) * (cy - ay) - (by - ay) * (cx - ax)
+        a, b, c = corners
+        self.winding = cross(a, b, c)
         self.area = abs(self.winding)
         self.corners = corners
-        turn = 1 if self.winding > 0 else -1
-        self.edges = []         # (rise with x, rise with y, weight at the first pixel, the least weight that is inside)
-        for (px, py), (qx, qy) in (((bx, by), (cx, cy)), ((cx, cy), (ax, ay)), ((ax, ay), (bx, by))):
-            dx, dy = (qx - px) * turn, (qy - py) * turn
-            owns = (dy == 0 and dx > 0) or dy < 0
-            self.edges.append((-dy * 256, dx * 256, dx * (CENTRE - py) - dy * (CENTRE - px), 0 if owns else 1))
+        self.edges = []  # (rise with x, rise with y, weight at the first pixel, the least weight that is inside)
+        for u, v in ((b, c), (c, a), (a, b)) if self.winding > 0 else ((c, b), (a, c), (b, a)):
+            dx, dy = v[0] - u[0], v[1] - u[1]
+            self.edges.append((-dy * 256, dx * 256, cross(u, v, (CENTRE, CENTRE)), least(u, v)))
 
     def weights(self, x, y):
         return [rise_x * x + rise_y * y + start for rise_x, rise_y, start, _ in self.edges]
@@ -38,18 +25,23 @@ class Triangle:
         """The pixels that it may cover, within the target and the rectangle: left, top, right, bottom."""
         columns, rows = [x for x, _ in self.corners], [y for _, y in self.corners]
         left, top, right, bottom = rectangle or (0, 0, width, height)
-        return (max(left, 0, (min(columns) - CENTRE) // 256), max(top, 0, (min(rows) - CENTRE) // 256),
-                min(right, width, (max(columns) - CENTRE) // 256 + 1), min(bottom, height, (max(rows) - CENTRE) // 256 + 1))
+        return (
+            max(left, 0, (min(columns) - CENTRE) // 256),
+            max(top, 0, (min(rows) - CENTRE) // 256),
+            min(right, width, (max(columns) - CENTRE) // 256 + 1),
+            min(bottom, height, (max(rows) - CENTRE) // 256 + 1),
+        )
 
     def spans(self, width, height, rectangle=None):
-        """Gives (y, x0, x1) of each row that is covered, within the target and the rectangle (left, top, right, bottom)."""
+        """Gives (y, x0, x1) of each row that is covered, within the target and the rectangle (left, top, right,
+        bottom)."""
         if self.area == 0:
             return
         left, top, right, bottom = self.box(width, height, rectangle)
         for y in range(top, bottom):
             x0, x1 = left, right
-            for rise_x, rise_y, start, least in self.edges:
-                base = rise_y * y + start - least
+            for rise_x, rise_y, start, inside in self.edges:
+                base = rise_y * y + start - inside
                 if rise_x > 0:
                     x0 = max(x0, -(base // rise_x))
                 elif rise_x < 0:
@@ -59,11 +51,8 @@ class Triangle:
             if x0 < x1:
                 yield y, x0, x1
 
-    def is_culled(self, cull, front_ccw):
-        if cull == "none" or self.area == 0:
-            return False
-        front = (self.winding > 0) != front_ccw
-        return front == (cull == "front")
+    def is_culled(self, raster):
+        return self.area != 0 and (self.winding > 0) == culled_turn(raster)
 
 
 class DepthTarget:
@@ -72,7 +61,7 @@ class DepthTarget:
     def __init__(self, width, height):
         self.width, self.height = width, height
         self.rows = [[FARTHEST] * width for _ in range(height)]
-        self.own = set()                    # the rows that were copied since depths were kept
+        self.own = set()  # the rows that were copied since depths were kept
 
     def kept(self):
         """The depths as they are now, to go back to."""
@@ -96,13 +85,11 @@ class DepthTarget:
         spans = shape.spans(self.width, self.height, rectangle)
         if not state["enable"]:
             return list(spans)
-        compare, passed = COMPARES[state["func"]], []
-        double = 2 * shape.area
-        step = 2 * sum(edge[0] * depth for edge, depth in zip(shape.edges, depths))
+        compare, passed = PASSES[state["func"]], []
+        step = sum(edge[0] * depth for edge, depth in zip(shape.edges, depths))
         for y, x0, x1 in spans:
-            amount = 2 * sum(weight * depth for weight, depth in zip(shape.weights(x0, y), depths)) + shape.area
-            sources = [(amount + i * step) // double for i in range(x1 - x0)]
-            passed += self.test(y, x0, sources, compare, state["write"])
+            total = sum(weight * depth for weight, depth in zip(shape.weights(x0, y), depths))
+            passed += self.test(y, x0, means_along(total, step, shape.area, x1 - x0), compare, state["write"])
         return passed
 
     def test(self, y, left, sources, compare, write):

@@ -1,19 +1,21 @@
 """Pictures of one size one after another, each kept as what differs from the one before it: a draw changes little."""
 import zlib
 
-GRAIN = 4096                            # bytes within which it isn't looked where a change begins and ends
+GRAIN = 4096  # bytes within which it isn't looked where a change begins and ends
 
 
 class Reel:
     def __init__(self):
-        self.steps = []                     # (where a change begins, what differs from there on, packed)
-        self.last = b""                     # the picture that was put last
-        self.at, self.content = -1, b""     # the picture that was asked for last
+        self.steps = []  # (where a change begins, what differs from there on, packed)
+        self.last = b""  # the picture that was put last
+        self.at, self.content = -1, b""  # the picture that was asked for last
 
     def put(self, picture):
         """Keeps a picture; gives what it is asked for by."""
         start, end = changed(self.last, picture)
-        self.steps.append((start, zlib.compress(exchanged(self.last[start:end], picture[start:end]), 1) if start < end else b""))
+        self.steps.append(
+            (start, zlib.compress(exchanged(self.last[start:end], picture[start:end]), 1) if start < end else b"")
+        )
         self.last = picture
         return Kept(self, len(self.steps) - 1)
 
@@ -26,7 +28,9 @@ class Reel:
             if step:
                 differs = zlib.decompress(step)
                 end = start + len(differs)
-                self.content = b"".join((self.content[:start], exchanged(self.content[start:end], differs), self.content[end:]))
+                self.content = b"".join(
+                    (self.content[:start], exchanged(self.content[start:end], differs), self.content[end:])
+                )
         return self.content
 
 
@@ -41,7 +45,8 @@ class Kept:
 
 
 def changed(first, other):
-    """Where two pictures begin to differ and where they end to, as (start, end), roughly; all of it where they aren't of one size."""
+    """Where two pictures begin to differ and where they end to, as (start, end), roughly; all of it where they
+    aren't of one size."""
     if len(first) != len(other):
         return 0, len(other)
     if first == other:

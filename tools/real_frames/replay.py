@@ -1,18 +1,24 @@
-"""A captured frame, replayed by RenderDoc's own module. This module and the four that it uses (clears, pipelines, vertices, pictures) need RenderDoc."""
+"""A captured frame, replayed by RenderDoc's own module. This module and the six that it uses (clears, details, laying,
+pipelines, vertices, pictures) need RenderDoc."""
 import os
 
 import renderdoc as rd
 
 from . import clears, pipelines, vertices
+from .details import Details
 from .fault import Fault
 from .gather import IN_SRGB, MULTISAMPLED, OF_FLOATS
 from .names import printable
 from .pictures import WHOLE, Pictures
 from .states import byte
 
-KINDS = [   # the first that an action's flags have
-    ("marker", rd.ActionFlags.PushMarker | rd.ActionFlags.SetMarker), ("draw", rd.ActionFlags.Drawcall),
-    ("clear", rd.ActionFlags.Clear), ("dispatch", rd.ActionFlags.Dispatch), ("copy", rd.ActionFlags.Copy | rd.ActionFlags.Resolve)]
+KINDS = [  # the first that an action's flags have
+    ("marker", rd.ActionFlags.PushMarker | rd.ActionFlags.SetMarker),
+    ("draw", rd.ActionFlags.Drawcall),
+    ("clear", rd.ActionFlags.Clear),
+    ("dispatch", rd.ActionFlags.Dispatch),
+    ("copy", rd.ActionFlags.Copy | rd.ActionFlags.Resolve),
+]
 
 
 def in_a_line(result):
@@ -25,14 +31,16 @@ def flattened(actions):
         yield from flattened(action.children)
 
 
-class Frame:
+class ReplayedFrame:
     """One open capture of RenderDoc's. Use it in a `with` statement."""
 
     def __init__(self, path):
         self.path = str(path)
         self.file = self.controller = self.pictures = None
         self.here = 0
-        self.from_above = False         # the target that is followed is one of OpenGL whose lowest row is the picture's upper one
+        self.from_above = (
+            False  # the target that is followed is one of OpenGL whose lowest row is the picture's upper one
+        )
 
     def __enter__(self):
         try:
@@ -60,13 +68,20 @@ class Frame:
         if result != rd.ResultCode.Succeeded:
             hint = "" if os.environ.get("DISPLAY") else "; OpenGL wants a screen, and DISPLAY names none"
             raise Fault(f"{self.path}: it can't be replayed here: {in_a_line(result)}{hint}")
+        self.use(controller, self.file.DriverName())
+
+    def use(self, controller, driver):
+        """Reads by a controller that replays the frame."""
         self.controller = controller
         if controller.GetAPIProperties().pipelineType not in pipelines.READERS:
-            raise Fault(f"{self.path}: a frame of {self.file.DriverName()}: only OpenGL, OpenGL ES, Vulkan and Direct3D 11 and 12 are read")
+            raise Fault(
+                f"{self.path}: a frame of {driver}: only OpenGL, OpenGL ES, Vulkan and Direct3D 11 and 12 are read"
+            )
         self.names = controller.GetStructuredFile()
         self.actions = list(flattened(controller.GetRootActions()))
         self.textures = {int(texture.resourceId): texture for texture in controller.GetTextures()}
         self.pictures = Pictures(controller, self.textures, self.is_gl())
+        self.details = Details(self)
 
     def __exit__(self, *_):
         for part in (self.pictures, self.controller, self.file):
@@ -103,7 +118,8 @@ class Frame:
         return int(action.copyDestination)
 
     def shown_target(self):
-        """The target that is presented, or the one that is copied onto it where nothing draws on it; else that of the last draw."""
+        """The target that is presented, or the one that is copied onto it where nothing draws on it; else that of
+        the last draw."""
         drawn = {target for action in self.actions if self.kind(action) == "draw" for target in self.targets(action)}
         for wanted in (rd.ActionFlags.Present, rd.ActionFlags.Drawcall):
             for action in reversed(self.actions):
@@ -113,18 +129,25 @@ class Frame:
         raise Fault("the frame draws on no colour target")
 
     def copied_from(self, shown, drawn):
-        """The target that the last copy onto the one that is shown takes, if it is drawn on: Wine's Direct3D shows its pictures so."""
+        """The target that the last copy onto the one that is shown takes, if it is drawn on: Wine's Direct3D shows
+        its pictures so."""
         copies = (action for action in reversed(self.actions) if self.copied_onto(action) == shown)
         return next((int(copy.copySource) for copy in copies if int(copy.copySource) in drawn), None)
 
     def is_turned(self, target):
-        """Whether a target of OpenGL is shown upside down: its lowest row is the picture's upper one. Wine's Direct3D keeps pictures so."""
-        return self.is_gl() and any("glBlitFramebuffer" in self.name(action) and int(action.copySource) == target and self.turns(action) for action in self.actions)
+        """Whether a target of OpenGL is shown upside down: its lowest row is the picture's upper one. Wine's
+        Direct3D keeps pictures so."""
+        return self.is_gl() and any(
+            "glBlitFramebuffer" in self.name(action) and int(action.copySource) == target and self.turns(action)
+            for action in self.actions
+        )
 
     def turns(self, action):
         """Whether a copy has rows that rise on one side and fall on the other."""
         chunk = self.names.chunks[action.events[-1].chunkIndex]
-        from_first, from_last, to_first, to_last = (chunk.FindChild(name).data.basic.i for name in ("srcY0", "srcY1", "dstY0", "dstY1"))
+        from_first, from_last, to_first, to_last = (
+            chunk.FindChild(name).data.basic.i for name in ("srcY0", "srcY1", "dstY0", "dstY1")
+        )
         return (from_last - from_first) * (to_last - to_first) < 0
 
     def size(self, target):
@@ -155,8 +178,15 @@ class Frame:
         """A line for each colour target, with its draws."""
         for target, (first, last, count) in self.draws_of_targets().items():
             texture = self.textures[target]
-            shown = (", shown upside down" if self.is_turned(target) else ", shown") if target == self.shown_target() else ""
-            yield f"target {target}: {texture.width} by {texture.height}, {texture.format.Name()}, samples {texture.msSamp}, {count} draws, events {first} to {last}{shown}"
+            shown = (
+                (", shown upside down" if self.is_turned(target) else ", shown")
+                if target == self.shown_target()
+                else ""
+            )
+            yield (
+                f"target {target}: {texture.width} by {texture.height}, {texture.format.Name()}, samples "
+                f"{texture.msSamp}, {count} draws, events {first} to {last}{shown}"
+            )
 
     # What is at an event.
 
@@ -173,8 +203,13 @@ class Frame:
     def primitives(self, action):
         return vertices.primitives(self.controller, action)
 
+    def told(self, action, viewport, size):
+        """What else is told of a draw that was gone to: members for its source, and the calls that set each part of its
+        state."""
+        return self.details.of(action, viewport, size), self.details.set_by(action)
+
     def reads_textures(self, _):
-        return len(self.controller.GetPipelineState().GetReadOnlyResources(rd.ShaderStage.Pixel, False)) > 0
+        return bool(self.details.textures())
 
     def picture(self, target):
         return self.pictures.of(target)
@@ -190,7 +225,11 @@ class Frame:
     def given_at(self, target, x, y):
         """{primitive: (r, g, b, a)}: what the draw that was gone to gave at a pixel, before blending."""
         entries = self.controller.PixelHistory(self.textures[target].resourceId, x, y, WHOLE, rd.CompType.Typeless)
-        return {entry.primitiveID: tuple(byte(v) for v in entry.shaderOut.col.floatValue) for entry in entries if entry.eventId == self.here and entry.Passed()}
+        return {
+            entry.primitiveID: tuple(byte(v) for v in entry.shaderOut.col.floatValue)
+            for entry in entries
+            if entry.eventId == self.here and entry.Passed()
+        }
 
     def alone(self, target):
         return self.pictures.alone(target)

@@ -4,8 +4,8 @@ import struct
 
 COMMENT = re.compile(rb"//[^\n]*|/\*.*?\*/", re.S)
 DISCARD = re.compile(rb"\bdiscard\b")
-HEADER = 5                              # words
-ENDS = {252, 4416, 5380}                # OpKill, OpTerminateInvocation, OpDemoteToHelperInvocation
+HEADER = 5  # words
+ENDS = {252, 4416, 5380}  # OpKill, OpTerminateInvocation, OpDemoteToHelperInvocation
 
 
 def text_discards(content):
@@ -14,10 +14,10 @@ def text_discards(content):
 
 def words_discard(content):
     """Each instruction begins with a word that has its length in words above, and its number below."""
-    words = struct.unpack(f"<{len(content) // 4}I", content[:len(content) // 4 * 4])
+    words = struct.unpack(f"<{len(content) // 4}I", content[: len(content) // 4 * 4])
     at = HEADER
     while at < len(words):
-        length, number = words[at] >> 16, words[at] & 0xffff
+        length, number = words[at] >> 16, words[at] & 0xFFFF
         if number in ENDS:
             return True
         if not length:

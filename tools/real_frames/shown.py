@@ -1,17 +1,20 @@
-"""What a draw put out at each pixel at which it passes: the source with which framedbg's blending gives the picture after it. Where none does the pixel is replaced
-by what the frame has there; where nothing speaks for it that anything was put out, it was discarded."""
+"""What a draw put out at each pixel at which it passes: the source with which framedbg's blending gives the picture
+after it. Where none does the pixel is replaced by what the frame has there; where nothing speaks for it that
+anything was put out, it was discarded."""
 import zlib
 from array import array
 from collections import Counter
 
+from . import wide, wide_shown
 from .asked import Model
 from .layers import MOST
-from .solving import Blending
+from .solving import Undoing
 from .sources import Pixel, plainest, source_of, tells, times_drawn, with_alpha
 from .unblended import TOLD, source_at
 
 KNOWN, WORKED_OUT, REPLACED = "known", "worked out", "replaced"
-NONE, SOURCE, OTHER = 0, 1, 2           # what a pixel has: no source, one, or what it is replaced by
+NONE, SOURCE, OTHER = 0, 1, 2  # what a pixel has: no source, one, or what it is replaced by
+WAYS = (KNOWN, SOURCE), (WORKED_OUT, SOURCE), (REPLACED, OTHER)
 
 
 def words_of(picture):
@@ -28,17 +31,21 @@ def colour(one):
 
 
 class Shown:
-    """Over the box of a draw's pixels, row by row: `texels` and `kinds`. `replaced` is {place: colour}, `holes` the places of what was discarded."""
+    """Over the box of a draw's pixels, row by row: `texels` and `kinds`. `replaced` is {place: colour}, `holes` the
+    places of what was discarded."""
 
     def __init__(self, record, layers, before, after):
         self.record, self.layers, self.counted = record, layers, Counter()
         self.replaced, self.holes = {}, set()
         self.texels, self.kinds = array("I"), bytearray()
         self.told = Told(record, layers)
-        self.blending = Blending(record.state.blend, (record.state.factor or {}).get("color", (255,) * 4))
+        self.blending = Undoing(record.state.blend, (record.state.factor or {}).get("color", (255,) * 4))
         self.before, self.after = words_of(before), words_of(after)
         self.known = {}
         is_plain = not record.state.blend["enable"] and record.state.blend["mask"] == 15 and not record.state.discards
+        if wide.numpy and not is_plain and not self.told.asked:
+            wide_shown.look(self, WAYS)
+            return
         for start, end in layers.rows():
             (self.copy if is_plain else self.look)(start, end)
 
@@ -67,7 +74,7 @@ class Shown:
         self.counted[how] += 1
         if how == REPLACED:
             self.replaced[at] = colour(now)
-        return (OTHER, 0) if how == REPLACED else (SOURCE, value)
+        return dict(WAYS)[how], value
 
     def solved(self, at, count, was, now):
         was, now = colour(was), colour(now)
@@ -78,18 +85,27 @@ class Shown:
         return KNOWN if made == guess and is_known else WORKED_OUT, word(made)
 
     def may_be_discarded(self, at):
-        """Whether nothing speaks for it that an unchanged pixel was drawn: where the shader may discard, the draw alone left nothing there."""
+        """Whether nothing speaks for it that an unchanged pixel was drawn: where the shader may discard, the draw
+        alone left nothing there."""
         return self.record.state.discards and not (self.told.alone and self.told.alone[at])
 
     def sources(self):
         """How many pixels have a source, and the one that all have, or None."""
         count = self.kinds.count(SOURCE)
-        some = {value for value, kind in zip(self.texels, self.kinds) if kind == SOURCE} if count else ()
-        return count, colour(some.pop()) if len(some) == 1 else None
+        if not count:
+            return 0, None
+        first = self.texels[self.kinds.index(SOURCE)]
+        is_one = (
+            wide.are_one(self.texels, self.kinds, SOURCE)
+            if wide.numpy
+            else all(value == first for value, kind in zip(self.texels, self.kinds) if kind == SOURCE)
+        )
+        return count, colour(first) if is_one else None
 
 
 class Told:
-    """What is told of a draw's sources but by its blending: by the draw alone, by histories of some pixels, or by the draw unblended."""
+    """What is told of a draw's sources but by its blending: by the draw alone, by histories of some pixels, or by
+    the draw unblended."""
 
     def __init__(self, record, layers):
         self.record, self.layers, self.blend = record, layers, record.state.blend
@@ -101,7 +117,8 @@ class Told:
         self.last = layers.last() if self.asked else None
 
     def key(self, at):
-        """What tells apart two pixels of one colour before and after: nothing, the draw alone or unblended there, or the place itself."""
+        """What tells apart two pixels of one colour before and after: nothing, the draw alone or unblended there, or
+        the place itself."""
         return at if self.asked else self.alone[at] if self.alone else self.own[at] if self.own else None
 
     def guess(self, at, count, was, now):

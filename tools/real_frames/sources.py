@@ -1,15 +1,15 @@
 """What a draw's shader gave, from what the draw left on the target: the blend equation worked backward.
 
-`alone` is the draw on a target of zeros, `before` and `after` are the target's own pixels. All channels are bytes. `layers` says how many
-triangles of the draw pass at the pixel, `times` how often RenderDoc drew them for `alone`: its overlay ClearBeforeDraw is followed by the
-draw itself, so twice, unless the depth test stops the second.
+`alone` is the draw on a target of zeros, `before` and `after` are the target's own pixels. All channels are bytes.
+`layers` says how many triangles of the draw pass at the pixel, `times` how often RenderDoc drew them for `alone`:
+its overlay ClearBeforeDraw is followed by the draw itself, so twice, unless the depth test stops the second.
 """
 from dataclasses import dataclass
 
 ONE_ON_ZEROS = {"ONE", "INV_DEST_COLOR", "INV_DEST_ALPHA"}
-LEAST_SHARE = 0.05              # of the source in what is seen, from which it can be worked out
-NEAR = 2                        # bytes
-LEAST_ALPHA = 0.25              # by which a byte may be divided, and is within 2 of what was multiplied
+LEAST_SHARE = 0.05  # of the source in what is seen, from which it can be worked out
+NEAR = 2  # bytes
+LEAST_ALPHA = 0.25  # by which a byte may be divided, and is within 2 of what was multiplied
 STRICT = {"LESS", "GREATER", "NOT_EQUAL", "NEVER"}
 
 
@@ -23,7 +23,8 @@ def is_composite(blend):
 
 
 def shown(alpha, layers):
-    """How much of a layer's own amount shows where so many equal layers lie over each other: 1 + (1-a) + (1-a)^2 and so on."""
+    """How much of a layer's own amount shows where so many equal layers lie over each other: 1 + (1-a) + (1-a)^2 and
+    so on."""
     return sum((1 - alpha) ** i for i in range(layers))
 
 
@@ -45,11 +46,15 @@ def alpha_by_itself(blend, drawn, alone):
     if not blend["mask"] & 8 or operation != "ADD" or not alone[3]:
         return None
     if source == "SRC_ALPHA":
+
         def amount(a):
             return a * a
+
     elif source in ONE_ON_ZEROS:
+
         def amount(a):
             return a
+
     else:
         return None
     if destination == "INV_SRC_ALPHA":
@@ -64,12 +69,16 @@ def alpha_by_colour(drawn, pixel):
 
     def fault(alpha):
         part, left = shown(alpha, pixel.layers) / shown(alpha, drawn), (1 - alpha) ** pixel.layers
-        return sum(abs(own * part + was * left - now) for own, was, now in zip(pixel.alone[:3], pixel.before, pixel.after))
+        return sum(
+            abs(own * part + was * left - now) for own, was, now in zip(pixel.alone[:3], pixel.before, pixel.after)
+        )
+
     return min((step / 64 for step in range(65)), key=fault)
 
 
 def plainest(blend, before, after):
-    """A source that gives `after` over `before`, where the draw alone can't be had: opaque where the blending would hide by alpha."""
+    """A source that gives `after` over `before`, where the draw alone can't be had: opaque where the blending would
+    hide by alpha."""
     source, destination, _ = blend["rgb"]
     if destination == "ONE":
         return tuple(max(after[i] - before[i], 0) for i in range(3)) + (255,)
@@ -91,22 +100,31 @@ def parts_of(blend, layers, alpha):
 
 
 def with_alpha(blend, layers, given, before, after):
-    """The source from what is known of it, above all its alpha, and from the pixel before and after: so many equal layers of it were blended.
-    None where it was none: the pixel is as before, and what is known would have changed it."""
+    """The source from what is known of it, above all its alpha, and from the pixel before and after: so many equal
+    layers of it were blended. None where it was none: the pixel is as before, and what is known would have changed
+    it."""
     both = parts_of(blend, layers, given[3] / 255)
     if both is None:
         return tuple(given)
     share, left = both
     if before == after:
-        return tuple(given) if all(abs(own * share + was * left - now) <= NEAR for own, was, now in zip(given, before[:3], after)) else None
+        return (
+            tuple(given)
+            if all(abs(own * share + was * left - now) <= NEAR for own, was, now in zip(given, before[:3], after))
+            else None
+        )
     if share < LEAST_SHARE:
         return tuple(given)
-    return tuple(own if now == 255 and left == 1 else min(max((now - was * left) / share, 0), 255) for own, was, now in zip(given, before[:3], after)) + (given[3],)
+    return tuple(
+        own if now == 255 and left == 1 else min(max((now - was * left) / share, 0), 255)
+        for own, was, now in zip(given, before[:3], after)
+    ) + (given[3],)
 
 
 @dataclass(frozen=True)
 class Pixel:
     """A pixel of a draw: how many of its triangles pass there, and the colours."""
+
     layers: int
     alone: bytes
     before: bytes
@@ -137,7 +155,8 @@ def source_of(blend, times, pixel):
 
 
 def tells(blend, times, pixel):
-    """Whether the draw alone tells the source, so that source_of makes no part of it up; where it was multiplied by alpha, within 2 bytes."""
+    """Whether the draw alone tells the source, so that source_of makes no part of it up; where it was multiplied by
+    alpha, within 2 bytes."""
     source, _, operation = blend["rgb"]
     if operation == "MAX":
         return blend["alpha"][2] == "MAX"
@@ -150,7 +169,8 @@ def tells(blend, times, pixel):
 
 
 def undone(destination, times, pixel, channel):
-    """What the layers left of a channel alone; where that is cut off at 255, and the draw adds, what they added to what was there."""
+    """What the layers left of a channel alone; where that is cut off at 255, and the draw adds, what they added to
+    what was there."""
     own = pixel.alone[channel]
     if own == 255 and destination == "ONE":
         return max(own, (pixel.after[channel] - pixel.before[channel]) * times)

@@ -1,4 +1,5 @@
-"""RenderDoc's pipeline state in framedbg's words. Names of RenderDoc's enumerations come as text, so that nothing here needs its module."""
+"""RenderDoc's pipeline state in framedbg's words. Names of RenderDoc's enumerations come as text, so that nothing
+here needs its module."""
 from dataclasses import dataclass
 
 import captures
@@ -7,15 +8,44 @@ from .placing import Bias
 from .viewport import Viewport
 
 FACTORS = {
-    "Zero": "ZERO", "One": "ONE", "SrcCol": "SRC_COLOR", "InvSrcCol": "INV_SRC_COLOR", "DstCol": "DEST_COLOR", "InvDstCol": "INV_DEST_COLOR",
-    "SrcAlpha": "SRC_ALPHA", "InvSrcAlpha": "INV_SRC_ALPHA", "DstAlpha": "DEST_ALPHA", "InvDstAlpha": "INV_DEST_ALPHA",
-    "FactorRGB": "BLEND_FACTOR", "InvFactorRGB": "INV_BLEND_FACTOR", "FactorAlpha": "BLEND_FACTOR", "InvFactorAlpha": "INV_BLEND_FACTOR",
+    "Zero": "ZERO",
+    "One": "ONE",
+    "SrcCol": "SRC_COLOR",
+    "InvSrcCol": "INV_SRC_COLOR",
+    "DstCol": "DEST_COLOR",
+    "InvDstCol": "INV_DEST_COLOR",
+    "SrcAlpha": "SRC_ALPHA",
+    "InvSrcAlpha": "INV_SRC_ALPHA",
+    "DstAlpha": "DEST_ALPHA",
+    "InvDstAlpha": "INV_DEST_ALPHA",
+    "FactorRGB": "BLEND_FACTOR",
+    "InvFactorRGB": "INV_BLEND_FACTOR",
+    "FactorAlpha": "BLEND_FACTOR",
+    "InvFactorAlpha": "INV_BLEND_FACTOR",
 }
-NEAREST = {"SrcAlphaSat": "SRC_ALPHA", "Src1Col": "SRC_COLOR", "Src1Alpha": "SRC_ALPHA", "InvSrc1Col": "INV_SRC_COLOR", "InvSrc1Alpha": "INV_SRC_ALPHA"}
-OPERATIONS = {"Add": "ADD", "Subtract": "SUBTRACT", "ReversedSubtract": "REV_SUBTRACT", "Minimum": "MIN", "Maximum": "MAX"}
+NEAREST = {
+    "SrcAlphaSat": "SRC_ALPHA",
+    "Src1Col": "SRC_COLOR",
+    "Src1Alpha": "SRC_ALPHA",
+    "InvSrc1Col": "INV_SRC_COLOR",
+    "InvSrc1Alpha": "INV_SRC_ALPHA",
+}
+OPERATIONS = {
+    "Add": "ADD",
+    "Subtract": "SUBTRACT",
+    "ReversedSubtract": "REV_SUBTRACT",
+    "Minimum": "MIN",
+    "Maximum": "MAX",
+}
 COMPARES = {
-    "Never": "NEVER", "Less": "LESS", "Equal": "EQUAL", "LessEqual": "LESS_EQUAL", "Greater": "GREATER", "NotEqual": "NOT_EQUAL",
-    "GreaterEqual": "GREATER_EQUAL", "AlwaysTrue": "ALWAYS",
+    "Never": "NEVER",
+    "Less": "LESS",
+    "Equal": "EQUAL",
+    "LessEqual": "LESS_EQUAL",
+    "Greater": "GREATER",
+    "NotEqual": "NOT_EQUAL",
+    "GreaterEqual": "GREATER_EQUAL",
+    "AlwaysTrue": "ALWAYS",
 }
 CULLS = {"NoCull": "none", "Front": "front", "Back": "back"}
 raster, depth = captures.raster, captures.depth
@@ -24,16 +54,17 @@ raster, depth = captures.raster, captures.depth
 @dataclass
 class State:
     """The state of a draw: events of framedbg, and what places its triangles."""
+
     viewport: Viewport
-    scissor: list               # the rectangle that scissor and viewport leave
+    scissor: list  # the rectangle that scissor and viewport leave
     raster: dict
     blend: dict
     factor: dict
     depth: dict
     clip_depth: bool = True
     bias: Bias = Bias()
-    width: float = 1.0          # of lines and points, in pixels
-    discards: bool = False      # a shader may discard fragments, or the alpha or the stencil test
+    width: float = 1.0  # of lines and points, in pixels
+    discards: bool = False  # a shader may discard fragments, or the alpha or the stencil test
 
     def rectangle(self):
         return self.scissor if self.raster["scissor"] else None
@@ -44,7 +75,8 @@ def byte(value):
 
 
 def part(source, destination, operation, for_alpha, losses):
-    """One part of a blend state. In the alpha part a colour factor is the alpha factor, as the two are the same there."""
+    """One part of a blend state. In the alpha part a colour factor is the alpha factor, as the two are the same
+    there."""
     words = []
     for name in (source, destination):
         if name in NEAREST:

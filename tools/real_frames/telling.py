@@ -26,9 +26,21 @@ def span(words):
 
 def add_words(parser):
     """The words on colours and on what is told."""
-    parser.add_argument("--colours", choices=["measured", "distinct"], default="measured", help="from the frame's pictures, or one for each draw [measured]")
-    parser.add_argument("--detail", type=float, metavar="BYTES", help="cut triangles while their colours are off by more (root of the mean square)")
-    parser.add_argument("--smallest", type=int, default=16, metavar="PIXELS", help="cut none that shows at no more pixels [16]")
+    parser.add_argument(
+        "--colours",
+        choices=["measured", "distinct"],
+        default="measured",
+        help="from the frame's pictures, or one for each draw [measured]",
+    )
+    parser.add_argument(
+        "--detail",
+        type=float,
+        metavar="BYTES",
+        help="cut triangles while their colours are off by more (root of the mean square)",
+    )
+    parser.add_argument(
+        "--smallest", type=int, default=16, metavar="PIXELS", help="cut none that shows at no more pixels [16]"
+    )
     parser.add_argument("--quiet", action="store_true", help="say no draw while it is read and written")
 
 
@@ -44,7 +56,10 @@ def target_of(frame):
     if frame.size(shown) == (1, 1):
         counts = frame.draws_of_targets()
         most = max(counts, key=lambda target: counts[target][2], default=shown)
-        raise Fault(f"the target that is shown, {shown}, has one pixel: --list tells the others, and --target {most} has the most draws")
+        raise Fault(
+            f"the target that is shown, {shown}, has one pixel: --list tells the others, and --target {most} "
+            f"has the most draws"
+        )
     return shown
 
 
@@ -62,9 +77,11 @@ def written(capture):
 def what_fits(capture, lines):
     """The draws up to which a frame fits, for a Fault."""
     room, ends = MOST_BYTES + 2 - len(joined(capture, []).encode()), {}
-    draws = list(dict.fromkeys(event["source"]["event"] for event in capture["events"] if "primitives" in event["source"]))
+    draws = list(
+        dict.fromkeys(event["source"]["event"] for event in capture["events"] if "primitives" in event["source"])
+    )
     for event, line in zip(capture["events"], lines):
-        room -= len(line.encode()) + 2          # a comma and the end of the line, which the last has not
+        room -= len(line.encode()) + 2  # a comma and the end of the line, which the last has not
         ends[event["source"]["event"]] = room
     fitting = [draw for draw in draws if ends[draw] >= 0]
     if not fitting:
@@ -73,7 +90,8 @@ def what_fits(capture, lines):
 
 
 def put_out(made):
-    """Writes to standard output. Where that is a file a Ctrl-C doesn't end it, so that the file is whole, or has nothing."""
+    """Writes to standard output. Where that is a file a Ctrl-C doesn't end it, so that the file is whole, or has
+    nothing."""
     kept = signal.getsignal(signal.SIGINT)
     if stat.S_ISREG(os.fstat(sys.stdout.fileno()).st_mode):
         signal.signal(signal.SIGINT, signal.SIG_IGN)
@@ -94,11 +112,19 @@ def have_it_read(made):
         file.write(made)
         file.flush()
         try:
-            done = subprocess.run([program, "events", file.name], stdin=subprocess.DEVNULL, stdout=subprocess.DEVNULL, stderr=subprocess.PIPE)
+            done = subprocess.run(
+                [program, "events", file.name],
+                stdin=subprocess.DEVNULL,
+                stdout=subprocess.DEVNULL,
+                stderr=subprocess.PIPE,
+            )
         except OSError as fault:
             raise Fault(f"{program}: {fault.strerror}") from None
     if done.returncode:
-        said = printable(done.stderr.decode(errors="replace").strip(), MOST_LINE) or f"{program} ended with status {done.returncode}"
+        said = (
+            printable(done.stderr.decode(errors="replace").strip(), MOST_LINE)
+            or f"{program} ended with status {done.returncode}"
+        )
         raise Fault(f"framedbg doesn't take what was made of the frame, so nothing is written: {said}")
 
 

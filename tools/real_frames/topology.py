@@ -5,7 +5,7 @@ from .fault import Fault
 def list_of_strip(indices):
     """Writes out one strip; every other triangle is turned so that all run the same way round."""
     for i in range(len(indices) - 2):
-        a, b, c = indices[i:i + 3]
+        a, b, c = indices[i : i + 3]
         yield (a, b, c) if i % 2 == 0 else (b, a, c)
 
 
@@ -16,12 +16,12 @@ def list_of_fan(indices):
 
 def list_of_list(indices):
     for i in range(0, len(indices) - 2, 3):
-        yield tuple(indices[i:i + 3])
+        yield tuple(indices[i : i + 3])
 
 
 def list_of_lines(indices):
     for i in range(0, len(indices) - 1, 2):
-        yield tuple(indices[i:i + 2])
+        yield tuple(indices[i : i + 2])
 
 
 def list_of_line_strip(indices):
@@ -36,8 +36,15 @@ def list_of_points(indices):
     yield from ((index,) for index in indices)
 
 
-WRITERS = {"TriangleList": list_of_list, "TriangleStrip": list_of_strip, "TriangleFan": list_of_fan, "LineList": list_of_lines, "LineStrip": list_of_line_strip,
-           "LineLoop": list_of_line_loop, "PointList": list_of_points}
+WRITERS = {
+    "TriangleList": list_of_list,
+    "TriangleStrip": list_of_strip,
+    "TriangleFan": list_of_fan,
+    "LineList": list_of_lines,
+    "LineStrip": list_of_line_strip,
+    "LineLoop": list_of_line_loop,
+    "PointList": list_of_points,
+}
 
 
 def cut_at_restarts(indices, restart):

@@ -1,8 +1,9 @@
-"""What a blended draw's shader gave, from two pictures: the target after the draw as it is, and after the same draw where it replaces what it would be blended with."""
+"""What a blended draw's shader gave, from two pictures: the target after the draw as it is, and after the same draw
+where it replaces what it would be blended with."""
 from .sources import is_composite
 
-LEAST_WEIGHT = 12               # bytes by which alpha has to move a pixel to be told by it
-MOST_APART = 3                  # bytes between a pixel and what its alpha explains
+LEAST_WEIGHT = 12  # bytes by which alpha has to move a pixel to be told by it
+MOST_APART = 3  # bytes between a pixel and what its alpha explains
 TOLD, OPEN, APART = "told", "open", "apart"
 
 
@@ -17,12 +18,15 @@ def parts_of(blend, own, was):
     source, destination, _ = blend["rgb"]
     if source == "ONE":
         return [(value + there, -there) for value, there in zip(own, was)]
-    return {"ONE": list(zip(was, own)), "ZERO": [(0, value) for value in own]}.get(destination) or [(there, value - there) for value, there in zip(own, was)]
+    return {"ONE": list(zip(was, own)), "ZERO": [(0, value) for value in own]}.get(destination) or [
+        (there, value - there) for value, there in zip(own, was)
+    ]
 
 
 def source_at(blend, layers, own, was, now):
-    """What was given at a pixel where so many equal layers were blended: (TOLD, (r, g, b, a)); (OPEN, ..) where any alpha leaves the pixel nearly as it is;
-    (APART, None) where none does, since the two pictures aren't of the same draw, or its layers aren't equal."""
+    """What was given at a pixel where so many equal layers were blended: (TOLD, (r, g, b, a)); (OPEN, ..) where any
+    alpha leaves the pixel nearly as it is; (APART, None) where none does, since the two pictures aren't of the same
+    draw, or its layers aren't equal."""
     parts = [(p, q, seen) for (p, q), seen in zip(parts_of(blend, own, was), now) if seen < 255 or max(p, p + q) <= 255]
     weight = sum(q * q for _, q, _ in parts)
     share = sum(q * (seen - p) for p, q, seen in parts) / weight if weight else 1.0

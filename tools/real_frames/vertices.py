@@ -1,4 +1,5 @@
-"""The triangles, lines or points of a draw, as RenderDoc has them behind the vertex shader, or behind geometry and tessellation where there are any."""
+"""The triangles, lines or points of a draw, as RenderDoc has them behind the vertex shader, or behind geometry and
+tessellation where there are any."""
 import struct
 
 import renderdoc as rd
@@ -12,9 +13,12 @@ INDEX = {1: "B", 2: "H", 4: "I"}
 
 
 def primitives(controller, action):
-    """[((instance, primitive), its corners (x, y, z, w): three, two or one)], and what was in the way, or an empty text."""
+    """[((instance, primitive), its corners (x, y, z, w): three, two or one)], and what was in the way, or an empty
+    text."""
     pipe = controller.GetPipelineState()
-    late = any(pipe.GetShader(stage) != rd.ResourceId.Null() for stage in (rd.ShaderStage.Geometry, rd.ShaderStage.Tess_Eval))
+    late = any(
+        pipe.GetShader(stage) != rd.ResourceId.Null() for stage in (rd.ShaderStage.Geometry, rd.ShaderStage.Tess_Eval)
+    )
     stage = rd.MeshDataStage.GSOut if late else rd.MeshDataStage.VSOut
     found, trouble = [], ""
     for instance in range(max(action.numInstances, 1)):
@@ -51,6 +55,6 @@ def indices(controller, pipe, data):
         return list(range(data.numIndices)), None
     content = controller.GetBufferData(data.indexResourceId, data.indexByteOffset, data.numIndices * width)
     count = len(content) // width
-    found = list(struct.unpack(f"<{count}{INDEX[width]}", content[:count * width]))
+    found = list(struct.unpack(f"<{count}{INDEX[width]}", content[: count * width]))
     restarts = pipe.IsRestartEnabled() and not data.topology.name.endswith("List")
     return found, pipe.GetRestartIndex() & ((1 << 8 * width) - 1) if restarts else None

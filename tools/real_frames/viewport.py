@@ -5,15 +5,16 @@ from dataclasses import dataclass
 @dataclass(frozen=True)
 class Viewport:
     """In pixels from the upper left corner of the picture."""
+
     left: float
     top: float
     width: float
-    height: float               # below zero where the picture is turned upside down
+    height: float  # below zero where the picture is turned upside down
     nearest: float = 0.0
     farthest: float = 1.0
-    y_up: bool = False          # clip space has y up
-    half_depth: bool = True     # clip space has 0 <= z <= w, else -w <= z <= w
-    rows_from_below: bool = False       # an edge along the middles of a row gives it to what lies over the edge
+    y_up: bool = False  # clip space has y up
+    half_depth: bool = True  # clip space has 0 <= z <= w, else -w <= z <= w
+    rows_from_below: bool = False  # an edge along the middles of a row gives it to what lies over the edge
 
     def place(self, vertex):
         """Gives (x, y, depth) of a vertex in clip space: pixels, and a depth of 0 to 1."""
@@ -23,9 +24,11 @@ class Viewport:
             y = -y
         if not self.half_depth:
             z = z * 0.5 + 0.5
-        return (self.left + (x * 0.5 + 0.5) * self.width,
-                self.top + (y * 0.5 + 0.5) * self.height,
-                self.nearest + z * (self.farthest - self.nearest))
+        return (
+            self.left + (x * 0.5 + 0.5) * self.width,
+            self.top + (y * 0.5 + 0.5) * self.height,
+            self.nearest + z * (self.farthest - self.nearest),
+        )
 
     def box(self):
         """The rectangle that it is: left, top, right, bottom in whole pixels."""

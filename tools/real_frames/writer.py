@@ -1,4 +1,5 @@
-"""Records of a frame as events of framedbg, with a depth target beside them to know which triangle shows at which pixel."""
+"""Records of a frame as events of framedbg, with a depth target beside them to know which triangle shows at which
+pixel."""
 import zlib
 from collections import Counter
 
@@ -18,7 +19,8 @@ NO_COLOUR = (0, 0, 0, 0)
 
 
 class DepthScale:
-    """Spreads the depths that a frame has over the 16 bits: rising and straight, so that no comparison changes but by rounding."""
+    """Spreads the depths that a frame has over the 16 bits: rising and straight, so that no comparison changes but
+    by rounding."""
 
     def __init__(self, records):
         draws = [r for r in records if isinstance(r, DrawRecord) and r.state.depth["enable"]]
@@ -57,7 +59,12 @@ class Writer:
                 self.say(f"writing draw {self.done} of {len(draws)}: {record.event} {record.name}")
             writers[type(record)](record)
         self.note()
-        return {**captures.head(self.width, self.height), "depth_scale": {"low": self.scale.low, "high": self.scale.high}, "losses": self.losses.entries(), "events": self.events}
+        return {
+            **captures.head(self.width, self.height),
+            "depth_scale": {"low": self.scale.low, "high": self.scale.high},
+            "losses": self.losses.entries(),
+            "events": self.events,
+        }
 
     def note(self):
         if not self.is_distinct and READS_TEXTURES in self.losses.counts:
@@ -116,47 +123,63 @@ class Writer:
 
     def is_painted_over(self):
         """Whether the next draw leaves nothing to be seen of the picture at hand."""
-        later = next((record for record in self.records[self.place + 1:] if not isinstance(record, MarkerRecord)), None)
+        later = next(
+            (record for record in self.records[self.place + 1 :] if not isinstance(record, MarkerRecord)), None
+        )
         return isinstance(later, DrawRecord) and paints_all(later, self.width, self.height)
 
     def rectangles(self, boxes, depth, source):
         """Draws of two triangles for each (box, colours of its four corners)."""
         most = MOST_CORNERS // 6
         for start in range(0, len(boxes), most):
-            part = boxes[start:start + most]
-            vertices = [captures.vertex(x * PIXEL, y * PIXEL, colour, depth) for (left, top, right, bottom), colours in part
-                        for (x, y), colour in zip(((left, top), (right, top), (right, bottom), (left, bottom)), colours)]
+            part = boxes[start : start + most]
+            vertices = [
+                captures.vertex(x * PIXEL, y * PIXEL, colour, depth)
+                for (left, top, right, bottom), colours in part
+                for (x, y), colour in zip(((left, top), (right, top), (right, bottom), (left, bottom)), colours)
+            ]
             indices = [4 * i + k for i in range(len(part)) for k in (0, 1, 3, 1, 2, 3)]
             self.add(captures.draw(vertices, "linear", indices), source)
 
     # Draws.
 
     def draw(self, record):
-        state = record.state
-        source = {"event": record.event, "name": record.name}
+        source = self.begin(record)
+        pieces = self.drawn(record)
+        self.add_triangles(
+            pieces, {**source, **record.told, **({"left_out": record.left_out} if record.left_out else {})}
+        )
+        if record.after:
+            self.picture = record.after.picture()
+
+    def begin(self, record):
+        """The marker and the state of a draw; gives its source."""
+        state, source = record.state, {"event": record.event, "name": record.name}
         view = meet(state.viewport.box(), [0, 0, self.width, self.height])
         if view != [0, 0, self.width, self.height]:
             source["viewport"] = view
         if record.depth_alone:
             source["depth_alone"] = True
-            self.log.set(states.plain(0), source)
         else:
             self.draws += 1
             self.add(captures.marker(label(f"{record.event} {record.name}")), source)
-            self.log.set(state.blend, source)
-        for event in (state.raster, state.depth):
-            self.log.set(event, source)
-        if state.rectangle():
-            self.log.set(captures.scissor(*state.scissor), source)
-        if any("BLEND_FACTOR" in word for word in state.blend["rgb"] + state.blend["alpha"]):
-            self.log.set(state.factor, source)
-        pieces = self.drawn(record)
-        self.add_triangles(pieces, {**source, "left_out": record.left_out} if record.left_out else source)
-        if record.after:
-            self.picture = record.after.picture()
+        for event in self.state_of(record):
+            self.log.set(event, record.source_of(event["kind"], source))
+        return source
+
+    @staticmethod
+    def state_of(record):
+        """The events of a draw's state, as far as it shows."""
+        state = record.state
+        told = [states.plain(0) if record.depth_alone else state.blend, state.raster, state.depth]
+        told += [captures.scissor(*state.scissor)] if state.rectangle() else []
+        return told + (
+            [state.factor] if any("BLEND_FACTOR" in word for word in state.blend["rgb"] + state.blend["alpha"]) else []
+        )
 
     def drawn(self, record):
-        """The pieces of a draw with their colours. Where some are left out as discarded, the depths are what the others leave."""
+        """The pieces of a draw with their colours. Where some are left out as discarded, the depths are what the
+        others leave."""
         before = self.depth.kept() if record.state.discards and record.state.depth["enable"] else None
         whole = self.passing(record)
         pieces = self.coloured(record, whole)
@@ -168,15 +191,19 @@ class Writer:
 
     def test(self, piece, state):
         """The spans at which a piece passes; the depths are what it leaves."""
-        if piece.shape.is_culled(state.raster["cull"], state.raster["front_ccw"]):
+        if piece.shape.is_culled(state.raster):
             return []
         return self.depth.draw(piece.shape, [z for _, _, z in piece.corners], state.depth, state.rectangle())
 
     def add_triangles(self, pieces, source):
         for start in range(0, len(pieces), MOST_TRIANGLES):
-            part = pieces[start:start + MOST_TRIANGLES]
-            corners = [(*corner, tuple(colour)) for piece in part for corner, colour in zip(piece.corners, piece.colours)]
-            numbers = {corner: number for number, corner in enumerate(dict.fromkeys(corners))}      # neighbours share corners
+            part = pieces[start : start + MOST_TRIANGLES]
+            corners = [
+                (*corner, tuple(colour)) for piece in part for corner, colour in zip(piece.corners, piece.colours)
+            ]
+            numbers = {
+                corner: number for number, corner in enumerate(dict.fromkeys(corners))
+            }  # neighbours share corners
             vertices = [captures.vertex(x, y, colour, depth) for x, y, depth, colour in numbers]
             made = captures.draw(vertices, "linear", [numbers[corner] for corner in corners])
             self.add(made, {**source, "primitives": [list(piece.number) for piece in part]})

@@ -1,0 +1,18 @@
+"""A frame that RenderDoc's own window has open: share/qrenderdoc converts it there."""
+from .replay import ReplayedFrame
+
+
+class Opened(ReplayedFrame):
+    """The controller is the window's, and stays with it."""
+
+    def __init__(self, path, controller):
+        super().__init__(path)
+        self.lent = controller
+
+    def __enter__(self):
+        self.use(self.lent, "the window")
+        return self
+
+    def __exit__(self, *_):
+        if self.pictures:
+            self.pictures.Shutdown()
