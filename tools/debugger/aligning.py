@@ -3,11 +3,12 @@ import bisect
 import collections
 import difflib
 
-MOST = 1 << 22           # of the product of two lengths: above it difflib leaves what stands often out
+MOST = 1 << 22  # of the product of two lengths: above it difflib leaves what stands often out
 
 
 def common(one, other):
-    """Pairs of places at which both lists have the same, in order. What stands in each of them once is paired first, and the rest by difflib."""
+    """Pairs of places at which both lists have the same, in order. What stands in each of them once is paired first,
+    and the rest by difflib."""
     found, gaps = [], [(0, len(one), 0, len(other))]
     while gaps:
         start, end, first, last = gaps.pop()
@@ -23,8 +24,14 @@ def common(one, other):
             borders = [(start - 1, first - 1), *pairs, (end, last)]
             gaps += [(i + 1, next_i, j + 1, next_j) for (i, j), (next_i, next_j) in zip(borders, borders[1:])]
         elif start < end and first < last:
-            matcher = difflib.SequenceMatcher(None, one[start:end], other[first:last], autojunk=(end - start) * (last - first) > MOST)
-            found += [(start + block.a + k, first + block.b + k) for block in matcher.get_matching_blocks() for k in range(block.size)]
+            matcher = difflib.SequenceMatcher(
+                None, one[start:end], other[first:last], autojunk=(end - start) * (last - first) > MOST
+            )
+            found += [
+                (start + block.a + k, first + block.b + k)
+                for block in matcher.get_matching_blocks()
+                for k in range(block.size)
+            ]
     return sorted(found)
 
 
@@ -33,11 +40,11 @@ def singles(one, other):
     counts = [collections.Counter(one), collections.Counter(other)]
     places = {item: j for j, item in enumerate(other) if counts[1][item] == 1}
     pairs = [(i, places[item]) for i, item in enumerate(one) if counts[0][item] == 1 and item in places]
-    ends, before, tops = [], {}, []           # of each length the least place that ends it, and the pair that has it
+    ends, before, tops = [], {}, []  # of each length the least place that ends it, and the pair that has it
     for i, j in pairs:
         length = bisect.bisect_left(ends, j)
         before[i, j] = tops[length - 1] if length else None
-        ends[length:length + 1], tops[length:length + 1] = [j], [(i, j)]
+        ends[length : length + 1], tops[length : length + 1] = [j], [(i, j)]
     chain, pair = [], tops[-1] if tops else None
     while pair:
         chain.append(pair)
@@ -46,8 +53,9 @@ def singles(one, other):
 
 
 def aligned(one, other, kinds):
-    """Steps through both lists, each (number in the one, number in the other), counted from 1; 0 where a step goes over nothing of a list. Between
-    what is the same those go together that have the same kind, of the lists of kinds."""
+    """Steps through both lists, each (number in the one, number in the other), counted from 1; 0 where a step goes
+    over nothing of a list. Between what is the same those go together that have the same kind, of the lists of
+    kinds."""
     steps, borders = [], [(-1, -1), *common(one, other), (len(one), len(other))]
     for (i, j), (next_i, next_j) in zip(borders, borders[1:]):
         i, j = i + 1, j + 1

@@ -4,22 +4,36 @@ from framedbg_client import Pixel
 from .faults import Slip
 from .words import OWN, WORDS, number, place
 
-ROUND = 5                # events that are listed before the position, and after it
+ROUND = 5  # events that are listed before the position, and after it
 
 
-@WORDS.add("who", "who X Y", "what each event and triangle did to the pixel, up to here", "'history' is framedbg's own, with its own reply.", takes=("number", "number"))
+@WORDS.add(
+    "who",
+    "who X Y",
+    "what each event and triangle did to the pixel, up to here",
+    "'history' is framedbg's own, with its own reply.",
+    takes=("number", "number"),
+)
 def who(session, arguments):
     session.tell("history", session.frame.history(*place(arguments, "who X Y")))
 
 
-@WORDS.add("p", "p X Y", "the pixel's colour, and its depth where the capture has depth", "'pixel' is framedbg's own, with its own reply.",
-           also=("print",), takes=("number", "number"))
+@WORDS.add(
+    "p",
+    "p X Y",
+    "the pixel's colour, and its depth where the capture has depth",
+    "'pixel' is framedbg's own, with its own reply.",
+    also=("print",),
+    takes=("number", "number"),
+)
 def pixel(session, arguments):
     x, y = place(arguments, "p X Y")
     session.tell("pixel", session.frame.client.reply(f"pixel {x} {y}", Pixel))
 
 
-@WORDS.add("l", "l [K [J]]", "the events round here, or round K, or from K to J", also=("list",), takes=("event", "event"))
+@WORDS.add(
+    "l", "l [K [J]]", "the events round here, or round K, or from K to J", also=("list",), takes=("event", "event")
+)
 def list_events(session, arguments):
     frame, bounds = session.frame, [number(text, "K") for text in arguments]
     if len(bounds) > 2:
@@ -30,11 +44,19 @@ def list_events(session, arguments):
         session.tell("event", frame, event)
 
 
-@WORDS.add("i", "i [off | b]", "the pipeline state, and which event set each part; 'i off' what is off, 'i b' the breakpoints",
-           "It is the state that the next event meets, and that a draw was drawn with where you stand on it. 'state' is framedbg's own, with its own reply.",
-           also=("info",), takes=("info",))
+@WORDS.add(
+    "i",
+    "i [off | b]",
+    "the pipeline state, and which event set each part; 'i off' what is off, 'i b' the breakpoints",
+    "It is the state that the next event meets, and that a draw was drawn with where you stand on it. 'state' "
+    "is framedbg's own, with its own reply.",
+    also=("info",),
+    takes=("info",),
+)
 def info(session, arguments):
-    asked = {(): tell_state, ("off",): tell_off, ("b",): tell_breakpoints, ("breakpoints",): tell_breakpoints}.get(tuple(arguments))
+    asked = {(): tell_state, ("off",): tell_off, ("b",): tell_breakpoints, ("breakpoints",): tell_breakpoints}.get(
+        tuple(arguments)
+    )
     if asked is None:
         raise Slip("i, i off or i b is wanted")
     asked(session)
@@ -61,9 +83,17 @@ def tell_breakpoints(session):
 def tell_help(session, arguments):
     if arguments:
         if arguments[0] in OWN and arguments[0] not in WORDS.named:
-            return session.tell("note", f"{arguments[0]}: a line of framedbg's own, with its own reply", f"  {OWN[arguments[0]]}")
+            return session.tell(
+                "note", f"{arguments[0]}: a line of framedbg's own, with its own reply", f"  {OWN[arguments[0]]}"
+            )
         word = WORDS.find(arguments[0])
         also = f" (also {', '.join(word.also)})" if word.also else ""
-        return session.tell("note", f"{word.usage}{also}", f"  {word.short}", *([f"  {word.long}"] if word.long else []))
+        return session.tell(
+            "note", f"{word.usage}{also}", f"  {word.short}", *([f"  {word.long}"] if word.long else [])
+        )
     session.tell("note", *(f"{word.usage:<25} {word.short}" for word in WORDS.listed))
-    session.tell("note", "and each line of framedbg itself: step, back, goto K, on I, off I, pixel X Y, history X Y, state, events, show, quit")
+    session.tell(
+        "note",
+        "and each line of framedbg itself: step, back, goto K, on I, off I, pixel X Y, history X Y, state, "
+        "events, show, quit",
+    )

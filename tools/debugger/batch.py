@@ -5,10 +5,23 @@ import subprocess
 import sys
 
 from framedbg_client import Client, Ended, Garbled, Refusal
+from writing.counting import counted
 
-from . import moving, bookmarks, breaking, asking, switching, comparing, picturing, scripts, ending     # noqa: F401  each has words, which are listed in this order
+from . import (
+    moving,
+    bookmarks,
+    breaking,
+    asking,
+    calling,
+    switching,
+    comparing,
+    picturing,
+    what_if,
+    scripts,
+    ending,
+)  # noqa: F401  each has words, which are listed in this order
 from .faults import Failed, Leave, Slip, status_of
-from .frame import Frame
+from .frame import DebuggedFrame
 from .moving import here
 from .prompt import Prompt
 from .screen import Screen
@@ -40,6 +53,14 @@ def run(given):
         client.connection.end(at_once=client.is_asking)
 
 
+def end_all(session):
+    """The runs of other captures, which `into` began, and those beside, of changed ones."""
+    for client in session.opened:
+        client.connection.end(at_once=client.is_asking)
+    for beside in [session.what_if, *(outer[-1] for outer in session.outer)]:
+        beside.close()
+
+
 def told(why, status, plain=False):
     text = "\n".join(map(printable, str(why).split("\n")))
     if text:
@@ -51,7 +72,15 @@ def debugged(client, given):
     screen = Screen(sys.stdout)
     is_asked = not given.batch and screen.is_terminal and sys.stdin.isatty()
     screen.paints = screen.paints and is_asked
-    session = Session(Frame(client), Laid(screen.paints) if is_asked else PLAIN, screen, is_asked)
+    session = Session(DebuggedFrame(client), Laid(screen.paints) if is_asked else PLAIN, screen, is_asked)
+    try:
+        return talked(session, given, is_asked)
+    finally:
+        end_all(session)
+
+
+def talked(session, given, is_asked):
+    """The scripts, and then what is typed."""
     try:
         start(session, given, is_asked)
         for path in [*start_files(given, is_asked), *given.scripts]:
@@ -67,15 +96,15 @@ def debugged(client, given):
     except KeyboardInterrupt:
         if not is_asked:
             raise
-        screen.write("")
+        session.screen.write("")
     if is_asked:
         Prompt(session).run()
     return 0
 
 
 def start_files(given, is_asked):
-    """The file whose lines come first: the one that is named, or at a prompt that of the home folder. None of the folder where one stands: it may have come
-    with somebody else's capture."""
+    """The file whose lines come first: the one that is named, or at a prompt that of the home folder. None of the
+    folder where one stands: it may have come with somebody else's capture."""
     home = os.path.expanduser("~/.fdbrc")
     return [given.start] if given.start else [home] if is_asked and os.path.isfile(home) else []
 
@@ -85,7 +114,10 @@ def start(session, given, is_asked):
     frame = session.frame
     wanted = len(frame) if given.at is None else given.at
     if is_asked:
-        session.screen.write(f"{printable(pathlib.Path(given.capture).name)}: {len(frame)} events. help lists the words, q ends.")
+        session.screen.write(
+            f"{printable(pathlib.Path(given.capture).name)}: {counted(len(frame), 'event')}. help lists the "
+            f"words, q ends."
+        )
     try:
         with session.left_as_it_was():
             reached = frame.client.goto(wanted) if wanted else 0

@@ -5,14 +5,22 @@ from .faults import Slip
 from .words import WORDS
 
 NAME = re.compile(r"[A-Za-z_][\w-]{,63}", re.A)
-LAST = "end"             # which `g` knows without a mark
+LAST = "end"  # which `g` knows without a mark
 
 
-@WORDS.add("mark", "mark NAME", "names the position, for goto NAME and g NAME", "A name has letters, digits, - and _, and begins with no digit. One that is given again is moved.",
-           takes=("mark",))
+@WORDS.add(
+    "mark",
+    "mark NAME",
+    "names the position, for goto NAME and g NAME",
+    "A name has letters, digits, - and _, and begins with no digit. One that is given again is moved.",
+    takes=("mark",),
+)
 def mark(session, arguments):
     if len(arguments) != 1 or not NAME.fullmatch(arguments[0]) or arguments[0] == LAST:
-        raise Slip("mark NAME is wanted, a name of at most 64 letters, digits, - and _, which begins with a letter and isn't end")
+        raise Slip(
+            "mark NAME is wanted, a name of at most 64 letters, digits, - and _, which begins with a letter and "
+            "isn't end"
+        )
     session.bookmarks[arguments[0]] = session.frame.position
     session.tell("note", told(session, arguments[0]))
 

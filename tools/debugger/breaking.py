@@ -8,16 +8,22 @@ from .faults import Slip
 from .frame import WRITERS
 from .words import WORDS, number, place
 
-MOST_PIXELS = 1 << 16    # of a box: framedbg is asked for the history of each of them
-BOX = "Behind draw, clear or depth_clear may stand in L T R B, as in b draw in 10 10 20 20: it stops where such an event changes a pixel of that box, right and bottom exclusive."
-CONDITION = "Behind X Y may stand if CHANNEL SIGN VALUE, as in b pixel 5 5 if red > 200: it stops where that holds after the change."
+MOST_PIXELS = 1 << 16  # of a box: framedbg is asked for the history of each of them
+BOX = (
+    "Behind draw, clear or depth_clear may stand in L T R B, as in b draw in 10 10 20 20: it stops where such "
+    "an event changes a pixel of that box, right and bottom exclusive."
+)
+CONDITION = (
+    "Behind X Y may stand if CHANNEL SIGN VALUE, as in b pixel 5 5 if red > 200: it stops where that holds "
+    "after the change."
+)
 
 
 def at_pixel(session, arguments, usage):
     at = arguments.index("if") if "if" in arguments else len(arguments)
     x, y = place(arguments[:at], usage)
-    condition = condition_of(arguments[at + 1:]) if at < len(arguments) else None
-    session.frame.client.reply(f"pixel {x} {y}", Pixel)       # refused where there is no such pixel
+    condition = condition_of(arguments[at + 1 :]) if at < len(arguments) else None
+    session.frame.client.reply(f"pixel {x} {y}", Pixel)  # refused where there is no such pixel
     return AtPixel(x, y, condition)
 
 
@@ -28,7 +34,7 @@ def in_box(session, kind, arguments):
     left, top, right, bottom = box = tuple(number(text, name) for text, name in zip(arguments, "LTRB"))
     if not 0 < (right - left) * (bottom - top) <= MOST_PIXELS or right < left:
         raise Slip(f"a box has from 1 to {MOST_PIXELS} pixels: L is less than R, and T less than B")
-    session.frame.client.reply(f"pixel {right - 1} {bottom - 1}", Pixel)       # refused where there is no such pixel
+    session.frame.client.reply(f"pixel {right - 1} {bottom - 1}", Pixel)  # refused where there is no such pixel
     return InBox(kind, box)
 
 
@@ -54,14 +60,26 @@ def place_of(session, arguments, word):
     return what
 
 
-@WORDS.add("b", "b K | KIND | pixel X Y", "a breakpoint at event K, at events of a kind that are on, or where the pixel changes",
-           f"c and rc stop on it: the event has just been gone through, and rs goes before it. A pixel's are found by its history, forward and back. {CONDITION} {BOX}",
-           also=("break",), takes=("breakpoint", "number", "number"))
+@WORDS.add(
+    "b",
+    "b K | KIND | pixel X Y",
+    "a breakpoint at event K, at events of a kind that are on, or where the pixel changes",
+    f"c and rc stop on it: the event has just been gone through, and rs goes before it. A pixel's are found by "
+    f"its history, forward and back. {CONDITION} {BOX}",
+    also=("break",),
+    takes=("breakpoint", "number", "number"),
+)
 def break_at(session, arguments):
     set_breakpoint(session, place_of(session, arguments, "b"))
 
 
-@WORDS.add("tbreak", "tbreak K | KIND | ..", "a breakpoint as b sets it, which is gone after its first stop", also=("tb",), takes=("breakpoint", "number", "number"))
+@WORDS.add(
+    "tbreak",
+    "tbreak K | KIND | ..",
+    "a breakpoint as b sets it, which is gone after its first stop",
+    also=("tb",),
+    takes=("breakpoint", "number", "number"),
+)
 def break_once(session, arguments):
     set_breakpoint(session, place_of(session, arguments, "tbreak"), once=True)
 

@@ -1,4 +1,5 @@
-"""Where `c` and `rc` stop: at an event, at events of a kind, where a pixel changes, at events that change one of a box."""
+"""Where `c` and `rc` stop: at an event, at events of a kind, where a pixel changes, at events that change one of a
+box."""
 from dataclasses import dataclass
 
 
@@ -42,7 +43,7 @@ class OfKind(Place):
 class AtPixel(Place):
     x: int
     y: int
-    condition: object = None         # of conditions.py, or None
+    condition: object = None  # of conditions.py, or None
 
     def __str__(self):
         return f"{self.place} if {self.condition}" if self.condition else self.place
@@ -56,27 +57,38 @@ class AtPixel(Place):
 
     def next(self, frame, position, forward):
         """By the pixel's history: forward by that of the whole frame, which moves to its end."""
-        events = [change.event for change in frame.changes(self.x, self.y, whole=forward) if self.condition is None or self.condition.holds(change)]
+        events = [
+            change.event
+            for change in frame.changes(self.x, self.y, whole=forward)
+            if self.condition is None or self.condition.holds(change)
+        ]
         return nearest(events, position, forward)
 
 
 @dataclass(frozen=True)
 class InBox(Place):
     kind: str
-    box: tuple               # left, top, right, bottom, the last two exclusive
+    box: tuple  # left, top, right, bottom, the last two exclusive
 
     def __str__(self):
         return f"each {self.kind} in {' '.join(map(str, self.box))}"
 
     def next(self, frame, position, forward):
         """By the histories of the box's pixels."""
-        return nearest([event for event in frame.changed_in(self.box, whole=forward) if frame.kind(event) == self.kind], position, forward)
+        return nearest(
+            [event for event in frame.changed_in(self.box, whole=forward) if frame.kind(event) == self.kind],
+            position,
+            forward,
+        )
 
 
 class Breakpoints:
     def __init__(self):
         self.numbered, self.given = {}, 0
-        self.once, self.disabled = set(), set()      # numbers of those that are gone after a stop, and of those that don't stop
+        self.once, self.disabled = (
+            set(),
+            set(),
+        )  # numbers of those that are gone after a stop, and of those that don't stop
 
     def told(self, number):
         how = [text for numbers, text in ((self.once, "once"), (self.disabled, "disabled")) if number in numbers]
@@ -102,7 +114,11 @@ class Breakpoints:
     def next(self, frame, forward):
         """Where the nearest breakpoint is, and which stop there: (position or None, [(number, breakpoint)])."""
         position = frame.position
-        found = [(what.next(frame, position, forward), number, what) for number, what in self.numbered.items() if number not in self.disabled]
+        found = [
+            (what.next(frame, position, forward), number, what)
+            for number, what in self.numbered.items()
+            if number not in self.disabled
+        ]
         found = [hit for hit in found if hit[0] is not None]
         if not found:
             return None, []

@@ -13,9 +13,9 @@ def differing(one, other):
     stride = BYTES * one.width
     for y in range(one.height):
         start = y * stride
-        if one.samples[start:start + stride] == other.samples[start:start + stride]:
+        if one.samples[start : start + stride] == other.samples[start : start + stride]:
             continue
-        rows = [memoryview(image.samples)[start:start + stride].cast("I") for image in (one, other)]
+        rows = [memoryview(image.samples)[start : start + stride].cast("I") for image in (one, other)]
         yield from ((x, y) for x, (a, b) in enumerate(zip(*rows)) if a != b)
 
 
@@ -26,23 +26,34 @@ def tell_images(one, other):
         count += 1
         box = [min(box[0], x), min(box[1], y), max(box[2], x + 1), max(box[3], y + 1)]
         by = max(abs(a - b) for a, b in zip(one.pixel(x, y), other.pixel(x, y)))
-        most = max(most, (by, -y, -x))        # of several the first, row by row
+        most = max(most, (by, -y, -x))  # of several the first, row by row
     if not count:
         return ["images: the same"]
     x, y = -most[2], -most[1]
     colours = [" ".join(map(str, image.pixel(x, y))) for image in (one, other)]
-    return [f"images: {count} of {one.width * one.height} pixels differ, in the box {' '.join(map(str, box))}",
-            f"most at {x} {y}: {colours[0]}, and then {colours[1]}"]
+    return [
+        f"images: {count} of {one.width * one.height} pixels differ, in the box {' '.join(map(str, box))}",
+        f"most at {x} {y}: {colours[0]}, and then {colours[1]}",
+    ]
 
 
 def tell_states(one, other):
-    told = [f"{part}: {text} {set_by(event)}, and then {then} {set_by(later)}"
-            for (part, text, event), (_, then, later) in zip(one, other) if text != then]
+    told = [
+        f"{part}: {text} {set_by(event)}, and then {then} {set_by(later)}"
+        for (part, text, event), (_, then, later) in zip(one, other)
+        if text != then
+    ]
     return told or ["states: the same"]
 
 
-@WORDS.add("d", "d I J", "what differs between positions I and J: states and images", "The box is left, top, right and bottom, the last two exclusive.",
-           also=("diff",), takes=("position", "position"))
+@WORDS.add(
+    "d",
+    "d I J",
+    "what differs between positions I and J: states and images",
+    "The box is left, top, right and bottom, the last two exclusive.",
+    also=("diff",),
+    takes=("position", "position"),
+)
 def differences(session, arguments):
     if len(arguments) != 2:
         raise Slip("d I J is wanted")

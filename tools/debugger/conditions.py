@@ -7,8 +7,15 @@ from captures import FARTHEST
 from .faults import Slip
 from .words import number
 
-SIGNS = {"<": operator.lt, "<=": operator.le, "=": operator.eq, "==": operator.eq, "!=": operator.ne, ">=": operator.ge,
-         ">": operator.gt}
+SIGNS = {
+    "<": operator.lt,
+    "<=": operator.le,
+    "=": operator.eq,
+    "==": operator.eq,
+    "!=": operator.ne,
+    ">=": operator.ge,
+    ">": operator.gt,
+}
 MOST = {"red": 255, "green": 255, "blue": 255, "alpha": 255, "depth": FARTHEST}
 
 
@@ -29,6 +36,8 @@ class Condition:
 def condition_of(words):
     """The condition that words say, which stand behind `if`."""
     if len(words) != 3 or words[0] not in MOST or words[1] not in SIGNS:
-        raise Slip("if CHANNEL SIGN VALUE is wanted, as in if red > 200; "
-                   f"a channel is one of {', '.join(MOST)}, and a sign one of {' '.join(SIGNS)}")
+        raise Slip(
+            "if CHANNEL SIGN VALUE is wanted, as in if red > 200; "
+            f"a channel is one of {', '.join(MOST)}, and a sign one of {' '.join(SIGNS)}"
+        )
     return Condition(words[0], words[1], number(words[2], words[0], MOST[words[0]]))

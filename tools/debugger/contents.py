@@ -4,11 +4,18 @@ import json
 
 from captures import MOST_BYTES, PICTURE
 
-MEMBERS = {              # of each kind
-    "clear": ("color",), "raster": ("cull", "front_ccw", "scissor"), "scissor": ("rect",), "blend": ("enable", "rgb", "alpha", "mask"), "factor": ("color",),
-    "draw": ("interp", "vertices", "indices", "picture"), "marker": ("name",), "depth": ("enable", "write", "func"), "depth_clear": ("depth",),
+MEMBERS = {  # of each kind
+    "clear": ("color",),
+    "raster": ("cull", "front_ccw", "scissor"),
+    "scissor": ("rect",),
+    "blend": ("enable", "rgb", "alpha", "mask"),
+    "factor": ("color",),
+    "draw": ("interp", "vertices", "indices", "picture"),
+    "marker": ("name",),
+    "depth": ("enable", "write", "func"),
+    "depth_clear": ("depth",),
 }
-BOX = ("left", "top", "width", "height", "texels", "holes")      # of a picture
+BOX = ("left", "top", "width", "height", "texels", "holes")  # of a picture
 
 
 class Contents:
@@ -19,7 +26,10 @@ class Contents:
             capture = json.loads(file.read(MOST_BYTES))
         self.version, self.size = capture["version"], (capture["width"], capture["height"])
         self.events = capture["events"]
-        self.keys = [hashlib.blake2b(json.dumps(self.members(number), sort_keys=True).encode(), digest_size=16).digest() for number in range(1, len(self.events) + 1)]
+        self.keys = [
+            hashlib.blake2b(json.dumps(self.members(number), sort_keys=True).encode(), digest_size=16).digest()
+            for number in range(1, len(self.events) + 1)
+        ]
 
     def members(self, number):
         """Those of an event that framedbg reads."""
@@ -39,7 +49,7 @@ def unlike(one, other):
     """The names of the members in which two events of a kind differ; of vertices how many do."""
     names = [name for name in MEMBERS[one["kind"]] if one.get(name) != other.get(name)]
     told = [vertices_unlike(one[name], other[name]) if name == "vertices" else name for name in names]
-    return ", ".join(told)
+    return ", ".join(told) or "the same"
 
 
 def vertices_unlike(one, other):

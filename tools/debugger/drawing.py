@@ -4,19 +4,20 @@ import re
 import zlib
 from dataclasses import dataclass
 
-PIECE = 4096             # characters of a piece of kitty's protocol
-LETTERS = " .:-=+*#%@"   # from dark to light
-SIXELS = bytes((63 + bits) % 256 for bits in range(256))        # the letter of six pixels
+PIECE = 4096  # characters of a piece of kitty's protocol
+LETTERS = " .:-=+*#%@"  # from dark to light
+SIXELS = bytes((63 + bits) % 256 for bits in range(256))  # the letter of six pixels
 RUN = re.compile(r"(.)\1{3,}")
-LEVELS = (6, 7, 6)       # of red, green and blue, where a picture has more colours than sixel's 256
+LEVELS = (6, 7, 6)  # of red, green and blue, where a picture has more colours than sixel's 256
 
 
 @dataclass(frozen=True)
 class View:
     """The part of an image that is shown: from left and top on, each pixel `zoom` times, or every `every`-th once."""
+
     left: int
     top: int
-    columns: int         # of what is shown
+    columns: int  # of what is shown
     rows: int
     zoom: int
     every: int
@@ -39,7 +40,10 @@ def part(image, centre, zoom, wide, high):
     """What is round a pixel, within so many columns and rows."""
     zoom = max(1, min(zoom, wide, high))
     columns, rows = min(image.width, wide // zoom), min(image.height, high // zoom)
-    left, top = (max(0, min(at - length // 2, most - length)) for at, length, most in zip(centre, (columns, rows), (image.width, image.height)))
+    left, top = (
+        max(0, min(at - length // 2, most - length))
+        for at, length, most in zip(centre, (columns, rows), (image.width, image.height))
+    )
     return View(left, top, zoom * columns, zoom * rows, zoom, 1)
 
 
@@ -50,8 +54,8 @@ def grid(image, view):
     for row in range(view.rows):
         y = view.y(row)
         if y not in known:
-            line = image.samples[4 * y * image.width:4 * (y + 1) * image.width]
-            known = {y: [tuple(line[place:place + 3]) for place in places]}
+            line = image.samples[4 * y * image.width : 4 * (y + 1) * image.width]
+            known = {y: [tuple(line[place : place + 3]) for place in places]}
         rows.append(known[y])
     return rows
 
@@ -79,21 +83,27 @@ def letters(rows):
 def kitty(rows):
     raw = b"".join(bytes(colour) for row in rows for colour in row)
     data = base64.b64encode(zlib.compress(raw)).decode()
-    pieces = [data[at:at + PIECE] for at in range(0, len(data), PIECE)]
+    pieces = [data[at : at + PIECE] for at in range(0, len(data), PIECE)]
     head = f"a=T,f=24,o=z,s={len(rows[0])},v={len(rows)},"
-    return "".join(f"\x1b_G{head if at == 0 else ''}m={int(at < len(pieces) - 1)};{piece}\x1b\\" for at, piece in enumerate(pieces))
+    return "".join(
+        f"\x1b_G{head if at == 0 else ''}m={int(at < len(pieces) - 1)};{piece}\x1b\\" for at, piece in enumerate(pieces)
+    )
 
 
 def sixel(rows):
     """Six rows at a time, each colour in a pass of its own. A colour is told in hundredths."""
     colours = {colour for row in rows for colour in row}
     if len(colours) > 256:
-        red, green, blue = ([round(value * (levels - 1) / 255) * 255 // (levels - 1) for value in range(256)] for levels in LEVELS)
+        red, green, blue = (
+            [round(value * (levels - 1) / 255) * 255 // (levels - 1) for value in range(256)] for levels in LEVELS
+        )
         rows = [[(red[r], green[g], blue[b]) for r, g, b in row] for row in rows]
         colours = {colour for row in rows for colour in row}
     number = {colour: index for index, colour in enumerate(sorted(colours))}
-    head = "".join(f"#{index};2;{';'.join(str(round(value * 100 / 255)) for value in colour)}" for colour, index in number.items())
-    bands = "-".join(band(rows[top:top + 6], number) for top in range(0, len(rows), 6))
+    head = "".join(
+        f"#{index};2;{';'.join(str(round(value * 100 / 255)) for value in colour)}" for colour, index in number.items()
+    )
+    bands = "-".join(band(rows[top : top + 6], number) for top in range(0, len(rows), 6))
     return f"\x1bPq\"1;1;{len(rows[0])};{len(rows)}{head}{bands}\x1b\\"
 
 

@@ -4,7 +4,12 @@ from .moving import here
 from .words import WORDS
 
 
-@WORDS.add("run", "run", "a new run of the same capture, at the same position and with the same events off", "For a run that has ended, by want of memory or otherwise.")
+@WORDS.add(
+    "run",
+    "run",
+    "a new run of the same capture, at the same position and with the same events off",
+    "For a run that has ended, by want of memory or otherwise.",
+)
 def run(session, arguments):
     if arguments:
         raise Slip("nothing is wanted behind the word")

@@ -6,8 +6,8 @@ class Slip(Exception):
 
 
 class Failed(Exception):
-    """An `expect` that doesn't hold, or a line of a script that can't be done: the script ends here. `where` is its file and line, and `status`
-    what fdb --batch ends with."""
+    """An `expect` that doesn't hold, or a line of a script that can't be done: the script ends here. `where` is its
+    file and line, and `status` what fdb --batch ends with."""
 
     def __init__(self, why, where="", status=1):
         super().__init__(why)

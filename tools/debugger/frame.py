@@ -1,5 +1,4 @@
 """The frame under the debugger: its events, what is off, and what is known of its pixels."""
-import bisect
 import re
 import sys
 from functools import cached_property
@@ -7,33 +6,38 @@ from itertools import groupby
 from operator import attrgetter
 from typing import NamedTuple
 
-from captures import STATES
 from framedbg_client import Colour, Garbled, History
+from rules.states import Setters
 
-from .groups import Groups, sources_of
+from .groups import Groups, events_of, sources_of
 
 WRITERS = ("draw", "clear", "depth_clear")
-KEPT = 64                # histories
+KEPT = 64  # histories
 EVENT = re.compile(r"\d+ (?:on|off) ")
 
 
 class Change(NamedTuple):
     """What an event made of a pixel."""
+
     event: int
     before: Colour
     after: Colour
-    depth: int | None = None         # after it, in a capture of version 2
+    depth: int | None = None  # after it, in a capture of version 2
 
 
-class Frame:
+class DebuggedFrame:
+    """The frame of a run, which `client` asks."""
+
     def __init__(self, client):
         self.client = client
         reply = client.ask("events")
-        self.events = [EVENT.sub("", line, 1) for line in reply.lines]     # "draw 2 flat" of "11 on draw 2 flat"; a million of them are no values yet
+        self.events = [
+            EVENT.sub("", line, 1) for line in reply.lines
+        ]  # "draw 2 flat" of "11 on draw 2 flat"; a million of them are no values yet
         if not reply.text.startswith("events "):
             raise Garbled(f"no reply of framedbg to events: {reply.text[:80]!r}")
         self.kinds = [sys.intern(event.split(" ", 1)[0]) for event in self.events]
-        self.setters = {part: [event for event, kind in enumerate(self.kinds, 1) if kind == part] for part in STATES}
+        self.setters = Setters(self.kinds)
         self.histories, self.boxes, self.switches = {}, {}, client.switches
 
     def __len__(self):
@@ -60,16 +64,25 @@ class Frame:
 
     def setter(self, part, position):
         """The event that set a part of the state before the event after a position, or None."""
-        events = self.setters[part]
-        return next((events[at] for at in range(bisect.bisect_right(events, position) - 1, -1, -1) if self.is_on(events[at])), None)
+        return self.setters.before(position + 1, part, self.is_on)
 
     @cached_property
     def groups(self):
         return Groups(self.kinds, sources_of(self.client.words[1]))
 
+    @cached_property
+    def sources(self):
+        """What the capture's file tells of where each event comes from in a program, by number."""
+        return {
+            number: event["source"]
+            for number, event in enumerate(events_of(self.client.words[1]), 1)
+            if isinstance(event, dict) and "source" in event
+        }
+
     # ---- Pixels, by their histories: never by steps
     def place(self, whole):
-        """Where histories are asked for: here, or at the end of the frame. What is known of them is so until an event is switched."""
+        """Where histories are asked for: here, or at the end of the frame. What is known of them is so until an
+        event is switched."""
         if self.switches != self.client.switches:
             self.histories, self.boxes, self.switches = {}, {}, self.client.switches
         return len(self) if whole else self.position
@@ -87,14 +100,19 @@ class Frame:
 
     def written(self, x, y, whole=False):
         """The events that wrote a pixel, as far as the position, or in the whole frame."""
-        return [event for event, entries in by_event(self.history(x, y, whole).value.entries) if any(entry.is_drawn for entry in entries)]
+        return [
+            event
+            for event, entries in by_event(self.history(x, y, whole).value.entries)
+            if any(entry.is_drawn for entry in entries)
+        ]
 
     def changes(self, x, y, whole=False):
         """The events that changed a pixel, and what they made of it."""
         return changes_of(self.history(x, y, whole).value.entries)
 
     def changed_in(self, box, whole=False):
-        """The events that changed a pixel of a box, in their order, at least as far as the position or the frame's end."""
+        """The events that changed a pixel of a box, in their order, at least as far as the position or the frame's
+        end."""
         wanted = self.place(whole)
         if self.boxes.get(box, (-1, []))[0] < wanted:
             if self.position != wanted:

@@ -1,7 +1,7 @@
 """The groups of a frame, each of which a marker begins.
 
-A group goes on to the event before the next marker. Where a capture comes from a frame that RenderDoc took, its file says of a marker with which call
-of the program its group ends; such groups may lie in one another.
+A group goes on to the event before the next marker. Where a capture comes from a frame that RenderDoc took, its file
+says of a marker with which call of the program its group ends; such groups may lie in one another.
 """
 import json
 from typing import NamedTuple
@@ -11,6 +11,7 @@ from captures import MOST_BYTES
 
 class Source(NamedTuple):
     """The call of a program that an event comes from, and the last one of a marker's group; each may be unknown."""
+
     call: int | None = None
     until: int | None = None
 
@@ -18,8 +19,8 @@ class Source(NamedTuple):
 class Groups:
     def __init__(self, kinds, sources):
         """The kinds of the events, and the Source of those that have one, by number."""
-        self.ends = {}               # of each marker the last event of its group
-        self.heads = [()]            # of each position the markers whose groups have the event before it, the outermost first
+        self.ends = {}  # of each marker the last event of its group
+        self.heads = [()]  # of each position the markers whose groups have the event before it, the outermost first
         known, heads = {}, ()
         for event, kind in enumerate(kinds, 1):
             call, until = sources.get(event, Source())
@@ -46,14 +47,25 @@ def goes_on(until, kind, call):
 
 
 def sources_of(path):
-    """The Source of each event of a capture's file that has one, as renderdoc_to_capture writes them. Without `until` in the file there is nothing to know."""
+    """The Source of each event of a capture's file that has one, as renderdoc_to_capture writes them. Without
+    `until` in the file there is nothing to know."""
+    return {
+        number: source_of(event["source"])
+        for number, event in enumerate(events_of(path, b'"until"'), 1)
+        if "source" in event
+    }
+
+
+def events_of(path, wanted=b'"source"'):
+    """The events as they stand in a capture's file; none where a text isn't in it, or where it isn't there any more,
+    or another one is."""
     try:
         with open(path, "rb") as file:
             data = file.read(MOST_BYTES)
-        events = json.loads(data)["events"] if b'"until"' in data else []
-        return {number: source_of(event["source"]) for number, event in enumerate(events, 1) if "source" in event}
+        events = json.loads(data)["events"] if wanted in data else []
+        return events if all(isinstance(event, dict) for event in events) else []
     except (OSError, ValueError, TypeError, KeyError, RecursionError):
-        return {}                    # it isn't there any more, or another one is
+        return []
 
 
 def source_of(given):

@@ -20,8 +20,14 @@ def times(arguments):
     return number(arguments[0], "N") if arguments else 1
 
 
-@WORDS.add("s", "s [N]", "through the next event, or the next N", "At the end nothing changes. 'step' is framedbg's own, with its own reply.",
-           takes=("count",), repeats=True)
+@WORDS.add(
+    "s",
+    "s [N]",
+    "through the next event, or the next N",
+    "At the end nothing changes. 'step' is framedbg's own, with its own reply.",
+    takes=("count",),
+    repeats=True,
+)
 def forward(session, arguments):
     by, frame = times(arguments), session.frame
     if by == 1 or frame.position == len(frame):
@@ -30,8 +36,15 @@ def forward(session, arguments):
     go(session, min(frame.position + by, len(frame)))
 
 
-@WORDS.add("rs", "rs [N]", "back over the last event, or the last N", "As 'reverse-step' of gdb and rr. 'back' is framedbg's own, with its own reply.",
-           also=("reverse-step",), takes=("count",), repeats=True)
+@WORDS.add(
+    "rs",
+    "rs [N]",
+    "back over the last event, or the last N",
+    "As 'reverse-step' of gdb and rr. 'back' is framedbg's own, with its own reply.",
+    also=("reverse-step",),
+    takes=("count",),
+    repeats=True,
+)
 def backward(session, arguments):
     by, frame = times(arguments), session.frame
     if by == 1 or frame.position == 0:
@@ -60,7 +73,13 @@ def to_writer_before(session, arguments):
     to_writer(session, arguments, False)
 
 
-@WORDS.add("g", "g K | end | NAME", "to position K: the first K events have been gone through; or to a mark", "'goto' is framedbg's own, with its own reply.", takes=("position",))
+@WORDS.add(
+    "g",
+    "g K | end | NAME",
+    "to position K: the first K events have been gone through; or to a mark",
+    "'goto' is framedbg's own, with its own reply.",
+    takes=("position",),
+)
 def go_to(session, arguments):
     if len(arguments) != 1:
         raise Slip("g K is wanted")
@@ -72,10 +91,19 @@ def go_to(session, arguments):
 
 
 # ---- Groups
-GROUP = "A group goes on to the next marker. Where a capture comes from a frame that RenderDoc took, it ends where that frame's group does, and may have groups inside."
+GROUP = (
+    "A group goes on to the next marker. Where a capture comes from a frame that RenderDoc took, it ends where "
+    "that frame's group does, and may have groups inside."
+)
 
 
-@WORDS.add("finish", "finish", "to the last event of the marker's group", f"Of several the innermost that goes on. {GROUP}", also=("fin",))
+@WORDS.add(
+    "finish",
+    "finish",
+    "to the last event of the marker's group",
+    f"Of several the innermost that goes on. {GROUP}",
+    also=("fin",),
+)
 def finish(session, arguments):
     if arguments:
         raise Slip("nothing is wanted behind the word")
@@ -85,7 +113,13 @@ def finish(session, arguments):
     go(session, end)
 
 
-@WORDS.add("reverse-finish", "reverse-finish", "back to where the marker's group begins, before its marker", f"Said again it goes out of the group round that one. {GROUP}", also=("rfin",))
+@WORDS.add(
+    "reverse-finish",
+    "reverse-finish",
+    "back to where the marker's group begins, before its marker",
+    f"Said again it goes out of the group round that one. {GROUP}",
+    also=("rfin",),
+)
 def finish_backward(session, arguments):
     if arguments:
         raise Slip("nothing is wanted behind the word")
@@ -97,13 +131,14 @@ def finish_backward(session, arguments):
 
 # ---- Breakpoints
 def run_on(session, arguments, forward):
-    """To the nearest breakpoint, or where the frame ends. A move that memory stops before a breakpoint stays where it came to."""
+    """To the nearest breakpoint, or where the frame ends. A move that memory stops before a breakpoint stays where
+    it came to."""
     if arguments:
         raise Slip("nothing is wanted behind the word")
     frame = session.frame
     home, edge = frame.position, len(frame) if forward else 0
     if home == edge:
-        frame.client.step() if forward else frame.client.back()     # which is refused
+        frame.client.step() if forward else frame.client.back()  # which is refused
     position, stops = session.breakpoints.next(frame, forward)
     if position is None:
         reached = frame.client.goto(edge)
@@ -141,7 +176,14 @@ def to_write(session, x, y, event):
     session.tell("entries", session.frame.history(x, y), event)
 
 
-@WORDS.add("last", "last X Y", "to the event that wrote the pixel last, up to here", "Said again, it goes on to the write before.", takes=("number", "number"), repeats=True)
+@WORDS.add(
+    "last",
+    "last X Y",
+    "to the event that wrote the pixel last, up to here",
+    "Said again, it goes on to the write before.",
+    takes=("number", "number"),
+    repeats=True,
+)
 def to_last_write(session, arguments):
     x, y = place(arguments, "last X Y")
     position = session.frame.position
@@ -152,7 +194,9 @@ def to_last_write(session, arguments):
     to_write(session, x, y, events[-1])
 
 
-@WORDS.add("first", "first X Y", "to the event of the whole frame that wrote the pixel first", takes=("number", "number"))
+@WORDS.add(
+    "first", "first X Y", "to the event of the whole frame that wrote the pixel first", takes=("number", "number")
+)
 def to_first_write(session, arguments):
     x, y = place(arguments, "first X Y")
     frame = session.frame

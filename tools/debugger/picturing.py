@@ -12,12 +12,17 @@ from .telling import printable
 from .words import WORDS, number
 
 ZOOM, LARGEST_ZOOM = 4, 64
-BELOW = 2                # rows that stay free below a picture
+BELOW = 2  # rows that stay free below a picture
 
 
-@WORDS.add("look", "look [X Y [ZOOM]]", "the image here, in the terminal; round a pixel, each of its pixels ZOOM times",
-           "By the protocol of kitty or of sixel where the terminal has one, else in half blocks; without colours in letters. FDB_LOOK=kitty, sixel, half or letters names one.",
-           takes=("number", "number", "number"))
+@WORDS.add(
+    "look",
+    "look [X Y [ZOOM]]",
+    "the image here, in the terminal; round a pixel, each of its pixels ZOOM times",
+    "By the protocol of kitty or of sixel where the terminal has one, else in half blocks; without colours in "
+    "letters. FDB_LOOK=kitty, sixel, half or letters names one.",
+    takes=("number", "number", "number"),
+)
 def look(session, arguments):
     if len(arguments) not in (0, 2, 3):
         raise Slip("look [X Y [ZOOM]] is wanted")
@@ -51,7 +56,13 @@ def view_of(image, numbers, wide, high):
     return drawing.part(image, numbers[:2], zoom, wide, high)
 
 
-@WORDS.add("save", "save FILE.png", "keeps the image in a file: its colours as PNG, or all four channels as FILE.pam", "A file that is there is replaced; a device, a pipe or a link is written through.", takes=("file",))
+@WORDS.add(
+    "save",
+    "save FILE.png",
+    "keeps the image in a file: its colours as PNG, or all four channels as FILE.pam",
+    "A file that is there is replaced; a device, a pipe or a link is written through.",
+    takes=("file",),
+)
 def save(session, arguments):
     path = pathlib.Path(os.path.expanduser(" ".join(arguments)))
     kind = path.suffix.lower()

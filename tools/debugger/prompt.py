@@ -6,7 +6,7 @@ import sys
 try:
     import readline
 except ImportError:
-    readline = None      # a Python without it: lines are typed without editing
+    readline = None  # type: ignore[assignment]  # a Python without it: lines are typed without editing
 
 from framedbg_client import Ended, Garbled
 
@@ -15,13 +15,13 @@ from .faults import Failed, Leave, Slip
 from .telling import printable
 from .words import WORDS
 
-KEPT = 1000              # lines of the history
+KEPT = 1000  # lines of the history
 
 
 class Prompt:
     def __init__(self, session):
         self.session, self.before, self.offered = session, "", []
-        self.kept = 0            # lines of the history that were there before
+        self.kept = 0  # lines of the history that were there before
 
     def run(self):
         """Takes lines until the user has had enough."""
@@ -82,7 +82,7 @@ class Prompt:
         try:
             readline.read_history_file(history)
         except (OSError, ValueError):
-            pass             # there is none yet, or none that can be read
+            pass  # there is none yet, or none that can be read
         self.kept = readline.get_current_history_length()
 
     def end(self, history):
@@ -92,7 +92,7 @@ class Prompt:
             history.parent.mkdir(parents=True, exist_ok=True)
             if not history.exists():
                 history.touch(mode=0o600)
-            if hasattr(readline, "append_history_file"):     # so that two at once lose nothing of each other's
+            if hasattr(readline, "append_history_file"):  # so that two at once lose nothing of each other's
                 readline.append_history_file(max(0, readline.get_current_history_length() - self.kept), history)
             else:
                 readline.write_history_file(history)
@@ -101,7 +101,7 @@ class Prompt:
 
     def complete(self, begun, index):
         if index == 0:
-            self.offered = candidates(self.session, readline.get_line_buffer()[:readline.get_begidx()], begun)
+            self.offered = candidates(self.session, readline.get_line_buffer()[: readline.get_begidx()], begun)
         return self.offered[index] if index < len(self.offered) else None
 
 

@@ -8,10 +8,10 @@ import tty
 
 from .faults import Slip
 
-PATIENCE = 0.3           # seconds in which a terminal says what it can
-CELL = (10, 20)          # pixels of a character, where the terminal doesn't tell
+PATIENCE = 0.3  # seconds in which a terminal says what it can
+CELL = (10, 20)  # pixels of a character, where the terminal doesn't tell
 KINDS = ("kitty", "sixel", "half", "letters")
-ATTRIBUTES = b"\x1b[c"   # asks a terminal what it can; a 4 in its answer is sixel
+ATTRIBUTES = b"\x1b[c"  # asks a terminal what it can; a 4 in its answer is sixel
 
 
 class Screen:
@@ -20,7 +20,7 @@ class Screen:
         self.is_terminal = out.isatty()
         dumb = environment.get("TERM", "") in ("", "dumb")
         self.paints = self.is_terminal and not dumb and not environment.get("NO_COLOR")
-        self.kind, self.typed = None, ""     # typed: what the user typed while the terminal was asked
+        self.kind, self.typed = None, ""  # typed: what the user typed while the terminal was asked
 
     def write(self, line):
         self.out.write(f"{line}\n")
@@ -51,7 +51,11 @@ class Screen:
         if not self.paints:
             return "letters"
         name, inside = self.environment.get("TERM", ""), self.environment.get("TMUX") or self.environment.get("STY")
-        if not inside and ("kitty" in name or self.environment.get("KITTY_WINDOW_ID") or self.environment.get("TERM_PROGRAM") in ("WezTerm", "ghostty")):
+        if not inside and (
+            "kitty" in name
+            or self.environment.get("KITTY_WINDOW_ID")
+            or self.environment.get("TERM_PROGRAM") in ("WezTerm", "ghostty")
+        ):
             return "kitty"
         if self.shows_sixel():
             return "sixel"
@@ -65,7 +69,7 @@ class Screen:
         except (OSError, ValueError, termios.error):
             return False
         if select.select([terminal], [], [], 0)[0]:
-            return False                     # somebody types ahead: that isn't taken away
+            return False  # somebody types ahead: that isn't taken away
         tty.setcbreak(terminal)
         try:
             self.out.write(ATTRIBUTES.decode())

@@ -6,8 +6,8 @@ from framedbg_client import Ended, Garbled
 from .faults import Failed, Slip, status_of
 from .words import WORDS
 
-DEEPEST = 16             # scripts that run scripts
-MOST = 64 << 20          # bytes of a script
+DEEPEST = 16  # scripts that run scripts
+MOST = 64 << 20  # bytes of a script
 
 
 def read(path):
@@ -35,7 +35,13 @@ def run(session, lines, name):
             raise Failed(str(fault), f"{name}:{number}") from None
 
 
-@WORDS.add("source", "source FILE", "runs the lines of a file", "Empty lines and lines that begin with # are left out. A line that can't be done ends it.", takes=("file",))
+@WORDS.add(
+    "source",
+    "source FILE",
+    "runs the lines of a file",
+    "Empty lines and lines that begin with # are left out. A line that can't be done ends it.",
+    takes=("file",),
+)
 def source(session, arguments):
     if not arguments:
         raise Slip("source FILE is wanted")
@@ -49,17 +55,25 @@ def source(session, arguments):
         session.scripts.pop()
 
 
-@WORDS.add("expect", "expect [not] TEXT", "for scripts: the word before must have told TEXT, or must not have",
-           "TEXT is words that stand one after the other in a line. Where that isn't so a script ends, and fdb --batch with status 1.")
+@WORDS.add(
+    "expect",
+    "expect [not] TEXT",
+    "for scripts: the word before must have told TEXT, or must not have",
+    "TEXT is words that stand one after the other in a line. Where that isn't so a script ends, and fdb --batch "
+    "with status 1.",
+)
 def expect(session, arguments):
-    wanted, words = arguments[:1] != ["not"], arguments[arguments[:1] == ["not"]:]
+    wanted, words = arguments[:1] != ["not"], arguments[arguments[:1] == ["not"] :]
     if not words:
         raise Slip("expect TEXT is wanted")
     is_told = any(stands_in(words, line.split()) for line in session.told)
     if is_told != wanted:
         told = "; ".join(session.told[:3]) or "nothing"
-        raise Failed(f"expected {'' if wanted else 'not '}{' '.join(words)}, and was told {told}{' ..' if len(session.told) > 3 else ''}")
+        raise Failed(
+            f"expected {'' if wanted else 'not '}{' '.join(words)}, and was told "
+            f"{told}{' ..' if len(session.told) > 3 else ''}"
+        )
 
 
 def stands_in(words, line):
-    return any(line[at:at + len(words)] == words for at in range(len(line) - len(words) + 1))
+    return any(line[at : at + len(words)] == words for at in range(len(line) - len(words) + 1))

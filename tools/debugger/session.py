@@ -6,10 +6,11 @@ from framedbg_client import Refusal
 from .breakpoints import Breakpoints
 from .faults import Leave
 from .telling import PLAIN, printable
+from .what_if import WhatIf
 from .words import OWN, WORDS
 
 
-MOST_PAST = 1000         # words that can be undone
+MOST_PAST = 1000  # words that can be undone
 
 
 class Session:
@@ -17,11 +18,15 @@ class Session:
         """`goes_on`: also after a Ctrl-C."""
         self.frame, self.teller, self.screen, self.goes_on = frame, teller, screen, goes_on
         self.breakpoints = Breakpoints()
-        self.told = []                        # by the word before, plainly: what `expect` looks at
-        self.bookmarks = {}                   # positions by name
-        self.found = None                     # where `last` or `first` came to: (x, y, position)
-        self.past = []                        # where the words before stood: (position, what was off), which `undo` goes back to
-        self.scripts = []                     # those that are being run, the innermost last
+        self.told = []  # by the word before, plainly: what `expect` looks at
+        self.bookmarks = {}  # positions by name
+        self.found = None  # where `last` or `first` came to: (x, y, position)
+        self.past = (
+            []
+        )  # how it was before the words before: (position, what was off, what was changed), which `undo` goes back to
+        self.what_if = WhatIf(self)
+        self.outer, self.opened = [], []  # what `into` left behind, and the clients of what it went to
+        self.scripts = []  # those that are being run, the innermost last
 
     def tell(self, what, *about):
         """What a teller says about something, by the name of its call."""
@@ -39,22 +44,29 @@ class Session:
             self.told = []
         own = name in OWN and not self.is_more(name, arguments)
         word = None if own else WORDS.find("g" if name == "goto" else name)
-        known, before = len(self.past), (self.frame.client.position, self.frame.client.off)
+        known, before, frame = len(self.past), self.as_it_is(), self.frame
         with self.left_as_it_was():
             try:
                 self.pass_on(line) if own else word.run(self, arguments)
             except Refusal as refusal:
                 self.tell("refusal", refusal.reply)
-        if name != "undo":
+        if name != "undo" and self.frame is frame:
             self.remember(known, before)
 
     def is_more(self, name, arguments):
         """Whether a line asks for more than framedbg's own line of that name can."""
-        return len(arguments) > 1 if name in ("on", "off") else name == "goto" and len(arguments) == 1 and arguments[0] in self.bookmarks
+        return (
+            len(arguments) > 1
+            if name in ("on", "off")
+            else name == "goto" and len(arguments) == 1 and arguments[0] in self.bookmarks
+        )
+
+    def as_it_is(self):
+        return self.frame.client.position, self.frame.client.off, self.what_if.changes
 
     def remember(self, known, before):
         """What a word changed, for `undo`; of a script all its lines are one."""
-        if (self.frame.client.position, self.frame.client.off) != before:
+        if self.as_it_is() != before:
             self.past[known:] = [before]
             del self.past[:-MOST_PAST]
 
@@ -70,7 +82,8 @@ class Session:
 
     @contextlib.contextmanager
     def left_as_it_was(self):
-        """Where a word is interrupted while framedbg works, its run is ended, and another one stands where it stood, with the same events off."""
+        """Where a word is interrupted while framedbg works, its run is ended, and another one stands where it stood,
+        with the same events off."""
         client = self.frame.client
         position, off = client.position, set(client.off)
         try:
@@ -78,13 +91,13 @@ class Session:
         except KeyboardInterrupt as interrupt:
             is_other = client.is_asking or (client.position, client.off) != (position, off)
             if self.goes_on and is_other and not hasattr(interrupt, "restored"):
-                interrupt.restored = True        # by the innermost word, where a script runs others
+                interrupt.restored = True  # by the innermost word, where a script runs others
                 self.restore(position, off)
             raise
 
     def restore(self, position, off):
         """Another run at a position, or at the start of the frame where that is interrupted too."""
-        self.screen.clear_line()              # framedbg tells there how far a long move has come
+        self.screen.clear_line()  # framedbg tells there how far a long move has come
         self.screen.write(f"  interrupted: a new run is brought to {position}")
         try:
             self.frame.client.restart(position, off)

@@ -16,24 +16,39 @@ def switch(session, arguments, on):
     session.tell("note", f"at {client.position}")
 
 
-@WORDS.add("off", "off I [J ..]", "switches events off, and draws anew from there", "With one event it is framedbg's own line.", takes=("on", "on"))
+@WORDS.add(
+    "off",
+    "off I [J ..]",
+    "switches events off, and draws anew from there",
+    "With one event it is framedbg's own line.",
+    takes=("on", "on"),
+)
 def switch_off(session, arguments):
     switch(session, arguments, False)
 
 
-@WORDS.add("on", "on I [J ..]", "switches events on again", "With one event it is framedbg's own line.", takes=("off", "off"))
+@WORDS.add(
+    "on", "on I [J ..]", "switches events on again", "With one event it is framedbg's own line.", takes=("off", "off")
+)
 def switch_on(session, arguments):
     switch(session, arguments, True)
 
 
-@WORDS.add("undo", "undo", "takes the last word back that moved or switched", "Said again it takes the one before it back, up to 1000 of them. A script is one.")
+@WORDS.add(
+    "undo",
+    "undo",
+    "takes the last word back that moved, switched or changed",
+    "Said again it takes the one before it back, up to 1000 of them. A script is one.",
+)
 def undo(session, arguments):
     if arguments:
         raise Slip("nothing is wanted behind the word")
     if not session.past:
         raise Slip("there is nothing to take back")
-    position, off = session.past.pop()
-    client = session.frame.client
+    position, off, changes = session.past.pop()
+    client, is_changed = session.frame.client, changes != session.what_if.changes
     for event in sorted(client.off ^ off):
         client.switch(event, event not in off)
+    if is_changed:
+        session.what_if.become(changes)
     go(session, position)

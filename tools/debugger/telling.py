@@ -1,4 +1,5 @@
-"""How things are told: plainly, one fact a line in framedbg's own words, or laid out for a reader, with colours where the terminal has them.
+"""How things are told: plainly, one fact a line in framedbg's own words, or laid out for a reader, with colours
+where the terminal has them.
 
 Each call gives lines.
 """
@@ -9,14 +10,22 @@ CHANNELS = "RGBA"
 
 def printable(text):
     """Without what a terminal might obey: a capture is somebody else's file."""
-    return text if text.isprintable() else "".join(c if c.isprintable() else c.encode("unicode_escape").decode() for c in text)
+    return (
+        text
+        if text.isprintable()
+        else "".join(c if c.isprintable() else c.encode("unicode_escape").decode() for c in text)
+    )
 
 
 def state_parts(frame, state):
     """The parts of a state in the words of the events that set them, each with the event that did, or None."""
     truth = lambda flag: str(int(flag))
-    told = {"raster": f"{state.cull} {truth(state.front_ccw)} {truth(state.scissor)}", "scissor": " ".join(map(str, state.rect)),
-            "blend": f"{truth(state.blend)} {' '.join(state.rgb)} {' '.join(state.alpha)} {state.mask}", "factor": str(state.factor)}
+    told = {
+        "raster": f"{state.cull} {truth(state.front_ccw)} {truth(state.scissor)}",
+        "scissor": " ".join(map(str, state.rect)),
+        "blend": f"{truth(state.blend)} {' '.join(state.rgb)} {' '.join(state.alpha)} {state.mask}",
+        "factor": str(state.factor),
+    }
     if state.depth:
         told["depth"] = f"{truth(state.depth.enable)} {truth(state.depth.write)} {state.depth.func}"
     return [(part, told[part], frame.setter(part, frame.position)) for part in STATES if part in told]
@@ -32,6 +41,7 @@ def letters(mask):
 
 class Plain:
     """One fact a line, as framedbg has it."""
+
     paints = False
 
     def note(self, *texts):
@@ -90,12 +100,16 @@ class Laid(Plain):
         return [f"   {text if event < frame.position else self.dim(text)}"]
 
     def here(self, frame, stopped):
-        told = self.note(f"stopped {frame.position}: no more memory; the same word goes on from here") if stopped else []
+        told = (
+            self.note(f"stopped {frame.position}: no more memory; the same word goes on from here") if stopped else []
+        )
         return told + (self.event(frame, frame.position) if frame.position else ["=> before the first event"])
 
     def pixel(self, reply):
         pixel = reply.value
-        return self.note(f"{self.swatch(pixel.colour)}{pixel.colour}{'' if pixel.depth is None else f', depth {pixel.depth}'}")
+        return self.note(
+            f"{self.swatch(pixel.colour)}{pixel.colour}{'' if pixel.depth is None else f', depth {pixel.depth}'}"
+        )
 
     def history(self, reply):
         entries = reply.value.entries
@@ -108,7 +122,9 @@ class Laid(Plain):
 
     def entry(self, entry):
         triangle = "-" if entry.triangle is None else entry.triangle
-        colours = " ".join(f"{self.swatch(colour)}{str(colour):<16}" for colour in (entry.source, entry.before, entry.after))
+        colours = " ".join(
+            f"{self.swatch(colour)}{str(colour):<16}" for colour in (entry.source, entry.before, entry.after)
+        )
         depths = " " + " ".join(f"{depth:>5}" for depth in entry.depths) if entry.depths else ""
         text = f"  {entry.event:>5}  {triangle:>3}  {entry.verdict:<11}  {colours}{depths}".rstrip()
         return text if entry.is_drawn else self.bold(text)
@@ -119,15 +135,30 @@ class Laid(Plain):
     def state(self, frame, state):
         by = {part: set_by(event) for part, _, event in state_parts(frame, state)}
         onoff = lambda flag: "on" if flag else "off"
-        rows = [("cull", f"{state.cull}, front is {'counter-' if state.front_ccw else ''}clockwise", by["raster"]), ("scissor", onoff(state.scissor), by["raster"]),
-                ("  rect", " ".join(map(str, state.rect)), by["scissor"]), ("blend", onoff(state.blend), by["blend"]),
-                ("  colour", " ".join(state.rgb), ""), ("  alpha", " ".join(state.alpha), ""), ("  writes", letters(state.mask), ""), ("factor", str(state.factor), by["factor"])]
+        rows = [
+            ("cull", f"{state.cull}, front is {'counter-' if state.front_ccw else ''}clockwise", by["raster"]),
+            ("scissor", onoff(state.scissor), by["raster"]),
+            ("  rect", " ".join(map(str, state.rect)), by["scissor"]),
+            ("blend", onoff(state.blend), by["blend"]),
+            ("  colour", " ".join(state.rgb), ""),
+            ("  alpha", " ".join(state.alpha), ""),
+            ("  writes", letters(state.mask), ""),
+            ("factor", str(state.factor), by["factor"]),
+        ]
         if state.depth:
-            rows.append(("depth", f"{onoff(state.depth.enable)}, {state.depth.func}{'' if state.depth.write else ', not written'}", by["depth"]))
+            rows.append(
+                (
+                    "depth",
+                    f"{onoff(state.depth.enable)}, {state.depth.func}{'' if state.depth.write else ', not written'}",
+                    by["depth"],
+                )
+            )
         return [f"  {name:<9} {text:<30} {self.dim(said)}".rstrip() for name, text, said in rows]
 
     def change(self, what, change):
-        return self.note(f"{self.swatch(change.before)}{change.before} became {self.swatch(change.after)}{change.after}")
+        return self.note(
+            f"{self.swatch(change.before)}{change.before} became {self.swatch(change.after)}{change.after}"
+        )
 
 
 PLAIN = Plain()

@@ -5,12 +5,18 @@ from typing import Callable
 
 from .faults import Slip
 
-OWN = {                  # framedbg's lines, with their own replies
-    "step": "step: goes through the next event", "back": "back: takes the last event back", "goto": "goto K: goes to position K; goto NAME to a mark",
-    "on": "on I: switches event I on", "off": "off I: switches event I off",
-    "pixel": "pixel X Y: the pixel's colour, and its depth where the capture has depth", "history": "history X Y: what each event and triangle did to the pixel",
-    "state": "state: the pipeline state before the next event", "events": "events: the events, and which of them are on",
-    "show": "show: the image's size; look shows it here, and save FILE keeps it", "quit": "quit: ends the run",
+OWN = {  # framedbg's lines, with their own replies
+    "step": "step: goes through the next event",
+    "back": "back: takes the last event back",
+    "goto": "goto K: goes to position K; goto NAME to a mark",
+    "on": "on I: switches event I on",
+    "off": "off I: switches event I off",
+    "pixel": "pixel X Y: the pixel's colour, and its depth where the capture has depth",
+    "history": "history X Y: what each event and triangle did to the pixel",
+    "state": "state: the pipeline state before the next event",
+    "events": "events: the events, and which of them are on",
+    "show": "show: the image's size; look shows it here, and save FILE keeps it",
+    "quit": "quit: ends the run",
 }
 LARGEST = (1 << 32) - 1
 
@@ -19,12 +25,12 @@ LARGEST = (1 << 32) - 1
 class Word:
     name: str
     usage: str
-    short: str                  # a line of the list
-    long: str                   # more, for `help WORD`
+    short: str  # a line of the list
+    long: str  # more, for `help WORD`
     also: tuple = ()
-    takes: tuple = ()           # what is completed behind it: event, on, off, kind, word, file, info, position
-    repeats: bool = False       # by an empty line
-    run: Callable = field(default=None, compare=False)
+    takes: tuple = ()  # what is completed behind it: event, on, off, kind, word, file, info, position
+    repeats: bool = False  # by an empty line
+    run: Callable | None = field(default=None, compare=False)
 
 
 class Words:
@@ -33,11 +39,13 @@ class Words:
 
     def add(self, name, usage, short, long="", **how):
         """A decorator of the function that does what the word says."""
+
         def added(run):
             word = Word(name, usage, short, long, run=run, **how)
             self.listed.append(word)
             self.named.update((called, word) for called in (name, *word.also))
             return run
+
         return added
 
     def names(self):
@@ -55,7 +63,7 @@ class Words:
 
 
 def number(text, what, most=LARGEST):
-    if not (text.isascii() and text.isdigit() and len(text) <= 10 and int(text) <= most):
+    if not (text.isascii() and text.isdigit() and len(text) <= max(len(str(most)), 10) and int(text) <= most):
         raise Slip(f"{what} is a whole number{f' up to {most}' if most < LARGEST else ''}, and not {text}")
     return int(text)
 

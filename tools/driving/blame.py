@@ -8,6 +8,7 @@ from typing import NamedTuple
 from blaming import telling_json
 from blaming.running import found
 from framedbg_client import Image
+from writing.counting import counted
 
 SECONDS, PROCESSES = 20.0, 2
 
@@ -18,11 +19,12 @@ class Answer(NamedTuple):
 
 
 def blamed(program, capture, judgement, tolerance):
-    """The change after which framedbg draws the event as the driver did. The capture ends with it, and what was before is framedbg's own."""
+    """The change after which framedbg draws the event as the driver did. The capture ends with it, and what was
+    before is framedbg's own."""
     allowed = (max(1, tolerance),) * 4
     with tempfile.TemporaryDirectory(prefix="framedbg-driver-") as folder:
         cut, drawn = pathlib.Path(folder, "cut.json"), pathlib.Path(folder, "drawn.pam")
-        cut.write_text(json.dumps(capture | {"events": capture["events"][:judgement.number]}))
+        cut.write_text(json.dumps(capture | {"events": capture["events"][: judgement.number]}))
         drawn.write_bytes(Image(capture["width"], capture["height"], judgement.image).pam())
         given = types.SimpleNamespace(program=program, tolerance=allowed, seconds=SECONDS, processes=PROCESSES)
         _, outcome = found(str(cut), str(drawn), given, is_quiet=True)
@@ -31,8 +33,16 @@ def blamed(program, capture, judgement, tolerance):
 
 def answer_of(number, value):
     best = value["changes"][0] if value["changes"] else None
-    told = {"differ": value["differ"], "change": best and {"event": best["event"], "change": best["change"], "differ": best["differ"]}}
+    told = {
+        "differ": value["differ"],
+        "change": best and {"event": best["event"], "change": best["change"], "differ": best["differ"]},
+    }
     if not best:
-        return Answer(f"no change that was tried explains event {number}: {value['differ']:,} pixels differ", told)
-    after = "no pixel differs after it" if not best["differ"] else f"{best['differ']:,} of {value['differ']:,} pixels still differ"
+        left = f"{counted(value['differ'])} differ{'s' if value['differ'] == 1 else ''}"
+        return Answer(f"no change that was tried explains event {number}: {left}", told)
+    after = (
+        "no pixel differs after it"
+        if not best["differ"]
+        else f"{best['differ']:,} of {value['differ']:,} pixels still differ"
+    )
     return Answer(f"the driver drew event {number} as with event {best['event']}, {best['change']}: {after}", told)

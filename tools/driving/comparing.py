@@ -5,6 +5,7 @@ import pathlib
 import time
 
 from explaining.printable import printable
+from writing.counting import counted as counted_as
 
 from . import junit, plants, reading
 from .blame import blamed
@@ -15,7 +16,7 @@ from .features import coarse
 from .judging import Judge
 from .kinds import counted, is_beyond, is_fault
 
-MOST_ENTRIES = 8                # of a history that are told
+MOST_ENTRIES = 8  # of a history that are told
 
 
 class Told:
@@ -24,12 +25,14 @@ class Told:
     def __init__(self, given, capture):
         self.given, self.capture = given, capture
         self.sums, self.changed, self.events, self.cases = collections.Counter(), 0, [], []
-        self.first = self.worst = self.shown = None     # (number, Difference); and of colours alone the Judgement
+        self.first = self.worst = self.shown = None  # (number, Difference); and of colours alone the Judgement
 
     def note(self, one, seconds):
         self.sums += one.counts
         self.changed += one.changed
-        self.events.append({"event": one.number, "kind": one.event["kind"], "changed": one.changed, "differ": named(one.counts)})
+        self.events.append(
+            {"event": one.number, "kind": one.event["kind"], "changed": one.changed, "differ": named(one.counts)}
+        )
         beyond = [pixel for pixel in one.found if is_beyond(pixel.kind, self.given.tolerance)]
         if one.found and not self.first:
             self.first = one.number, one.found[0]
@@ -55,7 +58,11 @@ def run(given):
     began, told, driver = time.monotonic(), Told(given, capture), player.named()
     if not given.json:
         print(f"driver  {line_of(driver)}")
-        print(f"frame   {printable(pathlib.Path(given.capture).name)}: {capture['width']} x {capture['height']}, {len(capture['events'])} events", flush=True)
+        print(
+            f"frame   {printable(pathlib.Path(given.capture).name)}: {capture['width']} x {capture['height']}, "
+            f"{counted_as(len(capture['events']), 'event')}",
+            flush=True,
+        )
     with Exact(program, capture) as exact:
         judged(exact, player, told)
         entries = history(exact, told.pick)
@@ -67,7 +74,9 @@ def run(given):
         for text in closing(told, entries, answer, seconds):
             print(text)
     if given.junit:
-        reading.write(given.junit, junit.text_of(f"{pathlib.Path(given.capture).name} by {driver['renderer']}", told.cases))
+        reading.write(
+            given.junit, junit.text_of(f"{pathlib.Path(given.capture).name} by {driver['renderer']}", told.cases)
+        )
     return ALIKE if told.is_alike else DIFFERS
 
 
@@ -98,10 +107,6 @@ def line(one):
     return f"{title(one)}, {counted_as(one.changed, 'pixel')} changed: {listed(one.counts) or 'alike'}"
 
 
-def counted_as(number, what):
-    return f"{number:,} {what}{'' if number == 1 else 's'}"
-
-
 def listed(counts):
     return ", ".join(f"{count:,} {kind}" for kind, count in counted(counts).items())
 
@@ -117,13 +122,21 @@ def words_of(four):
 def pixel_of(pick):
     number, one = pick
     left_open = ", on an edge, which OpenGL leaves open" if one.is_left_open else ""
-    return f"event {number}, pixel {one.x} {one.y}, {one.kind}{left_open}: framedbg {words_of(one.exact)}, the driver {words_of(one.driver)}"
+    return (
+        f"event {number}, pixel {one.x} {one.y}, {one.kind}{left_open}: framedbg {words_of(one.exact)}, the "
+        f"driver {words_of(one.driver)}"
+    )
 
 
 def entry_of(entry):
     """An entry of a history, as framedbg writes it."""
     triangle = "-" if entry.triangle is None else entry.triangle
-    return " ".join([f"{entry.event} {triangle} {entry.verdict}", *map(words_of, (entry.source, entry.before, entry.after, entry.depths or ()))]).rstrip()
+    return " ".join(
+        [
+            f"{entry.event} {triangle} {entry.verdict}",
+            *map(words_of, (entry.source, entry.before, entry.after, entry.depths or ())),
+        ]
+    ).rstrip()
 
 
 def closing(told, entries, answer, seconds):
@@ -140,7 +153,21 @@ def value_of(told, driver, entries, answer, seconds):
     first = None
     if told.pick:
         number, one = told.pick
-        first = {"event": number, "pixel": [one.x, one.y], "kind": one.kind.value, "framedbg": list(one.exact), "driver": list(one.driver),
-                 "left_open_by_opengl": one.is_left_open, "history": list(map(entry_of, entries))}
-    value = {"driver": driver, "seconds": round(seconds, 2), "changed": told.changed, "sums": named(told.sums), "events": told.events, "first": first}
+        first = {
+            "event": number,
+            "pixel": [one.x, one.y],
+            "kind": one.kind.value,
+            "framedbg": list(one.exact),
+            "driver": list(one.driver),
+            "left_open_by_opengl": one.is_left_open,
+            "history": list(map(entry_of, entries)),
+        }
+    value = {
+        "driver": driver,
+        "seconds": round(seconds, 2),
+        "changed": told.changed,
+        "sums": named(told.sums),
+        "events": told.events,
+        "first": first,
+    }
     return value | ({"blame": answer.value} if answer else {})

@@ -1,4 +1,5 @@
-"""Numbers by a seed, the same in every language that has whole numbers of 32 bits: mulberry32, seeded by FNV-1a of a text."""
+"""Numbers by a seed, the same in every language that has whole numbers of 32 bits: mulberry32, seeded by FNV-1a of a
+text."""
 MASK = 0xFFFFFFFF
 
 

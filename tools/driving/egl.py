@@ -7,12 +7,12 @@ from ctypes import POINTER, byref, c_char_p, c_int, c_uint, c_void_p
 from .faults import NoDriver
 
 NONE, EXTENSIONS = 0x3038, 0x3055
-SURFACELESS, DEVICE = 0x31DD, 0x313F            # platforms
+SURFACELESS, DEVICE = 0x31DD, 0x313F  # platforms
 OPENGL, OPENGL_ES = 0x30A2, 0x30A0
 MAJOR, MINOR, PROFILE, CORE = 0x3098, 0x30FB, 0x30FD, 1
 MOST_DEVICES = 32
 VERSIONS = {"gl": (OPENGL, [MAJOR, 3, MINOR, 3, PROFILE, CORE]), "es": (OPENGL_ES, [MAJOR, 3, MINOR, 0])}
-VERSIONS["vulkan"] = VERSIONS["gl"]             # which Mesa's zink draws by Vulkan
+VERSIONS["vulkan"] = VERSIONS["gl"]  # which Mesa's zink draws by Vulkan
 RENDER_NODES = pathlib.Path("/dev/dri")
 
 
@@ -42,7 +42,7 @@ def devices(egl):
         return []
     found, count = (c_void_p * MOST_DEVICES)(), c_int()
     ctypes.CFUNCTYPE(c_uint, c_int, POINTER(c_void_p), POINTER(c_int))(address)(MOST_DEVICES, found, byref(count))
-    return list(found[:count.value])
+    return list(found[: count.value])
 
 
 def display_of(egl, device):
@@ -70,7 +70,8 @@ def choose_vulkan():
 
 
 class Context:
-    """A context that is current. `api` is gl (OpenGL 3.3 core), es (OpenGL ES 3.0) or vulkan; `device` a number of EGL's devices, or None."""
+    """A context that is current. `api` is gl (OpenGL 3.3 core), es (OpenGL ES 3.0) or vulkan; `device` a number of
+    EGL's devices, or None."""
 
     def __init__(self, api="gl", device=None):
         if api == "vulkan":

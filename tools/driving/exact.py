@@ -9,7 +9,7 @@ from framedbg_client import Client, find_program
 
 from .faults import Fault
 
-MOST_LINES = 900_000            # that are asked of one run; it answers 1,000,000
+MOST_LINES = 900_000  # that are asked of one run; it answers 1,000,000
 
 
 def program_of(word):
@@ -31,7 +31,7 @@ class Exact:
         except OSError as fault:
             self.close()
             raise Fault(f"{fault.filename or program}: {fault.strerror}") from None
-        except BaseException:                   # who ends it leaves no file
+        except BaseException:  # who ends it leaves no file
             self.close()
             raise
 

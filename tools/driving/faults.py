@@ -1,4 +1,5 @@
-"""Why a driver can't be held against framedbg; the text is one clear line, and the status is what the program ends with."""
+"""Why a driver can't be held against framedbg; the text is one clear line, and the status is what the program ends
+with."""
 ALIKE, DIFFERS, WORDS, NO_DRIVER, READING, INTERRUPTED = 0, 1, 2, 3, 4, 130
 
 

@@ -6,10 +6,10 @@ from .scenes import HALF, SIDE, Scene, box
 
 OVER = ("SRC_ALPHA", "INV_SRC_ALPHA", "ADD")
 SUM = ("ONE", "ONE", "ADD")
-NEAR_TIES = (-128, 128, -129, 127, 129, -127, 0, 384, -384)         # 1/512 pixel from a centre, or nearly so
+NEAR_TIES = (-128, 128, -129, 127, 129, -127, 0, 384, -384)  # 1/512 pixel from a centre, or nearly so
 DEEP = 65535
-UNSNAPPED = ("snapping",)       # what the driver itself has to snap
-WHOLE = "every "                # features that begin so have one scene
+UNSNAPPED = ("snapping",)  # what the driver itself has to snap
+WHOLE = "every "  # features that begin so have one scene
 
 
 # ---- Coverage
@@ -18,8 +18,11 @@ def snapping(scene):
     for _ in range(4):
         triangles = []
         for _ in range(10):
-            corners = [tuple(scene.dice.below(SIDE) * PIXEL + HALF + scene.dice.choice(NEAR_TIES) for _ in "xy") for _ in range(3)]
-            if scene.dice.is_so(6):                 # edges along the axes
+            corners = [
+                tuple(scene.dice.below(SIDE) * PIXEL + HALF + scene.dice.choice(NEAR_TIES) for _ in "xy")
+                for _ in range(3)
+            ]
+            if scene.dice.is_so(6):  # edges along the axes
                 (left, top), (right, bottom), _ = corners
                 corners = [(left, top), (right, top), (left, bottom)]
             triangles.append(corners)
@@ -72,12 +75,15 @@ def small_triangles(scene):
 
 def huge(reach, is_linear=False):
     """Corners up to so many pixels away."""
+
     def made(scene):
         def far():
             return tuple(scene.dice.between(-reach, reach) * PIXEL for _ in "xy")
+
         for _ in range(4):
             triangles = [(far(), far(), scene.place() if scene.dice.is_so(4) else far()) for _ in range(4)]
             (scene.linear if is_linear else scene.flat)(triangles)
+
     return made
 
 
@@ -114,6 +120,7 @@ def factor(name, is_source):
         part = [name, "ZERO", "ADD"] if is_source else ["ZERO", name, "ADD"]
         scene.blend(part, part if name in ALPHA_FACTORS else captures.REPLACE)
         scene.mosaic()
+
     return made
 
 
@@ -122,6 +129,7 @@ def operation(name):
         scene.mosaic()
         scene.blend(("ONE", "ONE", name), ("ONE", "ONE", name))
         scene.mosaic()
+
     return made
 
 
@@ -136,13 +144,17 @@ def any_blending(scene):
     scene.mosaic()
     for _ in range(4):
         scene.add(captures.factor(*scene.any()))
-        rgb, alpha = ([scene.dice.choice(names), scene.dice.choice(names), scene.dice.choice(OPERATIONS)] for names in (FACTORS, ALPHA_FACTORS))
+        rgb, alpha = (
+            [scene.dice.choice(names), scene.dice.choice(names), scene.dice.choice(OPERATIONS)]
+            for names in (FACTORS, ALPHA_FACTORS)
+        )
         scene.blend(rgb, alpha)
         scene.mosaic()
 
 
 def every_pair(rgb, alpha=255):
     """All pairs of a source's byte (its column) and a destination's (its row)."""
+
     def made(scene):
         scene.side = 256
         for is_row in (True, False):
@@ -152,6 +164,7 @@ def every_pair(rgb, alpha=255):
                 colours += [[byte, byte, 255 - byte, byte if alpha is None else alpha]] * 6
             scene.draw(triangles, colours)
             scene.blend(rgb)
+
     return made
 
 
@@ -165,8 +178,12 @@ def mask(scene):
 
 def scissor(scene):
     """Rectangles that are empty, turned, outside, or as far as a capture can say."""
+
     def edge():
-        return scene.dice.choice((0, SIDE, scene.dice.between(-9, SIDE + 9), scene.dice.below(SIDE), captures.LEAST_EDGE, captures.MOST_EDGE))
+        return scene.dice.choice(
+            (0, SIDE, scene.dice.between(-9, SIDE + 9), scene.dice.below(SIDE), captures.LEAST_EDGE, captures.MOST_EDGE)
+        )
+
     for _ in range(10):
         scene.add(captures.scissor(*(edge() for _ in range(4))))
         scene.add(captures.raster("none", scissor=scene.dice.is_so(8)))
@@ -179,7 +196,10 @@ def culling(scene):
             for front_ccw in (False, True):
                 scene.add(captures.raster(cull, front_ccw))
                 places = [scene.place(fifths=0) for _ in range(10)]
-                scene.flat(scene.soup(3) + [(place, scene.near(place, 3 * PIXEL), scene.near(place, 3 * PIXEL)) for place in places])
+                scene.flat(
+                    scene.soup(3)
+                    + [(place, scene.near(place, 3 * PIXEL), scene.near(place, 3 * PIXEL)) for place in places]
+                )
 
 
 def clears(scene):
@@ -200,9 +220,11 @@ def odd_lists(scene):
         triangles = [(p, p, q), (p, q, q), (p, q, tuple(2 * b - a for a, b in zip(p, q))), (p, p, p), *scene.soup(2)]
         scene.flat(triangles)
         vertices = scene.events[-1]["vertices"]
-        vertices += vertices[:scene.dice.below(3)]
+        vertices += vertices[: scene.dice.below(3)]
         scene.add(captures.draw([]))
-        scene.add(captures.draw(vertices, indices=[scene.dice.below(len(vertices)) for _ in range(scene.dice.below(12))]))
+        scene.add(
+            captures.draw(vertices, indices=[scene.dice.below(len(vertices)) for _ in range(scene.dice.below(12))])
+        )
 
 
 def order(scene):
@@ -217,6 +239,7 @@ def order(scene):
 # ---- Depth
 def depth_function(name):
     """Depths that are the same all over a triangle, with neighbours by 1: nothing is interpolated."""
+
     def made(scene):
         scene.add(captures.depth_clear(scene.dice.choice((0, DEEP, scene.dice.below(DEEP + 1)))))
         scene.depth("ALWAYS")
@@ -225,11 +248,14 @@ def depth_function(name):
         for _ in range(4):
             scene.flat(scene.soup(8), [depth for _ in range(8) for depth in [scene.dice.choice(levels)] * 3])
             scene.depth(name, write=scene.dice.is_so(8))
+
     return made
 
 
 def any_depths(scene, count):
-    return [scene.dice.choice((0, DEEP, scene.dice.below(DEEP + 1), scene.dice.below(DEEP + 1))) for _ in range(3 * count)]
+    return [
+        scene.dice.choice((0, DEEP, scene.dice.below(DEEP + 1), scene.dice.below(DEEP + 1))) for _ in range(3 * count)
+    ]
 
 
 def depth_values(scene):
@@ -250,23 +276,47 @@ def depth_again(scene):
     scene.flat(scene.soup(6), [scene.dice.below(DEEP + 1) for _ in range(18)])
     first = scene.events[-1]["vertices"]
     scene.depth("EQUAL", write=False)
-    scene.add(captures.draw([vertex | {"color": [255 - byte for byte in vertex["color"][:3]] + [255]} for vertex in first]))
+    scene.add(
+        captures.draw([vertex | {"color": [255 - byte for byte in vertex["color"][:3]] + [255]} for vertex in first])
+    )
 
 
 FEATURES = {
-    "snapping": snapping, "subpixels": subpixels, "shared edges": shared_edges, "top-left rule": top_left_rule, "slivers": slivers,
-    "small triangles": small_triangles, "huge, to 1,000": huge(1000), "huge, to 8,000": huge(8000), "huge, to 16,000": huge(16000),
-    "flat": flat, "linear": linear, "linear, halfway": linear_halfway, "linear, slivers": lambda scene: slivers(scene, is_linear=True),
+    "snapping": snapping,
+    "subpixels": subpixels,
+    "shared edges": shared_edges,
+    "top-left rule": top_left_rule,
+    "slivers": slivers,
+    "small triangles": small_triangles,
+    "huge, to 1,000": huge(1000),
+    "huge, to 8,000": huge(8000),
+    "huge, to 16,000": huge(16000),
+    "flat": flat,
+    "linear": linear,
+    "linear, halfway": linear_halfway,
+    "linear, slivers": lambda scene: slivers(scene, is_linear=True),
     "linear, huge": huge(4000, is_linear=True),
     **{f"source factor {name}": factor(name, True) for name in FACTORS},
     **{f"destination factor {name}": factor(name, False) for name in FACTORS},
-    **{f"operation {name}": operation(name) for name in OPERATIONS}, "alpha over": alpha_over, "any blending": any_blending,
-    "mask": mask, "scissor": scissor, "culling": culling, "clears": clears, "odd lists": odd_lists, "order": order,
+    **{f"operation {name}": operation(name) for name in OPERATIONS},
+    "alpha over": alpha_over,
+    "any blending": any_blending,
+    "mask": mask,
+    "scissor": scissor,
+    "culling": culling,
+    "clears": clears,
+    "odd lists": odd_lists,
+    "order": order,
     **{f"depth {name}": depth_function(name) for name in FUNCTIONS},
-    "depth values": depth_values, "depth, crossing": depth_crossing, "depth, again EQUAL": depth_again,
-    "every product": every_pair(("DEST_COLOR", "ZERO", "ADD")), "every sum": every_pair(SUM),
-    "every difference": every_pair(("ONE", "ONE", "SUBTRACT")), "every half over": every_pair(OVER, 128),
-    "every own alpha over": every_pair(OVER, None), "every third over": every_pair(OVER, 85),
+    "depth values": depth_values,
+    "depth, crossing": depth_crossing,
+    "depth, again EQUAL": depth_again,
+    "every product": every_pair(("DEST_COLOR", "ZERO", "ADD")),
+    "every sum": every_pair(SUM),
+    "every difference": every_pair(("ONE", "ONE", "SUBTRACT")),
+    "every half over": every_pair(OVER, 128),
+    "every own alpha over": every_pair(OVER, None),
+    "every third over": every_pair(OVER, 85),
 }
 
 
@@ -286,5 +336,9 @@ def coarse(capture, bits):
 
     def moved(vertex):
         return vertex | {name: (vertex[name] + step // 2) // step * step for name in "xy"}
-    events = [event | {"vertices": list(map(moved, event["vertices"]))} if event["kind"] == "draw" else event for event in capture["events"]]
+
+    events = [
+        event | {"vertices": list(map(moved, event["vertices"]))} if event["kind"] == "draw" else event
+        for event in capture["events"]
+    ]
     return capture | {"events": events}

@@ -2,23 +2,24 @@
 import collections
 from dataclasses import dataclass, field
 
-from blaming.frame import Frame
+from blaming.frame import CaptureFrame
 
 from .depths import Depths
 from .kinds import Difference, Kind
 from .reasons import Reasons, apart
 
-DRAWS = ("clear", "draw", "depth_clear")        # kinds of events that change pixels
+DRAWS = ("clear", "draw", "depth_clear")  # kinds of events that change pixels
 
 
 @dataclass(frozen=True)
 class Judgement:
     """What an event was drawn like."""
+
     number: int
     event: dict
-    changed: int                # pixels whose colour it changed, as is right
-    found: list                 # a Difference each
-    image: bytes                # the driver's, after the event
+    changed: int  # pixels whose colour it changed, as is right
+    found: list  # a Difference each
+    image: bytes  # the driver's, after the event
     counts: collections.Counter = field(default_factory=collections.Counter)
 
 
@@ -28,10 +29,10 @@ def pixels_apart(width, one, other, size):
         return
     stride = width * size
     for start in range(0, len(one), stride):
-        row, beside = one[start:start + stride], other[start:start + stride]
+        row, beside = one[start : start + stride], other[start : start + stride]
         if row != beside:
             for at in range(0, stride, size):
-                if row[at:at + size] != beside[at:at + size]:
+                if row[at : at + size] != beside[at : at + size]:
                     yield (start + at) // size
 
 
@@ -42,16 +43,19 @@ def same(event):
 class Judge:
     """Judges the events of a capture that draw, one after the other: `for judgement in Judge(exact, player, capture)`.
 
-    After each, framedbg's own pixels are put into the driver's target, so that the next is judged by itself; a depth that is off by 1 stays, as
-    a second pass by EQUAL is to meet its own. Not so where `is_alone` is false. `change` is a fault that is planted in the driver.
+    After each, framedbg's own pixels are put into the driver's target, so that the next is judged by itself; a depth
+    that is off by 1 stays, as a second pass by EQUAL is to meet its own. Not so where `is_alone` is false. `change`
+    is a fault that is planted in the driver.
     """
 
     def __init__(self, exact, player, capture, change=same, is_alone=True):
-        self.exact, self.player, self.frame = exact, player, Frame(capture)
+        self.exact, self.player, self.frame = exact, player, CaptureFrame(capture)
         self.width, self.height = capture["width"], capture["height"]
         self.change, self.is_alone = change, is_alone
         size = self.width * self.height
-        self.right, self.shown = bytes(4 * size), bytes(4 * size)              # framedbg's colours, and the driver's, before the event
+        self.right, self.shown = bytes(4 * size), bytes(
+            4 * size
+        )  # framedbg's colours, and the driver's, before the event
         self.depths = Depths(exact, self.frame)
         self.deep = self.driver_deep = self.depths.words
 
@@ -65,12 +69,16 @@ class Judge:
 
     def _judged(self, number, event):
         right, shown = self.exact.image(number), self.player.colours()
-        reasons = Reasons(self.exact, self.frame, number, self._there, self._is_alike) if event["kind"] == "draw" else None
+        reasons = (
+            Reasons(self.exact, self.frame, number, self._there, self._is_alike) if event["kind"] == "draw" else None
+        )
         found = list(self._colours(reasons, right, shown))
         deep, driver_deep = self.deep, self.driver_deep
         if self.frame.version == 2:
             deep, driver_deep = self.depths.after(number), self.player.depths()
-            found += self._depths(reasons, deep, driver_deep, {(one.x, one.y) for one in found if one.kind not in (Kind.BY_1, Kind.BY_2)})
+            found += self._depths(
+                reasons, deep, driver_deep, {(one.x, one.y) for one in found if one.kind not in (Kind.BY_1, Kind.BY_2)}
+            )
         changed = sum(1 for _ in pixels_apart(self.width, self.right, right, 4))
         told = Judgement(number, event, changed, found, shown, collections.Counter(one.kind for one in found))
         self._go_on(right, shown, deep, driver_deep)
@@ -86,7 +94,7 @@ class Judge:
 
     def _there(self, x, y):
         at = 4 * (y * self.width + x)
-        return tuple(self.shown[at:at + 4])
+        return tuple(self.shown[at : at + 4])
 
     def _is_alike(self, x, y):
         at = y * self.width + x
@@ -96,7 +104,7 @@ class Judge:
     def _colours(self, reasons, right, shown):
         for pixel in pixels_apart(self.width, right, shown, 4):
             y, x = divmod(pixel, self.width)
-            one, other = (tuple(image[4 * pixel:4 * pixel + 4]) for image in (right, shown))
+            one, other = (tuple(image[4 * pixel : 4 * pixel + 4]) for image in (right, shown))
             gap = apart(one, other)
             if gap == 1:
                 yield Difference(x, y, Kind.BY_1, one, other)

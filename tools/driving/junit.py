@@ -3,12 +3,13 @@ import re
 from dataclasses import dataclass
 from xml.sax.saxutils import escape, quoteattr
 
-UNSEEN = re.compile("[^\t\n\r\x20-\ud7ff\ue000-\ufffd\U00010000-\U0010ffff]")      # what XML doesn't have
+UNSEEN = re.compile("[^\t\n\r\x20-\ud7ff\ue000-\ufffd\U00010000-\U0010ffff]")  # what XML doesn't have
 
 
 @dataclass(frozen=True)
 class Case:
     """A test case: an event or a feature. `failure` is why it fails, or nothing."""
+
     name: str
     seconds: float
     failure: str = ""
@@ -16,7 +17,10 @@ class Case:
 
 def text_of(suite, cases):
     failures, time = sum(bool(case.failure) for case in cases), sum(case.seconds for case in cases)
-    head = f'<testsuite name={named(suite)} tests="{len(cases)}" failures="{failures}" errors="0" skipped="0" time="{time:.2f}">'
+    head = (
+        f'<testsuite name={named(suite)} tests="{len(cases)}" failures="{failures}" errors="0" skipped="0" '
+        f'time="{time:.2f}">'
+    )
     return '<?xml version="1.0" encoding="UTF-8"?>\n' + "\n".join([head, *map(line_of, cases), "</testsuite>"]) + "\n"
 
 
@@ -24,7 +28,10 @@ def line_of(case):
     head = f'<testcase classname="framedbg-driver" name={named(case.name)} time="{case.seconds:.2f}"'
     if not case.failure:
         return f"{head}/>"
-    return f"{head}><failure message={named(case.failure.splitlines()[0])}>{escape(seen(case.failure))}</failure></testcase>"
+    return (
+        f"{head}><failure message={named(case.failure.splitlines()[0])}>{escape(seen(case.failure))}</failure></"
+        f"testcase>"
+    )
 
 
 def named(text):

@@ -5,16 +5,17 @@ from typing import NamedTuple
 
 class Kind(str, enum.Enum):
     """Why a pixel differs. Its text is its name in tables and in JSON."""
-    COVERAGE = "coverage"               # a triangle is drawn where it shouldn't be, or isn't where it should
-    CULL = "cull"                       # the same by culling
+
+    COVERAGE = "coverage"  # a triangle is drawn where it shouldn't be, or isn't where it should
+    CULL = "cull"  # the same by culling
     SCISSOR = "scissor"
     DEPTH_TEST = "depth test"
-    DEPTH_TIE = "depth tie"             # a test whose two depths are so near that a rounding decides it
-    BY_1 = "by 1"                       # a colour's byte
-    ADDS_UP = "adds up"                 # by no more than the triangles that this draw blended there
+    DEPTH_TIE = "depth tie"  # a test whose two depths are so near that a rounding decides it
+    BY_1 = "by 1"  # a colour's byte
+    ADDS_UP = "adds up"  # by no more than the triangles that this draw blended there
     BY_2 = "by 2"
     BY_MORE = "by more"
-    DEPTH_BY_1 = "depth by 1"           # the depth that is stored
+    DEPTH_BY_1 = "depth by 1"  # the depth that is stored
     DEPTH_BY_MORE = "depth by more"
 
     def __str__(self):
@@ -34,8 +35,9 @@ ROUNDING = frozenset({Kind.BY_1, Kind.ADDS_UP, Kind.DEPTH_BY_1, Kind.DEPTH_TIE})
 
 
 class Difference(NamedTuple):
-    """A pixel that differs: what framedbg has there and what the driver has, colours or depths. OpenGL leaves to its drivers
-    which of two triangles has a centre on the edge between them; Direct3D doesn't."""
+    """A pixel that differs: what framedbg has there and what the driver has, colours or depths. OpenGL leaves to its
+    drivers which of two triangles has a centre on the edge between them; Direct3D doesn't."""
+
     x: int
     y: int
     kind: Kind

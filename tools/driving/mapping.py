@@ -1,7 +1,8 @@
 """What the words of a capture are in OpenGL.
 
-The target's row 0 is OpenGL's row 0: y isn't flipped, neither in positions nor in what is read. So a triangle that is clockwise on the target,
-where y goes down, is counter-clockwise to OpenGL, and an edge at lower y is the upper one to both.
+The target's row 0 is OpenGL's row 0: y isn't flipped, neither in positions nor in what is read. So a triangle that
+is clockwise on the target, where y goes down, is counter-clockwise to OpenGL, and an edge at lower y is the upper
+one to both.
 """
 import math
 from typing import NamedTuple
@@ -9,31 +10,44 @@ from typing import NamedTuple
 from . import opengl
 
 FACTORS = {
-    "ZERO": 0, "ONE": 1, "SRC_COLOR": 0x300, "INV_SRC_COLOR": 0x301, "SRC_ALPHA": 0x302, "INV_SRC_ALPHA": 0x303, "DEST_ALPHA": 0x304,
-    "INV_DEST_ALPHA": 0x305, "DEST_COLOR": 0x306, "INV_DEST_COLOR": 0x307, "BLEND_FACTOR": 0x8001, "INV_BLEND_FACTOR": 0x8002,
+    "ZERO": 0,
+    "ONE": 1,
+    "SRC_COLOR": 0x300,
+    "INV_SRC_COLOR": 0x301,
+    "SRC_ALPHA": 0x302,
+    "INV_SRC_ALPHA": 0x303,
+    "DEST_ALPHA": 0x304,
+    "INV_DEST_ALPHA": 0x305,
+    "DEST_COLOR": 0x306,
+    "INV_DEST_COLOR": 0x307,
+    "BLEND_FACTOR": 0x8001,
+    "INV_BLEND_FACTOR": 0x8002,
 }
 OPERATIONS = {"ADD": 0x8006, "SUBTRACT": 0x800A, "REV_SUBTRACT": 0x800B, "MIN": 0x8007, "MAX": 0x8008}
-FUNCTIONS = {"NEVER": 0x200, "LESS": 0x201, "EQUAL": 0x202, "LESS_EQUAL": 0x203, "GREATER": 0x204, "NOT_EQUAL": 0x205,
-             "GREATER_EQUAL": 0x206, "ALWAYS": 0x207}
+FUNCTIONS = {
+    "NEVER": 0x200,
+    "LESS": 0x201,
+    "EQUAL": 0x202,
+    "LESS_EQUAL": 0x203,
+    "GREATER": 0x204,
+    "NOT_EQUAL": 0x205,
+    "GREATER_EQUAL": 0x206,
+    "ALWAYS": 0x207,
+}
 CULLED = {"front": opengl.FRONT, "back": opengl.BACK}
-FRONT_FACES = {False: opengl.CCW, True: opengl.CW}          # by front_ccw
+FRONT_FACES = {False: opengl.CCW, True: opengl.CW}  # by front_ccw
 DEEPEST = 65535
-FRACTIONS = 65536                               # a capture's positions in a pixel; 256 of them are what is drawn with
+FRACTIONS = 65536  # a capture's positions in a pixel; 256 of them are what is drawn with
 SNAPPED = 256
 
 
 class Box(NamedTuple):
     """A viewport: what lies inside isn't clipped."""
+
     left: int
     top: int
     width: int
     height: int
-
-
-def snap(value):
-    """A coordinate in 1/65536 pixel, snapped to 1/256: the nearest, ties to the even one."""
-    low, rest = divmod(value, 256)
-    return low + (rest > 128 or rest == 128 and low & 1)
 
 
 def power_from(number):
@@ -42,8 +56,10 @@ def power_from(number):
 
 
 def viewport(width, height, wanted, most):
-    """The viewport of a target. `wanted` is a power of two that it is wide and high, of which a larger target takes the next; or "target",
-    what a program would set. In a power of two a position is exact in floats; in the target's own size it is so where that is one too."""
+    """The viewport of a target. `wanted` is a power of two that it is wide and high, of which a larger target takes
+    the next; or "target", what a program would set. In a power of two a position is exact in floats; in the target's
+    own size it is so where that is one too.
+    """
     if wanted == "target":
         return Box(0, 0, width, height)
     side = min(most, max(wanted, power_from(max(width, height))))
@@ -51,7 +67,8 @@ def viewport(width, height, wanted, most):
 
 
 def scissor_of(rect, width, height):
-    """A rectangle cut to the target, as left, top, width and height; an empty or turned one is none wide or none high."""
+    """A rectangle cut to the target, as left, top, width and height; an empty or turned one is none wide or none
+    high."""
     left, top, right, bottom = (min(max(edge, 0), side) for edge, side in zip(rect, (width, height) * 2))
     return left, top, max(0, right - left), max(0, bottom - top)
 

@@ -5,7 +5,13 @@ from ctypes import byref, c_char_p, c_float, c_int, c_ubyte, c_uint, c_void_p
 from .faults import NoDriver
 
 # what is bound, and of what kind it is
-TEXTURE_2D, FRAMEBUFFER, COLOR_ATTACHMENT0, DEPTH_ATTACHMENT, FRAMEBUFFER_COMPLETE = 0xDE1, 0x8D40, 0x8CE0, 0x8D00, 0x8CD5
+TEXTURE_2D, FRAMEBUFFER, COLOR_ATTACHMENT0, DEPTH_ATTACHMENT, FRAMEBUFFER_COMPLETE = (
+    0xDE1,
+    0x8D40,
+    0x8CE0,
+    0x8D00,
+    0x8CD5,
+)
 ARRAY_BUFFER, ELEMENT_ARRAY_BUFFER, STREAM_DRAW, TRIANGLES = 0x8892, 0x8893, 0x88E0, 4
 RGBA, RGBA8, DEPTH_COMPONENT, DEPTH_COMPONENT16 = 0x1908, 0x8058, 0x1902, 0x81A5
 UNSIGNED_BYTE, UNSIGNED_SHORT, UNSIGNED_INT, FLOAT = 0x1401, 0x1403, 0x1405, 0x1406
@@ -14,36 +20,69 @@ VERTEX_SHADER, FRAGMENT_SHADER, COMPILE_STATUS, LINK_STATUS = 0x8B31, 0x8B30, 0x
 # state
 SCISSOR_TEST, CULL_FACE, BLEND, DEPTH_TEST, DITHER = 0xC11, 0xB44, 0xBE2, 0xB71, 0xBD0
 FRONT, BACK, CW, CCW = 0x404, 0x405, 0x900, 0x901
-COLOR, DEPTH = 0x1800, 0x1801                   # of glClearBuffer
+COLOR, DEPTH = 0x1800, 0x1801  # of glClearBuffer
 FIRST_VERTEX, LOWER_LEFT, ZERO_TO_ONE = 0x8E4D, 0x8CA1, 0x935F
 # what can be asked
 RENDERER, VERSION, EXTENSIONS, NUM_EXTENSIONS = 0x1F01, 0x1F02, 0x1F03, 0x821D
 MAX_TEXTURE_SIZE, MAX_VIEWPORT_DIMS, VIEWPORT, SUBPIXEL_BITS = 0xD33, 0xD3A, 0xBA2, 0xD50
 
 u, i, f, p = c_uint, c_int, c_float, c_void_p
-FUNCTIONS = {   # by their names without gl: what they take, and what they give
-    "GetError": ((), u), "GetString": ((u,), c_char_p), "GetStringi": ((u, u), c_char_p), "GetIntegerv": ((u, p), None),
-    "Viewport": ((i, i, i, i), None), "Scissor": ((i, i, i, i), None), "Enable": ((u,), None), "Disable": ((u,), None),
-    "CullFace": ((u,), None), "FrontFace": ((u,), None), "ColorMask": ((c_ubyte,) * 4, None), "DepthMask": ((c_ubyte,), None),
-    "DepthFunc": ((u,), None), "BlendFuncSeparate": ((u,) * 4, None), "BlendEquationSeparate": ((u, u), None),
-    "BlendColor": ((f,) * 4, None), "ClearBufferfv": ((u, i, p), None), "PixelStorei": ((u, i), None),
-    "ReadPixels": ((i, i, i, i, u, u, p), None), "GenTextures": ((i, p), None), "BindTexture": ((u, u), None),
-    "DeleteTextures": ((i, p), None), "TexImage2D": ((u, i, i, i, i, i, u, u, p), None),
-    "TexSubImage2D": ((u, i, i, i, i, i, u, u, p), None), "TexParameteri": ((u, u, i), None),
-    "GenFramebuffers": ((i, p), None), "BindFramebuffer": ((u, u), None), "FramebufferTexture2D": ((u, u, u, u, i), None),
-    "CheckFramebufferStatus": ((u,), u), "CreateShader": ((u,), u), "ShaderSource": ((u, i, p, p), None),
-    "CompileShader": ((u,), None), "GetShaderiv": ((u, u, p), None), "GetShaderInfoLog": ((u, i, p, p), None),
-    "CreateProgram": ((), u), "AttachShader": ((u, u), None), "LinkProgram": ((u,), None), "GetProgramiv": ((u, u, p), None),
-    "UseProgram": ((u,), None), "GenVertexArrays": ((i, p), None), "BindVertexArray": ((u,), None),
-    "GenBuffers": ((i, p), None), "BindBuffer": ((u, u), None), "BufferData": ((u, c_void_p, p, u), None),
-    "VertexAttribPointer": ((u, i, u, c_ubyte, i, p), None), "EnableVertexAttribArray": ((u,), None),
-    "DrawArrays": ((u, i, i), None), "DrawElements": ((u, i, u, p), None),
+FUNCTIONS = {  # by their names without gl: what they take, and what they give
+    "GetError": ((), u),
+    "GetString": ((u,), c_char_p),
+    "GetStringi": ((u, u), c_char_p),
+    "GetIntegerv": ((u, p), None),
+    "Viewport": ((i, i, i, i), None),
+    "Scissor": ((i, i, i, i), None),
+    "Enable": ((u,), None),
+    "Disable": ((u,), None),
+    "CullFace": ((u,), None),
+    "FrontFace": ((u,), None),
+    "ColorMask": ((c_ubyte,) * 4, None),
+    "DepthMask": ((c_ubyte,), None),
+    "DepthFunc": ((u,), None),
+    "BlendFuncSeparate": ((u,) * 4, None),
+    "BlendEquationSeparate": ((u, u), None),
+    "BlendColor": ((f,) * 4, None),
+    "ClearBufferfv": ((u, i, p), None),
+    "PixelStorei": ((u, i), None),
+    "ReadPixels": ((i, i, i, i, u, u, p), None),
+    "GenTextures": ((i, p), None),
+    "BindTexture": ((u, u), None),
+    "DeleteTextures": ((i, p), None),
+    "TexImage2D": ((u, i, i, i, i, i, u, u, p), None),
+    "TexSubImage2D": ((u, i, i, i, i, i, u, u, p), None),
+    "TexParameteri": ((u, u, i), None),
+    "GenFramebuffers": ((i, p), None),
+    "BindFramebuffer": ((u, u), None),
+    "FramebufferTexture2D": ((u, u, u, u, i), None),
+    "CheckFramebufferStatus": ((u,), u),
+    "CreateShader": ((u,), u),
+    "ShaderSource": ((u, i, p, p), None),
+    "CompileShader": ((u,), None),
+    "GetShaderiv": ((u, u, p), None),
+    "GetShaderInfoLog": ((u, i, p, p), None),
+    "CreateProgram": ((), u),
+    "AttachShader": ((u, u), None),
+    "LinkProgram": ((u,), None),
+    "GetProgramiv": ((u, u, p), None),
+    "UseProgram": ((u,), None),
+    "GenVertexArrays": ((i, p), None),
+    "BindVertexArray": ((u,), None),
+    "GenBuffers": ((i, p), None),
+    "BindBuffer": ((u, u), None),
+    "BufferData": ((u, c_void_p, p, u), None),
+    "VertexAttribPointer": ((u, i, u, c_ubyte, i, p), None),
+    "EnableVertexAttribArray": ((u,), None),
+    "DrawArrays": ((u, i, i), None),
+    "DrawElements": ((u, i, u, p), None),
 }
 OPTIONAL = {"ProvokingVertex": ((u,), None), "ClipControl": ((u, u), None)}
 
 
 class Functions:
-    """The functions of a context: `functions.DrawArrays(..)` is glDrawArrays. Those that a driver need not have may be None."""
+    """The functions of a context: `functions.DrawArrays(..)` is glDrawArrays. Those that a driver need not have may
+    be None."""
 
     def __init__(self, context):
         for name, (arguments, gives) in {**FUNCTIONS, **OPTIONAL}.items():

@@ -3,7 +3,7 @@
 OTHER_FACTORS = {"INV_SRC_ALPHA": "ONE", "INV_DEST_ALPHA": "ONE", "SRC_ALPHA": "SRC_COLOR", "BLEND_FACTOR": "ONE"}
 OTHER_FUNCTIONS = {"LESS": "LESS_EQUAL", "LESS_EQUAL": "LESS", "GREATER": "GREATER_EQUAL", "EQUAL": "ALWAYS"}
 OTHER_CULLS = {"front": "back", "back": "front", "none": "none"}
-FOUR_BITS = 1 << 12             # in 1/65536 pixel
+FOUR_BITS = 1 << 12  # in 1/65536 pixel
 
 
 def setting(kind, **parts):
@@ -13,8 +13,10 @@ def setting(kind, **parts):
 
 def of_kind(kind):
     """Has a change see the events of a kind alone."""
+
     def made(change):
         return lambda event: change(event) if event["kind"] == kind else event
+
     return made
 
 
@@ -40,23 +42,39 @@ def last_corner(event):
     if event["interp"] != "flat":
         return event
     order = event.get("indices", list(range(len(event["vertices"]))))
-    return event | {"indices": [corner for at in range(0, len(order) - 2, 3) for corner in (order[at + 2], order[at], order[at + 1])]}
+    return event | {
+        "indices": [
+            corner for at in range(0, len(order) - 2, 3) for corner in (order[at + 2], order[at], order[at + 1])
+        ]
+    }
 
 
 @of_kind("draw")
 def four_bits(event):
-    moved = [vertex | {name: (vertex[name] + FOUR_BITS // 2) // FOUR_BITS * FOUR_BITS for name in "xy"} for vertex in event["vertices"]]
+    moved = [
+        vertex | {name: (vertex[name] + FOUR_BITS // 2) // FOUR_BITS * FOUR_BITS for name in "xy"}
+        for vertex in event["vertices"]
+    ]
     return event | {"vertices": moved}
 
 
 PLANTS = {
-    "destination factor": other_factor, "alpha blended like colour": alpha_like_colour, "mask ignored": setting("blend", mask=15),
-    "blending ignored": setting("blend", enable=False), "scissor one wider": wider_scissor, "scissor ignored": setting("raster", scissor=False),
+    "destination factor": other_factor,
+    "alpha blended like colour": alpha_like_colour,
+    "mask ignored": setting("blend", mask=15),
+    "blending ignored": setting("blend", enable=False),
+    "scissor one wider": wider_scissor,
+    "scissor ignored": setting("raster", scissor=False),
     "cull exchanged": of_kind("raster")(lambda event: event | {"cull": OTHER_CULLS[event["cull"]]}),
-    "front face ignored": setting("raster", front_ccw=False), "flat by last corner": last_corner,
-    "depth function": of_kind("depth")(lambda event: event | {"func": OTHER_FUNCTIONS.get(event["func"], event["func"])}),
-    "depth writes always": setting("depth", write=True), "depth test ignored": setting("depth", enable=False),
-    "linear drawn flat": setting("draw", interp="flat"), "factor ignored": setting("factor", color=[255] * 4),
+    "front face ignored": setting("raster", front_ccw=False),
+    "flat by last corner": last_corner,
+    "depth function": of_kind("depth")(
+        lambda event: event | {"func": OTHER_FUNCTIONS.get(event["func"], event["func"])}
+    ),
+    "depth writes always": setting("depth", write=True),
+    "depth test ignored": setting("depth", enable=False),
+    "linear drawn flat": setting("draw", interp="flat"),
+    "factor ignored": setting("factor", color=[255] * 4),
     "four subpixel bits": four_bits,
 }
 

@@ -1,8 +1,11 @@
-"""A capture's events, drawn by a driver. Positions are whole numbers of 1/256 pixel below 2^22, and the viewport is a power of two,
-so each arrives where triangles are drawn without rounding."""
+"""A capture's events, drawn by a driver. Positions are whole numbers of 1/256 pixel below 2^22, and the viewport is
+a power of two, so each arrives where triangles are drawn without rounding."""
 import array
 import ctypes
 from dataclasses import dataclass
+
+from rules.snapping import snap
+from rules.states import AT_START
 
 from . import mapping, opengl
 from .egl import Context
@@ -10,12 +13,11 @@ from .faults import NoDriver
 from .opengl import Functions, program_of
 from .target import Target
 
-AT_START = [
-    {"kind": "raster", "cull": "back", "front_ccw": False, "scissor": False}, {"kind": "scissor", "rect": [0, 0, 0, 0]},
-    {"kind": "blend", "enable": False, "rgb": ["ONE", "ZERO", "ADD"], "alpha": ["ONE", "ZERO", "ADD"], "mask": 15},
-    {"kind": "factor", "color": [255] * 4}, {"kind": "depth", "enable": False, "write": True, "func": "LESS"},
-]
-HEADS = {"gl": "#version 330 core", "vulkan": "#version 330 core", "es": "#version 300 es\nprecision highp float; precision highp int;"}
+HEADS = {
+    "gl": "#version 330 core",
+    "vulkan": "#version 330 core",
+    "es": "#version 300 es\nprecision highp float; precision highp int;",
+}
 VERTEX = """{head}
 layout(location = 0) in vec3 place; layout(location = 1) in vec4 given;
 {kind} out vec4 colour;
@@ -23,17 +25,20 @@ void main() {{ gl_Position = vec4(place, 1.0); colour = given; }}"""
 FRAGMENT = """{head}
 {kind} in vec4 colour; layout(location = 0) out vec4 drawn;
 void main() {{ drawn = colour; }}"""
-ATTRIBUTES = ((3, opengl.FLOAT, 0), (4, opengl.UNSIGNED_BYTE, 1))       # place and colour of a corner
+ATTRIBUTES = ((3, opengl.FLOAT, 0), (4, opengl.UNSIGNED_BYTE, 1))  # place and colour of a corner
 
 
 @dataclass(frozen=True)
 class Way:
     """How a driver is asked to draw."""
-    api: str = "gl"                 # gl, es or vulkan
-    device: int | None = None       # EGL's, counted from 0
-    viewport: object = 4096         # a power of two, or "target"
-    linear: str = "smooth"          # or noperspective, which is the same as w is 1
-    convention: str = "first"       # whose colour a flat triangle has; turned: corners are turned so that the first is the last
+
+    api: str = "gl"  # gl, es or vulkan
+    device: int | None = None  # EGL's, counted from 0
+    viewport: object = 4096  # a power of two, or "target"
+    linear: str = "smooth"  # or noperspective, which is the same as w is 1
+    convention: str = (
+        "first"  # whose colour a flat triangle has; turned: corners are turned so that the first is the last
+    )
 
 
 class Player:
@@ -43,7 +48,10 @@ class Player:
         self.way, self.is_raw, self.context = way, False, Context(way.api, way.device)
         self.gl = gl = Functions(self.context)
         if way.api == "vulkan" and not gl.text(opengl.RENDERER).startswith("zink"):
-            raise NoDriver("Vulkan is drawn with by Mesa's zink, which isn't there: mesa-vulkan-drivers is wanted, or a card's driver of Vulkan")
+            raise NoDriver(
+                "Vulkan is drawn with by Mesa's zink, which isn't there: mesa-vulkan-drivers is wanted, or a "
+                "card's driver of Vulkan"
+            )
         self.is_turned = way.convention == "turned" or way.api == "es" or not gl.ProvokingVertex
         if not self.is_turned:
             gl.ProvokingVertex(opengl.FIRST_VERTEX)
@@ -51,8 +59,14 @@ class Player:
         if self.is_zero_to_one:
             gl.ClipControl(opengl.LOWER_LEFT, opengl.ZERO_TO_ONE)
         head = HEADS[way.api]
-        kinds = {"flat": "flat", "linear": "noperspective" if way.linear == "noperspective" and way.api != "es" else "smooth"}
-        self.programs = {interp: program_of(gl, *(text.format(head=head, kind=kind) for text in (VERTEX, FRAGMENT))) for interp, kind in kinds.items()}
+        kinds = {
+            "flat": "flat",
+            "linear": "noperspective" if way.linear == "noperspective" and way.api != "es" else "smooth",
+        }
+        self.programs = {
+            interp: program_of(gl, *(text.format(head=head, kind=kind) for text in (VERTEX, FRAGMENT)))
+            for interp, kind in kinds.items()
+        }
         self.target = Target(gl, head, has_to_draw=way.api == "es")
         self._buffers()
         gl.Disable(opengl.DITHER)
@@ -86,12 +100,18 @@ class Player:
         self.gl.Viewport(*self.box)
         became = tuple(self.gl.integers(opengl.VIEWPORT, 4))
         if became != tuple(self.box):
-            raise NoDriver(f"the driver makes of the viewport {' '.join(map(str, self.box))} {' '.join(map(str, became))}")
+            raise NoDriver(
+                f"the driver makes of the viewport {' '.join(map(str, self.box))} {' '.join(map(str, became))}"
+            )
 
     def named(self):
         """What the driver says that it is."""
         gl = self.gl
-        return {"renderer": gl.text(opengl.RENDERER), "version": gl.text(opengl.VERSION), "subpixel_bits": gl.integer(opengl.SUBPIXEL_BITS)}
+        return {
+            "renderer": gl.text(opengl.RENDERER),
+            "version": gl.text(opengl.VERSION),
+            "subpixel_bits": gl.integer(opengl.SUBPIXEL_BITS),
+        }
 
     def check(self):
         """Ends it where OpenGL has noted an error."""
@@ -102,7 +122,7 @@ class Player:
     # ---- Events
     def restart(self):
         """A fresh target and the states at the start."""
-        self.states = {event["kind"]: event for event in AT_START}
+        self.states = dict(AT_START)
         self.apply({"kind": "clear", "color": [0, 0, 0, 0]})
         self.apply({"kind": "depth_clear", "depth": mapping.DEEPEST})
         self._set_states()
@@ -180,12 +200,17 @@ class Player:
         """The corners in clip space: half the viewport from its middle is 1."""
         half_x, half_y = self.box.width / 2, self.box.height / 2
         middle_x, middle_y = self.box.left + half_x, self.box.top + half_y
-        unit, snapped = (mapping.FRACTIONS, int) if self.is_raw else (mapping.SNAPPED, mapping.snap)
+        unit, snapped = (mapping.FRACTIONS, int) if self.is_raw else (mapping.SNAPPED, snap)
         places = array.array("f")
         for vertex in vertices:
             depth = vertex.get("z", 0) / mapping.DEEPEST
-            places.extend(((snapped(vertex["x"]) / unit - middle_x) / half_x, (snapped(vertex["y"]) / unit - middle_y) / half_y,
-                           depth if self.is_zero_to_one else 2 * depth - 1))
+            places.extend(
+                (
+                    (snapped(vertex["x"]) / unit - middle_x) / half_x,
+                    (snapped(vertex["y"]) / unit - middle_y) / half_y,
+                    depth if self.is_zero_to_one else 2 * depth - 1,
+                )
+            )
         return places
 
     def _fill(self, kind, number, data):

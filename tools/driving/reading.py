@@ -1,10 +1,10 @@
 """A capture from its file, as framedbg accepts it; and what is written, whole or not at all."""
 import os
-import tempfile
 
 from captures import MOST_BYTES
 from explaining import json_text
 from explaining.verdict import explained
+from writing import files
 
 from .faults import READING, Fault
 
@@ -23,15 +23,8 @@ def read_capture(path):
 
 
 def write(path, text):
-    """Writes a file whole, or leaves what was there."""
-    folder, made = os.path.dirname(os.path.abspath(path)), None
+    """Writes a file whole, or leaves what was there. A device or a pipe is written through, and a link stays one."""
     try:
-        handle, made = tempfile.mkstemp(dir=folder, prefix=".framedbg-driver-")
-        with os.fdopen(handle, "w", encoding="utf-8") as file:
-            file.write(text)
-        os.chmod(made, 0o644)
-        os.replace(made, path)
+        files.keep(os.path.abspath(path), text.encode())
     except OSError as fault:
-        if made and os.path.exists(made):
-            os.unlink(made)
         raise Fault(f"{path}: {fault.strerror}", READING) from None

@@ -2,17 +2,22 @@
 import collections
 import itertools
 
-from blaming.blending import blended
-from blaming.fragments import centre, cross, mean, snapped
 from blaming.frame import order_of
+from rules.blending import blended
+from rules.coverage import centre, cross
+from rules.shading import mean
+from rules.snapping import snapped
 
 from .kinds import Kind
 
-MOST_WEIGHED = 7                # entries of a pixel of which all subsets are weighed: the last ones
-NEAR, NEARBY = 2, 12            # how far off a colour may be that is explained so, and by a shaded triangle's colour at a neighbour
+MOST_WEIGHED = 7  # entries of a pixel of which all subsets are weighed: the last ones
+NEAR, NEARBY = (
+    2,
+    12,
+)  # how far off a colour may be that is explained so, and by a shaded triangle's colour at a neighbour
 NEIGHBOURS = ((-1, 0), (1, 0), (0, -1), (0, 1), (-1, -1), (1, -1), (-1, 1), (1, 1))
-TIE = 2                         # units of depth
-EXACT_FUNCTIONS = ("EQUAL", "NOT_EQUAL")        # a second pass has to meet the depths of its first
+TIE = 2  # units of depth
+EXACT_FUNCTIONS = ("EQUAL", "NOT_EQUAL")  # a second pass has to meet the depths of its first
 BY_VERDICT = {"culled": Kind.CULL, "scissored": Kind.SCISSOR}
 
 
@@ -21,7 +26,8 @@ def apart(one, other):
 
 
 class Reasons:
-    """The differences of one draw. `there` tells what the driver had at a pixel; `is_alike` whether both had the same depth there."""
+    """The differences of one draw. `there` tells what the driver had at a pixel; `is_alike` whether both had the
+    same depth there."""
 
     def __init__(self, exact, frame, number, there, is_alike):
         self.exact, self.number, self.there, self.is_alike = exact, number, there, is_alike
@@ -33,7 +39,8 @@ class Reasons:
         self._entries, self._edges, self._rows = {}, None, None
 
     def of(self, x, y, drawn):
-        """(kind, whether OpenGL leaves it open) of a pixel where the driver drew a colour that is off by more than 1."""
+        """(kind, whether OpenGL leaves it open) of a pixel where the driver drew a colour that is off by more than
+        1."""
         entries = self.entries(x, y)
         right = entries[-1].after if entries else self.there(x, y)
         gap = apart(right, drawn)
@@ -41,12 +48,16 @@ class Reasons:
             return Kind.ADDS_UP, False
         if gap <= NEAR:
             return Kind.BY_2, False
-        return self.by_entries(x, y, entries, drawn) or self.by_neighbours(x, y, entries, drawn) or (Kind.BY_MORE, False)
+        return (
+            self.by_entries(x, y, entries, drawn) or self.by_neighbours(x, y, entries, drawn) or (Kind.BY_MORE, False)
+        )
 
     def entries(self, x, y):
         """What the draw's triangles did to a pixel; of a neighbour it is asked again, and remembered."""
         if (x, y) not in self._entries:
-            self._entries[x, y] = [entry for entry in self.exact.entries(self.number, x, y) if entry.triangle is not None]
+            self._entries[x, y] = [
+                entry for entry in self.exact.entries(self.number, x, y) if entry.triangle is not None
+            ]
         return self._entries[x, y]
 
     def blended(self, source, there):
@@ -54,12 +65,13 @@ class Reasons:
 
     # ---- By the triangles that cover the pixel
     def by_entries(self, x, y, entries, drawn):
-        """The fewest entries that are drawn where they shouldn't be, or aren't where they should, if these make the driver's colour."""
+        """The fewest entries that are drawn where they shouldn't be, or aren't where they should, if these make the
+        driver's colour."""
         entries = entries[-MOST_WEIGHED:]
         best = self.fewest(entries, self.there(x, y), drawn)
         if best is None:
             return None
-        if not best:                            # drawn as is right, on what differed before
+        if not best:  # drawn as is right, on what differed before
             return Kind.BY_MORE, False
         verdict = best[0].verdict
         if verdict in BY_VERDICT:
@@ -70,7 +82,8 @@ class Reasons:
         return Kind.COVERAGE, any(self.is_open(entry.triangle, x, y, is_hole) for entry in best)
 
     def fewest(self, entries, there, drawn):
-        """The fewest of some entries that, drawn where they aren't or not drawn where they are, make the driver's colour; or None."""
+        """The fewest of some entries that, drawn where they aren't or not drawn where they are, make the driver's
+        colour; or None."""
         for count in range(len(entries) + 1):
             for others in itertools.combinations(entries, count):
                 colour = there
@@ -82,13 +95,19 @@ class Reasons:
         return None
 
     def is_tie_at(self, x, y):
-        """Whether a rounding decides the depth test of an entry: not where both have the same depth stored and the triangle's is one all over."""
+        """Whether a rounding decides the depth test of an entry: not where both have the same depth stored and the
+        triangle's is one all over."""
         is_alike = self.is_alike(x, y)
 
         def is_tie(entry):
-            if not entry.depths or abs(entry.depths.source - entry.depths.before) > TIE or self.depth["func"] in EXACT_FUNCTIONS:
+            if (
+                not entry.depths
+                or abs(entry.depths.source - entry.depths.before) > TIE
+                or self.depth["func"] in EXACT_FUNCTIONS
+            ):
                 return False
             return not is_alike or len({corner["z"] for corner in self.corners(entry.triangle)}) > 1
+
         return is_tie
 
     # ---- By those of its neighbours
@@ -98,7 +117,9 @@ class Reasons:
         shown = [entry for entry in entries if entry.is_drawn]
         there, most = self.there(x, y), NEAR if self.draw["interp"] == "flat" else NEARBY
         for triangle, source in itertools.chain(self.near(x, y), self.touching(x, y)):
-            for is_more, below in ((True, shown[-1].after if shown else there), (False, there)) if triangle not in own else ():
+            for is_more, below in (
+                ((True, shown[-1].after if shown else there), (False, there)) if triangle not in own else ()
+            ):
                 if apart(self.blended(source, below), drawn) <= most:
                     return Kind.COVERAGE, self.is_open(triangle, x, y, is_more and bool(shown))
         return None if shown else (Kind.COVERAGE, False)
@@ -118,7 +139,8 @@ class Reasons:
                 yield triangle, self.source(triangle, edges, at)
 
     def rows(self):
-        """For each row of the target the triangles that reach its centres: the number, from where to where, and the edges."""
+        """For each row of the target the triangles that reach its centres: the number, from where to where, and the
+        edges."""
         if self._rows is None:
             self._rows = [[] for _ in range(self.height)]
             for triangle in range(len(self.order) // 3):
@@ -146,8 +168,8 @@ class Reasons:
         return (a, b), (b, c), (c, a)
 
     def is_open(self, triangle, x, y, is_none_or_both):
-        """Whether the pixel's centre lies on an edge of a triangle, so that OpenGL leaves its coverage open. Of two triangles at an edge
-        one has it: that neither or both are drawn isn't left open."""
+        """Whether the pixel's centre lies on an edge of a triangle, so that OpenGL leaves its coverage open. Of two
+        triangles at an edge one has it: that neither or both are drawn isn't left open."""
         at = centre(x, y)
         touched = [edge for edge in self.edges_of(triangle) if lies_on(at, *edge)]
         return bool(touched) and not (is_none_or_both and any(self.shared()[frozenset(edge)] > 1 for edge in touched))
@@ -156,7 +178,9 @@ class Reasons:
         """How many triangles of the draw have an edge."""
         if self._edges is None:
             triangles = range(len(self.order) // 3)
-            self._edges = collections.Counter(frozenset(edge) for triangle in triangles for edge in self.edges_of(triangle))
+            self._edges = collections.Counter(
+                frozenset(edge) for triangle in triangles for edge in self.edges_of(triangle)
+            )
         return self._edges
 
 

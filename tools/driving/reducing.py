@@ -1,4 +1,5 @@
-"""reduce: from a capture that a driver draws otherwise than framedbg, the smallest found that it still draws otherwise."""
+"""reduce: from a capture that a driver draws otherwise than framedbg, the smallest found that it still draws
+otherwise."""
 import contextlib
 import sys
 import time
@@ -14,12 +15,15 @@ from .judging import Judge
 from .kinds import Kind
 
 KINDS = {
-    "coverage": (Kind.COVERAGE, Kind.SCISSOR, Kind.CULL), "colour": (Kind.BY_MORE,), "depth": (Kind.DEPTH_TEST, Kind.DEPTH_BY_MORE),
+    "coverage": (Kind.COVERAGE, Kind.SCISSOR, Kind.CULL),
+    "colour": (Kind.BY_MORE,),
+    "depth": (Kind.DEPTH_TEST, Kind.DEPTH_BY_MORE),
     "depth-test": (Kind.DEPTH_TEST,),
-    "rounding": (Kind.BY_1, Kind.BY_2), "depth-rounding": (Kind.DEPTH_BY_1,),
+    "rounding": (Kind.BY_1, Kind.BY_2),
+    "depth-rounding": (Kind.DEPTH_BY_1,),
 }
 KINDS["any"] = KINDS["coverage"] + KINDS["colour"] + KINDS["depth"]
-MOST_EVENTS = 40                # that are made plainer one by one
+MOST_EVENTS = 40  # that are made plainer one by one
 
 
 class Over(Exception):
@@ -34,7 +38,8 @@ class Reducer:
         self.deadline, self.tried, self.best = time.monotonic() + seconds, 0, None
 
     def differs(self, capture):
-        """The event and the Difference at which it first differs so, from a fresh target and with nothing mended; or None."""
+        """The event and the Difference at which it first differs so, from a fresh target and with nothing mended; or
+        None."""
         self.player.resize(capture["width"], capture["height"])
         with Exact(self.program, capture) as exact:
             for one in Judge(exact, self.player, capture, self.change, is_alone=False):
@@ -60,7 +65,7 @@ class Reducer:
             return False
         self.best = capture
         with contextlib.suppress(Over):
-            self.keeps(capture | {"events": capture["events"][:first[0]]})
+            self.keeps(capture | {"events": capture["events"][: first[0]]})
             before = None
             while before != self.best:
                 before = self.best
@@ -89,7 +94,7 @@ class Reducer:
         while items:
             at = 0
             while at < len(items):
-                left = items[:at] + items[at + size:]
+                left = items[:at] + items[at + size :]
                 if self.keeps(made(left)):
                     items = left
                 else:
@@ -103,7 +108,9 @@ class Reducer:
         event = self.best["events"][at]
         if event["kind"] == "draw":
             triangles = smaller.triangles_of(event)
-            if "indices" not in event or self.keeps(smaller.with_event(self.best, at, smaller.of_triangles(event, triangles))):
+            if "indices" not in event or self.keeps(
+                smaller.with_event(self.best, at, smaller.of_triangles(event, triangles))
+            ):
                 self.fewer(triangles, lambda some: smaller.with_event(self.best, at, smaller.of_triangles(event, some)))
         while self.first_of(smaller.plainer_event(self.best, at)):
             pass
@@ -124,8 +131,13 @@ def run(given):
 
 def closing(capture, small, reducer, seconds):
     triangles = sum(len(smaller.triangles_of(event)) for event in small["events"] if event["kind"] == "draw")
-    yield (f"{counted_as(len(capture['events']), 'event')} became {len(small['events'])}, with {counted_as(triangles, 'triangle')} "
-           f"on {small['width']} x {small['height']} pixels; {reducer.tried} captures tried in {seconds:.1f} s")
+    yield (
+        (
+            f"{counted_as(len(capture['events']), 'event')} became {len(small['events'])}, with "
+            f"{counted_as(triangles, 'triangle')} "
+            f"on {small['width']} x {small['height']} pixels; {reducer.tried} captures tried in {seconds:.1f} s"
+        )
+    )
     yield pixel_of(reducer.differs(small))
 
 

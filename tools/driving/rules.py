@@ -1,13 +1,13 @@
 """rules: what is right at each position of a capture in one file, for play_d3d11.exe on a machine that has no framedbg.
 
-A gzip file: a line `framedbg-rules 1 WIDTH HEIGHT POSITIONS DEPTHS`, and for each position the colours, and the depths where DEPTHS is 1 (words of 16
-bits, the low byte first), each byte XORed with that of the position before.
+A gzip file: a line `framedbg-rules 1 WIDTH HEIGHT POSITIONS DEPTHS`, and for each position the colours, and the
+depths where DEPTHS is 1 (words of 16 bits, the low byte first), each byte XORed with that of the position before.
 """
 import array
 import gzip
 import sys
 
-from blaming.frame import Frame
+from blaming.frame import CaptureFrame
 
 from . import reading
 from .exact import Exact, program_of
@@ -17,10 +17,12 @@ from .depths import Depths
 
 def run(given):
     capture, program = reading.read_capture(given.capture), program_of(given.program)
-    with Exact(program, capture) as exact, gzip.GzipFile(filename="", fileobj=sys.stdout.buffer, mode="wb", mtime=0) as file:
+    with Exact(program, capture) as exact, gzip.GzipFile(
+        filename="", fileobj=sys.stdout.buffer, mode="wb", mtime=0
+    ) as file:
         positions, has_depths = len(capture["events"]) + 1, int(capture["version"] == 2)
         file.write(f"framedbg-rules 1 {capture['width']} {capture['height']} {positions} {has_depths}\n".encode())
-        depths, before, deep_before = Depths(exact, Frame(capture)), b"", b""
+        depths, before, deep_before = Depths(exact, CaptureFrame(capture)), b"", b""
         for position in range(positions):
             image, deep = exact.image(position), little_endian(depths.after(position) if position else depths.words)
             file.write(xored(image, before))

@@ -8,7 +8,13 @@ from framedbg_client import Ended, Garbled, Refusal
 from . import comparing, drawing, listing, reducing, rules, trying
 from .faults import INTERRUPTED, READING, Fault
 
-COMMANDS = {"draw": drawing.run, "compare": comparing.run, "try": trying.run, "reduce": reducing.run, "rules": rules.run}
+COMMANDS = {
+    "draw": drawing.run,
+    "compare": comparing.run,
+    "try": trying.run,
+    "reduce": reducing.run,
+    "rules": rules.run,
+}
 
 
 def run(given):
@@ -23,8 +29,6 @@ def run(given):
         return told(fault, fault.status)
     except (Ended, Garbled, Refusal) as fault:
         return told(fault, READING)
-    except BrokenPipeError:
-        raise
     except OSError as fault:
         return told(fault.strerror or fault, READING)
     except MemoryError:
@@ -34,4 +38,3 @@ def run(given):
 def told(why, status):
     print(f"framedbg-driver: {printable(str(why))}", file=sys.stderr)
     return status
-

@@ -4,13 +4,14 @@ from captures import PIXEL
 
 from .dice import Dice
 
-SIDE = 64                       # pixels of a target, unless a feature wants more
+SIDE = 64  # pixels of a target, unless a feature wants more
 HALF = PIXEL // 2
-STRIDE = 0x9E3779               # between the colours of neighbouring triangles, which lie far apart so that coverage shows
+STRIDE = 0x9E3779  # between the colours of neighbouring triangles, which lie far apart so that coverage shows
 
 
 class Scene:
-    """Corners lie where a driver of so many bits of a pixel's fraction can hold them, but where these are what is tried."""
+    """Corners lie where a driver of so many bits of a pixel's fraction can hold them, but where these are what is
+    tried."""
 
     def __init__(self, feature, seed, bits=8):
         self.step = 1 << 16 - min(bits, 8)
@@ -57,7 +58,9 @@ class Scene:
             for j in range(rows + 1):
                 is_inner = 0 < i < columns and 0 < j < rows
                 pushed = [self.dice.between(-push, push + 1) if is_inner else 0 for _ in "xy"]
-                point[i, j] = tuple((k * SIDE * PIXEL // of + by) // step * step for k, of, by in zip((i, j), (columns, rows), pushed))
+                point[i, j] = tuple(
+                    (k * SIDE * PIXEL // of + by) // step * step for k, of, by in zip((i, j), (columns, rows), pushed)
+                )
         for i in range(columns):
             for j in range(rows):
                 a, b, c, d = point[i, j], point[i + 1, j], point[i + 1, j + 1], point[i, j + 1]
@@ -68,7 +71,13 @@ class Scene:
         """Triangles with a colour for each corner, and perhaps a depth for each."""
         corners = [corner for triangle in triangles for corner in triangle]
         depths = depths or [0] * len(corners)
-        self.add(captures.draw([captures.vertex(x, y, colour, z) for (x, y), colour, z in zip(corners, colours, depths)], interp, indices))
+        self.add(
+            captures.draw(
+                [captures.vertex(x, y, colour, z) for (x, y), colour, z in zip(corners, colours, depths)],
+                interp,
+                indices,
+            )
+        )
 
     def flat(self, triangles, depths=None):
         """Each triangle of one colour of its own, whichever corner names it."""
@@ -80,7 +89,9 @@ class Scene:
     def mosaic(self, side=2):
         """Squares that have any colour each."""
         pairs = list(self.cells(side))
-        self.draw([triangle for pair in pairs for triangle in pair], [colour for _ in pairs for colour in [self.any()] * 6])
+        self.draw(
+            [triangle for pair in pairs for triangle in pair], [colour for _ in pairs for colour in [self.any()] * 6]
+        )
 
     def blend(self, rgb, alpha=captures.REPLACE, mask=15, enable=True):
         self.add(captures.blend(enable, rgb, alpha, mask))

@@ -1,12 +1,20 @@
-"""Captures that are a little smaller or plainer than one: each function gives some, the smallest first. Nothing is changed in place."""
+"""Captures that are a little smaller or plainer than one: each function gives some, the smallest first. Nothing is
+changed in place."""
 from captures import PIXEL
 
-SIDES = (1, 2, 4, 8, 16, 32)    # pixels of a target that is cut out
-PLAIN_STATES = (("cull", "none"), ("scissor", False), ("front_ccw", False), ("enable", False), ("mask", 15), ("rgb", ["ONE", "ZERO", "ADD"]),
-                ("alpha", ["ONE", "ZERO", "ADD"]))
+SIDES = (1, 2, 4, 8, 16, 32)  # pixels of a target that is cut out
+PLAIN_STATES = (
+    ("cull", "none"),
+    ("scissor", False),
+    ("front_ccw", False),
+    ("enable", False),
+    ("mask", 15),
+    ("rgb", ["ONE", "ZERO", "ADD"]),
+    ("alpha", ["ONE", "ZERO", "ADD"]),
+)
 PLAIN_COLOURS = ([255] * 4, [0] * 4)
 ROUND_PLACES, ROUND_DEPTHS = (8 * PIXEL, PIXEL, PIXEL // 2, 4096, 256), (65535, 32768, 4096, 256)
-MOST_CORNERS, MOST_DEPTH = 24, 65535            # of a draw whose corners are taken one by one
+MOST_CORNERS, MOST_DEPTH = 24, 65535  # of a draw whose corners are taken one by one
 
 
 def with_event(capture, at, event):
@@ -24,9 +32,14 @@ def with_corner(capture, at, number, **parts):
 
 def with_place(capture, place, **parts):
     """With all corners moved that lie where one does: a triangle that is drawn twice stays the same triangle."""
+
     def moved_there(corner):
         return corner | parts if all(corner.get(name) == place.get(name) for name in "xyz") else corner
-    events = [event | {"vertices": list(map(moved_there, event["vertices"]))} if event["kind"] == "draw" else event for event in capture["events"]]
+
+    events = [
+        event | {"vertices": list(map(moved_there, event["vertices"]))} if event["kind"] == "draw" else event
+        for event in capture["events"]
+    ]
     return capture | {"events": events}
 
 
@@ -34,11 +47,15 @@ def triangles_of(event):
     """The triangles of a draw, three corners each, and no index and no corner that is left over."""
     order = event.get("indices", range(len(event["vertices"])))
     corners = [event["vertices"][number] for number in order]
-    return [corners[at:at + 3] for at in range(0, len(corners) - 2, 3)]
+    return [corners[at : at + 3] for at in range(0, len(corners) - 2, 3)]
 
 
 def of_triangles(event, triangles):
-    return {"kind": "draw", "interp": event["interp"], "vertices": [corner for triangle in triangles for corner in triangle]}
+    return {
+        "kind": "draw",
+        "interp": event["interp"],
+        "vertices": [corner for triangle in triangles for corner in triangle],
+    }
 
 
 def plainer_event(capture, at):
@@ -58,7 +75,9 @@ def plainer_draw(capture, at, event):
         yield with_event(capture, at, event | {"interp": "flat"})
     vertices = event["vertices"]
     if any(corner["color"] != PLAIN_COLOURS[0] for corner in vertices):
-        yield with_event(capture, at, event | {"vertices": [corner | {"color": PLAIN_COLOURS[0]} for corner in vertices]})
+        yield with_event(
+            capture, at, event | {"vertices": [corner | {"color": PLAIN_COLOURS[0]} for corner in vertices]}
+        )
     for number, corner in enumerate(vertices[:MOST_CORNERS]):
         if corner["color"] not in PLAIN_COLOURS:
             yield from (with_corner(capture, at, number, color=plain) for plain in PLAIN_COLOURS)
@@ -80,21 +99,37 @@ def moved(event, left, top):
         return event | {"rect": [edge - by for edge, by in zip(event["rect"], (left, top, left, top))]}
     if event["kind"] != "draw":
         return event
-    return event | {"vertices": [corner | {"x": corner["x"] - left * PIXEL, "y": corner["y"] - top * PIXEL} for corner in event["vertices"]]}
+    return event | {
+        "vertices": [
+            corner | {"x": corner["x"] - left * PIXEL, "y": corner["y"] - top * PIXEL} for corner in event["vertices"]
+        ]
+    }
 
 
 def without_depth(capture):
     """As a capture of version 1, where nothing of depth is left."""
-    if capture["version"] == 1 and not any("z" in corner for event in capture["events"] for corner in event.get("vertices", ())):
+    if capture["version"] == 1 and not any(
+        "z" in corner for event in capture["events"] for corner in event.get("vertices", ())
+    ):
         return
     if not any(event["kind"] in ("depth", "depth_clear") for event in capture["events"]):
-        events = [event | {"vertices": [{name: part for name, part in corner.items() if name != "z"} for corner in event["vertices"]]}
-                  if event["kind"] == "draw" else event for event in capture["events"]]
+        events = [
+            event
+            | {
+                "vertices": [
+                    {name: part for name, part in corner.items() if name != "z"} for corner in event["vertices"]
+                ]
+            }
+            if event["kind"] == "draw"
+            else event
+            for event in capture["events"]
+        ]
         yield capture | {"version": 1, "events": events}
 
 
 def rounder(capture, at, number, name):
-    """With a rounder coordinate of a corner, and of all others that lie where it does, the roundest first; up to the one that it has."""
+    """With a rounder coordinate of a corner, and of all others that lie where it does, the roundest first; up to the
+    one that it has."""
     corner = capture["events"][at]["vertices"][number]
     value = corner.get(name)
     for step in () if value is None else ROUND_DEPTHS if name == "z" else ROUND_PLACES:

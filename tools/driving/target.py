@@ -18,7 +18,8 @@ void main() {{
 
 
 class Target:
-    """A framebuffer with a texture of colours and one of depths. `head` is the first line of shaders; `has_to_draw` says that depths can't be read."""
+    """A framebuffer with a texture of colours and one of depths. `head` is the first line of shaders; `has_to_draw`
+    says that depths can't be read."""
 
     def __init__(self, gl, head, has_to_draw):
         self.gl, self.width, self.height = gl, 0, 0
@@ -31,7 +32,9 @@ class Target:
         gl = self.gl
         most = gl.integer(opengl.MAX_TEXTURE_SIZE)
         if max(width, height) > most:
-            raise NoDriver(f"the driver's textures have at most {most} pixels a side, and the target is {width} by {height}")
+            raise NoDriver(
+                f"the driver's textures have at most {most} pixels a side, and the target is {width} by {height}"
+            )
         if self.textures:
             gl.DeleteTextures(len(self.textures), (ctypes.c_uint * len(self.textures))(*self.textures))
         self.width, self.height = width, height
@@ -98,4 +101,6 @@ class Target:
         for texture, kind, data in zip(self.textures, (opengl.RGBA8, opengl.DEPTH_COMPONENT16), (colours, depths)):
             if data is not None:
                 self.gl.BindTexture(opengl.TEXTURE_2D, texture)
-                self.gl.TexSubImage2D(opengl.TEXTURE_2D, 0, 0, 0, self.width, self.height, *self._form(kind), bytes(data))
+                self.gl.TexSubImage2D(
+                    opengl.TEXTURE_2D, 0, 0, 0, self.width, self.height, *self._form(kind), bytes(data)
+                )

@@ -5,6 +5,8 @@ import pathlib
 import time
 from dataclasses import dataclass, field
 
+from writing.counting import counted as counted_as
+
 from . import junit, plants, reading
 from .driver import line_of, player_of
 from .exact import Exact, program_of
@@ -14,11 +16,18 @@ from .judging import Judge
 from .kinds import Kind, counted, is_beyond, is_fault
 from .scenes import SIDE
 
-COLUMNS = {     # of the table: what they have, and the kinds that are counted there
-    "coverage": (Kind.COVERAGE,), "state": (Kind.CULL, Kind.SCISSOR), "by 1": (Kind.BY_1,), "adds up": (Kind.ADDS_UP,), "by more": (Kind.BY_2, Kind.BY_MORE),
-    "test": (Kind.DEPTH_TEST,), "tie": (Kind.DEPTH_TIE,), "depth by 1": (Kind.DEPTH_BY_1,), "by more ": (Kind.DEPTH_BY_MORE,),
+COLUMNS = {  # of the table: what they have, and the kinds that are counted there
+    "coverage": (Kind.COVERAGE,),
+    "state": (Kind.CULL, Kind.SCISSOR),
+    "by 1": (Kind.BY_1,),
+    "adds up": (Kind.ADDS_UP,),
+    "by more": (Kind.BY_2, Kind.BY_MORE),
+    "test": (Kind.DEPTH_TEST,),
+    "tie": (Kind.DEPTH_TIE,),
+    "depth by 1": (Kind.DEPTH_BY_1,),
+    "by more ": (Kind.DEPTH_BY_MORE,),
 }
-PROBES, PROBE_SCENES = ("subpixels", "shared edges"), 3        # by which the bits of a pixel's fraction are found out
+PROBES, PROBE_SCENES = ("subpixels", "shared edges"), 3  # by which the bits of a pixel's fraction are found out
 FEWER_BITS = 4
 MOST_BITS = 8
 
@@ -26,11 +35,12 @@ MOST_BITS = 8
 @dataclass
 class Row:
     """What came of a feature."""
+
     name: str
     pixels: int = 0
     seconds: float = 0.0
     counts: collections.Counter = field(default_factory=collections.Counter)
-    left_open: int = 0          # pixels beyond rounding, and those of them that OpenGL leaves to its drivers
+    left_open: int = 0  # pixels beyond rounding, and those of them that OpenGL leaves to its drivers
     beyond: int = 0
 
     def note(self, one, tolerance):
@@ -73,17 +83,22 @@ def scene_text(words, bits):
 def tried(given, trial, names):
     began, driver, bits = time.monotonic(), trial.player.named(), given.bits or trial.bits()
     if not given.json:
-        print(f"{line_of(driver)}; corners on {bits} bits, {given.scenes} scenes of each feature")
+        print(f"{line_of(driver)}; corners on {bits} bits, {counted_as(given.scenes, 'scene')} of each feature")
         print(heading(), flush=True)
     rows = []
     for name in names:
-        rows.append(trial.row(name, range(given.seed, given.seed + (1 if name.startswith(WHOLE) else given.scenes)), bits))
+        rows.append(
+            trial.row(name, range(given.seed, given.seed + (1 if name.startswith(WHOLE) else given.scenes)), bits)
+        )
         if not given.json:
             print(line(rows[-1]), flush=True)
     seconds = time.monotonic() - began
     print(json.dumps(value_of(driver, bits, rows, seconds), indent=1) if given.json else closing(rows, seconds))
     if given.junit:
-        reading.write(given.junit, junit.text_of(f"features of {driver['renderer']}", [case_of(row, given.tolerance) for row in rows]))
+        reading.write(
+            given.junit,
+            junit.text_of(f"features of {driver['renderer']}", [case_of(row, given.tolerance) for row in rows]),
+        )
     return DIFFERS if any(is_fault(kind, given.tolerance) for row in rows for kind in +row.counts) else ALIKE
 
 
@@ -95,7 +110,8 @@ class Trial:
         self.player, self.change = player_of(given, SIDE, SIDE), plants.change_of(given.plant)
 
     def bits(self):
-        """8 bits of a pixel's fraction, or 4 where those alone are covered exactly: what a driver says of them isn't to be believed."""
+        """8 bits of a pixel's fraction, or 4 where those alone are covered exactly: what a driver says of them isn't
+        to be believed."""
         for bits in (MOST_BITS, FEWER_BITS):
             rows = [self.row(name, range(1, 1 + PROBE_SCENES), bits, is_probe=True) for name in PROBES]
             if not any(row.counts[Kind.COVERAGE] for row in rows):
@@ -132,22 +148,39 @@ def heading():
 
 def line(row):
     cells = [sum(row.counts[kind] for kind in kinds) for kinds in COLUMNS.values()]
-    return (f"{row.name:33}{row.pixels:9,}" + "".join(f"{cell if cell else '.':>11}" for cell in cells) + f"  {row.verdict:9} {row.breaks}").rstrip()
+    return (
+        f"{row.name:33}{row.pixels:9,}"
+        + "".join(f"{cell if cell else '.':>11}" for cell in cells)
+        + f"  {row.verdict:9} {row.breaks}"
+    ).rstrip()
 
 
 def closing(rows, seconds):
     verdicts = [row.verdict for row in rows]
-    return (f"{len(rows)} features: {verdicts.count('exact')} exact, {verdicts.count('within 1')} within 1, "
-            f"{verdicts.count('differs')} differ; {seconds:.0f} s")
+    return (
+        f"{counted_as(len(rows), 'feature')}: {verdicts.count('exact')} exact, {verdicts.count('within 1')} within 1, "
+        f"{verdicts.count('differs')} differ; {seconds:.0f} s"
+    )
 
 
 def value_of(driver, bits, rows, seconds):
-    features = {row.name: {"pixels": row.pixels, "differ": {kind.value: count for kind, count in counted(row.counts).items()}, "verdict": row.verdict,
-                           "breaks": row.breaks or None} for row in rows}
+    features = {
+        row.name: {
+            "pixels": row.pixels,
+            "differ": {kind.value: count for kind, count in counted(row.counts).items()},
+            "verdict": row.verdict,
+            "breaks": row.breaks or None,
+        }
+        for row in rows
+    }
     return {"driver": driver, "bits": bits, "seconds": round(seconds, 1), "features": features}
 
 
 def case_of(row, tolerance):
     is_failed = any(is_fault(kind, tolerance) for kind in +row.counts)
     counts = ", ".join(f"{count:,} {kind}" for kind, count in counted(row.counts).items())
-    return junit.Case(row.name, row.seconds, f"{row.verdict}: {counts} of {row.pixels:,} pixels changed" if is_failed else "")
+    return junit.Case(
+        row.name,
+        row.seconds,
+        f"{row.verdict}: {counts} of {counted_as(row.pixels, 'pixel')} changed" if is_failed else "",
+    )

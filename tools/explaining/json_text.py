@@ -35,7 +35,7 @@ def decoded(data):
     try:
         return data.decode("utf-8")
     except UnicodeDecodeError as fault:
-        raise Malformed(len(data[:fault.start].decode("utf-8")), "these bytes are no UTF-8") from None
+        raise Malformed(len(data[: fault.start].decode("utf-8")), "these bytes are no UTF-8") from None
 
 
 def read(text):
@@ -47,7 +47,8 @@ def read(text):
 
 
 def locate(text, path):
-    """Where the value stands that a path of names and numbers leads to, in characters; of equal names the last counts."""
+    """Where the value stands that a path of names and numbers leads to, in characters; of equal names the last
+    counts."""
     at = space(text, 0)
     for depth, step in enumerate(path):
         places = {}
@@ -66,8 +67,9 @@ def space(text, at):
 
 
 def read_value(text, at, depth, places=None):
-    """The value that begins here, and where the next token does. The places of its own members or items are written down where asked for."""
-    first = text[at:at + 1]
+    """The value that begins here, and where the next token does. The places of its own members or items are written
+    down where asked for."""
+    first = text[at : at + 1]
     if first in ("{", "["):
         if depth == 0:
             raise Malformed(at, f"values are nested deeper than {MOST_NESTING}")
@@ -85,37 +87,37 @@ def read_value(text, at, depth, places=None):
 
 def read_object(text, at, depth, places):
     made = {}
-    if text[at:at + 1] == "}":
+    if text[at : at + 1] == "}":
         return made, space(text, at + 1)
     while True:
-        if text[at:at + 1] != '"':
+        if text[at : at + 1] != '"':
             raise Malformed(at, "a member's name is wanted here")
         name, at = read_string(text, at)
         at = space(text, expect(text, at, ":"))
         if places is not None:
             places[name] = at
         made[name], at = read_value(text, at, depth)
-        if text[at:at + 1] == "}":
+        if text[at : at + 1] == "}":
             return made, space(text, at + 1)
         at = space(text, expect(text, at, ",", "}"))
 
 
 def read_array(text, at, depth, places):
     made = []
-    if text[at:at + 1] == "]":
+    if text[at : at + 1] == "]":
         return made, space(text, at + 1)
     while True:
         if places is not None:
             places[len(made)] = at
         item, at = read_value(text, at, depth)
         made.append(item)
-        if text[at:at + 1] == "]":
+        if text[at : at + 1] == "]":
             return made, space(text, at + 1)
         at = space(text, expect(text, at, ",", "]"))
 
 
 def expect(text, at, *wanted):
-    if text[at:at + 1] != wanted[0]:
+    if text[at : at + 1] != wanted[0]:
         raise Malformed(at, f"{' or '.join(wanted)} is wanted here" if at < len(text) else "the text ends too early")
     return at + 1
 
@@ -131,12 +133,12 @@ def read_string(text, at):
 def unescaped(inside, at):
     made, end = [], 0
     for found in ESCAPE.finditer(inside):
-        made.append(inside[end:found.start()])
+        made.append(inside[end : found.start()])
         made.append(LETTERS[found.group(2)] if found.group(2) else chr(int(found.group(1), 16)))
         end = found.end()
     joined = "".join(made) + inside[end:]
     try:
-        return joined.encode("utf-16", "surrogatepass").decode("utf-16")      # two halves make a character
+        return joined.encode("utf-16", "surrogatepass").decode("utf-16")  # two halves make a character
     except UnicodeDecodeError:
         raise Malformed(at, "half of a surrogate pair") from None
 

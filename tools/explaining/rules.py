@@ -3,13 +3,40 @@ import difflib
 import itertools
 import re
 
-from captures import (ALPHA_FACTORS, CULLS, FACTORS, FARTHEST, FUNCTIONS, INTERPOLATIONS, LEAST_EDGE, MOST_CORNER, MOST_CORNERS, MOST_EDGE, MOST_EVENTS,
-                      MOST_NAME, MOST_POSITION, MOST_SIDE, OPERATIONS, PICTURE, SINCE_TWO, unspelled)
+from captures import (
+    ALPHA_FACTORS,
+    CULLS,
+    FACTORS,
+    FARTHEST,
+    FUNCTIONS,
+    INTERPOLATIONS,
+    LEAST_EDGE,
+    MOST_CORNER,
+    MOST_CORNERS,
+    MOST_EDGE,
+    MOST_EVENTS,
+    MOST_NAME,
+    MOST_POSITION,
+    MOST_SIDE,
+    OPERATIONS,
+    PICTURE,
+    SINCE_TWO,
+    unspelled,
+)
 
 from .json_text import Other
 
-MOST_COMPARED = 1000          # names that a misspelt one is compared with
-FAULTS = {1: "too long", 2: "not json", 3: "not a capture", 4: "version", 5: "size", 6: "too many events", 7: "unknown event", 8: "bad field"}
+MOST_COMPARED = 1000  # names that a misspelt one is compared with
+FAULTS = {
+    1: "too long",
+    2: "not json",
+    3: "not a capture",
+    4: "version",
+    5: "size",
+    6: "too many events",
+    7: "unknown event",
+    8: "bad field",
+}
 
 
 class Wrong(Exception):
@@ -60,6 +87,7 @@ def check_event(event, version, path):
 
 # ---- The kinds of events ------------------------------------------------------------------------------------
 
+
 def clear(event, _, path):
     colour(event, path)
 
@@ -87,13 +115,19 @@ def blend(event, _, path):
 def blend_part(part, path):
     for i, allowed in enumerate((FACTORS, FACTORS, OPERATIONS)):
         if not isinstance(part[i], str) or part[i] not in allowed:
-            raise Wrong(8, (*path, i), f"{'a factor' if i < 2 else 'an operation'} is wanted, not {told(part[i])}{near(part[i], allowed)}")
+            raise Wrong(
+                8,
+                (*path, i),
+                f"{'a factor' if i < 2 else 'an operation'} is wanted, not {told(part[i])}{near(part[i], allowed)}",
+            )
 
 
 def draw(event, version, path):
     has_picture = event.get("interp") == PICTURE
     if has_picture and version < 3:
-        raise Wrong(8, (*path, "interp"), f'"{PICTURE}" comes with version 3: one of {", ".join(INTERPOLATIONS)} is wanted')
+        raise Wrong(
+            8, (*path, "interp"), f'"{PICTURE}" comes with version 3: one of {", ".join(INTERPOLATIONS)} is wanted'
+        )
     if has_picture:
         picture(event, path)
     else:
@@ -112,7 +146,9 @@ def draw(event, version, path):
             raise Wrong(8, (*path, name), f"{len(some)} are more than {MOST_CORNERS}")
     for number, index in enumerate(indices):
         if index >= len(vertices):
-            raise Wrong(8, (*path, "indices", number), f"{index} names no vertex: the draw has {len(vertices)}, numbered from 0")
+            raise Wrong(
+                8, (*path, "indices", number), f"{index} names no vertex: the draw has {len(vertices)}, numbered from 0"
+            )
 
 
 def vertex(corner, version, path):
@@ -145,7 +181,7 @@ def marker(event, _, path):
         raise missing_or(8, event, path, "name", "a text is wanted")
     if len(name.encode()) > MOST_NAME:
         raise Wrong(8, (*path, "name"), f"the name's {len(name.encode())} bytes are more than {MOST_NAME}")
-    if any(ord(c) < 0x20 or ord(c) == 0x7f for c in name):
+    if any(ord(c) < 0x20 or ord(c) == 0x7F for c in name):
         raise Wrong(8, (*path, "name"), "the name has a control character")
 
 
@@ -159,11 +195,21 @@ def depth_clear(event, _, path):
     whole(event, path, "depth", 0, FARTHEST)
 
 
-KINDS = {"clear": clear, "raster": raster, "scissor": scissor, "blend": blend, "factor": clear, "draw": draw, "marker": marker,
-         "depth": depth, "depth_clear": depth_clear}
+KINDS = {
+    "clear": clear,
+    "raster": raster,
+    "scissor": scissor,
+    "blend": blend,
+    "factor": clear,
+    "draw": draw,
+    "marker": marker,
+    "depth": depth,
+    "depth_clear": depth_clear,
+}
 
 
 # ---- Members ------------------------------------------------------------------------------------------------
+
 
 def is_whole(value, low, high):
     return type(value) is int and low <= value <= high
@@ -188,7 +234,9 @@ def one_of(owner, path, name, allowed):
 def array(owner, path, name, length=None):
     value = owner.get(name)
     if not isinstance(value, list) or length not in (None, len(value)):
-        raise missing_or(8, owner, path, name, "an array is wanted" if length is None else f"an array of {length} is wanted")
+        raise missing_or(
+            8, owner, path, name, "an array is wanted" if length is None else f"an array of {length} is wanted"
+        )
     return value
 
 
@@ -209,15 +257,29 @@ def in_base64(owner, path, name, length, why):
         raise missing_or(8, owner, path, name, f"a text in base64 is wanted, of {counted(length)}")
     strange = re.search("[^A-Za-z0-9+/](?![=]*$)|[^A-Za-z0-9+/=]", text)
     if strange:
-        raise Wrong(8, (*path, name), f"character {strange.start()} of the text is {strange[0]!r}, which is none of base64's (A to Z, a to z, 0 to 9, + and /)")
+        raise Wrong(
+            8,
+            (*path, name),
+            f"character {strange.start()} of the text is {strange[0]!r}, which is none of base64's (A to Z, a "
+            f"to z, 0 to 9, + and /)",
+        )
     if len(text) % 4 or text.count("=") > 2:
-        raise Wrong(8, (*path, name), f"the text's {len(text)} characters aren't padded by = to whole fours, as base64 is")
+        raise Wrong(
+            8, (*path, name), f"the text's {len(text)} characters aren't padded by = to whole fours, as base64 is"
+        )
     data = unspelled(text)
     if data is None:
-        why = f"behind the last byte of the text stand bits that aren't zero: base64 spells these bytes with another last letter before {text[-1]}"
+        why = (
+            f"behind the last byte of the text stand bits that aren't zero: base64 spells these bytes with "
+            f"another last letter before {text[-1]}"
+        )
         raise Wrong(8, (*path, name), why)
     if len(data) != length:
-        raise Wrong(8, (*path, name), f"{counted(length)} in base64 {'is' if length == 1 else 'are'} wanted, {why}; the text has {len(data)}")
+        raise Wrong(
+            8,
+            (*path, name),
+            f"{counted(length)} in base64 {'is' if length == 1 else 'are'} wanted, {why}; the text has {len(data)}",
+        )
 
 
 def counted(bytes_):
@@ -225,6 +287,7 @@ def counted(bytes_):
 
 
 # ---- Words --------------------------------------------------------------------------------------------------
+
 
 def missing_or(fault, owner, path, name, wanted):
     """A member that isn't there, or isn't as it should be."""

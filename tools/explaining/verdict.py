@@ -1,9 +1,12 @@
 """Whether framedbg accepts a capture, and why not, in words."""
+import origins
 from captures import MOST_BYTES
+from writing.counting import counted
 
 from . import json_text, rules
 
-MOST_NUMBER, MOST_NAME = 1 << 64, 60        # of a call that is shown: its number is below, its name has so many characters
+MOST_NUMBER, MOST_NAME = 1 << 64, 60  # of a call that is shown: its number is below, its name has so many characters
+MOST_ORIGIN = 160  # characters of what else is told of where an event comes from
 
 
 def explained(data):
@@ -19,9 +22,13 @@ def explained(data):
         return False, "2 not json", f"{place(text, fault.at)}: {fault}"
     except rules.Wrong as fault:
         number = f" {fault.event}" if fault.event else ""
-        return False, f"{fault.fault} {rules.FAULTS[fault.fault]}{number}", f"{place(text, json_text.locate(text, fault.path))}: {named(capture, fault)}{fault}"
+        return (
+            False,
+            f"{fault.fault} {rules.FAULTS[fault.fault]}{number}",
+            f"{place(text, json_text.locate(text, fault.path))}: {named(capture, fault)}{fault}",
+        )
     size = f"{capture['width']} by {capture['height']} pixels"
-    return True, "accepted", f"version {capture['version']}, {size}, {len(capture['events'])} events"
+    return True, "accepted", f"version {capture['version']}, {size}, {counted(len(capture['events']), 'event')}"
 
 
 def place(text, at):
@@ -29,12 +36,14 @@ def place(text, at):
 
 
 def call(event):
-    """The call that an event comes from, where it says one: , of call 363 glDrawElements()"""
+    """The call that an event comes from, where it says one, and what else it tells of that: of call 363
+    glDrawElements() (reads texture 35 lit)"""
     source = event.get("source") if isinstance(event, dict) else None
     number, name = (source.get(word) for word in ("event", "name")) if isinstance(source, dict) else (None, None)
     words = [str(number)] if type(number) is int and 0 <= number < MOST_NUMBER else []
     words += [name[:MOST_NAME]] if isinstance(name, str) and name else []
-    return f" of call {' '.join(words)}" if words else ""
+    more = [line for line in origins.lines(source) if not line.startswith("call ")]
+    return (f" of call {' '.join(words)}" if words else "") + (f" ({'; '.join(more)[:MOST_ORIGIN]})" if more else "")
 
 
 def named(capture, fault):
@@ -44,10 +53,14 @@ def named(capture, fault):
     if path[:1] == ["events"] and len(path) > 1:
         event = capture["events"][path[1]]
         kind = event.get("kind") if isinstance(event, dict) else None
-        words.append(f"event {path[1] + 1}" + (f" ({kind})" if isinstance(kind, str) and fault.fault == 8 else "") + call(event))
+        words.append(
+            f"event {path[1] + 1}" + (f" ({kind})" if isinstance(kind, str) and fault.fault == 8 else "") + call(event)
+        )
         path = path[2:]
     while path:
         name = path.pop(0)
         number = path.pop(0) if path and isinstance(path[0], int) else None
-        words.append(name if number is None else f"{ {'vertices': 'vertex', 'indices': 'index'}.get(name, name) } {number}")
+        words.append(
+            name if number is None else f"{ {'vertices': 'vertex', 'indices': 'index'}.get(name, name) } {number}"
+        )
     return ", ".join(words) + ": " if words else ""

@@ -1,24 +1,30 @@
 """The captures of a folder, each with its picture of the same name, and what is kept of each."""
 import hashlib
 import json
-import pathlib
 from dataclasses import dataclass
 
 from blaming.faults import Fault
 from writing import files
 
 PICTURES = (".png", ".pam", ".ppm")
-RESULTS = "night"        # the folder of results, in that of the captures
-MARK = ".framedbg-night"        # a file that each folder of results has
-BEGINNING = b'{\n "format": "framedbg-night"'       # of the result of a capture
+RESULTS = "night"  # the folder of results, in that of the captures
+MARK = ".framedbg-night"  # a file that each folder of results has
+BEGINNING = b'{\n "format": "framedbg-night"'  # of the result of a capture
 
 
 @dataclass(frozen=True)
 class Case:
-    """A capture by its name in the folder, without its ending; `picture` is None where there is none."""
+    """A capture by its name in the folder, without its ending; `picture` is None where there is none. With words of
+    a driver the capture is compared with that, and where there is no capture the driver's features are tried."""
+
     name: str
-    capture: pathlib.Path
+    capture: object
     picture: object
+    driver: object = None
+
+    @property
+    def is_wanted(self):
+        return self.picture is not None or self.driver is not None
 
 
 def cases_of(folder, results):
@@ -44,7 +50,9 @@ class Results:
         mark = self.folder / MARK
         if not mark.exists():
             if self.folder.is_dir() and any(self.folder.iterdir()):
-                raise Fault(f"{self.folder}: it has files, and no results of framedbg-night: name another folder with --results")
+                raise Fault(
+                    f"{self.folder}: it has files, and no results of framedbg-night: name another folder with --results"
+                )
             self.folder.mkdir(parents=True, exist_ok=True)
             mark.touch()
 
@@ -68,7 +76,8 @@ class Results:
         self.keep(case.name, ".json", json.dumps(told, indent=1).encode())
 
     def keep(self, name, end, data):
-        """Writes a file whole, or leaves what was there: two jobs at once, or one that is killed, leave no half of one."""
+        """Writes a file whole, or leaves what was there: two jobs at once, or one that is killed, leave no half of
+        one."""
         path = self.path(name, end)
         path.parent.mkdir(parents=True, exist_ok=True)
         files.keep(path, data)
@@ -82,8 +91,9 @@ def is_result(path):
 
 
 def key_of(case, how):
-    """What a result is a result of: the bytes of the capture and of the picture, and the words of the run that matter."""
-    made = hashlib.sha256(json.dumps(how).encode())
+    """What a result is a result of: the bytes of the capture and of the picture, and the words of the run that
+    matter."""
+    made = hashlib.sha256(json.dumps(how if case.driver is None else [how, case.driver]).encode())
     for path in (case.capture, case.picture):
         if path:
             made.update(hashlib.sha256(path.read_bytes()).digest())

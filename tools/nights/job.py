@@ -17,7 +17,11 @@ def do(case, results, given):
             results.keep(case.name, f".{name}.png", Image(frame.width, frame.height, samples).png())
     value = telling_json.value_of(outcome)
     value |= {"suspects": value["suspects"][:5], "changes": value["changes"][:5]}
-    results.write(case, how_of(given), {"report": list(report.lines(frame, outcome)), "seconds": round(time.monotonic() - began, 2), **value})
+    results.write(
+        case,
+        how_of(given),
+        {"report": list(report.lines(frame, outcome)), "seconds": round(time.monotonic() - began, 2), **value},
+    )
 
 
 def how_of(given):
@@ -30,6 +34,6 @@ def shown(outcome):
     samples = bytearray(value // 4 for value in outcome.drawn)
     at = outcome.mask.find(1)
     while at >= 0:
-        samples[4 * at:4 * at + 4] = b"\xff\xff\xff\xff"
+        samples[4 * at : 4 * at + 4] = b"\xff\xff\xff\xff"
         at = outcome.mask.find(1, at + 1)
     return bytes(samples)

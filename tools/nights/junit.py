@@ -12,7 +12,11 @@ def clean(text):
 
 def text_of(night):
     count = {word: sum(one.verdict == word for one in night) for word in ("differs", "failed", "no picture")}
-    head = f'<testsuite name="framedbg-night" tests="{len(night)}" failures="{count["differs"]}" errors="{count["failed"]}" skipped="{count["no picture"]}" time="{sum(one.seconds for one in night):.2f}">'
+    head = (
+        f'<testsuite name="framedbg-night" tests="{len(night)}" failures="{count["differs"]}" '
+        f'errors="{count["failed"]}" skipped="{count["no picture"]}" '
+        f'time="{sum(one.seconds for one in night):.2f}">'
+    )
     return '<?xml version="1.0" encoding="UTF-8"?>\n' + "\n".join([head, *map(case_of, night), "</testsuite>"]) + "\n"
 
 

@@ -1,11 +1,12 @@
-"""The jobs of a night on this machine: a process for each capture, so that one that is killed takes no other with it."""
+"""The jobs of a night on this machine: a process for each capture, so that one that is killed takes no other with
+it."""
 import concurrent.futures
 import signal
 import subprocess
 import threading
 
-SLACK = 120              # seconds beside those of the search that a job may take
-GRACE = 10               # seconds that a job has to end when it is told to
+SLACK = 120  # seconds beside those of the search that a job may take
+GRACE = 10  # seconds that a job has to end when it is told to
 
 
 class Over(Exception):
@@ -22,7 +23,13 @@ class Jobs:
         with self.lock:
             if self.is_over:
                 raise Over
-            job = subprocess.Popen(words, stdin=subprocess.DEVNULL, stdout=subprocess.DEVNULL, stderr=subprocess.PIPE, start_new_session=True)
+            job = subprocess.Popen(
+                words,
+                stdin=subprocess.DEVNULL,
+                stdout=subprocess.DEVNULL,
+                stderr=subprocess.PIPE,
+                start_new_session=True,
+            )
             self.running.add(job)
             return job
 
@@ -49,7 +56,8 @@ def end(job):
 
 
 def run_all(cases, words, given, tell):
-    """Runs a job for each case; `words` gives the command line of one. Gives why it failed, by name, for those that did."""
+    """Runs a job for each case; `words` gives the command line of one. Gives why it failed, by name, for those that
+    did."""
     failed, running = {}, Jobs()
     with concurrent.futures.ThreadPoolExecutor(given.processes) as pool:
         jobs = {pool.submit(run, running, words(case), given.seconds + SLACK): case for case in cases}

@@ -2,29 +2,31 @@
 import json
 import os
 import pathlib
+import shlex
 import signal
 import sys
 from dataclasses import dataclass
 
 from blaming.faults import INTERRUPTED, MEMORY, READING, WORDS, Fault
-from blaming.report import counted
 from explaining.printable import printable
 from framedbg_client import Ended, Garbled, Refusal, find_program
+from writing.counting import counted
 
-from . import job, junit, local, page, slurm
+from . import drivers, job, junit, local, page, slurm
 from .folder import RESULTS, Results, cases_of
 
 TOOL = pathlib.Path(__file__).resolve().parent.parent / "framedbg-night"
 ALIKE, DIFFERS, FAILED = 0, 1, 4
-WIDE = 30                # of the bar
+WIDE = 30  # of the bar
 
 
 @dataclass(frozen=True)
 class Told:
     """What the reports say of one capture."""
+
     number: int
     name: str
-    verdict: str             # alike, differs, failed, no picture
+    verdict: str  # alike, differs, failed, no picture
     headline: str
     lines: tuple
     seconds: float
@@ -36,7 +38,8 @@ class Told:
 
 
 def run(given):
-    """The status of a night, or of one of its jobs. Who ends it by a signal is told so too, and its jobs end with it."""
+    """The status of a night, or of one of its jobs. Who ends it by a signal is told so too, and its jobs end with
+    it."""
     sys.stdout.reconfigure(errors="backslashreplace")
     signal.signal(signal.SIGTERM, signal.default_int_handler)
     try:
@@ -64,18 +67,19 @@ def places(given):
     if not given.folder.is_dir():
         raise Fault(f"{given.folder}: no such folder", WORDS)
     results = given.results or given.folder / RESULTS
-    return results, Results(results), cases_of(given.folder, results)
+    cases = cases_of(given.folder, results)
+    return results, Results(results), drivers.cases_of(cases, given.driver) if given.driver else cases
 
 
 def one_job(given):
     """What a job does: the case of a name, or of the line of a task."""
     _, results, cases = places(given)
     name = given.job if given.task is None else json.loads(given.names.read_text(encoding="utf-8"))[given.task]
-    case = next((case for case in cases if case.name == name and case.picture), None)
+    case = next((case for case in cases if case.name == name and case.is_wanted), None)
     if case is None:
         raise Fault(f"{name}: no capture with a picture")
     if given.again or results.read(case, job.how_of(given)) is None:
-        job.do(case, results, given)
+        (job if case.driver is None else drivers).do(case, results, given)
     return 0
 
 
@@ -86,44 +90,81 @@ def night(given):
         raise Fault("framedbg isn't built or installed here", READING)
     results.claim(given.folder)
     how = job.how_of(given)
-    with_picture = [case for case in cases if case.picture]
-    todo = [case for case in with_picture if given.again or results.read(case, how) is None]
+    wanted = [case for case in cases if case.is_wanted]
+    todo = [case for case in wanted if given.again or results.read(case, how) is None]
     if given.again:
         for case in todo:
             results.path(case.name).unlink(missing_ok=True)
-    bar = Bar(len(with_picture), len(with_picture) - len(todo))
-    failed = done_by_slurm(todo, folder, results, given, bar) if given.slurm else local.run_all(todo, lambda case: [*words_of(given), f"--job={case.name}"], given, bar.tell)
+    bar = Bar(len(wanted), len(wanted) - len(todo))
+    failed = (
+        done_by_slurm(todo, folder, results, given, bar)
+        if given.slurm
+        else local.run_all(todo, lambda case: [*words_of(given), f"--job={case.name}"], given, bar.tell)
+    )
     bar.end()
-    report = [of_case(number, case, results.read(case, how) if case.picture else None, failed) for number, case in enumerate(cases)]
+    report = [
+        of_case(number, case, results.read(case, how) if case.is_wanted else None, failed)
+        for number, case in enumerate(cases)
+    ]
     results.keep("night", ".xml", junit.text_of(report).encode())
-    results.keep("night", ".html", page.text_of(report, results).encode(errors="backslashreplace"))
+    tables = [results.read(case, how) for case in cases if case.capture is None]
+    results.keep(
+        "night", ".html", page.text_of(report, results, drivers.table(tables)).encode(errors="backslashreplace")
+    )
     return summed(report, len(todo), given, folder)
 
 
 def words_of(given):
     """The command line of a job, but for which it is."""
-    made = [sys.executable, str(TOOL), str(given.folder.resolve()), "--tolerance", ",".join(map(str, given.tolerance)), "--seconds", f"{given.seconds:g}",
-            "--program", os.path.abspath(given.program)]
-    return made + (["--results", str(given.results.resolve())] if given.results else []) + (["--again"] if given.again else [])
+    made = [
+        sys.executable,
+        str(TOOL),
+        str(given.folder.resolve()),
+        "--tolerance",
+        ",".join(map(str, given.tolerance)),
+        "--seconds",
+        f"{given.seconds:g}",
+        "--program",
+        os.path.abspath(given.program),
+    ]
+    made += [f"--driver={shlex.join(words)}" for words in given.driver or []]
+    return (
+        made
+        + (["--results", str(given.results.resolve())] if given.results else [])
+        + (["--again"] if given.again else [])
+    )
 
 
 def done_by_slurm(todo, folder, results, given, bar):
     """Why each case has no result that has none after the arrays."""
     how, tasks = job.how_of(given), (folder / "tasks").resolve()
     if todo:
-        slurm.run_all(todo, words_of(given), tasks, given.sbatch, lambda: bar.set(sum(results.path(case.name).exists() for case in todo)))
+        slurm.run_all(
+            todo,
+            words_of(given),
+            tasks,
+            given.sbatch,
+            lambda: bar.set(sum(results.path(case.name).exists() for case in todo)),
+        )
     said = slurm.said(todo, tasks)
-    return {case.name: said[case.name] or "the job left no result: it was killed or lost" for case in todo if results.read(case, how) is None}
+    return {
+        case.name: said[case.name] or "the job left no result: it was killed or lost"
+        for case in todo
+        if results.read(case, how) is None
+    }
 
 
 def of_case(number, case, result, failed):
-    if case.picture is None:
+    if not case.is_wanted:
         return Told(number, case.name, "no picture", "no picture of this name", (), 0.0)
     if result is None:
         why = failed.get(case.name, "the job left no result: it was killed or lost")
-        return Told(number, case.name, "failed", printable(why), (printable(why), "the same command does it once more"), 0.0)
+        return Told(
+            number, case.name, "failed", printable(why), (printable(why), "the same command does it once more"), 0.0
+        )
     lines = tuple(result["report"])
-    return Told(number, case.name, "differs" if result["differ"] else "alike", headline(result), lines, result["seconds"])
+    said = headline(result) if case.driver is None else result["headline"]
+    return Told(number, case.name, "differs" if result["differ"] else "alike", said, lines, result["seconds"])
 
 
 def headline(result):
@@ -138,7 +179,11 @@ def headline(result):
 def summed(report, done, given, folder):
     """Tells what came of the night, and gives its status."""
     count = {word: sum(one.verdict == word for one in report) for word in ("alike", "differs", "failed", "no picture")}
-    print(f"{counted(len(report), 'capture')}: {count['alike']} alike, {count['differs']} differ, {count['failed']} failed, {count['no picture']} without a picture; {done} done now")
+    print(
+        f"{counted(len(report), 'job' if given.driver else 'capture')}: {count['alike']} alike, "
+        f"{count['differs']} differ, {count['failed']} failed, {count['no picture']} without a picture; {done} "
+        f"done now"
+    )
     untold = ("alike", "no picture") if given.allow_missing else ("alike",)
     for one in report:
         if one.verdict not in untold:
@@ -168,7 +213,10 @@ class Bar:
         if self.is_shown and self.total:
             done = self.before + self.done
             full = WIDE * done // self.total
-            sys.stderr.write(f"\r\x1b[K[{'#' * full}{'.' * (WIDE - full)}] {done} of {self.total}{f', {self.failed} failed' if self.failed else ''}")
+            sys.stderr.write(
+                f"\r\x1b[K[{'#' * full}{'.' * (WIDE - full)}] {done} of "
+                f"{self.total}{f', {self.failed} failed' if self.failed else ''}"
+            )
             sys.stderr.flush()
 
     def end(self):

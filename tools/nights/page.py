@@ -1,8 +1,9 @@
-"""The report of a night as one page: for each capture that differs its picture, the wanted one, where they differ, and the finding."""
+"""The report of a night as one page: for each capture that differs its picture, the wanted one, where they differ,
+and the finding."""
 import base64
 from html import escape
 
-from blaming.report import counted
+from writing.counting import counted
 
 STYLE = """body { font: 15px/1.5 system-ui, sans-serif; margin: 2em auto; max-width: 72em; padding: 0 1em; color: #222; background: #fff; }
 table { border-collapse: collapse; } td, th { padding: .2em 1em .2em 0; text-align: left; }
@@ -12,13 +13,26 @@ pre { background: #f5f5f5; padding: 1em; overflow-x: auto; } .differs, .failed {
 @media (prefers-color-scheme: dark) { body { color: #ddd; background: #181818; } pre { background: #242424; } figcaption { color: #999; } a { color: #8bf; } .differs, .failed { color: #f88; } }"""
 
 
-def text_of(night, results):
+def text_of(night, results, table=""):
     told = [one for one in night if one.verdict != "alike"]
-    rows = "\n".join(f'<tr><td><a href="#{anchor(one)}">{escape(one.shown)}</a></td><td class="{one.verdict}">{one.verdict}</td><td>{escape(one.headline)}</td></tr>' for one in told)
-    head = f"{counted(len(night), 'capture')}, {sum(one.verdict == 'alike' for one in night)} alike, {sum(one.verdict == 'differs' for one in night)} differ, {sum(one.verdict == 'failed' for one in night)} failed"
+    rows = "\n".join(
+        (
+            f'<tr><td><a href="#{anchor(one)}">{escape(one.shown)}</a></td><td '
+            f'class="{one.verdict}">{one.verdict}</td><td>{escape(one.headline)}</td></tr>'
+        )
+        for one in told
+    )
+    head = (
+        f"{counted(len(night), 'capture')}, {sum(one.verdict == 'alike' for one in night)} alike, "
+        f"{sum(one.verdict == 'differs' for one in night)} differ, "
+        f"{sum(one.verdict == 'failed' for one in night)} failed"
+    )
     parts = "\n".join(section(one, results) for one in told)
-    return (f'<!DOCTYPE html>\n<html lang="en"><head><meta charset="utf-8"><title>A night of captures</title><style>{STYLE}</style></head><body>\n'
-            f"<h1>A night of captures</h1>\n<p>{head}</p>\n<table>{rows}</table>\n{parts}\n</body></html>\n")
+    return (
+        f'<!DOCTYPE html>\n<html lang="en"><head><meta charset="utf-8"><title>A night of '
+        f'captures</title><style>{STYLE}</style></head><body>\n'
+        f"<h1>A night of captures</h1>\n<p>{head}</p>\n{table}<table>{rows}</table>\n{parts}\n</body></html>\n"
+    )
 
 
 def anchor(one):
@@ -26,9 +40,19 @@ def anchor(one):
 
 
 def section(one, results):
-    shown = "".join(figure(one, results, name, caption) for name, caption in (("drawn", "as it is drawn"), ("wanted", "as it should be"), ("difference", "where they differ")))
+    shown = "".join(
+        figure(one, results, name, caption)
+        for name, caption in (
+            ("drawn", "as it is drawn"),
+            ("wanted", "as it should be"),
+            ("difference", "where they differ"),
+        )
+    )
     lines = escape("\n".join(one.lines))
-    return f'<h2 id="{anchor(one)}">{escape(one.shown)}</h2>\n{shown if one.verdict == "differs" else ""}<pre>{lines}</pre>'
+    return (
+        f'<h2 id="{anchor(one)}">{escape(one.shown)}</h2>\n{shown if one.verdict == "differs" else ""}<pre>'
+        f'{lines}</pre>'
+    )
 
 
 def figure(one, results, name, caption):
@@ -36,4 +60,7 @@ def figure(one, results, name, caption):
     if not path.exists():
         return ""
     data = base64.b64encode(path.read_bytes()).decode()
-    return f'<figure><img alt="{escape(one.shown)} {caption}" src="data:image/png;base64,{data}"><figcaption>{caption}</figcaption></figure>\n'
+    return (
+        f'<figure><img alt="{escape(one.shown)} {caption}" '
+        f'src="data:image/png;base64,{data}"><figcaption>{caption}</figcaption></figure>\n'
+    )

@@ -1,4 +1,5 @@
-"""The jobs of a night as job arrays of Slurm. Which task is which case stands in a file; what came of each is read from the results alone."""
+"""The jobs of a night as job arrays of Slurm. Which task is which case stands in a file; what came of each is read
+from the results alone."""
 import json
 import os
 import shlex
@@ -7,9 +8,9 @@ import time
 
 from blaming.faults import READING, Fault
 
-MOST_TASKS = 1000        # of one array: Slurm's own bound is 1,001 where it isn't set otherwise
-BETWEEN = 1.0            # seconds between two looks
-WAIT = 60                # seconds that a call of Slurm may take
+MOST_TASKS = 1000  # of one array: Slurm's own bound is 1,001 where it isn't set otherwise
+BETWEEN = 1.0  # seconds between two looks
+WAIT = 60  # seconds that a call of Slurm may take
 
 
 def called(*words):
@@ -25,7 +26,16 @@ def submit(words, logs, count, options):
     script = "#!/bin/sh\nexec " + " ".join(map(shlex.quote, words)) + ' --task "$SLURM_ARRAY_TASK_ID"\n'
     path = logs / "task.sh"
     path.write_bytes(os.fsencode(script))
-    ran = called("sbatch", "--parsable", f"--array=0-{count - 1}", "--job-name=framedbg-night", "--cpus-per-task=1", f"--output={logs}/%a.log", *options, str(path))
+    ran = called(
+        "sbatch",
+        "--parsable",
+        f"--array=0-{count - 1}",
+        "--job-name=framedbg-night",
+        "--cpus-per-task=1",
+        f"--output={logs}/%a.log",
+        *options,
+        str(path),
+    )
     if ran.returncode:
         raise Fault(f"sbatch: {(ran.stderr.strip().splitlines() or ['no reason told'])[-1]}", READING)
     return ran.stdout.strip().split(";")[0]
@@ -38,9 +48,10 @@ def is_waiting(job):
 
 
 def run_all(cases, words, tasks, options, tell):
-    """Runs arrays over cases, one after the other. `tasks` is the folder of the lists of their names and of what they say; `tell` looks at what is done."""
+    """Runs arrays over cases, one after the other. `tasks` is the folder of the lists of their names and of what
+    they say; `tell` looks at what is done."""
     for number, start in enumerate(range(0, len(cases), MOST_TASKS)):
-        some = cases[start:start + MOST_TASKS]
+        some = cases[start : start + MOST_TASKS]
         logs = tasks / str(number)
         logs.mkdir(parents=True, exist_ok=True)
         (logs / "names").write_text(json.dumps([case.name for case in some]), encoding="utf-8")

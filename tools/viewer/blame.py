@@ -1,4 +1,5 @@
-"""Who made the image differ from a picture: one run of framedbg-blame at a time over the run's capture, and the picture after what mends it."""
+"""Who made the image differ from a picture: one run of framedbg-blame at a time over the run's capture, and the
+picture after what mends it."""
 import json
 import os
 import pathlib
@@ -8,15 +9,15 @@ import tempfile
 import threading
 
 from blaming.faults import Fault
-from blaming.frame import Frame, read_capture
+from blaming.frame import CaptureFrame, read_capture
 from captures import marker
 from framedbg_client import read_pam
 
 from .doors import Refused
 
 TOOL = pathlib.Path(__file__).resolve().parent.parent / "framedbg-blame"
-SECONDS = 60             # for a search
-FOUND = (0, 1, 4)        # statuses with which it says what it found
+SECONDS = 60  # for a search
+FOUND = (0, 1, 4)  # statuses with which it says what it found
 INTERRUPTED = 130
 
 
@@ -26,8 +27,8 @@ class Blame:
         self.lock, self.run, self.is_stopped = threading.Lock(), None, False
 
     def answer(self, picture, tolerance, off):
-        """What is found, with the size of the picture after the best change, and that picture's samples. Events that are off are none for it, and keep
-        their numbers."""
+        """What is found, with the size of the picture after the best change, and that picture's samples. Events that
+        are off are none for it, and keep their numbers."""
         if not self.lock.acquire(blocking=False):
             raise Refused(409, "it is looked for already")
         try:
@@ -52,9 +53,24 @@ class Blame:
         if off:
             capture = folder / "shown.json"
             capture.write_text(without(read_capture(self.capture), off), encoding="utf-8")
-        words = [sys.executable, str(TOOL), str(capture), wanted.name, "--json", "--program", self.program, "--seconds", str(SECONDS),
-                 "--tolerance", ",".join(map(str, tolerance)), "--write", str(mended)]
-        self.run = subprocess.Popen(words, cwd=folder, stdin=subprocess.DEVNULL, stdout=subprocess.PIPE, stderr=subprocess.PIPE)
+        words = [
+            sys.executable,
+            str(TOOL),
+            str(capture),
+            wanted.name,
+            "--json",
+            "--program",
+            self.program,
+            "--seconds",
+            str(SECONDS),
+            "--tolerance",
+            ",".join(map(str, tolerance)),
+            "--write",
+            str(mended),
+        ]
+        self.run = subprocess.Popen(
+            words, cwd=folder, stdin=subprocess.DEVNULL, stdout=subprocess.PIPE, stderr=subprocess.PIPE
+        )
         if self.is_stopped:
             self.stop()
         out, said = self.run.communicate()
@@ -66,10 +82,14 @@ class Blame:
         return told, self.drawn(mended) if mended.exists() else b""
 
     def drawn(self, capture):
-        return read_pam(subprocess.run([self.program, "image", str(capture)], stdin=subprocess.DEVNULL, capture_output=True, check=False).stdout).samples
+        return read_pam(
+            subprocess.run(
+                [self.program, "image", str(capture)], stdin=subprocess.DEVNULL, capture_output=True, check=False
+            ).stdout
+        ).samples
 
 
 def without(capture, off):
     """A capture whose events of some numbers do nothing."""
     events = [marker("off") if number in off else event for number, event in enumerate(capture["events"], 1)]
-    return Frame(capture).text(events)
+    return CaptureFrame(capture).text(events)

@@ -1,17 +1,22 @@
 """What a request must be, to be answered: the page's own, of this run, and of a bounded length."""
 import hmac
+import json
 
 from framedbg_client.connection import MOST_LINE
 
 from .runs import BESIDE
 
-MAX_BODY = 1 << 16       # bytes of a call
-MAX_PICTURE = 1 << 25    # bytes of a picture
-MAX_COMMANDS = 4096      # lines of a call
-MAX_NUMBER = 10          # digits
+MAX_BODY = 1 << 16  # bytes of a call
+MAX_PICTURE = 1 << 25  # bytes of a picture
+MAX_COMMANDS = 4096  # lines of a call
+MAX_NUMBER = 10  # digits
+MAX_DEPTHS = 1 << 17  # of a call
+MAX_NAME = 255  # characters
 HEADERS = {
-    "Content-Security-Policy": "default-src 'none'; script-src 'self'; style-src 'self'; img-src 'self' data:; connect-src 'self'; "
-                               "base-uri 'none'; form-action 'none'; frame-ancestors 'none'",
+    "Content-Security-Policy": (
+        "default-src 'none'; script-src 'self'; style-src 'self'; img-src 'self' data:; connect-src 'self'; "
+        "base-uri 'none'; form-action 'none'; frame-ancestors 'none'"
+    ),
     "X-Content-Type-Options": "nosniff",
     "Referrer-Policy": "no-referrer",
     "Cross-Origin-Opener-Policy": "same-origin",
@@ -73,8 +78,21 @@ def beside(headers):
     return name
 
 
+def name(headers):
+    """A file's name, which is shown and nothing else."""
+    try:
+        told = json.loads(headers.get("X-Name", '""'))
+    except ValueError:
+        told = None
+    if not isinstance(told, str) or len(told) > MAX_NAME:
+        raise Refused(400, "a name is wanted")
+    return told or "the other capture"
+
+
 def numbers(text, *counts):
     words = text.split()
-    if len(words) not in counts or not all(word.isascii() and word.isdigit() and len(word) <= MAX_NUMBER for word in words):
+    if len(words) not in counts or not all(
+        word.isascii() and word.isdigit() and len(word) <= MAX_NUMBER for word in words
+    ):
         raise Refused(400, f"{counts[0]} numbers are wanted")
     return tuple(map(int, words))

@@ -1,11 +1,12 @@
-"""An image as framedbg writes it, read from its pipe: the part that is asked for, or the whole, with pixels left out where it is too large."""
+"""An image as framedbg writes it, read from its pipe: the part that is asked for, or the whole, with pixels left out
+where it is too large."""
 import fcntl
 import math
 
 from framedbg_client.image import fields_of
 
-MOST_PIXELS = 1 << 22    # of an image that are kept: those of 2048 by 2048
-PIECE = 1 << 20          # bytes that are read at once
+MOST_PIXELS = 1 << 22  # of an image that are kept: those of 2048 by 2048
+PIECE = 1 << 20  # bytes that are read at once
 HEADER_LINES = 7
 
 
@@ -18,8 +19,10 @@ def widen(pipe):
 
 
 def read_image(stream, size, window=None):
-    """What is kept of a PAM of `size` bytes, and its pixels: (a description, a bytes-like object); None where the stream ends before.
-    The window is (left, top, right, bottom) in pixels of the target, and perhaps every how many of them one is kept at most."""
+    """What is kept of a PAM of `size` bytes, and its pixels: (a description, a bytes-like object); None where the
+    stream ends before. The window is (left, top, right, bottom) in pixels of the target, and perhaps every how many
+    of them one is kept at most.
+    """
     header = [stream.readline() for _ in range(HEADER_LINES)]
     if not header[-1].endswith(b"\n"):
         return None
@@ -37,8 +40,16 @@ def kept_part(width, height, window):
     every = max(1, *wanted, math.isqrt((right - left) * (bottom - top) // MOST_PIXELS))
     while kept(right - left, every) * kept(bottom - top, every) > MOST_PIXELS:
         every += 1
-    return {"width": width, "height": height, "left": left, "top": top, "every": every, "most": MOST_PIXELS,
-            "columns": kept(right - left, every), "rows": kept(bottom - top, every)}
+    return {
+        "width": width,
+        "height": height,
+        "left": left,
+        "top": top,
+        "every": every,
+        "most": MOST_PIXELS,
+        "columns": kept(right - left, every),
+        "rows": kept(bottom - top, every),
+    }
 
 
 def kept(length, every):
@@ -53,12 +64,16 @@ def read_part(stream, part):
         return pixels if len(pixels) == 4 * width * height else None
     rows, y, last = bytearray(), 0, top + (part["rows"] - 1) * every
     while y < height:
-        count = min(height - y, every) if top <= y <= last else min((top if y < top else height) - y, max(1, PIECE // (4 * width)))
+        count = (
+            min(height - y, every)
+            if top <= y <= last
+            else min((top if y < top else height) - y, max(1, PIECE // (4 * width)))
+        )
         strip = stream.read(4 * width * count)
         if len(strip) < 4 * width * count:
             return None
-        if top <= y <= last:                # a kept row, and those up to the next one
-            pixels = memoryview(strip).cast("I")[part["left"]:part["left"] + (part["columns"] - 1) * every + 1]
+        if top <= y <= last:  # a kept row, and those up to the next one
+            pixels = memoryview(strip).cast("I")[part["left"] : part["left"] + (part["columns"] - 1) * every + 1]
             rows += pixels[::every].tobytes()
         y += count
     return rows

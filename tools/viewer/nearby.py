@@ -1,21 +1,28 @@
-"""The picture of a position from that of another one near it. What lies between them writes inside of some boxes alone, so that only their pixels are asked for,
-one by one: an image of 2048 by 2048 is 16 MiB. Where the boxes have many pixels, or one isn't known, the whole image is asked for."""
+"""The picture of a position from that of another one near it. What lies between them writes inside of some boxes
+alone, so that only their pixels are asked for, one by one: an image of 2048 by 2048 is 16 MiB. Where the boxes have
+many pixels, or one isn't known, the whole image is asked for."""
 from .image import kept_part
 
-MOST_PIXELS, LEAST_PIXELS, SHARE = 8192, 1024, 512      # that are asked for at most: one in so many of the target's, within bounds. Of more the whole image comes as soon
-MOST_EVENTS = 256        # between the two positions
-TWICE = 2                # so often their pixels at most, where boxes lie over each other: to find out which are the same takes time too
-MOST_SPANS = 16384       # of pixels side by side in a row of a box
-BUNDLE = 256             # lines that are written at once
-VALUES = {b"%d" % value: value for value in range(256)}      # of a channel, by how framedbg writes it
+MOST_PIXELS, LEAST_PIXELS, SHARE = (
+    8192,
+    1024,
+    512,
+)  # that are asked for at most: one in so many of the target's, within bounds. Of more the whole image comes as soon
+MOST_EVENTS = 256  # between the two positions
+TWICE = (
+    2  # so often their pixels at most, where boxes lie over each other: to find out which are the same takes time too
+)
+MOST_SPANS = 16384  # of pixels side by side in a row of a box
+BUNDLE = 256  # lines that are written at once
+VALUES = {b"%d" % value: value for value in range(256)}  # of a channel, by how framedbg writes it
 
 
 class Nearby:
     """What is known of the picture that a run wrote last, as long as no event is switched."""
 
     def __init__(self, boxes):
-        """`boxes` gives those of the events behind one position up to another, but for what is off: each (left, top, right, bottom) of the pixels that may be written;
-        None where that isn't known."""
+        """`boxes` gives those of the events behind one position up to another, but for what is off: each (left, top,
+        right, bottom) of the pixels that may be written; None where that isn't known."""
         self.boxes, self.most = boxes, MOST_PIXELS if boxes else 0
         self.forget()
 
@@ -23,12 +30,14 @@ class Nearby:
         self.position = self.text = self.part = self.pixels = None
 
     def keep(self, position, text, part, pixels):
-        """The picture of a position as the run wrote it: the first line of the reply, what of the target is kept, and its pixels."""
+        """The picture of a position as the run wrote it: the first line of the reply, what of the target is kept,
+        and its pixels."""
         if self.boxes:
             self.position, self.text, self.part, self.pixels = position, text, part, pixels
 
     def places(self, position, off, window):
-        """The runs of kept pixels in which the picture of a position may be another one than the last; None where the whole image is to be asked for."""
+        """The runs of kept pixels in which the picture of a position may be another one than the last; None where
+        the whole image is to be asked for."""
         if self.pixels is None or abs(position - self.position) > MOST_EVENTS:
             return None
         width, height = self.part["width"], self.part["height"]
@@ -39,13 +48,17 @@ class Nearby:
             return None
         inside = [box for box in (clipped(box, self.part) for box in boxes) if box]
         most = min(self.most, max(LEAST_PIXELS, width * height // SHARE))
-        if sum((right - left) * (bottom - top) for left, top, right, bottom in inside) > TWICE * most or sum(bottom - top for _, top, _, bottom in inside) > MOST_SPANS:
+        if (
+            sum((right - left) * (bottom - top) for left, top, right, bottom in inside) > TWICE * most
+            or sum(bottom - top for _, top, _, bottom in inside) > MOST_SPANS
+        ):
             return None
         runs = runs_of(inside)
         return runs if sum(end - start for _, start, end in runs) <= most else None
 
     def lines(self, runs):
-        """The `pixel` lines for some runs of kept pixels, some at a time: a text without its last line feed, and how many they are."""
+        """The `pixel` lines for some runs of kept pixels, some at a time: a text without its last line feed, and how
+        many they are."""
         left, top, every, columns = (self.part[name] for name in ("left", "top", "every", "columns"))
         words, some, count = [b"pixel %d " % (left + column * every) for column in range(columns)], [], 0
         for row, start, end in runs:
@@ -61,12 +74,13 @@ class Nearby:
             yield b"".join(some)[:-1], count
 
     def move(self, position, runs, colours):
-        """To the picture of a position, by the colours of the kept pixels of some runs: the pixels, and the rows in which they may be others than before."""
+        """To the picture of a position, by the colours of the kept pixels of some runs: the pixels, and the rows in
+        which they may be others than before."""
         if runs:
             at, columns, self.pixels = 0, self.part["columns"], bytearray(self.pixels)
             for row, start, end in runs:
                 size, to = 4 * (end - start), 4 * (row * columns + start)
-                self.pixels[to:to + size] = colours[at:at + size]
+                self.pixels[to : to + size] = colours[at : at + size]
                 at += size
         self.position = position
         return self.pixels, sorted({row for row, _, _ in runs})
@@ -107,5 +121,5 @@ def colours_of(replies):
     """Four bytes of each reply to a `pixel` line: all have as many words."""
     words, colours = b"".join(replies).split(), bytearray(4 * len(replies))
     for channel in range(4):
-        colours[channel::4] = bytes(map(VALUES.__getitem__, words[1 + channel::len(words) // len(replies)]))
+        colours[channel::4] = bytes(map(VALUES.__getitem__, words[1 + channel :: len(words) // len(replies)]))
     return colours

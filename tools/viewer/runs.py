@@ -1,18 +1,21 @@
-"""The run that the page moves, and others of the same capture beside it, for what would move it away: histories of the whole frame, pictures of depths."""
+"""The run that the page moves, and others of the same capture beside it, for what would move it away: histories of
+the whole frame, pictures of depths."""
 import threading
 
 from .session import Ended, Session, Stopped
 
-BESIDE = ("end", "depths")       # what the runs beside are for; each is started when it is asked for the first time
+OTHER = "other"  # of another capture: it follows nothing
+BESIDE = ("end", "depths", OTHER)  # what the runs beside are for; each is started when it is asked for the first time
 
 
 class Runs:
     def __init__(self, session):
         self.session, self.beside, self.lock = session, {}, threading.Lock()
+        self.other = None  # another capture (beside.py)
 
     def answer(self, lines, window=None, beside=None, ending=0):
-        """The replies to some lines, the images among them, and the count of switches before and after; those beside have the same events off. So many of the
-        last lines are answered by the run at the end."""
+        """The replies to some lines, the images among them, and the count of switches before and after; those beside
+        have the same events off. So many of the last lines are answered by the run at the end."""
         if ending:
             own, images, switches = self.answer(lines[:-ending], window, beside)
             there, more, _ = self.answer(lines[-ending:], window, "end")
@@ -21,14 +24,30 @@ class Runs:
             return self.session.answer(lines, window)
         before, run = self.session.switches, self._run(beside)
         try:
-            run.follow(set(self.session.off), len(lines))
+            if beside != OTHER:
+                run.follow(set(self.session.off), len(lines))
             replies, images, _ = run.answer(lines, window)
         except Stopped:
             raise
         except Ended:
-            self._drop(beside, run)
+            if beside == OTHER:
+                run.start()
+            else:
+                self._drop(beside, run)
             raise
         return replies, images, (before, before)
+
+    def depths(self, position, part):
+        """The depths of some pixels at a position, by the run beside that is for them."""
+        run = self._run("depths")
+        try:
+            run.follow(set(self.session.off), 1 + part[-1] * part[-2])
+            return run.depths(position, part)
+        except Stopped:
+            raise
+        except Ended:
+            self._drop("depths", run)
+            raise
 
     def start(self):
         self._drop_all()
@@ -36,16 +55,25 @@ class Runs:
 
     def stop(self):
         """Those beside that are at something are ended too."""
-        for run in list(self.beside.values()):
+        for run in [*self.beside.values(), *([self.other.session] if self.other else [])]:
             if run.lock.locked():
                 run.stop()
         self.session.stop()
 
+    def put_beside(self, other):
+        """Another capture, in the place of the one before, or none."""
+        before, self.other = self.other, other
+        if before:
+            before.close()
+
     def close(self):
         self._drop_all()
+        self.put_beside(None)
         self.session.close()
 
     def _run(self, name):
+        if name == OTHER:
+            return self.other.session
         with self.lock:
             if name not in self.beside:
                 self.beside[name] = Session(*self.session.words)

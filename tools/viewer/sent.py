@@ -1,7 +1,7 @@
 """The image that a page was sent last: of the next one only the rows that are others go through the air."""
 import threading
 
-NUMBER = 0               # of an image that is nobody's
+NUMBER = 0  # of an image that is nobody's
 
 
 class Sent:
@@ -9,9 +9,12 @@ class Sent:
         self.lock, self.last, self.count = threading.Lock(), (NUMBER, None, None), NUMBER
 
     def shortened(self, images, base):
-        """The descriptions of some images and their bytes, and of those that follow on the base, or on the one before them, their changed rows alone."""
+        """The descriptions of some images and their bytes, and of those that follow on the base, or on the one
+        before them, their changed rows alone."""
         with self.lock:
-            return [self._shortened(image, data, base if i == 0 else self.count) for i, (image, data) in enumerate(images)]
+            return [
+                self._shortened(image, data, base if i == 0 else self.count) for i, (image, data) in enumerate(images)
+            ]
 
     def _shortened(self, image, data, base):
         number, part, old = self.last
@@ -24,8 +27,17 @@ class Sent:
             return told, data
         bands = changed_rows(data, old, 4 * image["columns"], rows if made_of is old else None)
         stride, view = 4 * image["columns"], memoryview(data)
-        piece = b"".join(view[stride * first:stride * (first + count)] for first, count in bands)
-        return ({**told, "base": base, "bands": bands, "bytes": len(piece)}, piece) if 2 * len(piece) < len(data) else (told, data)
+        piece = b"".join(view[stride * first : stride * (first + count)] for first, count in bands)
+        return (
+            ({**told, "base": base, "bands": bands, "bytes": len(piece)}, piece)
+            if 2 * len(piece) < len(data)
+            else (told, data)
+        )
+
+
+def whole(images):
+    """The same where nothing follows on anything, and nothing is to follow on these."""
+    return [({name: value for name, value in image.items() if name != "since"}, data) for image, data in images]
 
 
 def changed_rows(new, old, stride, rows=None):
@@ -35,7 +47,7 @@ def changed_rows(new, old, stride, rows=None):
     bands, old = [], memoryview(old)
     for row in range(len(new) // stride) if rows is None else rows:
         at = stride * row
-        if new.startswith(old[at:at + stride], at):         # compares without a copy of either
+        if new.startswith(old[at : at + stride], at):  # compares without a copy of either
             continue
         if bands and sum(bands[-1]) == row:
             bands[-1][1] += 1

@@ -1,5 +1,7 @@
 """One run of framedbg, driven by its own commands over pipes: a line in, a reply out."""
+import array
 import itertools
+import sys
 import threading
 
 from framedbg_client import Ended
@@ -10,13 +12,22 @@ from framedbg_client.replies import extent
 from .image import read_image, widen
 from .nearby import Nearby, colours_of
 
-MAX_LISTED = 100_000     # lines of a list that are kept; the rest is read and counted
-BEGUN_BEFORE = 300_000   # of these are left when the next run is begun beside it
-BEGUN_BYTES = 4096       # of lines that it is given at once: they fit any pipe
+MAX_LISTED = 100_000  # lines of a list that are kept; the rest is read and counted
+BEGUN_BEFORE = 300_000  # of these are left when the next run is begun beside it
+DEPTH_WORDS = 6  # of a reply to `pixel` with a depth, which is the last
+BEGUN_BYTES = 4096  # of lines that it is given at once: they fit any pipe
+
+
+def depths_of(words):
+    depths = array.array("H", map(int, words))
+    if sys.byteorder == "big":
+        depths.byteswap()
+    return depths.tobytes()
 
 
 class Stopped(Ended):
-    """The run was stopped in the midst of a call, and another stands in its place, with the events off that were off before."""
+    """The run was stopped in the midst of a call, and another stands in its place, with the events off that were off
+    before."""
 
     def __str__(self):
         return "stopped"
@@ -28,12 +39,14 @@ class Session:
         self.words = program, capture, workers
         self.nearby = Nearby(boxes)
         self.lock = threading.Lock()
-        self.connection = self.run = None        # to the run, and its process
-        self.begun = None                        # the next run, on its way to where this one stood: a connection, the events that are off there, and how many replies are to come
-        self.switches = 0        # how often events were switched, or all of them on by a new start
-        self.off, self.flipped = set(), []       # the events that are off, and the switches of the call that is answered
+        self.connection = self.run = None  # to the run, and its process
+        # the next run, on its way to where this one stood: a connection, the events that are off there, and how many
+        # replies are to come
+        self.begun = None
+        self.switches = 0  # how often events were switched, or all of them on by a new start
+        self.off, self.flipped = set(), []  # the events that are off, and the switches of the call that is answered
         self.stopping = False
-        self.lines = self.position = 0           # lines that the run has been given, and where it stands
+        self.lines = self.position = 0  # lines that the run has been given, and where it stands
         self.start()
 
     def start(self):
@@ -45,7 +58,8 @@ class Session:
             self.switches += 1
 
     def stop(self):
-        """Ends the run in the midst of what it does, without waiting for it, and starts another with the same events off."""
+        """Ends the run in the midst of what it does, without waiting for it, and starts another with the same events
+        off."""
         run, self.stopping = self.run, True
         run.kill()
         with self.lock:
@@ -53,8 +67,8 @@ class Session:
                 self._start_again()
 
     def answer(self, lines, window=None):
-        """The replies to some commands, the images among them, and the count of switches before and after. No other caller's commands
-        come between. Of an image the part in the window is kept."""
+        """The replies to some commands, the images among them, and the count of switches before and after. No other
+        caller's commands come between. Of an image the part in the window is kept."""
         images = []
         with self.lock:
             before = self.switches
@@ -62,13 +76,28 @@ class Session:
             replies = self._unless_stopped(lambda: self._answer(lines, images, window))
             return replies, images, (before, self.switches)
 
+    def depths(self, position, part):
+        """The depths of some pixels at a position, two bytes each, the lower one first, or None where it hasn't all
+        of them. All lines go out while replies come in."""
+        left, top, every, columns, rows = part
+        lines = [
+            b"pixel %d %d" % (left + every * column, top + every * row)
+            for row in range(rows)
+            for column in range(columns)
+        ]
+        with self.lock:
+            self._keep_room(1 + len(lines))
+            return self._unless_stopped(lambda: self._depths(position, lines))
+
     def follow(self, off, count):
         """Has the same events off as another run, and lines left for so many more. The position may be any then."""
         with self.lock:
             self._keep_room(count + len(off ^ self.off) + 1)
             other = sorted(off ^ self.off)
             lines = [b"%s %d" % (b"off" if number in off else b"on", number) for number in other]
-            self._unless_stopped(lambda: self._answer([b"goto %d" % (other[0] - 1), *lines] if len(other) > 1 else lines, [], None))
+            self._unless_stopped(
+                lambda: self._answer([b"goto %d" % (other[0] - 1), *lines] if len(other) > 1 else lines, [], None)
+            )
 
     def close(self):
         """Ends the run for good, whatever it is at."""
@@ -106,8 +135,8 @@ class Session:
         self.switches = switches
 
     def _keep_room(self, count):
-        """Another run with the same events off, where this one has no lines left for so many more. The position may be any then. It is begun before that, and draws
-        what lies before where this one stands beside it."""
+        """Another run with the same events off, where this one has no lines left for so many more. The position may
+        be any then. It is begun before that, and draws what lies before where this one stands beside it."""
         if self.lines + count > MOST_LINES:
             begun, self.begun = self.begun, None
             self._unless_stopped(lambda: self._start_again(begun))
@@ -137,8 +166,20 @@ class Session:
         self.connection.write(bundle)
         return [self._reply(line, images, window) for line in bundle]
 
+    def _depths(self, position, lines):
+        if self._answer([b"goto %d" % position], [], None)[0]["text"] != f"at {position}":
+            return None
+        self.lines += len(lines)
+        with self.connection.writing(lines):
+            told = list(itertools.islice(self.run.stdout, len(lines)))
+        if len(told) < len(lines) or not told[-1].endswith(b"\n"):
+            raise self.connection.end()
+        words = b"".join(told).split()
+        return depths_of(words[DEPTH_WORDS - 1 :: DEPTH_WORDS]) if len(words) == DEPTH_WORDS * len(lines) else None
+
     def _near(self, images, window):
-        """The reply to `show` where the picture is near the last one, else None. `since` says of what it was made, and which rows may be others."""
+        """The reply to `show` where the picture is near the last one, else None. `since` says of what it was made,
+        and which rows may be others."""
         runs, before = self.nearby.places(self.position, self.off, window), self.nearby.pixels
         if runs is None:
             return None
@@ -147,7 +188,8 @@ class Session:
         return {"text": self.nearby.text, "image": {**self.nearby.part, "bytes": len(pixels), "since": (before, rows)}}
 
     def _colours(self, bundles):
-        """What is told of pixels, four bytes each. While that of some is read, the run has the lines of the next already, so neither waits for the other."""
+        """What is told of pixels, four bytes each. While that of some is read, the run has the lines of the next
+        already, so neither waits for the other."""
         colours, asked = bytearray(), []
         for text, count in bundles:
             self.connection.write([text])
@@ -158,7 +200,8 @@ class Session:
         return colours + self._pixels(*asked) if asked else colours
 
     def _pixels(self, count):
-        """The replies to so many `pixel` lines as they come: of thousands of them anything else that is done with each takes longer than the program."""
+        """The replies to so many `pixel` lines as they come: of thousands of them anything else that is done with
+        each takes longer than the program."""
         told = list(itertools.islice(self.run.stdout, count))
         if len(told) < count or not told[-1].endswith(b"\n"):
             raise self.connection.end()
@@ -173,7 +216,9 @@ class Session:
             if image is None:
                 raise self.connection.end()
             reply["image"], pixels = image
-            self.nearby.keep(self.position, first, {name: value for name, value in image[0].items() if name != "bytes"}, pixels)
+            self.nearby.keep(
+                self.position, first, {name: value for name, value in image[0].items() if name != "bytes"}, pixels
+            )
             images.append(pixels)
         elif word in ("history", "events"):
             reply["lines"] = [self.connection.line() for _ in range(min(lines, MAX_LISTED))]

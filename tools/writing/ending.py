@@ -9,7 +9,7 @@ import os
 import signal
 import sys
 
-LEAST = (3, 10)          # the Python that tools want
+LEAST = (3, 10)  # the Python that tools want
 FAULT, WRITING, INTERRUPTED = 1, 3, 130
 OPENED = (os.O_RDONLY, os.O_WRONLY, os.O_WRONLY)
 
@@ -38,14 +38,15 @@ def outlet(descriptor, like):
     return io.TextIOWrapper(io.BufferedWriter(raw), like.encoding, like.errors, line_buffering=raw.isatty())
 
 
-def ends_as(name, main):
-    """Ends the process with what `main` gives: a status, none for 0, or what it leaves by sys.exit."""
-    status = status_of(name, main)
-    os.dup2(os.open(os.devnull, os.O_WRONLY), 1)        # what is left to be written can't be, or there is nothing
+def ends_as(name, main, writing=WRITING):
+    """Ends the process with what `main` gives: a status, none for 0, or what it leaves by sys.exit. A tool may have a
+    status of its own for what it can't write."""
+    status = status_of(name, main, writing)
+    os.dup2(os.open(os.devnull, os.O_WRONLY), 1)  # what is left to be written can't be, or there is nothing
     sys.exit(status)
 
 
-def status_of(name, main):
+def status_of(name, main, writing=WRITING):
     """The status that a tool comes to, once all is written."""
     try:
         hear_interrupts()
@@ -56,8 +57,8 @@ def status_of(name, main):
     except KeyboardInterrupt:
         return told(name, "interrupted", INTERRUPTED)
     except Unwritable as unwritable:
-        is_left = unwritable.fault.errno == errno.EPIPE     # who read it has gone, and wants to hear nothing
-        return WRITING if is_left else told(name, "standard output: " + unwritable.fault.strerror, WRITING)
+        is_left = unwritable.fault.errno == errno.EPIPE  # who read it has gone, and wants to hear nothing
+        return writing if is_left else told(name, "standard output: " + unwritable.fault.strerror, writing)
 
 
 def hear_interrupts():
@@ -79,7 +80,7 @@ def told(name, why, status):
     try:
         print(": ".join(filter(None, (name, why))), file=sys.stderr, flush=True)
     except OSError:
-        pass             # there is nobody to be told
+        pass  # there is nobody to be told
     return status
 
 
@@ -118,6 +119,6 @@ def own_name():
 if sys.version_info < LEAST:
     sys.exit("%s: Python %d.%d or newer is wanted, and this is %d.%d" % (own_name(), *LEAST, *sys.version_info[:2]))
 HERE = os.path.dirname(os.path.realpath(__file__))
-IS_TOOL = os.path.dirname(os.path.realpath(sys.argv[0])) == os.path.dirname(HERE)       # and no test that imports this
-if IS_TOOL and signal.getsignal(signal.SIGINT) is signal.default_int_handler:       # one that is ignored stays so
+IS_TOOL = os.path.dirname(os.path.realpath(sys.argv[0])) == os.path.dirname(HERE)  # and no test that imports this
+if IS_TOOL and signal.getsignal(signal.SIGINT) is signal.default_int_handler:  # one that is ignored stays so
     signal.signal(signal.SIGINT, leave)

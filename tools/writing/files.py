@@ -2,9 +2,10 @@
 import os
 import stat
 import tempfile
+from typing import Any
 
 
-def keep(path, data):
+def keep(path: Any, data: bytes) -> None:
     """Writes a file whole, or leaves what was there. A device or a pipe is written through, and a link stays one."""
     path = os.fspath(path)
     if is_other(path):
@@ -14,7 +15,7 @@ def keep(path, data):
         replace(os.path.realpath(path), data)
 
 
-def is_other(path):
+def is_other(path: str) -> bool:
     """Whether something is there that is no plain file."""
     try:
         return not stat.S_ISREG(os.stat(path).st_mode)
@@ -22,13 +23,13 @@ def is_other(path):
         return False
 
 
-def write_all(file, data):
+def write_all(file: Any, data: bytes) -> None:
     rest = memoryview(data)
     while rest:
-        rest = rest[file.write(rest):]
+        rest = rest[file.write(rest) :]
 
 
-def replace(path, data):
+def replace(path: str, data: bytes) -> None:
     handle, name = tempfile.mkstemp(dir=os.path.dirname(path), prefix=".framedbg-")
     try:
         with os.fdopen(handle, "wb") as file:
@@ -40,7 +41,7 @@ def replace(path, data):
         raise
 
 
-def umask():
+def umask() -> int:
     mask = os.umask(0)
     os.umask(mask)
     return mask

@@ -2,6 +2,8 @@
 
 import { canUndo, frame, goTo, last, switchOver, undo } from "./frame.js";
 import { List, element } from "./list.js";
+import { drawOrigin, originOf } from "./origin.js";
+import { waysFrom } from "./tabs.js";
 import { hasThumbnail, thumbnailOf } from "./thumbnails.js";
 import { describeEvent } from "./words.js";
 
@@ -85,6 +87,7 @@ export function drawEvents() {
   if (shown !== frame.position) list.choose(list.items.findIndex(row => row.event.number === frame.position));
   shown = frame.position;
   list.draw();
+  drawOrigin(frame.sources.get(shown), waysFrom(shown));
 }
 
 // What a move changes of a row
@@ -101,7 +104,7 @@ function rowOf({ event, members, depth }) {
   row.dataset.number = event.number;
   row.append(checkBox(event, members ?? []), element("span", "number", String(event.number)), ...thumbnailOf(event.number), ...(members ? headOf(event) : describeEvent(event)));
   const source = frame.sources.get(event.number);
-  if (source) row.append(Object.assign(element("span", "source", `${source.event} ${source.name}`), { title: `The program's call ${source.event}: ${source.name}` }));
+  if (source) row.append(Object.assign(element("span", "source", `${source.event} ${source.name}`), { title: `The program's ${originOf(source).join("\n")}` }));
   if (depth > 1) row.style.paddingLeft = `${10 + 10 * depth}px`;
   row.addEventListener("click", () => goTo(event.number));
   row.addEventListener("pointerenter", () => tellHover(event));

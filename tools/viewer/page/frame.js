@@ -1,7 +1,7 @@
 // The frame at a position: what framedbg said of it, and the moves that ask for more. Every move is one call of a few commands.
 
 import { restart, sources, triangle, switchedElsewhere, onForeign, Ended, Stopped } from "./run.js";
-import { ask, stop as stopAnswer } from "./working.js";
+import { ask, depths, stop as stopAnswer } from "./working.js";
 import { readEvent, readEntry, readPixel, readState, positionIn, isRefusal } from "./replies.js";
 import { forgetHistories, isCoarse, readMap, wantMap as setMap } from "./maps.js";
 import { tell, notice } from "./log.js";
@@ -11,7 +11,7 @@ const unset = () => ({
   position: 0, target: 0,             // where it stands, and where the last move asked for leads
   isOpening: false,                   // on its way to its first place
   events: [],
-  sources: new Map(),                 // of each event the call of a captured program that it comes from: { event, name, until }
+  sources: new Map(),                 // of each event the call of a captured program that it comes from: { event, name, until }, and what else is told of it (origin.js)
   before: null, after: null,          // the images before the last event and after it
   part: null,                         // the part of a large target that is fetched, else null
   isDragged: false,                   // the image after it has pixels left out, as a hand is on its way
@@ -210,14 +210,14 @@ export function wantMap(look, sight) {
 
 // The map here: of few pixels at once, and of more in its turn
 async function drawMap() {
-  frame.map = await readMap(frame, { ask, askEnd }, () => true);
+  frame.map = await readMap(frame, { ask, askEnd, depths }, () => true);
   if (isCoarse(frame, frame.map)) refine(frame.map);
 }
 
 // Until something else waits; then again after that, unless another map is shown by then
 const refine = coarse => inTurn(async () => {
   if (frame.map !== coarse) return;
-  const fine = await readMap(frame, { ask, askEnd }, () => waiting === 0, true);
+  const fine = await readMap(frame, { ask, askEnd, depths }, () => waiting === 0, true);
   if (frame.map !== coarse) return;
   if (!fine) return void refine(coarse);
   frame.map = fine;

@@ -25,7 +25,7 @@ export async function readMap(frame, how, goesOn, isFine = false) {
   if (!wanted || !frame.after) return null;
   const { look, sight } = wanted;
   const part = sampled(frame.after, sight, (isFine ? MANY : FEW)[look]), finest = sampled(frame.after, sight, MANY[look]);
-  if (look === "depth") return frame.hasDepth ? askDepths(how.ask, frame.position, part, goesOn) : null;
+  if (look === "depth") return frame.hasDepth ? askDepths(how, frame.position, part, goesOn) : null;
   const known = kept && [part, finest].some(it => isSame(it, kept.part));
   if (!known) {
     const found = await askHistories(how.askEnd, part, goesOn);

@@ -1,6 +1,8 @@
 // The triangles of a draw, as the capture's file has them: { interp, vertices: [[x, y, depth, [r, g, b, a]], ..], indices }, places in 1/65536 pixel. Where interp is
 // "picture" there is its box too, picture: [left, top, width, height] in pixels, and what stands for colours is null.
 
+import { snap } from "./snapping.js";
+
 const PIXEL = 65_536, SNAP = 256;        // in 1/65536 pixel; corners are snapped to 1/256 pixel before anything is asked of a triangle
 
 const cornersOf = ({ vertices, indices }) => indices?.length ?? vertices.length;
@@ -12,15 +14,9 @@ export const placeOf = ({ vertices }, number) => [vertices[number][0] / PIXEL, v
 // The three corners of a triangle in pixels
 export const trianglePlaces = (mesh, triangle) => [0, 1, 2].map(i => placeOf(mesh, vertexAt(mesh, 3 * triangle + i)));
 
-// To the nearest multiple, the even one on a tie
-function snapped(value) {
-  const low = Math.floor(value / SNAP), rest = value - low * SNAP;
-  return rest * 2 > SNAP || (rest * 2 === SNAP && low % 2 !== 0) ? low + 1 : low;
-}
-
 // Twice the area with its sign, in squares of 1/256 pixel: above zero where it runs clockwise on the target
 export function cross(mesh, triangle) {
-  const [[ax, ay], [bx, by], [cx, cy]] = [0, 1, 2].map(i => mesh.vertices[vertexAt(mesh, 3 * triangle + i)].slice(0, 2).map(snapped));
+  const [[ax, ay], [bx, by], [cx, cy]] = [0, 1, 2].map(i => mesh.vertices[vertexAt(mesh, 3 * triangle + i)].slice(0, 2).map(snap));
   return (bx - ax) * (cy - ay) - (by - ay) * (cx - ax);
 }
 

@@ -1,6 +1,6 @@
 // The page: wires the panels to the frame, and hands to both.
 
-import { captureName, firstPlace, onCapture } from "./run.js";
+import { captureName, firstPlace, frameOf, onCapture, takesBeside } from "./run.js";
 import { onWorking } from "./working.js";
 import { frame, onShow, inTurn, open, goToPlace, again, last, stop, goTo, neighbour, switchOver, undo, pick, pickInTurn, command, fetchPart, wantMap } from "./frame.js";
 import { WRITES, setFilter, foundFirst, listEvents, listWriters, drawEvents, drawTicks, drawWriters, onHoverEvent } from "./events.js";
@@ -8,11 +8,13 @@ import { boxOf, forgetBoxes } from "./boxes.js";
 import { forgetThumbnails, note } from "./thumbnails.js";
 import { drawPixel } from "./panels.js";
 import { drawState } from "./state.js";
+import { showTabs } from "./tabs.js";
 import { forgetTriangles, redraw, showTriangles } from "./triangles.js";
 import { followBookmarks, keepBookmark, showBookmarks } from "./bookmarks.js";
 import { dragColumns } from "./columns.js";
 import { listenToLine } from "./typed.js";
 import { Film } from "./film.js";
+import { showCard } from "./card.js";
 import { followBlame, forgetFindings } from "./blame.js";
 import { followChanges, forgetChange, isChange, tryChange } from "./whatif.js";
 import { Picture } from "./picture.js";
@@ -25,6 +27,8 @@ import { LOOKS } from "./maps.js";
 import { drawHistogram, fit, forgetRanges, kindOf, lightsOf, rangeOf, setRange, valuesInSight } from "./range.js";
 import { indexOf } from "./samples.js";
 import { readPicture } from "./compare.js";
+import { closeBeside, follow, followBeside, openBeside, place, redrawBeside } from "./beside.js";
+import { kindOf as kindOfFile } from "./files.js";
 import { followTheme } from "./theme.js";
 import { element, swatch } from "./list.js";
 import { everyOf, figures } from "./words.js";
@@ -55,6 +59,7 @@ onShow(what => {
   if (frame.after && what !== "events" && !frame.isOpening) keepPlace(placeOf(frame));
   if (what === "position") film.arrived();
   tellLive();
+  follow();
 });
 
 function drawPosition() {
@@ -206,13 +211,28 @@ function compareWith(other) {
   if (other.width !== after.width || other.height !== after.height) {
     return notice(`${other.name} is ${other.width} × ${other.height}, the target ${after.width} × ${after.height}`, true);
   }
+  closeBeside().catch(tellFault);
   view.other = other;
   forgetFindings();
   setLook("compared");
 }
 
 const pin = () => frame.after && !frame.isDragged && compareWith({ ...frame.after, name: `position ${frame.position}, pinned` });
-const load = file => file && readPicture(file).then(compareWith).catch(fault => notice(fault.message, true, ...(fault.message.includes("\n") ? ["Close", () => {}] : [])));
+const tellFault = fault => notice(String(fault.message ?? fault), true, ...(String(fault.message).includes("\n") ? ["Close", () => {}] : []));
+const load = file => file && compareWithFile(file).catch(tellFault);
+
+// A picture, or another capture, which is shown beside
+async function compareWithFile(file) {
+  if (takesBeside && await kindOfFile(file) === "capture") await openBeside(file);
+  else compareWith(await readPicture(file));
+}
+
+// What stands beside is compared, position by position
+function compareBeside(image) {
+  view.other = image;
+  if (!image && ["compared", "other"].includes(view.look)) setLook("after");
+  else drawImage();
+}
 
 // The next pixel in reading order that differs, after the chosen one and round again
 function nextDifferent() {
@@ -290,6 +310,7 @@ const CHANGES = {
   events: () => frame.events, name: () => $("capture").textContent,
   atEnd: async () => { goTo(last()); return inTurn(() => isWhole(frame.after) ? { ...frame.after, name: "the frame as it is" } : null); },
   compare({ width, height, samples }, before) {
+    closeBeside().catch(tellFault);
     Object.assign(view, { other: before, mended: pictureOf(samples, width, height) });
     setLook("mended");
   },
@@ -298,7 +319,7 @@ const CHANGES = {
 
 function listen() {
   const clicks = {
-    first: KEYS.Home, back: KEYS.ArrowLeft, step: KEYS.ArrowRight, last: KEYS.End, play: KEYS.f, stop, fit: KEYS[0], larger: KEYS["+"], smaller: KEYS["-"], keys: KEYS["?"], "to-guide": () => $("guide").showModal(),
+    first: KEYS.Home, back: KEYS.ArrowLeft, step: KEYS.ArrowRight, last: KEYS.End, play: KEYS.f, stop, fit: KEYS[0], larger: KEYS["+"], smaller: KEYS["-"], keys: KEYS["?"], "to-guide": () => $("guide").showModal(), "to-card": showCard,
     "writer-before": KEYS["["], "writer-after": KEYS["]"], pin, load: () => $("file").click(), "next-different": nextDifferent,
     copy: () => copy(session(), "a session for framedbg run"), "copy-value": () => copy($("value").textContent, $("value").textContent), "save-png": savePng,
   };
@@ -315,8 +336,8 @@ function listen() {
   for (const button of document.querySelectorAll("[data-state]")) button.onclick = () => drawState(view.whose = button.dataset.state);
   for (const button of document.querySelectorAll("[data-channel]")) {
     const { channels } = picture, { channel } = button.dataset;
-    button.onclick = () => { channels[channel] = !channels[channel]; drawImage(); };
-    button.ondblclick = () => { for (const c in channels) channels[c] = c === channel; drawImage(); };
+    button.onclick = () => { channels[channel] = !channels[channel]; drawImage(); redrawBeside(); };
+    button.ondblclick = () => { for (const c in channels) channels[c] = c === channel; drawImage(); redrawBeside(); };
   }
   $("view").ondragover = event => { event.preventDefault(); $("view").classList.add("over"); };
   $("view").ondragleave = () => $("view").classList.remove("over");
@@ -324,13 +345,14 @@ function listen() {
   listenToLine($("ask"), $("command"), line => isChange(line) ? tryChange(line, CHANGES) : command(line));
   followChanges(CHANGES);
   followBlame({ other: () => view.other, tolerance: () => +$("tolerance").value, goTo, pick, show: mended => { view.mended = mended; setLook(mended ? "mended" : "compared"); } });
+  followBeside({ frame, goTo, compare: compareBeside }, picture);
   dragColumns();
   followBookmarks(goToPlace);
   onHoverEvent(event => outlineEvent(event).catch(fault => notice(String(fault.message ?? fault), true)));
   picture.onPick = pick;
   picture.onZoom = zoom => { $("zoom").textContent = zoom >= 1 ? `${zoom}×` : `${Math.round(zoom * 100)}%`; };
   picture.onMove = move;
-  picture.onView = redraw;
+  picture.onView = () => { redraw(); place(); };
   picture.onHover = place => { view.hover = place; drawHover(); };
   addEventListener("keydown", press);
   addEventListener("keyup", release);
@@ -344,6 +366,7 @@ function begin(place = null) {
   Object.assign(view, { look: "after", held: null, other: null, found: null, hover: null, shown: null, mended: null });
   forgetFindings();
   forgetChange();
+  closeBeside(true);
   forgetRanges();
   forgetBoxes();
   picture.clear();
@@ -351,6 +374,7 @@ function begin(place = null) {
   forgetTriangles();
   inTurn(async () => {
     $("capture").textContent = $("capture").title = await captureName();
+    showTabs(await frameOf());
     showBookmarks($("capture").textContent);
     document.title = `${$("capture").textContent} – framedbg`;
   });
@@ -366,3 +390,4 @@ onWorking(isSlow => {
   $("busy").hidden = !isSlow;
 });
 begin(readPlace(firstPlace()));
+openBeside();

@@ -1,6 +1,6 @@
 // What the runs are asked, one thing after another. An answer that takes a while can be stopped: then whoever waits for it gets Stopped.
 
-import { ask as askRun, stop as stopRun, Stopped } from "./run.js";
+import { ask as askRun, depths as depthsOfRun, stop as stopRun, Stopped } from "./run.js";
 
 const A_WHILE = 300;     // milliseconds
 let asked = null, tell = () => {};
@@ -8,10 +8,15 @@ let asked = null, tell = () => {};
 // Told true where an answer takes a while, and false when it is there
 export const onWorking = told => { tell = told; };
 
-export async function ask(...given) {
+export const ask = (...given) => answered(() => askRun(...given));
+
+// The depths of a part at a position in one go, where the run has such a call
+export const depths = depthsOfRun && ((...given) => answered(() => depthsOfRun(...given)));
+
+async function answered(job) {
   const its = asked = { stopped: false }, late = setTimeout(() => tell(true), A_WHILE);
   try {
-    const replies = await askRun(...given);
+    const replies = await job();
     if (its.stopped) throw new Stopped();
     return replies;
   } finally {
