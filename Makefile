@@ -2,7 +2,7 @@
 # make demo     proves and builds framedbg, finds the wrong colour of examples/house.json, and writes its image to demo.pam and demo.png
 # make view     shows the sample capture in the browser, step by step
 # make page     makes out/framedbg.html, the viewer with the program inside, as one file for a browser; with CAPTURE=.. another with that capture inside
-# make release  makes out/framedbg-VERSION/, to hand out: the page, what make install puts somewhere as a tar file, a .deb and a wheel, and checksums
+# make release  makes out/framedbg-VERSION/, to hand out: the page, what make install puts somewhere as a tar file, a .deb and a wheel, a zip for Windows, and checksums
 # make wheel    makes out/framedbg-VERSION-..whl, which pip and pipx install without the network
 # make deb      makes out/framedbg_VERSION_amd64.deb, which apt installs and takes away
 # make d3d11    makes out/play_d3d11.exe, which draws captures by Direct3D 11 on Windows and compares them with what is right
@@ -53,7 +53,7 @@ view: program
 page: program
 	build/build_page $(if $(CAPTURE),--capture '$(CAPTURE)')
 
-release: page
+release: page d3d11
 	build/release
 
 wheel deb: $(PROGRAM)
@@ -94,9 +94,11 @@ test-frames: $(PROGRAM)
 	tests/test_real_frames.py
 	tests/test_converters.py
 	tests/test_foreign_frames.py
+	tests/test_frame_calls.py
+	tests/test_qrenderdoc.py
 	tests/test_old_frames.py
 	checks/check_old_frames
-	checks/check_real_hunt
+	checks/check_documents --built
 
 wrong-frames: $(PROGRAM)
 	tests/wrong/real_frames_mutations.py

@@ -20,7 +20,8 @@ MIB = 1 << 20
 
 
 class Session:
-    """A run of the program that is asked one command after another: what each takes of the processor (user and system, all threads), and of the clock."""
+    """A run of the program that is asked one command after another: what each takes of the processor (user and
+    system, all threads), and of the clock."""
 
     def __init__(self, path, workers=1, program=PROGRAM):
         words = [program, "run", "--workers", str(workers), path]
@@ -35,7 +36,7 @@ class Session:
 
     def processor(self):
         stat = pathlib.Path(f"/proc/{self.child.pid}/stat")
-        while stat.read_text().rpartition(")")[2].split()[0] == "R":        # its clock is exact once it waits
+        while stat.read_text().rpartition(")")[2].split()[0] == "R":  # its clock is exact once it waits
             pass
         # the clock of another process, as clock_getcpuclockid names it
         return time.clock_gettime(~self.child.pid << 3 | 2)
@@ -65,20 +66,39 @@ class Session:
 @dataclass(frozen=True)
 class Asked:
     """What is asked of a figure; a comparison with what isn't measured is not."""
-    ratio: float = None     # at most so many times plain C
+
+    ratio: float = None  # at most so many times plain C
     most: float = None
     least: float = None
-    times: float = None     # at least so many times less than the program beside
+    times: float = None  # at least so many times less than the program beside
 
     def words(self, compared, unit, is_beside):
-        found = [compared.beside and not is_beside and self.ratio and f"<= {self.ratio:g}", self.most and f"<= {self.most:g} {unit}",
-                 self.least and f">= {self.least:g} {unit}", compared.beside and is_beside and self.times and f"<= 1/{self.times:g}"]
+        found = [
+            compared.beside and not is_beside and self.ratio and f"<= {self.ratio:g}",
+            self.most and f"<= {self.most:g} {unit}",
+            self.least and f">= {self.least:g} {unit}",
+            compared.beside and is_beside and self.times and f"<= 1/{self.times:g}",
+        ]
         return ", ".join(filter(None, found))
 
     def is_reached(self, compared, is_beside):
-        factor = None if compared.beside is None else 1 / self.times if is_beside and self.times else None if is_beside else self.ratio
-        return not (factor and compared.here > factor * compared.beside or self.most is not None and compared.here > self.most
-                    or self.least is not None and compared.here < self.least)
+        factor = (
+            None
+            if compared.beside is None
+            else 1 / self.times
+            if is_beside and self.times
+            else None
+            if is_beside
+            else self.ratio
+        )
+        return not (
+            factor
+            and compared.here > factor * compared.beside
+            or self.most is not None
+            and compared.here > self.most
+            or self.least is not None
+            and compared.here < self.least
+        )
 
 
 class Bench:
@@ -91,26 +111,42 @@ class Bench:
             sys.exit(f"measure: {beside} is no program")
         self.counter = turns.counter(self.folder) if instructions else None
         if markdown:
-            print(f"| Work | ratio | framedbg | {'beside it' if beside else 'plain C'} | asked |\n|---|---|---|---|---|")
+            print(
+                f"| Work | ratio | framedbg | {'beside it' if beside else 'plain C'} | asked |\n|---|---|---|---|---|"
+            )
 
     def title(self, text):
         if not self.markdown:
             print(f"\n{text}\n  ratio              asked", flush=True)
 
     def figure(self, name, value, unit, plain=None, **asked):
-        """A line: the ratio to plain C or to the other program first, then what is asked (as Asked has it), and what was measured."""
+        """A line: the ratio to plain C or to the other program first, then what is asked (as Asked has it), and what
+        was measured."""
         taken, asked = value if isinstance(value, Taken) else Taken(value), Asked(**asked)
         self.figures[name] = taken.here, unit, plain
         is_beside = len(self.programs) > 1
         compared = taken if is_beside else Taken(taken.here, plain)
-        ratio = "" if compared.ratio() is None else f"{compared.ratio():.2f}" if compared.ratio() >= 0.1 else short(compared.ratio())
+        ratio = (
+            ""
+            if compared.ratio() is None
+            else f"{compared.ratio():.2f}"
+            if compared.ratio() >= 0.1
+            else short(compared.ratio())
+        )
         other = "" if compared.beside is None else f"{short(compared.beside)} {unit}"
         words, reached = asked.words(compared, unit, is_beside), asked.is_reached(compared, is_beside)
         if self.markdown:
-            print(f"| {name} | {ratio} | {short(taken.here)} {unit} | {other} | {words}{'' if reached else ': not reached'} |", flush=True)
+            print(
+                f"| {name} | {ratio} | {short(taken.here)} {unit} | {other} | "
+                f"{words}{'' if reached else ': not reached'} |",
+                flush=True,
+            )
         else:
             other = other and f", {'beside it' if is_beside else 'plain C'} {other}"
-            print(f"{ratio:>7} {words + ('' if reached else ' !'):>18}  {name:64} {short(taken.here)} {unit}{other}", flush=True)
+            print(
+                f"{ratio:>7} {words + ('' if reached else ' !'):>18}  {name:64} {short(taken.here)} {unit}{other}",
+                flush=True,
+            )
 
     def scaled(self, count, multiple=1):
         """A count or a side, made smaller by SCALE to try the scripts."""
@@ -128,11 +164,14 @@ class Bench:
         return self.folder / name
 
     def by_turns(self, run, rounds=ROUNDS):
-        """The least of each value that a run of a program gives: each the best of several runs, this program's and the other one's by turns."""
+        """The least of each value that a run of a program gives: each the best of several runs, this program's and
+        the other one's by turns."""
         return turns.best(self.programs, run, rounds)
 
     def there_and_back(self, path, start, end, rounds=ROUNDS):
-        """Processor seconds from a position forward to another, and back; each the best of several fresh runs with one worker."""
+        """Processor seconds from a position forward to another, and back; each the best of several fresh runs with
+        one worker."""
+
         def run(program):
             with Session(path, program=program) as session:
                 session.ask([f"goto {start}"])
@@ -142,6 +181,7 @@ class Bench:
 
     def best(self, work):
         """Processor seconds of some commands, with one worker."""
+
         def run(program):
             with Session(work.path, program=program) as session:
                 session.ask(work.before)
@@ -153,7 +193,8 @@ class Bench:
         return self.by_turns(run)[0]
 
     def timed(self, name, work, unit="ms", **asked):
-        """A figure of the time that some commands take; and one of their instructions, where these are counted. Gives the instructions, or else the time."""
+        """A figure of the time that some commands take; and one of their instructions, where these are counted.
+        Gives the instructions, or else the time."""
         taken = self.best(work)
         self.figure(name, taken * {"s": 1, "ms": 1e3}[unit], unit, **asked)
         if self.counter:
@@ -164,7 +205,13 @@ class Bench:
     def usage(self, words, output=subprocess.PIPE):
         """Status, processor seconds and most memory of a whole run, and what it printed and complained of."""
         path = self.folder / "usage.txt"
-        run = subprocess.run([self.built("usage"), path, *words], stdin=subprocess.DEVNULL, stdout=output, stderr=subprocess.PIPE, check=True)
+        run = subprocess.run(
+            [self.built("usage"), path, *words],
+            stdin=subprocess.DEVNULL,
+            stdout=output,
+            stderr=subprocess.PIPE,
+            check=True,
+        )
         status, seconds, kib = path.read_text().split()
         return int(status), float(seconds), int(kib) * 1024, (run.stdout or b"") + run.stderr
 
@@ -178,7 +225,8 @@ class Bench:
         return min(forward for forward, _ in times), min(back for _, back in times), runs[0][2]
 
     def plain_side_by_side(self, scene, number):
-        """Seconds of the clock that so many processes of plain C take together to draw this scene there and back, each by itself."""
+        """Seconds of the clock that so many processes of plain C take together to draw this scene there and back,
+        each by itself."""
         words = [self.built("plain"), self.capture(scene.numbers(), "triangles")]
         clocks = []
         for _ in range(ROUNDS):

@@ -46,7 +46,8 @@ def compare(bench, name, scene, per_draw, divisor, unit, forward_asked, back_ask
 
 
 def workers(bench):
-    """goto to the end with 1, 2 and 4 workers, by the clock, beside as many processes of plain C; the machine must be idle"""
+    """goto to the end with 1, 2 and 4 workers, by the clock, beside as many processes of plain C; the machine must
+    be idle"""
     side = bench.scaled(2048, 32)
     count = bench.scaled(65_536)
     # what the machine gives: each process draws its share of the rows, and has nothing in common with the others
@@ -66,7 +67,13 @@ def workers(bench):
             bench.figure(f"{name}, {number} {'worker' if number == 1 else 'workers'}", clock * 1e3, "ms")
             if number > 1:
                 given = beside and beside[1] / beside[number]
-                bench.figure(f"{name}, {number} workers, speed-up", alone / clock, "times", given, least=asked if number == 4 else None)
+                bench.figure(
+                    f"{name}, {number} workers, speed-up",
+                    alone / clock,
+                    "times",
+                    given,
+                    least=asked if number == 4 else None,
+                )
 
 
 def single_steps(bench):
@@ -81,7 +88,11 @@ def single_steps(bench):
         for count in [1, 4]:
             # 500 at a time, so that neither end waits for the other one to read
             walk = min(clock_of(path, count, ["step", "back"] * min(number, 500)) for _ in range(ROUNDS))
-            bench.figure(f"step and back over {name}, {count} {'worker' if count == 1 else 'workers'}", walk / min(number, 500) * 1e6, "us")
+            bench.figure(
+                f"step and back over {name}, {count} {'worker' if count == 1 else 'workers'}",
+                walk / min(number, 500) * 1e6,
+                "us",
+            )
 
 
 def clock_of(path, workers, lines):

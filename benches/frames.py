@@ -24,9 +24,16 @@ def many_events(bench):
     to_the_end(bench, f"{count:,} markers, {side} by {side}", scenes.markers(side, side, count), count)
     # a capture of 64 MiB holds no million draws of a triangle
     scene = scenes.small(side, side, count // 8, True)
-    fresh = to_the_end(bench, f"{count:,} draws, one in 8 not empty, {side} by {side}", scene.capture(1, 7), 1 + count, scene, times=5)
+    fresh = to_the_end(
+        bench, f"{count:,} draws, one in 8 not empty, {side} by {side}", scene.capture(1, 7), 1 + count, scene, times=5
+    )
     if fresh.beside:
-        bench.figure("reading and starting, more than the program beside", (fresh.here - fresh.beside) / count, "bytes an event", most=40)
+        bench.figure(
+            "reading and starting, more than the program beside",
+            (fresh.here - fresh.beside) / count,
+            "bytes an event",
+            most=40,
+        )
     scene = scenes.small(side, side, bench.scaled(330_000), True)
     number = len(scene.triangles)
     to_the_end(bench, f"{number:,} draws of 8 pixels, {side} by {side}", scene.capture(), 1 + number, scene)
@@ -37,7 +44,9 @@ def largest_target(bench):
     side = bench.scaled(16_384, 32)
     scene = scenes.small(side, side, bench.scaled(65_536), True)
     number = len(scene.triangles)
-    to_the_end(bench, f"{number:,} draws of 8 pixels, {side:,} by {side:,}", scene.capture(), 1 + number, scene, times=40)
+    to_the_end(
+        bench, f"{number:,} draws of 8 pixels, {side:,} by {side:,}", scene.capture(), 1 + number, scene, times=40
+    )
     for version in [1, 2]:
         path = bench.capture(scenes.frame(side, side, [], version))
         for name, words in [("a fresh session", ["run"]), ("image", ["image"])]:
@@ -45,7 +54,8 @@ def largest_target(bench):
 
 
 def whole_run(bench, name, words, unit="s", times=None, memory=None):
-    """Processor time and peak memory of a program's whole run with these words. Of the time it may be asked how many times less it is; `memory` says what of that one."""
+    """Processor time and peak memory of a program's whole run with these words. Of the time it may be asked how many
+    times less it is; `memory` says what of that one."""
     status = []
 
     def run(program):
@@ -60,7 +70,8 @@ def whole_run(bench, name, words, unit="s", times=None, memory=None):
 
 
 def to_the_end(bench, name, data, end, scene=None, **asked):
-    """goto to the end, and the session's peak memory before and after, which is given; a run that is long isn't made again."""
+    """goto to the end, and the session's peak memory before and after, which is given; a run that is long isn't made
+    again."""
     path = bench.capture(data)
 
     def run(program):
@@ -104,14 +115,20 @@ def memory(bench):
                 session.ask([f"goto {place}"])
                 sizes.append(session.memory())
         bench.figure(f"a recorded pixel, {name}", (sizes[2] - sizes[0]) / (side * side * count), "bytes", most=asked)
-        bench.figure(f"a recorded pixel, {name}, second half alone", (sizes[2] - sizes[1]) / (side * side * (count // 2)), "bytes")
+        bench.figure(
+            f"a recorded pixel, {name}, second half alone",
+            (sizes[2] - sizes[1]) / (side * side * (count // 2)),
+            "bytes",
+        )
     side, count = bench.scaled(128, 32), 40
     data, dots = scenes.dots(side, count)
     with Session(bench.capture(data)) as session:
         session.ask(["goto 1"])
         fresh = session.memory()
         session.ask([f"goto {count + 1}"])
-        bench.figure("a recorded pixel, each a span of its own", (session.memory() - fresh) / (dots * count), "bytes", most=14)
+        bench.figure(
+            "a recorded pixel, each a span of its own", (session.memory() - fresh) / (dots * count), "bytes", most=14
+        )
     side, count = bench.scaled(1024, 32), bench.scaled(65_536)
     with Session(bench.capture(scenes.markers(side, side, count))) as session:
         fresh = session.memory()
@@ -123,11 +140,26 @@ def memory(bench):
 def growth(bench):
     """growth, forward, ms: each line is twice the one before, a side of the target four times"""
     for side in [512, 1024, 2048]:
-        grown(bench, scenes.large(bench.scaled(side, 32), bench.scaled(side, 32), 10), 1, f"10 large triangles, {side} by {side}")
+        grown(
+            bench,
+            scenes.large(bench.scaled(side, 32), bench.scaled(side, 32), 10),
+            1,
+            f"10 large triangles, {side} by {side}",
+        )
     for count in [10, 20, 40, 80]:
-        grown(bench, scenes.large(bench.scaled(512, 32), bench.scaled(512, 32), count), 1, f"{count} large triangles, 512 by 512")
+        grown(
+            bench,
+            scenes.large(bench.scaled(512, 32), bench.scaled(512, 32), count),
+            1,
+            f"{count} large triangles, 512 by 512",
+        )
     for count in [4_000, 8_000, 16_000]:
-        grown(bench, scenes.small(512, 512, bench.scaled(count), False), 50, f"{count:,} small triangles, 50 a draw, 512 by 512")
+        grown(
+            bench,
+            scenes.small(512, 512, bench.scaled(count), False),
+            50,
+            f"{count:,} small triangles, 50 a draw, 512 by 512",
+        )
 
 
 def grown(bench, scene, per_draw, name):

@@ -50,7 +50,13 @@ PARTS = [
     drawing.single_steps,
     reading.reading,
 ]
-ALONE = [frames.memory, short_memory.going_on, drawing.workers, drawing.single_steps, reading.reading]     # these measure one program
+ALONE = [
+    frames.memory,
+    short_memory.going_on,
+    drawing.workers,
+    drawing.single_steps,
+    reading.reading,
+]  # these measure one program
 
 PAGE = pathlib.Path(os.environ.get("MEASURED", pathlib.Path(__file__).resolve().parent.parent / "docs/MEASURED.md"))
 
@@ -64,9 +70,13 @@ def write(figures):
 
 def words_given():
     names = [part.__name__ for part in PARTS]
-    parser = argparse.ArgumentParser(description=__doc__, epilog=f"parts: {' '.join(names)}", formatter_class=argparse.RawDescriptionHelpFormatter)
+    parser = argparse.ArgumentParser(
+        description=__doc__, epilog=f"parts: {' '.join(names)}", formatter_class=argparse.RawDescriptionHelpFormatter
+    )
     parser.add_argument("--beside", metavar="PROGRAM", help="measure this program too, by turns")
-    parser.add_argument("--instructions", action="store_true", help="count instructions too, where `perf stat -e instructions:u` can")
+    parser.add_argument(
+        "--instructions", action="store_true", help="count instructions too, where `perf stat -e instructions:u` can"
+    )
     parser.add_argument("--markdown", action="store_true", help="print rows of a table")
     parser.add_argument("--write", action="store_true", help="write the rows of docs/MEASURED.md that were measured")
     parser.add_argument("parts", nargs="*", metavar="PART", choices=[*names, []], help="all if none is named")
@@ -76,7 +86,11 @@ def words_given():
         parser.error(f"--beside: these parts measure one program alone: {' '.join(alone)}")
     if words.write and SCALE != 1:
         sys.exit("measure: with SCALE the sizes aren't those of the page, so nothing is written")
-    words.parts = [part for part in PARTS if (part.__name__ in words.parts or not words.parts) and not (words.beside and part in ALONE)]
+    words.parts = [
+        part
+        for part in PARTS
+        if (part.__name__ in words.parts or not words.parts) and not (words.beside and part in ALONE)
+    ]
     return words
 
 
@@ -85,7 +99,7 @@ def main():
     with tempfile.TemporaryDirectory() as folder:
         bench = Bench(folder, words.markdown, words.beside, words.instructions)
         for part in words.parts:
-            bench.title(f"{part.__name__}: {part.__doc__}")
+            bench.title(f"{part.__name__}: {' '.join(part.__doc__.split())}")
             part(bench)
         if words.write:
             write(bench.figures)

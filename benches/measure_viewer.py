@@ -13,7 +13,6 @@ import json
 import os
 import pathlib
 import statistics
-import sys
 import tempfile
 import time
 
@@ -23,14 +22,15 @@ import browser
 from captures import clear, draw, factor, marker
 from viewer_testing import PROGRAM, Viewer, asked, capture_of, vertices
 
-TURNS = {"ArrowLeft": 12, "ArrowRight": 12, "ArrowUp": 12, "Home": 3, "End": 3}      # of each key
+TURNS = {"ArrowLeft": 12, "ArrowRight": 12, "ArrowUp": 12, "Home": 3, "End": 3}  # of each key
 PICKS, OPENINGS = 12, 3
 STEP = """const [key, done] = arguments, position = document.getElementById("position"), start = performance.now();
 new MutationObserver((_, watch) => { watch.disconnect(); requestAnimationFrame(() => setTimeout(() => done(performance.now() - start))); })
   .observe(position, { childList: true });
 document.body.dispatchEvent(new KeyboardEvent("keydown", { key, bubbles: true }));"""
 
-# From a click on the picture until the pixel's history stands in the page, and until the browser has drawn it in its next frame; the place is in pixels of the page
+# From a click on the picture until the pixel's history stands in the page, and until the browser has drawn it in its
+# next frame; the place is in pixels of the page
 PICK = """const [x, y, done] = arguments, place = document.getElementById("place"), stage = document.getElementById("stage"), was = place.textContent, start = performance.now();
 const passed = () => performance.now() - start;
 new MutationObserver((_, watch) => {
@@ -58,7 +58,7 @@ let count = 0;
 watch.observe(position, { childList: true });
 document.body.dispatchEvent(new KeyboardEvent("keydown", { key: "f", bubbles: true }));
 setTimeout(() => { watch.disconnect(); document.body.dispatchEvent(new KeyboardEvent("keydown", { key: "f", bubbles: true })); done(count / seconds); }, 1000 * seconds);"""
-FILMED = 3      # seconds
+FILMED = 3  # seconds
 
 
 def large(events, side):
@@ -68,13 +68,30 @@ def large(events, side):
         i = len(made)
         x, y = i * 7919 % side, i * 104729 % side
         colour = [i % 256, i // 256 % 256, 128, 255]
-        made.append(draw(vertices((x, y, colour), (x + 12, y, colour), (x, y + 12, colour))) if i % 4 else marker(f"part {i}") if i % 8 else factor(*colour))
+        made.append(
+            draw(vertices((x, y, colour), (x + 12, y, colour), (x, y + 12, colour)))
+            if i % 4
+            else marker(f"part {i}")
+            if i % 8
+            else factor(*colour)
+        )
     return capture_of(side, side, made[:events])
 
 
 def own_time(file, events):
     """What the program takes for the commands that opening gives."""
-    lines = ["events", "goto 0", "state", "show", f"goto {events - 1}", "state", "show", f"goto {events}", "state", "show"]
+    lines = [
+        "events",
+        "goto 0",
+        "state",
+        "show",
+        f"goto {events - 1}",
+        "state",
+        "show",
+        f"goto {events}",
+        "state",
+        "show",
+    ]
     start = time.perf_counter()
     asked(PROGRAM, file, lines)
     return time.perf_counter() - start
@@ -82,8 +99,12 @@ def own_time(file, events):
 
 def words():
     parser = argparse.ArgumentParser(description=__doc__, formatter_class=argparse.RawDescriptionHelpFormatter)
-    parser.add_argument("--capture", metavar="FILE", type=pathlib.Path, help="a capture in the place of one that is made")
-    parser.add_argument("events", nargs="?", type=int, default=65536, metavar="EVENTS", help="of the capture that is made [65536]")
+    parser.add_argument(
+        "--capture", metavar="FILE", type=pathlib.Path, help="a capture in the place of one that is made"
+    )
+    parser.add_argument(
+        "events", nargs="?", type=int, default=65536, metavar="EVENTS", help="of the capture that is made [65536]"
+    )
     parser.add_argument("side", nargs="?", type=int, default=512, metavar="SIDE", help="of its target, in pixels [512]")
     return parser.parse_args()
 
@@ -97,8 +118,11 @@ def opened(seen, viewer, events):
 
 
 def picked(seen):
-    """The milliseconds until the history of a pixel is there, and until it is drawn, at places all over the picture; the first one starts a run, and isn't told."""
-    left, top, wide, high = seen.run("const b = document.getElementById('sheet').getBoundingClientRect(); return [b.left, b.top, b.width, b.height]")
+    """The milliseconds until the history of a pixel is there, and until it is drawn, at places all over the picture;
+    the first one starts a run, and isn't told."""
+    left, top, wide, high = seen.run(
+        "const b = document.getElementById('sheet').getBoundingClientRect(); return [b.left, b.top, b.width, b.height]"
+    )
     places = [(left + wide * (i * 37 % 97 + 1) / 99, top + high * (i * 61 % 97 + 1) / 99) for i in range(PICKS + 1)]
     return list(zip(*[seen.run_to_end(PICK, *place) for place in places][1:]))
 
@@ -125,7 +149,7 @@ def processor_time():
         try:
             words = file.read_text().rpartition(")")[2].split()
         except OSError:
-            continue                 # it has ended meanwhile
+            continue  # it has ended meanwhile
         parents.setdefault(int(words[1]), []).append(int(file.parent.name))
         of[int(file.parent.name)] = (int(words[11]) + int(words[12])) / os.sysconf("SC_CLK_TCK")
     family = [os.getpid()]
@@ -143,7 +167,12 @@ def hands(seen, events):
     film = seen.run_to_end(FILM, FILMED)
     each = 1000 * (processor_time() - before) / max(1, film * FILMED)
     pixel, drawn = picked(seen)
-    return {"times": {**steps, "a pixel in the midst": pixel, "until it is drawn": drawn}, "film": film, "processor": each, "scrub": seen.run_to_end(SCRUB, FILMED)}
+    return {
+        "times": {**steps, "a pixel in the midst": pixel, "until it is drawn": drawn},
+        "film": film,
+        "processor": each,
+        "scrub": seen.run_to_end(SCRUB, FILMED),
+    }
 
 
 def main():
@@ -157,12 +186,29 @@ def main():
         own = min(own_time(file, events) for _ in range(3))
         found = measured(file, events)
     least = min(found["opened"]) / 1000
-    print(f"{events} events, {side}, a load of {os.getloadavg()[0]:.0f}: the program itself {own:.2f} s, opened in {least:.2f} s, so {least - own:.2f} s more")
+    print(
+        f"{events} events, {side}, a load of {os.getloadavg()[0]:.0f}: the program itself {own:.2f} s, opened "
+        f"in {least:.2f} s, so {least - own:.2f} s more"
+    )
     for key, times in found["times"].items():
         print(f"{key}: {min(times):.0f} ms, the middle one {statistics.median(times):.0f} ms")
-    print(f"a film: {found['film']:.1f} pictures a second, {found['processor']:.0f} ms of processor time each; the slider dragged: {found['scrub']:.1f}")
-    print(json.dumps({"film": found["film"], "processor": found["processor"], "scrub": found["scrub"], "own": own, "opened": least, "pixel": statistics.median(found["times"]["a pixel in the midst"]),
-                      "step": statistics.median(found["times"]["ArrowLeft"] + found["times"]["ArrowRight"])}))
+    print(
+        f"a film: {found['film']:.1f} pictures a second, {found['processor']:.0f} ms of processor time each; "
+        f"the slider dragged: {found['scrub']:.1f}"
+    )
+    print(
+        json.dumps(
+            {
+                "film": found["film"],
+                "processor": found["processor"],
+                "scrub": found["scrub"],
+                "own": own,
+                "opened": least,
+                "pixel": statistics.median(found["times"]["a pixel in the midst"]),
+                "step": statistics.median(found["times"]["ArrowLeft"] + found["times"]["ArrowRight"]),
+            }
+        )
+    )
 
 
 if __name__ == "__main__":

@@ -75,6 +75,7 @@ class Session:
 
 class Town:
     """A town without anything in it."""
+
     side, events = 2048, ()
 
     def __init__(self, **_):
@@ -107,9 +108,20 @@ def no_text(*_, **__):
     return b""
 
 
-STAND_INS = [(drawing, "Session", Session), (frames, "Session", Session), (undrawn, "Session", Session), (towns, "Town", Town), (short_memory, "Limited", Limited),
-             (reading, "vertices", no_text), (reading, "hostile", lambda size: []), (scenes.Scene, "capture", no_text), (scenes.Scene, "numbers", no_text),
-             (scenes, "markers", no_text), (scenes, "states", no_text), (scenes, "frame", no_text)]
+STAND_INS = [
+    (drawing, "Session", Session),
+    (frames, "Session", Session),
+    (undrawn, "Session", Session),
+    (towns, "Town", Town),
+    (short_memory, "Limited", Limited),
+    (reading, "vertices", no_text),
+    (reading, "hostile", lambda size: []),
+    (scenes.Scene, "capture", no_text),
+    (scenes.Scene, "numbers", no_text),
+    (scenes, "markers", no_text),
+    (scenes, "states", no_text),
+    (scenes, "frame", no_text),
+]
 
 
 def names(parts):

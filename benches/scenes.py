@@ -1,4 +1,5 @@
-"""Captures for the measurements: scenes of triangles, as JSON for the debugger and as numbers for plain.c, and frames without triangles.
+"""Captures for the measurements: scenes of triangles, as JSON for the debugger and as numbers for plain.c, and
+frames without triangles.
 
 Their events are texts: one of them may stand in a capture a million times.
 """
@@ -20,7 +21,8 @@ def frame(width, height, events, version=1):
 
 
 class Scene:
-    """Blended triangles of one target, each three vertices (x, y, z, colour) in whole pixels; with a fresh depth they are tested by LESS_EQUAL."""
+    """Blended triangles of one target, each three vertices (x, y, z, colour) in whole pixels; with a fresh depth
+    they are tested by LESS_EQUAL."""
 
     def __init__(self, width, height, triangles, interp="flat", fresh_depth=None):
         self.width, self.height, self.triangles = width, height, triangles
@@ -31,10 +33,14 @@ class Scene:
         return captures.vertex(x * PIXEL, y * PIXEL, colour, None if self.fresh_depth is None else z)
 
     def draw(self, triangles):
-        return compact(captures.draw([self.vertex(*vertex) for triangle in triangles for vertex in triangle], self.interp))
+        return compact(
+            captures.draw([self.vertex(*vertex) for triangle in triangles for vertex in triangle], self.interp)
+        )
 
     def draws(self, per_draw):
-        return [self.draw(self.triangles[start : start + per_draw]) for start in range(0, len(self.triangles), per_draw)]
+        return [
+            self.draw(self.triangles[start : start + per_draw]) for start in range(0, len(self.triangles), per_draw)
+        ]
 
     def capture(self, per_draw=1, empty=0):
         """As JSON, with so many empty draws after each draw."""
@@ -46,9 +52,13 @@ class Scene:
     def numbers(self):
         """As plain.c reads it."""
         test = self.fresh_depth is not None
-        head = struct.pack("<6i", self.width, self.height, self.interp == "linear", test, self.fresh_depth or 0, len(self.triangles))
+        head = struct.pack(
+            "<6i", self.width, self.height, self.interp == "linear", test, self.fresh_depth or 0, len(self.triangles)
+        )
         return head + b"".join(
-            struct.pack("<3i4B", 256 * x, 256 * y, z, *colour) for triangle in self.triangles for x, y, z, colour in triangle
+            struct.pack("<3i4B", 256 * x, 256 * y, z, *colour)
+            for triangle in self.triangles
+            for x, y, z, colour in triangle
         )
 
 
@@ -58,9 +68,14 @@ def large(width, height, count, interp="flat"):
 
 
 def dots(side, count):
-    """Draws of triangles that cover a pixel each, in every other column, so that no two of a draw lie side by side in a row."""
+    """Draws of triangles that cover a pixel each, in every other column, so that no two of a draw lie side by side
+    in a row."""
     places = [(x, y) for y in range(side) for x in range(0, side, 2)]
-    triangles = [[(x + right, y + down, 0, [number % 256, 128, 0, 128]) for right, down in ((0, 0), (2, 0), (0, 2))] for number in range(count) for x, y in places]
+    triangles = [
+        [(x + right, y + down, 0, [number % 256, 128, 0, 128]) for right, down in ((0, 0), (2, 0), (0, 2))]
+        for number in range(count)
+        for x, y in places
+    ]
     return Scene(side, side, triangles).capture(len(places)), len(places)
 
 
@@ -72,7 +87,8 @@ def whole(width, height, number, interp, depths):
 
 
 def tested(width, height, count, passing, interp):
-    """The same with the depth test on: passing is all, none or alternate. Flat ones are level, linear ones slope both ways; no two of them cross."""
+    """The same with the depth test on: passing is all, none or alternate. Flat ones are level, linear ones slope
+    both ways; no two of them cross."""
     triangles = []
     for number in range(count):
         nearer = passing == "all" or (passing == "alternate" and number % 2 == 0)
@@ -83,7 +99,8 @@ def tested(width, height, count, passing, interp):
 
 
 def small(width, height, count, scattered):
-    """Triangles whose legs are 8 pixels long: side by side in blocks of 32 by 32 pixels, as a mesh has them, or anywhere."""
+    """Triangles whose legs are 8 pixels long: side by side in blocks of 32 by 32 pixels, as a mesh has them, or
+    anywhere."""
     generator = random.Random(1)
     triangles = []
     for number in range(count):
@@ -99,13 +116,22 @@ def small(width, height, count, scattered):
 
 
 def shuffled_mesh(side, count):
-    """Triangles side by side over the target, as many as asked or as have room, their legs as long as fit, in random order."""
+    """Triangles side by side over the target, as many as asked or as have room, their legs as long as fit, in random
+    order."""
     count = min(count, (side // 2) ** 2)
     across = next(number for number in range(1, side) if number * number >= count)
     leg = side // across
     places = [(leg * (number % across), leg * (number // across)) for number in range(count)]
     random.Random(1).shuffle(places)
-    return Scene(side, side, [[(x, y, 0, colour), (x + leg, y, 0, colour), (x, y + leg, 0, colour)] for x, y in places for colour in [(x % 256, y % 256, 99, 128)]])
+    return Scene(
+        side,
+        side,
+        [
+            [(x, y, 0, colour), (x + leg, y, 0, colour), (x, y + leg, 0, colour)]
+            for x, y in places
+            for colour in [(x % 256, y % 256, 99, 128)]
+        ],
+    )
 
 
 def in_the_middle(side, count):
@@ -133,7 +159,10 @@ def markers(width, height, count):
 
 def states(width, height, count):
     """State events of each kind in turn."""
-    kinds = [*map(compact, (captures.factor(1, 2, 3, 4), captures.raster("back", True), captures.scissor(0, 0, 9, 9))), BLENDED]
+    kinds = [
+        *map(compact, (captures.factor(1, 2, 3, 4), captures.raster("back", True), captures.scissor(0, 0, 9, 9))),
+        BLENDED,
+    ]
     return frame(width, height, [kinds[number % 4] for number in range(count)])
 
 

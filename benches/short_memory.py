@@ -1,4 +1,5 @@
-"""The part on memory that runs short: how far a session still gets after jumps that stopped, and how little address space a jump needs."""
+"""The part on memory that runs short: how far a session still gets after jumps that stopped, and how little address
+space a jump needs."""
 import os
 import re
 import resource
@@ -13,7 +14,7 @@ ONE_ARENA = {"MALLOC_ARENA_MAX": "1"}
 SMALL_STACK = 256 * 1024  # bytes, what `ulimit -s 256` gives each thread
 FRUGAL = {"": ({}, None), ", one arena": (ONE_ARENA, None), ", one arena and small stacks": (ONE_ARENA, SMALL_STACK)}
 MOST = 1 << 15  # MiB of address space
-GOES_ON = 0.9   # of what is reached without a jump that stopped
+GOES_ON = 0.9  # of what is reached without a jump that stopped
 
 
 class Limited:
@@ -26,13 +27,16 @@ class Limited:
 
     def run(self, lines, mib):
         """The position behind each reply, as far as the program answered; none where it didn't begin."""
+
         def limit():
             resource.setrlimit(resource.RLIMIT_AS, (mib * MIB, mib * MIB))
             if self.stack:
                 resource.setrlimit(resource.RLIMIT_STACK, (self.stack, self.stack))
 
         text = "".join(f"{line}\n" for line in lines).encode()
-        ran = subprocess.run(self.words, input=text, env=self.environment, capture_output=True, preexec_fn=limit, check=False)
+        ran = subprocess.run(
+            self.words, input=text, env=self.environment, capture_output=True, preexec_fn=limit, check=False
+        )
         positions = [0]
         for reply in ran.stdout.decode().splitlines():
             moved = re.fullmatch(r"(?:at|stopped) (\d+)", reply)
@@ -42,7 +46,8 @@ class Limited:
         return positions[1:]
 
     def reached(self, lines, mib, worst=min):
-        """Where the session stands at the end: of several runs the worst, since threads don't want memory in the same order twice."""
+        """Where the session stands at the end: of several runs the worst, since threads don't want memory in the
+        same order twice."""
         return worst((self.run(lines, mib) or [0])[-1] for _ in range(min(ROUNDS, 3)))
 
     def further(self, lines, mib):
@@ -64,7 +69,8 @@ class Limited:
 
 
 def going_on(bench):
-    """clears under a limit on address space that is too small for them: reached by a jump and after it, beside reached by steps; least limits of one jump"""
+    """clears under a limit on address space that is too small for them: reached by a jump and after it, beside
+    reached by steps; least limits of one jump"""
     side, count = bench.scaled(640, 32), 60
     path = bench.capture(scenes.clears(side, side, count))
     steps, jump = ["step"] * count, [f"goto {count}"]
@@ -76,7 +82,14 @@ def going_on(bench):
             alone = limited.reached(steps, mib, max)
             bench.figure(f"{name}, {mib} MiB: reached by steps", alone, f"of {count}")
             for what, lines in [("a jump", jump), ("a jump and steps", jump + steps)]:
-                bench.figure(f"{name}, {mib} MiB: reached by {what}", limited.reached(lines, mib) / alone, "of that", least=GOES_ON)
-            bench.figure(f"{name}, {mib} MiB: further by a second jump", limited.further(jump * 2, mib), "events", least=0)
+                bench.figure(
+                    f"{name}, {mib} MiB: reached by {what}",
+                    limited.reached(lines, mib) / alone,
+                    "of that",
+                    least=GOES_ON,
+                )
+            bench.figure(
+                f"{name}, {mib} MiB: further by a second jump", limited.further(jump * 2, mib), "events", least=0
+            )
             bench.figure(f"{name}: least address space of one jump to the end", limited.least(jump, count), "MiB")
             bench.figure(f"{name}: the same by steps", limited.least(steps, count), "MiB")

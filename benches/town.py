@@ -19,7 +19,7 @@ import scenes
 from scenes import FARTHEST, PIXEL, captures, compact
 
 FULL_SIDE = 2048
-EYE, NEAR, FAR = 30.0, 10.0, 1000.0         # the camera's height, and the depths that it sees
+EYE, NEAR, FAR = 30.0, 10.0, 1000.0  # the camera's height, and the depths that it sees
 KEEP = ("ZERO", "ONE", "ADD")
 OPAQUE = captures.blend(False)
 ADDED = captures.blend(True, ("SRC_ALPHA", "ONE", "ADD"), KEEP, 7)
@@ -30,7 +30,11 @@ UNTESTED, UNWRITTEN = captures.depth(False, False, "ALWAYS"), captures.depth(wri
 CLOCKWISE, BOTH_SIDES, CUT_OUT = captures.raster("back"), captures.raster("none"), captures.raster("none", scissor=True)
 # round the circle by quotients alone
 ARC = [((1 - t * t) / (1 + t * t), 2 * t / (1 + t * t)) for t in [step / 16 for step in range(16)]]
-CIRCLE = [(turn[0] * x + turn[1] * y, turn[2] * x + turn[3] * y) for turn in [(1, 0, 0, 1), (0, -1, 1, 0), (-1, 0, 0, -1), (0, 1, -1, 0)] for x, y in ARC]
+CIRCLE = [
+    (turn[0] * x + turn[1] * y, turn[2] * x + turn[3] * y)
+    for turn in [(1, 0, 0, 1), (0, -1, 1, 0), (-1, 0, 0, -1), (0, 1, -1, 0)]
+    for x, y in ARC
+]
 
 
 class Mesh:
@@ -49,7 +53,14 @@ class Mesh:
         self.triangles += [(numbers[0], second, third) for second, third in zip(numbers[1:], numbers[2:])]
 
     def rectangle(self, left, top, right, bottom, depth, colour):
-        self.polygon([(left, top, depth, colour), (right, top, depth, colour), (right, bottom, depth, colour), (left, bottom, depth, colour)])
+        self.polygon(
+            [
+                (left, top, depth, colour),
+                (right, top, depth, colour),
+                (right, bottom, depth, colour),
+                (left, bottom, depth, colour),
+            ]
+        )
 
     def pieces(self, size):
         """The same triangles in meshes of so many, in their order, each with the corners that it has."""
@@ -79,7 +90,10 @@ class Town:
         self.side, self.scale, self.size = max(FULL_SIDE // scale // 32, 1) * 32, scale, pieces
         self.chance = random.Random(seed)
         self.events, self.draws, self.triangles = [], 0, 0
-        self.current, self.changes = {}, []         # what is set by kind, and the numbers of the events that set something else
+        self.current, self.changes = (
+            {},
+            [],
+        )  # what is set by kind, and the numbers of the events that set something else
         self.begin()
         self.ground()
         self.houses()
@@ -92,7 +106,8 @@ class Town:
         return scenes.frame(self.side, self.side, map(compact, self.events), 2)
 
     def middle_change(self):
-        """The number of a state event: of those that set something else than what was set, the nearest to the frame's middle."""
+        """The number of a state event: of those that set something else than what was set, the nearest to the
+        frame's middle."""
         return min(self.changes, key=lambda number: abs(2 * number - len(self.events)))
 
     def between(self, low, high):
@@ -120,7 +135,8 @@ class Town:
         self.current[kind] = event
 
     def draw(self, name, mesh, interp="flat"):
-        """A marker, where there is a name, and a draw; or the draws of its pieces with an event between, as of a program that tells what is known already."""
+        """A marker, where there is a name, and a draw; or the draws of its pieces with an event between, as of a
+        program that tells what is known already."""
         if name:
             self.marker(name)
         for number, piece in enumerate(mesh.pieces(self.size) if self.size else [mesh]):
@@ -147,8 +163,14 @@ class Town:
         for event in (BOTH_SIDES, OPAQUE, UNTESTED, captures.factor(128, 128, 128, 255)):
             self.state(event)
         sky = Mesh()
-        sky.polygon([(0, 0, FARTHEST, (90, 140, 220, 255)), (self.side, 0, FARTHEST, (90, 140, 220, 255)),
-                     (self.side, self.side, FARTHEST, (200, 220, 240, 255)), (0, self.side, FARTHEST, (200, 220, 240, 255))])
+        sky.polygon(
+            [
+                (0, 0, FARTHEST, (90, 140, 220, 255)),
+                (self.side, 0, FARTHEST, (90, 140, 220, 255)),
+                (self.side, self.side, FARTHEST, (200, 220, 240, 255)),
+                (0, self.side, FARTHEST, (200, 220, 240, 255)),
+            ]
+        )
         self.draw("sky", sky, "linear")
 
     def ground(self):
@@ -159,7 +181,10 @@ class Town:
             for column in range(side):
                 ends = [20 + 780 * (row + part / 8) / side for part in range(9)]
                 edges = [1.4 * (column + part / 8) / side - 0.7 for part in range(9)]
-                grid = [[(edge * end, self.between(-0.5, 0), end, (60, 90 + self.below(40), 50, 255)) for edge in edges] for end in reversed(ends)]
+                grid = [
+                    [(edge * end, self.between(-0.5, 0), end, (60, 90 + self.below(40), 50, 255)) for edge in edges]
+                    for end in reversed(ends)
+                ]
                 self.draw(f"ground {row} {column}", self.grid(grid), "linear")
 
     def grid(self, rows):
@@ -185,12 +210,16 @@ class Town:
             self.draw("", house.roof())
 
     def bunnies(self):
-        """Four closed meshes of 64 by 64 fields with two ears, each in four draws; at the poles some triangles have no area."""
+        """Four closed meshes of 64 by 64 fields with two ears, each in four draws; at the poles some triangles have
+        no area."""
         self.state(CLOCKWISE)
         for number in range(4):
             x, z, colour = self.between(-40, 40), self.between(70, 120), self.colour()
             fields = self.many(64)
-            places = [[self.fur(x, z, colour, row / fields, column / fields) for column in range(fields + 1)] for row in range(fields + 1)]
+            places = [
+                [self.fur(x, z, colour, row / fields, column / fields) for column in range(fields + 1)]
+                for row in range(fields + 1)
+            ]
             step = max(fields // 4, 1)
             for start in range(0, fields, step):
                 self.draw(f"bunny {number} part {start // step}", self.grid(places[start : start + step + 1]), "linear")
@@ -202,7 +231,12 @@ class Town:
         ear = max(0.0, 1 - 6 * abs(up - 0.8)) * max(0.0, abs(turn[0]) - 0.7) * 3
         radius = 9 * (1 + 1.3 * ear + 0.1 * turn[0] * turn[1] * out)
         light = int(60 * (up + 1))
-        return x + radius * out * turn[0], 9 + radius * up, z - radius * out * turn[1], tuple(min(shade + light, 255) for shade in colour[:3]) + (255,)
+        return (
+            x + radius * out * turn[0],
+            9 + radius * up,
+            z - radius * out * turn[1],
+            tuple(min(shade + light, 255) for shade in colour[:3]) + (255,),
+        )
 
     def particles(self):
         """700 clouds of ten sprites each, blended, tested by depth and not written."""
@@ -263,13 +297,20 @@ class House:
     def at(self, right, up, away, colour):
         """The corner for a place measured from the house's middle, where its walls are 4 to the sides."""
         cosine, sine = self.turn
-        return self.town.seen(self.middle[0] + right * cosine - away * sine, up, self.middle[1] + right * sine + away * cosine, colour)
+        return self.town.seen(
+            self.middle[0] + right * cosine - away * sine, up, self.middle[1] + right * sine + away * cosine, colour
+        )
 
     def wall(self, number, box, out, colour):
         """A rectangle (left, bottom, right, top) on one of the four walls, so far out of it."""
         left, bottom, right, top = box
-        turned = [lambda x: (x, -4 - out), lambda x: (4 + out, x), lambda x: (-x, 4 + out), lambda x: (-4 - out, -x)][number]
-        return [self.at(turned(x)[0], y, turned(x)[1], colour) for x, y in ((left, top), (right, top), (right, bottom), (left, bottom))]
+        turned = [lambda x: (x, -4 - out), lambda x: (4 + out, x), lambda x: (-x, 4 + out), lambda x: (-4 - out, -x)][
+            number
+        ]
+        return [
+            self.at(turned(x)[0], y, turned(x)[1], colour)
+            for x, y in ((left, top), (right, top), (right, bottom), (left, bottom))
+        ]
 
     def walls(self):
         """Four walls, ten windows and a door: 30 triangles."""
@@ -278,7 +319,9 @@ class House:
             mesh.polygon(self.wall(number, (-4, 0, 4, self.high), 0, self.colours[0]))
         for window in range(10):
             left, bottom = (-3, 0.5)[window // 4 % 2] + 0.2 * (window // 8), (0.55, 0.15)[window // 8] * self.high
-            mesh.polygon(self.wall(window % 4, (left, bottom, left + 2, bottom + 0.3 * self.high), 0.05, (210, 220, 120, 255)))
+            mesh.polygon(
+                self.wall(window % 4, (left, bottom, left + 2, bottom + 0.3 * self.high), 0.05, (210, 220, 120, 255))
+            )
         mesh.polygon(self.wall(0, (-0.7, 0, 0.7, 0.35 * self.high), 0.08, self.colours[2]))
         return mesh
 
@@ -286,9 +329,29 @@ class House:
         """Two slopes, two gables, and two sides of a chimney: 10 triangles."""
         mesh, low, ridge, colour = Mesh(), self.high, self.high + 4, self.colours[1]
         for side in (1, -1):
-            mesh.polygon([self.at(*place, colour) for place in ((-side * 5, ridge, 0), (side * 5, ridge, 0), (side * 5, low, -side * 5), (-side * 5, low, -side * 5))])
-            mesh.polygon([self.at(*place, self.colours[0]) for place in ((side * 4, ridge, 0), (side * 4, low, side * 4), (side * 4, low, -side * 4))])
-            mesh.polygon([self.at(side * x, y, side * -2, self.colours[2]) for x, y in ((1, ridge + 2), (2, ridge + 2), (2, low), (1, low))])
+            mesh.polygon(
+                [
+                    self.at(*place, colour)
+                    for place in (
+                        (-side * 5, ridge, 0),
+                        (side * 5, ridge, 0),
+                        (side * 5, low, -side * 5),
+                        (-side * 5, low, -side * 5),
+                    )
+                ]
+            )
+            mesh.polygon(
+                [
+                    self.at(*place, self.colours[0])
+                    for place in ((side * 4, ridge, 0), (side * 4, low, side * 4), (side * 4, low, -side * 4))
+                ]
+            )
+            mesh.polygon(
+                [
+                    self.at(side * x, y, side * -2, self.colours[2])
+                    for x, y in ((1, ridge + 2), (2, ridge + 2), (2, low), (1, low))
+                ]
+            )
         return mesh
 
 
@@ -299,7 +362,7 @@ def number_from(text):
     return number
 
 
-number_from.__name__ = "number"       # what argparse calls it
+number_from.__name__ = "number"  # what argparse calls it
 
 
 def main():
@@ -315,7 +378,11 @@ def main():
             file.write(town.capture())
     except OSError as fault:
         sys.exit(f"town: {words.file}: {fault.strerror}")
-    print(f"town: {town.draws:,} draws of {town.triangles:,} triangles, {len(town.events):,} events, {town.side} by {town.side}", file=sys.stderr)
+    print(
+        f"town: {town.draws:,} draws of {town.triangles:,} triangles, {len(town.events):,} events, {town.side} "
+        f"by {town.side}",
+        file=sys.stderr,
+    )
 
 
 if __name__ == "__main__":

@@ -1,16 +1,18 @@
-"""What a piece of work takes of this program, and of another one beside it: the two take turns, and the best of each counts."""
+"""What a piece of work takes of this program, and of another one beside it: the two take turns, and the best of each
+counts."""
 import re
 import shutil
 import subprocess
 import sys
 from dataclasses import dataclass
 
-ENOUGH = 10     # seconds, behind which a program isn't run once more
+ENOUGH = 10  # seconds, behind which a program isn't run once more
 
 
 @dataclass(frozen=True)
 class Taken:
     """What this program took, and the other one, where there is one."""
+
     here: float
     beside: float = None
 
@@ -32,6 +34,7 @@ class Taken:
 @dataclass(frozen=True)
 class Work:
     """Commands over a capture: what goes before isn't measured. The first of them has an answer that is known."""
+
     path: object
     before: tuple
     lines: tuple
@@ -39,7 +42,8 @@ class Work:
 
 
 def best(programs, run, rounds):
-    """The least of each value that a run gives, by program. A run gives several values, and the first one is its time."""
+    """The least of each value that a run gives, by program. A run gives several values, and the first one is its
+    time."""
     values = [[] for _ in programs]
     for _ in range(rounds):
         for program, column in zip(programs, values):
@@ -74,7 +78,8 @@ class Counter:
     def work(self, program, work):
         """The instructions of some commands: of a run with them, less those of a run without."""
         words, least, most = [program, "run", "--workers", "1", work.path], *(
-            "".join(f"{line}\n" for line in lines).encode() for lines in (work.before, (*work.before, *work.lines)))
+            "".join(f"{line}\n" for line in lines).encode() for lines in (work.before, (*work.before, *work.lines))
+        )
         return self.run(words, most) - self.run(words, least)
 
 

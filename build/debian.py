@@ -17,8 +17,8 @@ Description: frame debugger that steps back
  each pixel. With it come a prompt (fdb), a viewer in the browser, the search
  for what made a picture wrong, converters of frames, documents and examples.
 """
-MOVED = {"share/zsh/site-functions/": "share/zsh/vendor-completions/"}     # where Debian looks for what a package brings
-START = b"exec python3 ", b"exec python3 -B "       # without what Python keeps beside modules, which no package takes away
+MOVED = {"share/zsh/site-functions/": "share/zsh/vendor-completions/"}  # where Debian looks for what a package brings
+START = b"exec python3 ", b"exec python3 -B "  # without what Python keeps beside modules, which no package takes away
 
 
 def made():
@@ -38,12 +38,20 @@ def moved(place):
 
 
 def started(place, file):
-    return File(file.data.replace(*START, 1), file.mode) if place.startswith("bin/") and file.data.startswith(b"#!/bin/sh\n") else file
+    return (
+        File(file.data.replace(*START, 1), file.mode)
+        if place.startswith("bin/") and file.data.startswith(b"#!/bin/sh\n")
+        else file
+    )
 
 
 def archive(members):
     """The members as an ar file."""
     made_ = b"!<arch>\n"
     for name, data in members.items():
-        made_ += f"{name:<16}{packing.when():<12}{0:<6}{0:<6}{'100644':<8}{len(data):<10}`\n".encode() + data + b"\n" * (len(data) % 2)
+        made_ += (
+            f"{name:<16}{packing.when():<12}{0:<6}{0:<6}{'100644':<8}{len(data):<10}`\n".encode()
+            + data
+            + b"\n" * (len(data) % 2)
+        )
     return made_

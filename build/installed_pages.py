@@ -1,8 +1,18 @@
-"""What a page of the documents says once it is installed: programs by the names by which they are called there, and where the modules for Python are."""
+"""What a page of the documents says once it is installed: programs by the names by which they are called there, and
+where the modules for Python are."""
 import re
 
-OF_THE_SOURCE = {"CONTRIBUTING.md", "CHANGELOG.md", "ARCHITECTURE.md", "DECISIONS.md", "DEFINITIONS.md", "PROVED.md", "MEASURED.md"}    # these stay as they are
-MODULES = '"$(dirname "$(readlink -f "$(command -v framedbg)")")/../share/framedbg/tools"'      # of whatever framedbg is on the path
+OF_THE_SOURCE = {
+    "CONTRIBUTING.md",
+    "CHANGELOG.md",
+    "ARCHITECTURE.md",
+    "DECISIONS.md",
+    "DEFINITIONS.md",
+    "PROVED.md",
+    "MEASURED.md",
+}  # these stay as they are
+# of whatever framedbg is on the path
+MODULES = '"$(dirname "$(readlink -f "$(command -v framedbg)")")/../share/framedbg/tools"'
 NOTE = """
 These pages were installed with framedbg. What they tell you to type wants its programs on the path, and this folder, or a copy of it that you can write to:
 `cp -r PREFIX/share/doc/framedbg pages && cd pages`.

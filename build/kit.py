@@ -29,7 +29,8 @@ def place():
 
 @functools.lru_cache(maxsize=None)
 def rt():
-    """The module of `rt`. It is asked for before any thread is: it starts what ends its commands with it, however it ends."""
+    """The module of `rt`. It is asked for before any thread is: it starts what ends its commands with it, however it
+    ends."""
     file = place() / "bin/rt"
     loader = importlib.machinery.SourceFileLoader("rt", str(file))
     module = importlib.util.module_from_spec(importlib.util.spec_from_loader("rt", loader))
@@ -38,7 +39,7 @@ def rt():
     if lacking:
         sys.exit(f"{file} has no {', '.join(lacking)}: build/kit.py was written for another toolchain")
     module.rtlib.guarded()
-    if signal.getsignal(signal.SIGINT) is signal.default_int_handler:       # which waits for the commands of threads
+    if signal.getsignal(signal.SIGINT) is signal.default_int_handler:  # which waits for the commands of threads
         signal.signal(signal.SIGINT, signal.SIG_DFL)
     return module
 
@@ -64,8 +65,8 @@ def is_of_gate(crate, folder):
 
 
 def has_libraries(crate):
-    """Whether the libraries below the crate are built: all by commands of this checkout, or all by `rt ci`, which leaves
-    no stamp. The two don't fit each other."""
+    """Whether the libraries below the crate are built: all by commands of this checkout, or all by `rt ci`, which
+    leaves no stamp. The two don't fit each other."""
     below = crate.below()
     if all(it.is_built() for it in below):
         return True
@@ -75,5 +76,6 @@ def has_libraries(crate):
 
 @functools.lru_cache(maxsize=None)
 def share_work():
-    """Has what is built here begin with what other checkouts on the machine kept, and serve them, as rt's commands do."""
+    """Has what is built here begin with what other checkouts on the machine kept, and serve them, as rt's commands
+    do."""
     rt().share_work(True)

@@ -13,7 +13,7 @@ from folders import TOP
 import kit
 
 LOGS = TOP / "out/build"
-ENOUGH = 2.5e9      # bytes, which no check of a library here was seen to take; rt guesses more than twice as much for some
+ENOUGH = 2.5e9  # bytes, which no check of a library here was seen to take; rt guesses more than twice as much for some
 
 
 class NotBuilt(Exception):
@@ -41,8 +41,8 @@ def memory(crate):
 
 
 def longest_chain(crates):
-    """The names of the crates, of which each uses the one before, that have the most lines. Whatever is built beside them,
-    they end last."""
+    """The names of the crates, of which each uses the one before, that have the most lines. Whatever is built beside
+    them, they end last."""
     chains = {}
     for crate in crates:
         most, names = max((chains[low.name] for low in crate.below()), default=(0, []))
@@ -84,8 +84,10 @@ class Build:
         rt = kit.rt()
         tasks = {}
         for crate in self.crates:
+
             def call(given, jobs, crate=crate):
                 self.one(crate, jobs)
+
             waits = [(low.name, "proof") for low in crate.below()]
             tasks[crate.name, "proof"] = waits, lines(crate), memory(crate), call
         with locked(self.crates):
@@ -95,8 +97,8 @@ class Build:
 
 
 def build(crates, more=0):
-    """Builds these libraries, which hold each that they use. A line for each says its own time, and counts what comes after
-    them too."""
+    """Builds these libraries, which hold each that they use. A line for each says its own time, and counts what
+    comes after them too."""
     LOGS.mkdir(parents=True, exist_ok=True)
     kit.share_work()
     made = Build(crates, len(crates) + more)

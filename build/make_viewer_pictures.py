@@ -13,7 +13,7 @@ from page import module, packing
 from viewer_testing import EXAMPLES, Viewer
 
 PICTURES = TOP / "docs/images"
-SETTLED = 0.4      # seconds until what was asked for is drawn
+SETTLED = 0.4  # seconds until what was asked for is drawn
 
 
 class Shown:
@@ -31,7 +31,10 @@ class Shown:
         self.page.until("return document.querySelector('#position b')?.innerText === arguments[0]", str(position))
 
     def pixel(self, x, y, width):
-        left, top, wide, _ = self.page.run("const b = document.getElementById('sheet').getBoundingClientRect(); return [b.left, b.top, b.width, b.height]")
+        left, top, wide, _ = self.page.run(
+            "const b = document.getElementById('sheet').getBoundingClientRect(); return [b.left, b.top, "
+            "b.width, b.height]"
+        )
         self.page.click_at(left + (x + 0.5) * wide / width, top + (y + 0.5) * wide / width)
         self.page.until("return document.querySelectorAll('#history .entry').length > 0")
 
@@ -72,7 +75,11 @@ def main():
             shown.pixel(95, 40, 120)
             shown.entry(9)
             page.click("[data-look='depth']")
-            page.until("return document.querySelector('[data-look=depth]').ariaChecked === 'true' && document.getElementById('busy').hidden", seconds=60)
+            page.until(
+                "return document.querySelector('[data-look=depth]').ariaChecked === 'true' && "
+                "document.getElementById('busy').hidden",
+                seconds=60,
+            )
             shown.save("viewer_depth")
         page_alone(page)
     finally:

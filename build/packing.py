@@ -1,5 +1,5 @@
-"""What goes into a package: the files that build/install puts below a folder, and archives that are the same bytes each time. SOURCE_DATE_EPOCH is the time
-of what is in them, else 1980."""
+"""What goes into a package: the files that build/install puts below a folder, and archives that are the same bytes
+each time. SOURCE_DATE_EPOCH is the time of what is in them, else 1980."""
 import gzip
 import io
 import os
@@ -15,8 +15,9 @@ from folders import TOP
 
 from framedbg_client.program import BUILT
 
-WHEN = 315532800        # the first day of 1980, before which some archives know no time
-LIST = "share/framedbg/installed"       # by which build/install takes away what it put there: whoever installs a package has its own
+WHEN = 315532800  # the first day of 1980, before which some archives know no time
+# by which build/install takes away what it put there: whoever installs a package has its own
+LIST = "share/framedbg/installed"
 VERSION = re.compile(r"framedbg (\d+(?:\.\d+)*) \(proved with (logic [0-9a-f]+)\)\n")
 LIBRARY = re.compile(rb"GLIBC_(\d+)\.(\d+)")
 
@@ -62,18 +63,30 @@ def files():
         tree = pathlib.Path(room) / "tree"
         installed(tree)
         found = {path.relative_to(tree).as_posix(): path for path in sorted(tree.rglob("*")) if path.is_file()}
-        return {place: File(path.read_bytes(), 0o755 if place.startswith("bin/") else 0o644) for place, path in found.items() if place != LIST}
+        return {
+            place: File(path.read_bytes(), 0o755 if place.startswith("bin/") else 0o644)
+            for place, path in found.items()
+            if place != LIST
+        }
 
 
 def tar(entries):
-    """Files by their names as a tar file in gzip, with the folders that they are in: in order, of nobody, at one time."""
-    folders = {parent.as_posix() for name in entries for parent in pathlib.PurePosixPath(name).parents if parent.as_posix() != "."}
+    """Files by their names as a tar file in gzip, with the folders that they are in: in order, of nobody, at one
+    time."""
+    folders = {
+        parent.as_posix()
+        for name in entries
+        for parent in pathlib.PurePosixPath(name).parents
+        if parent.as_posix() != "."
+    }
     plain = io.BytesIO()
     with tarfile.open(fileobj=plain, mode="w", format=tarfile.GNU_FORMAT) as archive:
         for name in sorted({*folders, *entries}, key=lambda name: name.split("/")):
             file = entries.get(name)
             entry = tarfile.TarInfo(f"./{name}")
-            entry.type, entry.mode, entry.size = (tarfile.REGTYPE, file.mode, len(file.data)) if file else (tarfile.DIRTYPE, 0o755, 0)
+            entry.type, entry.mode, entry.size = (
+                (tarfile.REGTYPE, file.mode, len(file.data)) if file else (tarfile.DIRTYPE, 0o755, 0)
+            )
             entry.mtime, entry.uname, entry.gname = when(), "root", "root"
             archive.addfile(entry, io.BytesIO(file.data) if file else None)
     small = io.BytesIO()

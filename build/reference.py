@@ -1,10 +1,11 @@
 #!/usr/bin/env python3
 """reference.py CAPTURE < SESSION: what framedbg answers, worked out a second time and independently.
 
-A slow and plain replay, pixel by pixel, straight from docs/DEFINITIONS.md and docs/FORMATS.md: it shares no code and no
-method with the program (no row is cut by division, no image is kept, every pixel is made anew from a fresh target),
-and none with the other tools: its limits and spellings are its own, so that those of captures.py are compared with them.
-Its outputs stand in examples/*.expected, and the gate compares what the program writes with them.
+A slow and plain replay, pixel by pixel, straight from docs/DEFINITIONS.md and docs/FORMATS.md: it shares no code and
+no method with the program (no row is cut by division, no image is kept, every pixel is made anew from a fresh
+target), and none with the other tools: its limits and spellings are its own, so that those of captures.py are
+compared with them. Its outputs stand in examples/*.expected, and the gate compares what the program writes with
+them.
 
 Other tools import it: fault says why a capture is refused, Frame holds one, replay gives a pixel and its history, reply
 answers one line of a session.
@@ -17,23 +18,52 @@ import re
 import sys
 from fractions import Fraction
 
-FACTORS = ["ZERO", "ONE", "SRC_COLOR", "INV_SRC_COLOR", "SRC_ALPHA", "INV_SRC_ALPHA",
-           "DEST_ALPHA", "INV_DEST_ALPHA", "DEST_COLOR", "INV_DEST_COLOR", "BLEND_FACTOR", "INV_BLEND_FACTOR"]
+FACTORS = [
+    "ZERO",
+    "ONE",
+    "SRC_COLOR",
+    "INV_SRC_COLOR",
+    "SRC_ALPHA",
+    "INV_SRC_ALPHA",
+    "DEST_ALPHA",
+    "INV_DEST_ALPHA",
+    "DEST_COLOR",
+    "INV_DEST_COLOR",
+    "BLEND_FACTOR",
+    "INV_BLEND_FACTOR",
+]
 DEFAULTS = {
-    "raster": ("back", 0, 0), "scissor": (0, 0, 0, 0), "factor": (255, 255, 255, 255),
-    "blend": (0, ("ONE", "ZERO", "ADD"), ("ONE", "ZERO", "ADD"), 15), "depth": (0, 1, "LESS"),
+    "raster": ("back", 0, 0),
+    "scissor": (0, 0, 0, 0),
+    "factor": (255, 255, 255, 255),
+    "blend": (0, ("ONE", "ZERO", "ADD"), ("ONE", "ZERO", "ADD"), 15),
+    "depth": (0, 1, "LESS"),
 }
 FRESH = ((0, 0, 0, 0), 65535)  # a pixel before the first event: its colour and its depth
 PASSES = {
-    "NEVER": lambda source, stored: False, "LESS": lambda source, stored: source < stored,
-    "EQUAL": lambda source, stored: source == stored, "LESS_EQUAL": lambda source, stored: source <= stored,
-    "GREATER": lambda source, stored: source > stored, "NOT_EQUAL": lambda source, stored: source != stored,
-    "GREATER_EQUAL": lambda source, stored: source >= stored, "ALWAYS": lambda source, stored: True,
+    "NEVER": lambda source, stored: False,
+    "LESS": lambda source, stored: source < stored,
+    "EQUAL": lambda source, stored: source == stored,
+    "LESS_EQUAL": lambda source, stored: source <= stored,
+    "GREATER": lambda source, stored: source > stored,
+    "NOT_EQUAL": lambda source, stored: source != stored,
+    "GREATER_EQUAL": lambda source, stored: source >= stored,
+    "ALWAYS": lambda source, stored: True,
 }
 REFUSALS = ["", "at end", "at start", "no such position", "no such event", "already so", "no such pixel", "memory"]
 
 
-FAULTS = ["", "too long", "not json", "not a capture", "version", "size", "too many events", "unknown event", "bad field"]
+FAULTS = [
+    "",
+    "too long",
+    "not json",
+    "not a capture",
+    "version",
+    "size",
+    "too many events",
+    "unknown event",
+    "bad field",
+]
 OPERATIONS = ["ADD", "SUBTRACT", "REV_SUBTRACT", "MIN", "MAX"]
 
 
@@ -42,7 +72,8 @@ def no_json(*_):
 
 
 def number_of(text):
-    """A number of JSON: whole where it has neither point nor exponent and isn't -0, and none at all where no double holds its size."""
+    """A number of JSON: whole where it has neither point nor exponent and isn't -0, and none at all where no double
+    holds its size."""
     if math.isinf(float(text)):
         raise ValueError
     return int(text) if text.lstrip("-").isdigit() and len(text) < 25 and text != "-0" else float(text)
@@ -79,7 +110,9 @@ def nesting(text):
 
 def json_of(data):
     text = data.decode("utf-8")
-    value = json.loads(text, parse_constant=no_json, parse_int=number_of, parse_float=number_of, object_pairs_hook=object_of)
+    value = json.loads(
+        text, parse_constant=no_json, parse_int=number_of, parse_float=number_of, object_pairs_hook=object_of
+    )
     return check_texts(value) if nesting(text) <= 127 else no_json()
 
 
@@ -92,16 +125,26 @@ def is_color(value):
 
 
 def is_part(value, allowed):
-    return isinstance(value, list) and len(value) == 3 and value[0] in allowed and value[1] in allowed and value[2] in OPERATIONS
+    return (
+        isinstance(value, list)
+        and len(value) == 3
+        and value[0] in allowed
+        and value[1] in allowed
+        and value[2] in OPERATIONS
+    )
 
 
 def is_place(value, version):
-    return (isinstance(value, dict) and all(whole(value.get(name), -2**30, 2**30) for name in "xy")
-            and (version == 1 or whole(value.get("z"), 0, 65535)))
+    return (
+        isinstance(value, dict)
+        and all(whole(value.get(name), -(2**30), 2**30) for name in "xy")
+        and (version == 1 or whole(value.get("z"), 0, 65535))
+    )
 
 
 def bytes_of(text):
-    """The bytes that a text in base64 stands for; none where it isn't their one spelling: padded, with nothing between, and zero bits behind the last byte."""
+    """The bytes that a text in base64 stands for; none where it isn't their one spelling: padded, with nothing
+    between, and zero bits behind the last byte."""
     try:
         data = base64.b64decode(text.encode("ascii"), validate=True)
     except ValueError:
@@ -115,19 +158,26 @@ def is_data(value, length):
 
 
 def is_picture(value):
-    if not (isinstance(value, dict) and all(whole(value.get(name), 0, 16383) for name in ("left", "top"))
-            and all(whole(value.get(name), 1, 16384) for name in ("width", "height"))):
+    if not (
+        isinstance(value, dict)
+        and all(whole(value.get(name), 0, 16383) for name in ("left", "top"))
+        and all(whole(value.get(name), 1, 16384) for name in ("width", "height"))
+    ):
         return False
     texels = value["width"] * value["height"]
-    return is_data(value.get("texels"), 4 * texels) and ("holes" not in value or is_data(value["holes"], -(-texels // 8)))
+    return is_data(value.get("texels"), 4 * texels) and (
+        "holes" not in value or is_data(value["holes"], -(-texels // 8))
+    )
 
 
 def is_draw(e, version):
     vertices, indices, painted = e.get("vertices"), e.get("indices", []), version == 3 and e.get("interp") == "picture"
-    return ((is_picture(e.get("picture")) if painted else e.get("interp") in ("flat", "linear"))
-            and all(isinstance(list_, list) and len(list_) <= 196608 for list_ in (vertices, indices))
-            and all(is_place(v, version) and (painted or is_color(v.get("color"))) for v in vertices)
-            and all(whole(i, 0, len(vertices) - 1) for i in indices))
+    return (
+        (is_picture(e.get("picture")) if painted else e.get("interp") in ("flat", "linear"))
+        and all(isinstance(list_, list) and len(list_) <= 196608 for list_ in (vertices, indices))
+        and all(is_place(v, version) and (painted or is_color(v.get("color"))) for v in vertices)
+        and all(whole(i, 0, len(vertices) - 1) for i in indices)
+    )
 
 
 def truths(e, *names):
@@ -135,15 +185,25 @@ def truths(e, *names):
 
 
 def is_label(name):
-    return isinstance(name, str) and len(name.encode()) <= 64 and not any(character < " " or character == "\x7f" for character in name)
+    return (
+        isinstance(name, str)
+        and len(name.encode()) <= 64
+        and not any(character < " " or character == "\x7f" for character in name)
+    )
 
 
 KINDS = {
     "clear": lambda e, version: is_color(e.get("color")),
     "raster": lambda e, version: e.get("cull") in ("none", "front", "back") and truths(e, "front_ccw", "scissor"),
-    "scissor": lambda e, version: isinstance(e.get("rect"), list) and len(e["rect"]) == 4 and all(whole(n, -2**31, 2**31 - 1) for n in e["rect"]),
-    "blend": lambda e, version: (truths(e, "enable") and is_part(e.get("rgb"), FACTORS) and whole(e.get("mask"), 0, 15)
-                                 and is_part(e.get("alpha"), [f for f in FACTORS if f[-6:] != "_COLOR"])),
+    "scissor": lambda e, version: isinstance(e.get("rect"), list)
+    and len(e["rect"]) == 4
+    and all(whole(n, -(2**31), 2**31 - 1) for n in e["rect"]),
+    "blend": lambda e, version: (
+        truths(e, "enable")
+        and is_part(e.get("rgb"), FACTORS)
+        and whole(e.get("mask"), 0, 15)
+        and is_part(e.get("alpha"), [f for f in FACTORS if f[-6:] != "_COLOR"])
+    ),
     "factor": lambda e, version: is_color(e.get("color")),
     "draw": is_draw,
     "marker": lambda e, version: is_label(e.get("name")),
@@ -162,14 +222,19 @@ def event_fault(e, version):
 
 
 def fault(data):
-    """Why bytes are refused as a capture: the number of the fault, its name, and the event's number where it has one. None: they are one."""
+    """Why bytes are refused as a capture: the number of the fault, its name, and the event's number where it has
+    one. None: they are one."""
     if len(data) > 67108864:
         return 1, FAULTS[1]
     try:
         capture = json_of(data)
     except (ValueError, RecursionError):
         return 2, FAULTS[2]
-    if not isinstance(capture, dict) or capture.get("format") != "framedbg" or not isinstance(capture.get("events"), list):
+    if (
+        not isinstance(capture, dict)
+        or capture.get("format") != "framedbg"
+        or not isinstance(capture.get("events"), list)
+    ):
         return 3, FAULTS[3]
     if not whole(capture.get("version"), 1, 3):
         return 4, FAULTS[4]
@@ -200,7 +265,10 @@ def centre(x, y):
 def covers(t, x, y):
     p = centre(x, y)
     (ax, ay), (bx, by), (cx, cy) = t
-    if not (min(ax, bx, cx) <= p[0] <= max(ax, bx, cx) and min(ay, by, cy) <= p[1] <= max(ay, by, cy)) or cross(*t) == 0:
+    if (
+        not (min(ax, bx, cx) <= p[0] <= max(ax, bx, cx) and min(ay, by, cy) <= p[1] <= max(ay, by, cy))
+        or cross(*t) == 0
+    ):
         return False
     for i in range(3):
         u, v, c = t[i], t[(i + 1) % 3], t[(i + 2) % 3]
@@ -237,7 +305,8 @@ def verdict(t, depths, picture, state, stored, x, y):
 
 
 def nearest_mean(t, values, x, y):
-    """The whole number nearest to the mean of three corners' values, weighted by the areas opposite to them; the larger on a tie."""
+    """The whole number nearest to the mean of three corners' values, weighted by the areas opposite to them; the
+    larger on a tie."""
     p = centre(x, y)
     weights = [abs(cross(t[(i + 1) % 3], t[(i + 2) % 3], p)) for i in range(3)]
     whole, rest = divmod(sum(w * v for w, v in zip(weights, values)), abs(cross(*t)))
@@ -246,6 +315,7 @@ def nearest_mean(t, values, x, y):
 
 class Picture:
     """The colours that a draw puts out, pixel by pixel."""
+
     def __init__(self, value):
         self.left, self.top, self.width, self.height = (value[name] for name in ("left", "top", "width", "height"))
         self.texels, self.holes = bytes_of(value["texels"]), bytes_of(value.get("holes", ""))
@@ -258,7 +328,7 @@ class Picture:
         n = row * self.width + column
         if self.holes and self.holes[n // 8] >> n % 8 & 1:
             return None
-        return tuple(self.texels[4 * n:4 * n + 4])
+        return tuple(self.texels[4 * n : 4 * n + 4])
 
 
 def source(t, colours, interp, x, y, picture=None):
@@ -284,8 +354,15 @@ def unorm(value):
 def factor_value(name, k, factor, src, dst):
     inverse = name.startswith("INV_")
     plain = name[4:] if inverse else name
-    value = {"ZERO": 0, "ONE": 255, "SRC_COLOR": src[k], "SRC_ALPHA": src[3],
-             "DEST_ALPHA": dst[3], "DEST_COLOR": dst[k], "BLEND_FACTOR": factor[k]}[plain]
+    value = {
+        "ZERO": 0,
+        "ONE": 255,
+        "SRC_COLOR": src[k],
+        "SRC_ALPHA": src[3],
+        "DEST_ALPHA": dst[3],
+        "DEST_COLOR": dst[k],
+        "BLEND_FACTOR": factor[k],
+    }[plain]
     return 255 - value if inverse else value
 
 
@@ -324,19 +401,30 @@ class Frame:
         if kind == "draw":
             painted = e["interp"] == "picture"
             places = [(nearest_even(v["x"]), nearest_even(v["y"])) for v in e["vertices"]]
-            corners = [(place, None if painted else tuple(v["color"]), 0 if self.version == 1 else v["z"]) for place, v in zip(places, e["vertices"])]
+            corners = [
+                (place, None if painted else tuple(v["color"]), 0 if self.version == 1 else v["z"])
+                for place, v in zip(places, e["vertices"])
+            ]
             named = [corners[i] for i in e["indices"]] if "indices" in e else corners
-            triangles = [named[i:i + 3] for i in range(0, len(named) - 2, 3)]
+            triangles = [named[i : i + 3] for i in range(0, len(named) - 2, 3)]
             return kind, ([tuple(zip(*t)) for t in triangles], e["interp"], Picture(e["picture"]) if painted else None)
-        return kind, {
-            "clear": lambda: tuple(e["color"]), "factor": lambda: tuple(e["color"]), "marker": lambda: e["name"],
-            "raster": lambda: (e["cull"], int(e["front_ccw"]), int(e["scissor"])), "scissor": lambda: tuple(e["rect"]),
-            "blend": lambda: (int(e["enable"]), tuple(e["rgb"]), tuple(e["alpha"]), e["mask"]),
-            "depth": lambda: (int(e["enable"]), int(e["write"]), e["func"]), "depth_clear": lambda: e["depth"],
-        }[kind]()
+        return (
+            kind,
+            {
+                "clear": lambda: tuple(e["color"]),
+                "factor": lambda: tuple(e["color"]),
+                "marker": lambda: e["name"],
+                "raster": lambda: (e["cull"], int(e["front_ccw"]), int(e["scissor"])),
+                "scissor": lambda: tuple(e["rect"]),
+                "blend": lambda: (int(e["enable"]), tuple(e["rgb"]), tuple(e["alpha"]), e["mask"]),
+                "depth": lambda: (int(e["enable"]), int(e["write"]), e["func"]),
+                "depth_clear": lambda: e["depth"],
+            }[kind](),
+        )
 
     def replay(self, position, x, y):
-        """The pixel's colour and depth at a position, and its history: in each entry the source, what was there, what came out, and the three depths."""
+        """The pixel's colour and depth at a position, and its history: in each entry the source, what was there,
+        what came out, and the three depths."""
         state, (colour, depth), history = dict(DEFAULTS), FRESH, []
         for number, (kind, what) in enumerate(self.events[:position], 1):
             if not self.on[number - 1]:
@@ -365,7 +453,7 @@ class Frame:
 
     def state(self):
         state = dict(DEFAULTS)
-        for (kind, what), on in list(zip(self.events, self.on))[:self.position]:
+        for (kind, what), on in list(zip(self.events, self.on))[: self.position]:
             if on and kind in state:
                 state[kind] = what
         return state
@@ -374,8 +462,12 @@ class Frame:
         return x < self.width and y < self.height
 
     def pam(self):
-        header = f"P7\nWIDTH {self.width}\nHEIGHT {self.height}\nDEPTH 4\nMAXVAL 255\nTUPLTYPE RGB_ALPHA\nENDHDR\n".encode()
-        return header + b"".join(bytes(self.replay(self.position, x, y)[0][0]) for y in range(self.height) for x in range(self.width))
+        header = (
+            f"P7\nWIDTH {self.width}\nHEIGHT {self.height}\nDEPTH 4\nMAXVAL 255\nTUPLTYPE RGB_ALPHA\nENDHDR\n".encode()
+        )
+        return header + b"".join(
+            bytes(self.replay(self.position, x, y)[0][0]) for y in range(self.height) for x in range(self.width)
+        )
 
 
 def words(*parts):
@@ -432,8 +524,28 @@ def answer(frame, name, arguments):
         s = frame.state()
         cull, ccw, scissor = s["raster"]
         enable, rgb, alpha, mask = s["blend"]
-        return (words("state cull", cull, "ccw", ccw, "scissor", scissor, "rect", s["scissor"], "blend", enable, rgb, alpha,
-                      "mask", mask, "factor", s["factor"], ("depth",) + s["depth"] if frame.version > 1 else ()) + "\n").encode()
+        return (
+            words(
+                "state cull",
+                cull,
+                "ccw",
+                ccw,
+                "scissor",
+                scissor,
+                "rect",
+                s["scissor"],
+                "blend",
+                enable,
+                rgb,
+                alpha,
+                "mask",
+                mask,
+                "factor",
+                s["factor"],
+                ("depth",) + s["depth"] if frame.version > 1 else (),
+            )
+            + "\n"
+        ).encode()
     if name == "events":
         lines = [event_line(i, on, *e) for i, (e, on) in enumerate(zip(frame.events, frame.on), 1)]
         return "".join(line + "\n" for line in [f"events {n} at {k}"] + lines).encode()
@@ -441,7 +553,19 @@ def answer(frame, name, arguments):
     return f"pam {len(image)}\n".encode() + image
 
 
-ARGUMENTS = {"step": 0, "back": 0, "goto": 1, "on": 1, "off": 1, "pixel": 2, "history": 2, "state": 0, "events": 0, "show": 0, "quit": 0}
+ARGUMENTS = {
+    "step": 0,
+    "back": 0,
+    "goto": 1,
+    "on": 1,
+    "off": 1,
+    "pixel": 2,
+    "history": 2,
+    "state": 0,
+    "events": 0,
+    "show": 0,
+    "quit": 0,
+}
 
 
 def reply(frame, line):

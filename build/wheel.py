@@ -1,4 +1,5 @@
-"""A wheel: what `pip install FILE` or `pipx install FILE` puts into an environment, program and tools on its path, and the client to import."""
+"""A wheel: what `pip install FILE` or `pipx install FILE` puts into an environment, program and tools on its path,
+and the client to import."""
 import base64
 import hashlib
 import io
@@ -43,10 +44,18 @@ def made():
     version, _ = packing.told()
     name, tag = f"framedbg-{version}", "py3-none-manylinux_{}_{}_x86_64".format(*packing.library())
     entries = {place_of(place, name): file for place, file in packing.files().items()}
-    entries |= {f"framedbg_client/{path.name}": File(path.read_bytes(), 0o644) for path in sorted((TOOLS / "framedbg_client").glob("*.py"))}
+    entries |= {
+        f"framedbg_client/{path.name}": File(path.read_bytes(), 0o644)
+        for path in sorted((TOOLS / "framedbg_client").glob("*.*"))
+    }
     about = f"{name}.dist-info"
-    entries |= {f"{about}/METADATA": File(METADATA.format(version=version).encode(), 0o644), f"{about}/WHEEL": File(WHEEL.format(tag=tag).encode(), 0o644)}
-    record = "".join(f"{place},sha256={digest(file.data)},{len(file.data)}\n" for place, file in sorted(entries.items()))
+    entries |= {
+        f"{about}/METADATA": File(METADATA.format(version=version).encode(), 0o644),
+        f"{about}/WHEEL": File(WHEEL.format(tag=tag).encode(), 0o644),
+    }
+    record = "".join(
+        f"{place},sha256={digest(file.data)},{len(file.data)}\n" for place, file in sorted(entries.items())
+    )
     entries[f"{about}/RECORD"] = File(f"{record}{about}/RECORD,,\n".encode(), 0o644)
     return f"{name}-{tag}.whl", zipped(entries, f"{about}/")
 
@@ -61,6 +70,10 @@ def zipped(entries, last):
     with zipfile.ZipFile(made_, "w", zipfile.ZIP_DEFLATED, compresslevel=9) as archive:
         for name, file in sorted(entries.items(), key=lambda entry: (entry[0].startswith(last), entry[0])):
             entry = zipfile.ZipInfo(name, time.gmtime(packing.when())[:6])
-            entry.compress_type, entry.create_system, entry.external_attr = zipfile.ZIP_DEFLATED, 3, (0o100000 | file.mode) << 16
+            entry.compress_type, entry.create_system, entry.external_attr = (
+                zipfile.ZIP_DEFLATED,
+                3,
+                (0o100000 | file.mode) << 16,
+            )
             archive.writestr(entry, file.data, compresslevel=9)
     return made_.getvalue()

@@ -1,4 +1,5 @@
-"""What a check says of what it looks at: what is wrong, a line each, and in the end how many passed and how many failed."""
+"""What a check says of what it looks at: what is wrong, a line each, and in the end how many passed and how many
+failed."""
 import sys
 
 

@@ -5,8 +5,8 @@ import pathlib
 import stat
 import tempfile
 
-NUMBERS = os.makedev(1, 7)      # of /dev/full
-OF_NULL = os.makedev(1, 3)      # of /dev/null
+NUMBERS = os.makedev(1, 7)  # of /dev/full
+OF_NULL = os.makedev(1, 3)  # of /dev/null
 LACKING = "no device of its own: none can be made here"
 
 
@@ -25,7 +25,8 @@ def is_full(path):
 
 @contextlib.contextmanager
 def made_device(numbers):
-    """The path of a device in a folder of its own, whatever becomes of which the machine keeps its own. None where none can be made."""
+    """The path of a device in a folder of its own, whatever becomes of which the machine keeps its own. None where
+    none can be made."""
     with tempfile.TemporaryDirectory() as folder:
         made = pathlib.Path(folder) / "device"
         try:

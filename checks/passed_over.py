@@ -1,7 +1,8 @@
 #!/usr/bin/env python3
 """passed_over: what checks pass over because something isn't there, so that nobody takes it for checked.
 
-    checks/passed_over.py WHAT WHY     a check says what it passes over; with CI=true in the environment that is a failure
+    checks/passed_over.py WHAT WHY     a check says what it passes over; with CI=true in the environment that is a
+    failure
     checks/passed_over.py --begin      forgets what was passed over
     checks/passed_over.py --list       says what was passed over since then
 """
@@ -31,6 +32,7 @@ def note(what, why):
 
 class Result(unittest.TextTestResult):
     """Counts the tests that passed: those that were skipped did not run."""
+
     passed = 0
 
     def addSuccess(self, test):
@@ -43,9 +45,12 @@ class Runner(unittest.TextTestRunner):
 
 
 def run_tests(what):
-    """Runs the tests that the words name, or all of this program's, says how many ran, and notes those that were skipped."""
+    """Runs the tests that the words name, or all of this program's, says how many ran, and notes those that were
+    skipped."""
     ran = unittest.main(module="__main__", exit=False, testRunner=Runner).result
-    print(f"{what}: {ran.passed + len(ran.failures) + len(ran.errors)} tests ran, {len(ran.skipped)} didn't", flush=True)
+    print(
+        f"{what}: {ran.passed + len(ran.failures) + len(ran.errors)} tests ran, {len(ran.skipped)} didn't", flush=True
+    )
     for why, count in collections.Counter(why for _, why in ran.skipped).items():
         note(f"{what}, {count} tests", why)
     sys.exit(not ran.wasSuccessful())

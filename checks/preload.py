@@ -1,4 +1,5 @@
-"""Runs programs with checks/refuse.c in them, which counts their allocations and starts of threads, and refuses those that it is told to."""
+"""Runs programs with checks/refuse.c in them, which counts their allocations and starts of threads, and refuses
+those that it is told to."""
 import os
 import pathlib
 import shutil
@@ -16,11 +17,19 @@ class Runner:
     def __init__(self, room):
         self.library, self.told, self.runs = room / "refuse.so", room / "told", 0
         clang = [KIT / "toolchain/bin/clang", "-fuse-ld=lld"]
-        subprocess.run([*clang, "-O2", "-shared", "-nostdlib", "-fPIC", "-o", self.library, TOP / "checks/refuse.c"], check=True)
+        subprocess.run(
+            [*clang, "-O2", "-shared", "-nostdlib", "-fPIC", "-o", self.library, TOP / "checks/refuse.c"], check=True
+        )
 
     def run(self, words, given=b"", memory=None, threads=None):
-        """What a run gave, and how many allocations and threads it asked for. A plan is a number, with a + all from there on, with a dot all until it writes."""
-        plan = {"REFUSE_MEMORY": memory, "REFUSE_THREADS": threads, "REFUSE_TOLD": self.told, "LD_PRELOAD": self.library}
+        """What a run gave, and how many allocations and threads it asked for. A plan is a number, with a + all from
+        there on, with a dot all until it writes."""
+        plan = {
+            "REFUSE_MEMORY": memory,
+            "REFUSE_THREADS": threads,
+            "REFUSE_TOLD": self.told,
+            "LD_PRELOAD": self.library,
+        }
         environment = {**os.environ, **{name: str(value) for name, value in plan.items() if value}}
         self.told.unlink(missing_ok=True)
         self.runs += 1

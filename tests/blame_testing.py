@@ -1,4 +1,5 @@
-"""What the tests of blame stand on: small frames that are worked out by hand, and their pictures by build/reference.py."""
+"""What the tests of blame stand on: small frames that are worked out by hand, and their pictures by
+build/reference.py."""
 import contextlib
 import functools
 import io
@@ -16,20 +17,26 @@ from folders import TOOLS, TOP as ROOT
 import captures
 import reference
 from blaming import command_line, report, running, telling_json
-from captures import PIXEL, clear, raster     # noqa: F401  the tests have the last two from here
+from captures import PIXEL, clear, raster  # noqa: F401  the tests have the last two from here
 from framedbg_client.program import tried_program
 from framedbg_client.replies import images_of
 
 EXAMPLES = ROOT / "examples"
 HUNTS = EXAMPLES / "hunts"
 PROGRAM = tried_program()
-SECONDS = float(os.environ.get("BLAME_SECONDS", "600"))      # for a search: a wrong version, which may go on to its end, is given fewer
+SECONDS = float(
+    os.environ.get("BLAME_SECONDS", "600")
+)  # for a search: a wrong version, which may go on to its end, is given fewer
 NAMES = ("lantern", "balloons", "island", "fish", "planet", "lighthouse", "vase", "doughnut", "chain")
 
 
 def draw(*corners, interp="flat", indices=None):
     """A draw of (x, y, colour) or (x, y, colour, z)."""
-    return captures.draw([captures.vertex(int(x * PIXEL), int(y * PIXEL), color, *z or [0]) for x, y, color, *z in corners], interp, indices)
+    return captures.draw(
+        [captures.vertex(int(x * PIXEL), int(y * PIXEL), color, *z or [0]) for x, y, color, *z in corners],
+        interp,
+        indices,
+    )
 
 
 def box(left, top, right, bottom, color, z=0, interp="flat"):
@@ -42,7 +49,10 @@ def painted(made, rng, left, top, width, height):
     """The draw with a picture by chance, a third of it holes; what colours stand at its corners is passed over."""
     texels = width * height
     holes = [rng.random() < 0.3 for _ in range(texels)] if rng.random() < 0.7 else None
-    return made | {"interp": "picture", "picture": captures.picture(left, top, width, height, rng.randbytes(4 * texels), holes)}
+    return made | {
+        "interp": "picture",
+        "picture": captures.picture(left, top, width, height, rng.randbytes(4 * texels), holes),
+    }
 
 
 def blend(enable=True, rgb="SRC_ALPHA INV_SRC_ALPHA ADD", alpha="ONE INV_SRC_ALPHA ADD", mask=15):
@@ -84,13 +94,17 @@ class Folder(unittest.TestCase):
 
     def written(self, name, what):
         path = self.folder / name
-        path.write_bytes(what) if isinstance(what, bytes) else path.write_text(what if isinstance(what, str) else json.dumps(what))
+        path.write_bytes(what) if isinstance(what, bytes) else path.write_text(
+            what if isinstance(what, str) else json.dumps(what)
+        )
         return str(path)
 
     def found(self, wrong, right, **how):
         """The Outcome over a wrong frame, and a right one or a picture."""
         picture = self.written("wanted.pam", right if isinstance(right, bytes) else pam(right))
-        given = types.SimpleNamespace(**{"program": PROGRAM, "tolerance": (0, 0, 0, 0), "processes": 2, "seconds": SECONDS} | how)
+        given = types.SimpleNamespace(
+            **{"program": PROGRAM, "tolerance": (0, 0, 0, 0), "processes": 2, "seconds": SECONDS} | how
+        )
         self.frame, outcome = running.found(self.written("wrong.json", wrong), picture, given, is_quiet=True)
         return outcome
 
@@ -103,7 +117,11 @@ def told(*words):
     out, errors = io.TextIOWrapper(io.BytesIO(), "utf-8"), io.StringIO()
     with contextlib.redirect_stdout(out), contextlib.redirect_stderr(errors):
         try:
-            status = running.run(command_line.words([*map(str, words), "--program", PROGRAM, "--processes", "2", "--seconds", str(SECONDS)]))
+            status = running.run(
+                command_line.words(
+                    [*map(str, words), "--program", PROGRAM, "--processes", "2", "--seconds", str(SECONDS)]
+                )
+            )
         except SystemExit as ended:
             status = ended.code
     out.flush()
@@ -112,7 +130,13 @@ def told(*words):
 
 def launched(*words, **how):
     """What framedbg-blame did as a program of its own: (status, standard output, standard error)."""
-    ran = subprocess.run([sys.executable, TOOLS / "framedbg-blame", *map(str, words)], capture_output=True, timeout=120, check=False, **how)
+    ran = subprocess.run(
+        [sys.executable, TOOLS / "framedbg-blame", *map(str, words)],
+        capture_output=True,
+        timeout=120,
+        check=False,
+        **how,
+    )
     return ran.returncode, ran.stdout.decode(), ran.stderr.decode()
 
 

@@ -1,5 +1,7 @@
-"""A browser for tests, with the standard library alone: Chromium by chromedriver, over the WebDriver protocol, and Firefox by its own, Marionette."""
+"""A browser for tests, with the standard library alone: Chromium by chromedriver, over the WebDriver protocol, and
+Firefox by its own, Marionette."""
 import base64
+import contextlib
 import json
 import os
 import pathlib
@@ -11,10 +13,24 @@ import time
 import urllib.error
 import urllib.request
 
-PATIENCE = float(os.environ.get("PATIENCE", 60))    # seconds that a page may take until it shows what it is to show; a wrong version is given fewer
+from display import Display
 
-KEYS = {"Home": "\ue011", "End": "\ue010", "Left": "\ue012", "Up": "\ue013", "Right": "\ue014", "Down": "\ue015", "Enter": "\ue007", "Escape": "\ue00c"}
+PATIENCE = float(
+    os.environ.get("PATIENCE", 60)
+)  # seconds that a page may take until it shows what it is to show; a wrong version is given fewer
 
+KEYS = {
+    "Home": "\ue011",
+    "End": "\ue010",
+    "Left": "\ue012",
+    "Up": "\ue013",
+    "Right": "\ue014",
+    "Down": "\ue015",
+    "Enter": "\ue007",
+    "Escape": "\ue00c",
+}
+
+GRACE = 20  # seconds that a driver has to end
 
 # A module of the page's own, which leaves what it gives as text
 WITHIN = """
@@ -32,34 +48,46 @@ def is_installed():
 
 
 class Browser:
-    TRIES = 4       # a driver finds its port taken, or a busy machine is late
+    TRIES = 4  # a driver finds its port taken, or a busy machine is late
+    CARD = ["--disable-gpu"]
 
     def __init__(self, width=1440, height=960):
         for left in reversed(range(self.TRIES)):
             try:
                 return self.begin(width, height)
-            except (AssertionError, ConnectionError, TimeoutError, urllib.error.URLError):       # and not where there is no such program
+            except (
+                AssertionError,
+                ConnectionError,
+                TimeoutError,
+                urllib.error.URLError,
+            ):  # and not where there is no such program
                 self.stop()
                 if not left:
                     raise
 
     def begin(self, width, height):
-        self.driver = subprocess.Popen(["chromedriver", "--port=0"], stdout=subprocess.PIPE, stderr=subprocess.STDOUT, text=True)
+        self.driver = subprocess.Popen(
+            ["chromedriver", "--port=0"], stdout=subprocess.PIPE, stderr=subprocess.STDOUT, text=True
+        )
         said = []
         while not said or "started successfully" not in said[-1]:
             said.append(self.driver.stdout.readline())
             if not said[-1]:
                 raise AssertionError(f"chromedriver ended: {''.join(said)}")
-        port = said[-1].strip(". \n").rpartition(" ")[2]      # its own, whoever starts one meanwhile
+        port = said[-1].strip(". \n").rpartition(" ")[2]  # its own, whoever starts one meanwhile
         self.address = f"http://127.0.0.1:{port}/session"
-        words = ["--headless=new", "--disable-gpu", "--hide-scrollbars", f"--window-size={width},{height}"]
+        words = ["--headless=new", *self.CARD, "--hide-scrollbars", f"--window-size={width},{height}"]
         options = {"binary": shutil.which("chromium"), "args": words + ["--no-sandbox"] * (os.geteuid() == 0)}
-        capabilities = {"capabilities": {"alwaysMatch": {"goog:chromeOptions": options, "goog:loggingPrefs": {"browser": "ALL"}}}}
+        capabilities = {
+            "capabilities": {"alwaysMatch": {"goog:chromeOptions": options, "goog:loggingPrefs": {"browser": "ALL"}}}
+        }
         self.address += "/" + self.call("", capabilities)["sessionId"]
 
     def stop(self):
+        """Where the driver has ended before its browser, that holds the pipe, and nobody waits for it."""
         self.driver.terminate()
-        self.driver.communicate()
+        with contextlib.suppress(subprocess.TimeoutExpired):
+            self.driver.communicate(timeout=GRACE)
 
     def call(self, path, body=None, method=None):
         data = None if body is None else json.dumps(body).encode()
@@ -81,7 +109,8 @@ class Browser:
         return self.call("/execute/async", {"script": script, "args": list(arguments)})
 
     def within(self, script, *given, seconds=120):
-        """What a script gives that is the page's own, so that it can import the page's scripts and wait. It finds `given`."""
+        """What a script gives that is the page's own, so that it can import the page's scripts and wait. It finds
+        `given`."""
         self.run(WITHIN, script, given)
         answer = json.loads(self.until("return document.documentElement.dataset.answer", seconds=seconds))
         if isinstance(answer, dict) and "fault" in answer:
@@ -99,12 +128,19 @@ class Browser:
         raise AssertionError(f"not within {seconds} s: {script} {arguments}")
 
     def click_at(self, x, y):
-        steps = [{"type": "pointerMove", "x": round(x), "y": round(y)}, {"type": "pointerDown", "button": 0}, {"type": "pointerUp", "button": 0}]
+        steps = [
+            {"type": "pointerMove", "x": round(x), "y": round(y)},
+            {"type": "pointerDown", "button": 0},
+            {"type": "pointerUp", "button": 0},
+        ]
         self.call("/actions", {"actions": [{"type": "pointer", "id": "mouse", "actions": steps}]})
 
     def click(self, selector):
-        box = self.until("const e = document.querySelector(arguments[0]); if (!e) return null; const b = e.getBoundingClientRect();"
-                         "return [b.left + b.width / 2, b.top + b.height / 2]", selector)
+        box = self.until(
+            "const e = document.querySelector(arguments[0]); if (!e) return null; const b = e.getBoundingClientRect();"
+            "return [b.left + b.width / 2, b.top + b.height / 2]",
+            selector,
+        )
         self.click_at(*box)
 
     def press(self, *keys):
@@ -146,15 +182,37 @@ class Browser:
 
 class Firefox(Browser):
     """The same hands on Firefox. It has no log of complaints."""
-    COMMANDS = {"/url": "Navigate", "/refresh": "Refresh", "/execute/sync": "ExecuteScript", "/execute/async": "ExecuteAsyncScript", "/actions": "PerformActions",
-                "/element": "FindElement", "/screenshot": "TakeScreenshot", "/window/rect": "SetWindowRect"}
+
+    COMMANDS = {
+        "/url": "Navigate",
+        "/refresh": "Refresh",
+        "/execute/sync": "ExecuteScript",
+        "/execute/async": "ExecuteAsyncScript",
+        "/actions": "PerformActions",
+        "/element": "FindElement",
+        "/screenshot": "TakeScreenshot",
+        "/window/rect": "SetWindowRect",
+    }
+    HEAD, SETTINGS = ["--headless"], {}
+
+    @staticmethod
+    def variables():
+        return {}
 
     def begin(self, width, height):
         self.profile = tempfile.TemporaryDirectory(ignore_cleanup_errors=True)
         with open(f"{self.profile.name}/user.js", "w") as settings:
-            settings.write('user_pref("marionette.port", 0);\n')
-        words = [self.installed(), "--headless", "--marionette", "--no-remote", "--profile", self.profile.name]
-        self.driver = subprocess.Popen(words, stdout=subprocess.DEVNULL, stderr=subprocess.DEVNULL, env={**os.environ, "MOZ_HEADLESS_WIDTH": str(width), "MOZ_HEADLESS_HEIGHT": str(height)})
+            settings.writelines(
+                f'user_pref("{name}", {value});\n' for name, value in {"marionette.port": 0, **self.SETTINGS}.items()
+            )
+        words = [self.installed(), *self.HEAD, "--marionette", "--no-remote", "--profile", self.profile.name]
+        variables = {
+            **os.environ,
+            "MOZ_HEADLESS_WIDTH": str(width),
+            "MOZ_HEADLESS_HEIGHT": str(height),
+            **self.variables(),
+        }
+        self.driver = subprocess.Popen(words, stdout=subprocess.DEVNULL, stderr=subprocess.DEVNULL, env=variables)
         self.line = socket.create_connection(("127.0.0.1", self.port()), 60)
         self.stream = self.line.makefile("rwb")
         self.told()
@@ -207,3 +265,37 @@ class Firefox(Browser):
     def close(self):
         self.line.close()
         self.stop()
+
+
+# ---- Those that draw WebGL, by software
+class DrawingChromium(Browser):
+    """By SwiftShader."""
+
+    CARD = ["--use-angle=swiftshader", "--enable-unsafe-swiftshader"]
+
+
+class DrawingFirefox(Firefox):
+    """By llvmpipe, which it has at a display alone."""
+
+    HEAD = []
+    SETTINGS = {
+        "webgl.force-enabled": "true",
+        "webgl.enable-debug-renderer-info": "true",
+        "webgl.sanitize-unmasked-renderer": "false",
+    }
+    display = None
+
+    def variables(self):
+        self.display = self.display or Display()
+        return {
+            "DISPLAY": self.display.name,
+            "MOZ_HEADLESS": "",
+            "LIBGL_ALWAYS_SOFTWARE": "1",
+            "GALLIUM_DRIVER": "llvmpipe",
+        }
+
+    def close(self):
+        try:
+            super().close()
+        finally:
+            self.display.end()

@@ -1,4 +1,5 @@
-"""What the tests of framedbg-driver stand on: runs with a driver of Mesa, and frames that are worked out by build/reference.py."""
+"""What the tests of framedbg-driver stand on: runs with a driver of Mesa, and frames that are worked out by
+build/reference.py."""
 import ctypes.util
 import functools
 import json
@@ -18,7 +19,7 @@ from captures import PIXEL
 from framedbg_client.program import tried_program
 
 EXAMPLES = ROOT / "examples"
-FOUND = EXAMPLES / "drivers"            # captures of the faults that were found
+FOUND = EXAMPLES / "drivers"  # captures of the faults that were found
 PROGRAM = tried_program()
 SECONDS = 900
 
@@ -42,7 +43,15 @@ def environment(driver, **more):
 def launched(*words, driver="llvmpipe", **more):
     """framedbg-driver, run with words; more are variables of its environment."""
     words = [sys.executable, TOOLS / "framedbg-driver", *map(str, words)]
-    return subprocess.run(words, env=environment(driver, **more), stdin=subprocess.DEVNULL, capture_output=True, text=True, timeout=SECONDS, check=False)
+    return subprocess.run(
+        words,
+        env=environment(driver, **more),
+        stdin=subprocess.DEVNULL,
+        capture_output=True,
+        text=True,
+        timeout=SECONDS,
+        check=False,
+    )
 
 
 def value_of(ran):
@@ -76,7 +85,10 @@ def sums(capture):
     drawn = reference.Frame(capture)
     for position in range(len(capture["events"]) + 1):
         pixels = [drawn.replay(position, x, y)[0] for y in range(drawn.height) for x in range(drawn.width)]
-        colours, depths = (b"".join(bytes(colour) for colour, _ in pixels), b"".join(depth.to_bytes(2, sys.byteorder) for _, depth in pixels))
+        colours, depths = (
+            b"".join(bytes(colour) for colour, _ in pixels),
+            b"".join(depth.to_bytes(2, sys.byteorder) for _, depth in pixels),
+        )
         yield f"{zlib.crc32(colours):08x} {zlib.crc32(depths):08x}"
 
 

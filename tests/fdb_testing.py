@@ -26,14 +26,18 @@ EXAMPLES = ROOT / "examples"
 HUNTS = EXAMPLES / "hunts"
 PROGRAM = tried_program()
 FDB = TOOLS / "fdb"
-PATIENCE = int(os.environ.get("FDB_PATIENCE", "60"))       # seconds for what must come
+PATIENCE = int(os.environ.get("FDB_PATIENCE", "60"))  # seconds for what must come
 ESCAPES = re.compile(r"\x1b\[[0-9;?]*[A-Za-z]|\x01|\x02")
 PROMPT_SHOWN = re.compile(r"(?:\x1b\[1m\(\d+/\d+\) \x1b\[0m|(?<!m)\(\d+/\d+\) )$")
 
 
-# Answers as framedbg does over three clears of one pixel, by a rule of its own: in its words stand the command that it never answers, as long as
-# the file isn't there (which it makes), the command that it ends at, and the command that finds no memory past position 2
-STANDING_IN = f"#!{sys.executable} -SE" + """
+# Answers as framedbg does over three clears of one pixel, by a rule of its own: in its words stand the command that it
+# never answers, as long as
+# the file isn't there (which it makes), the command that it ends at, and the command that finds no memory past position
+# 2
+STANDING_IN = (
+    f"#!{sys.executable} -SE"
+    + """
 import os, sys
 position, off = 0, set()
 for line in sys.stdin:
@@ -68,6 +72,7 @@ for line in sys.stdin:
     sys.stdout.write(reply)
     sys.stdout.flush()
 """
+)
 
 
 def stand_in(folder):
@@ -89,7 +94,9 @@ def batch(capture, lines, *words, program=PROGRAM, **environment):
 
 def launched(*words, given=b"", **how):
     """What fdb did as a program of its own: (status, standard output, standard error)."""
-    ran = subprocess.run([sys.executable, FDB, *map(str, words)], input=given, capture_output=True, timeout=60, check=False, **how)
+    ran = subprocess.run(
+        [sys.executable, FDB, *map(str, words)], input=given, capture_output=True, timeout=60, check=False, **how
+    )
     return ran.returncode, ran.stdout.decode(), ran.stderr.decode()
 
 
@@ -100,11 +107,29 @@ class Terminal:
         self.room = tempfile.TemporaryDirectory()
         self.ours, theirs = pty.openpty()
         self.resize(*size, tell=False)
-        given = {name: value for name, value in os.environ.items() if name not in ("NO_COLOR", "TMUX", "STY", "KITTY_WINDOW_ID", "TERM_PROGRAM", "COLUMNS", "LINES")}
-        given |= {"TERM": "xterm-256color", "LC_ALL": "C.UTF-8", "FDB_HISTORY": str(pathlib.Path(folder or self.room.name) / "history"),
-                  "INPUTRC": os.devnull, "HOME": self.room.name} | environment
+        given = {
+            name: value
+            for name, value in os.environ.items()
+            if name not in ("NO_COLOR", "TMUX", "STY", "KITTY_WINDOW_ID", "TERM_PROGRAM", "COLUMNS", "LINES")
+        }
+        given |= {
+            "TERM": "xterm-256color",
+            "LC_ALL": "C.UTF-8",
+            "FDB_HISTORY": str(pathlib.Path(folder or self.room.name) / "history"),
+            "INPUTRC": os.devnull,
+            "HOME": self.room.name,
+        } | environment
         words = [sys.executable, FDB, str(capture), "--program", str(program), *words]
-        self.run = subprocess.Popen(words, stdin=theirs, stdout=theirs, stderr=theirs, env=given, preexec_fn=own_terminal, close_fds=True, cwd=cwd)
+        self.run = subprocess.Popen(
+            words,
+            stdin=theirs,
+            stdout=theirs,
+            stderr=theirs,
+            env=given,
+            preexec_fn=own_terminal,
+            close_fds=True,
+            cwd=cwd,
+        )
         os.close(theirs)
         self.shown, self.decoder = "", codecs.getincrementaldecoder("utf-8")("replace")
 
@@ -128,7 +153,10 @@ class Terminal:
 
     def until(self, wanted, patience=PATIENCE):
         """All that is shown up to a text or a pattern, and taken away from what is looked at next."""
-        pattern, end = wanted if hasattr(wanted, "search") else re.compile(re.escape(wanted)), time.monotonic() + patience
+        pattern, end = (
+            wanted if hasattr(wanted, "search") else re.compile(re.escape(wanted)),
+            time.monotonic() + patience,
+        )
         while not (found := pattern.search(self.shown)):
             left = end - time.monotonic()
             if left <= 0 or not select.select([self.ours], [], [], left)[0]:
@@ -137,11 +165,12 @@ class Terminal:
                 self.shown += self.decoder.decode(os.read(self.ours, 65536))
             except OSError:
                 raise AssertionError(f"{pattern.pattern!r} wasn't shown before the end, but {self.shown!r}") from None
-        told, self.shown = self.shown[:found.end()], self.shown[found.end():]
+        told, self.shown = self.shown[: found.end()], self.shown[found.end() :]
         return told
 
     def interrupt(self):
-        """Ctrl-C at the prompt, until there is another one: Python may be about to wait for a key, and not see the first."""
+        """Ctrl-C at the prompt, until there is another one: Python may be about to wait for a key, and not see the
+        first."""
         end = time.monotonic() + PATIENCE
         while time.monotonic() < end:
             self.type("\x03")
@@ -154,7 +183,7 @@ class Terminal:
     def ask(self, line):
         """What comes between a typed line and the next prompt, as lines, with their colours."""
         self.type(line + "\n")
-        self.until("\n")                     # the line itself, as it was typed
+        self.until("\n")  # the line itself, as it was typed
         told = self.until(PROMPT_SHOWN)
         return told.replace("\r", "").split("\n")[:-1]
 

@@ -1,4 +1,5 @@
-"""What the tests of real frames stand on: a frame whose pictures build/reference.py draws, in the place of one that RenderDoc replays."""
+"""What the tests of real frames stand on: a frame whose pictures build/reference.py draws, in the place of one that
+RenderDoc replays."""
 from dataclasses import dataclass, field
 from types import SimpleNamespace
 
@@ -33,13 +34,21 @@ def state(raster=("none", False), blend=None, mask=15, depth=(False, True, "LESS
     """A state as the pipeline's reader gives it. blend is (colour, alpha), each in RenderDoc's words."""
     losses = SimpleNamespace(add=lambda *_, **__: None)
     box = scissor or [0, 0, WIDTH, HEIGHT]
-    return states.State(Viewport(0, 0, WIDTH, HEIGHT), box, states.raster(*raster, scissor is not None),
-                        states.blend(*blend, mask, losses) if blend else states.plain(mask), captures.factor(255, 255, 255, 255), states.depth(*depth), **more)
+    return states.State(
+        Viewport(0, 0, WIDTH, HEIGHT),
+        box,
+        states.raster(*raster, scissor is not None),
+        states.blend(*blend, mask, losses) if blend else states.plain(mask),
+        captures.factor(255, 255, 255, 255),
+        states.depth(*depth),
+        **more
+    )
 
 
 @dataclass
 class Action:
     """One call of the stand-in frame. What it leaves on the target is `truth`, in events of framedbg."""
+
     eventId: int
     kind: str
     name: str
@@ -47,9 +56,10 @@ class Action:
     targets: tuple = (TARGET,)
     state: object = None
     triangles: list = field(default_factory=list)
-    clear: tuple = ()           # colour or None, depth (0 to 1) or None, rectangles or None for all, mask
+    clear: tuple = ()  # colour or None, depth (0 to 1) or None, rectangles or None for all, mask
     trouble: str = ""
     until: object = None
+    told: tuple = ({}, {})  # members for its source, and the calls that set each part of its state
 
 
 def clip_space(x, y, z, w=1.0):
@@ -60,9 +70,16 @@ def clip_space(x, y, z, w=1.0):
 def draw(event, triangles, own=None, name="draw()", **more):
     """Triangles of corners (x, y, depth 0 to 1, colour)."""
     own = own or state()
-    vertices = [captures.vertex(round(x * PIXEL), round(y * PIXEL), colour, round(z * FARTHEST)) for corners in triangles for x, y, z, colour in corners]
+    vertices = [
+        captures.vertex(round(x * PIXEL), round(y * PIXEL), colour, round(z * FARTHEST))
+        for corners in triangles
+        for x, y, z, colour in corners
+    ]
     truth = [own.raster, own.blend, own.depth, captures.scissor(*own.scissor), captures.draw(vertices, "linear")]
-    placed = [((0, number), tuple(clip_space(x, y, z, 1 + number % 3) for x, y, z, _ in corners)) for number, corners in enumerate(triangles)]
+    placed = [
+        ((0, number), tuple(clip_space(x, y, z, 1 + number % 3) for x, y, z, _ in corners))
+        for number, corners in enumerate(triangles)
+    ]
     return Action(event, "draw", name, truth, state=own, triangles=placed, **more)
 
 
@@ -74,14 +91,26 @@ def quad(left, top, right, bottom, z, colour):
 def clear(event, colour=None, depth=None, box=None, mask=15, more=()):
     """Of the whole target, or of a rectangle and more of them."""
     own = state(depth=(depth is not None, True, "ALWAYS"), mask=mask if colour else 0)
-    corners = [corner for left, top, right, bottom in (box or (0, 0, WIDTH, HEIGHT), *more)
-               for corner in ((left, top), (right, top), (left, bottom), (right, top), (right, bottom), (left, bottom))]
-    vertices = [captures.vertex(x * PIXEL, y * PIXEL, colour or (0, 0, 0, 0), round((depth or 0) * FARTHEST)) for x, y in corners]
-    return Action(event, "clear", "clear()", [own.raster, own.blend, own.depth, captures.draw(vertices)], clear=(colour, depth, [box, *more], mask))
+    corners = [
+        corner
+        for left, top, right, bottom in (box or (0, 0, WIDTH, HEIGHT), *more)
+        for corner in ((left, top), (right, top), (left, bottom), (right, top), (right, bottom), (left, bottom))
+    ]
+    vertices = [
+        captures.vertex(x * PIXEL, y * PIXEL, colour or (0, 0, 0, 0), round((depth or 0) * FARTHEST))
+        for x, y in corners
+    ]
+    return Action(
+        event,
+        "clear",
+        "clear()",
+        [own.raster, own.blend, own.depth, captures.draw(vertices)],
+        clear=(colour, depth, [box, *more], mask),
+    )
 
 
 class StandIn:
-    """As replay.Frame, of actions, drawn by the reference."""
+    """As replay.ReplayedFrame, of actions, drawn by the reference."""
 
     def __init__(self, *actions, before=()):
         self.actions, self.before = list(actions), list(before)
@@ -124,6 +153,10 @@ class StandIn:
     def reads_textures(self, action):
         return False
 
+    def told(self, action, viewport, size):
+        assert viewport == action.state.viewport and size == (WIDTH, HEIGHT)
+        return action.told
+
     def clears(self, action, width, height):
         colour, depth, boxes, mask = action.clear
         return colour is not None, depth is not None, boxes, mask
@@ -133,7 +166,12 @@ class StandIn:
 
     def picture(self, target):
         if self.here not in self.pictures:
-            truth = [event for action in self.actions if action.eventId <= self.here and TARGET in action.targets for event in action.truth]
+            truth = [
+                event
+                for action in self.actions
+                if action.eventId <= self.here and TARGET in action.targets
+                for event in action.truth
+            ]
             self.pictures[self.here] = image(self.before + truth)
         return self.pictures[self.here]
 
@@ -158,11 +196,16 @@ class Unblended(StandIn):
     def unblended(self, target):
         own = self.action()
         plain = [states.plain(event["mask"]) if event["kind"] == "blend" else event for event in own.truth]
-        return image(self.before + [event for action in self.actions if action.eventId < self.here for event in action.truth] + plain)
+        return image(
+            self.before
+            + [event for action in self.actions if action.eventId < self.here for event in action.truth]
+            + plain
+        )
 
 
 class Asked(StandIn):
-    """As a frame of Vulkan: nothing is drawn alone, but what a draw gave at a pixel can be asked. Each question is kept."""
+    """As a frame of Vulkan: nothing is drawn alone, but what a draw gave at a pixel can be asked. Each question is
+    kept."""
 
     def __init__(self, *actions, before=()):
         super().__init__(*actions, before=before)
@@ -180,11 +223,11 @@ class Asked(StandIn):
         *_, own = self.action().truth
         found, at = {}, 4 * (y * WIDTH + x)
         for number in range(len(own["vertices"]) // 3):
-            one = dict(own, vertices=own["vertices"][3 * number:3 * number + 3])
+            one = dict(own, vertices=own["vertices"][3 * number : 3 * number + 3])
             white = dict(one, vertices=[dict(vertex, color=[255] * 4) for vertex in one["vertices"]])
             plain = [states.raster("none", False, False), states.depth(False, False, "LESS"), states.plain()]
             if image(plain + [white])[at + 3]:
-                found[number] = tuple(image(plain + [one])[at:at + 4])
+                found[number] = tuple(image(plain + [one])[at : at + 4])
         return found
 
 

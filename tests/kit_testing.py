@@ -53,5 +53,7 @@ class Checkout(unittest.TestCase):
         """The status of a tool, what it printed, and its errors."""
         mine = {"PATH": f"{self.top}/path:{os.environ['PATH']}", "XDG_CACHE_HOME": f"{self.top}/cache"}
         environment = {name: value for name, value in os.environ.items() if name != "RT_JOBS"} | mine
-        done = subprocess.run([self.top / tool, *words], env=environment, cwd="/", capture_output=True, text=True, timeout=60, check=False)
+        done = subprocess.run(
+            [self.top / tool, *words], env=environment, cwd="/", capture_output=True, text=True, timeout=60, check=False
+        )
         return done.returncode, done.stdout.splitlines(), done.stderr

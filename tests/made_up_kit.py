@@ -1,10 +1,10 @@
-"""A toolchain that is none: what build/kit.py asks of rt, for made-up crates of a few lines. It lies as bin/rt in a folder
-whose crates/ it reads.
+"""A toolchain that is none: what build/kit.py asks of rt, for made-up crates of a few lines. It lies as bin/rt in a
+folder whose crates/ it reads.
 
 A function of a crate answers a number, which its contract says and its body works out from the answers of others:
 `ensures value { result ≡ 3 }` .. `two() + 1`. One without a contract answers what its body does. A file
-proofs/NAME/Answers.antt is a word that the body of NAME has to hold. The word `killed` in a body has the check killed, and
-`endless` meets a limit.
+proofs/NAME/Answers.antt is a word that the body of NAME has to hold. The word `killed` in a body has the check
+killed, and `endless` meets a limit.
 """
 import concurrent.futures as futures
 import os
@@ -17,7 +17,10 @@ import time
 import types
 
 HERE = pathlib.Path(__file__).resolve().parent.parent
-FUNCTION = re.compile(r"^(?:#\[cycle\(\w+\)\]\n)?fn (\w+)\(\) -> u32\n?(?:    ensures value \{ result ≡ (\d+) \}\n)? ?\{\n    (.*)\n\}$", re.M)
+FUNCTION = re.compile(
+    r"^(?:#\[cycle\(\w+\)\]\n)?fn (\w+)\(\) -> u32\n?(?:    ensures value \{ result ≡ (\d+) \}\n)? ?\{\n    (.*)\n\}$",
+    re.M,
+)
 CONST = re.compile(r"^const (\w+): u32 = (\d+);$", re.M)
 CALL = re.compile(r"(\w+)\(\)")
 rtlib = types.SimpleNamespace()
@@ -35,7 +38,9 @@ class Crate:
         return sum(len(re.findall(pattern, pathlib.Path(file).read_bytes())) for file in files_of(self.folder))
 
     def stamp(self):
-        return repr([pathlib.Path(file).read_text() for file in files_of(self.folder)] + [it.stamp() for it in self.low])
+        return repr(
+            [pathlib.Path(file).read_text() for file in files_of(self.folder)] + [it.stamp() for it in self.low]
+        )
 
     def is_built(self):
         stamp = pathlib.Path(self.rlib).parent / "stamp"
@@ -92,7 +97,7 @@ def answers(functions, constants):
     """What each body works out, from what the contracts of those that it calls say."""
     known = {}
     for name, said, body in functions:
-        value = eval(CALL.sub(r"\1", body), {}, known | constants)     # the test's own texts
+        value = eval(CALL.sub(r"\1", body), {}, known | constants)  # the test's own texts
         known[name] = int(said) if said else value
         yield name, said, body, value
 
@@ -113,7 +118,7 @@ def told(functions, constants, only, texts):
             yield f"fn made_up::{name}: could not tell"
             continue
         if said and value != int(said):
-            line = texts["src/lib.rt"][:texts["src/lib.rt"].index(f"fn {name}(")].count("\n") + 1
+            line = texts["src/lib.rt"][: texts["src/lib.rt"].index(f"fn {name}(")].count("\n") + 1
             yield f"note: src/lib.rt:{line}:5: it is not proved (`returns-clause-{name}`)"
             why = [f"`search` did not prove `returns-clause-{name}`"]
         why += [f"it calls `made_up::{it}`, which is not proved" for it in CALL.findall(body) if it in unproved]
@@ -130,7 +135,9 @@ def status_of(lines):
 
 def checked(crate, texts, flags, kept):
     only = [flags[at + 1] for at, word in enumerate(flags) if word == "--only"]
-    now = {os.path.relpath(file, crate.folder): pathlib.Path(file).read_text() for file in files_of(crate.folder)} | texts
+    now = {
+        os.path.relpath(file, crate.folder): pathlib.Path(file).read_text() for file in files_of(crate.folder)
+    } | texts
     source = now["src/lib.rt"]
     functions, constants = FUNCTION.findall(source), {name: int(value) for name, value in CONST.findall(source)}
     note(f"checks {len(texts)} {' '.join(only)}")

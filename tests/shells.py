@@ -15,11 +15,16 @@ _framedbg
 printf '%s\\n' "${COMPREPLY[@]}"
 """
 FISH = 'source "$argv[1]/framedbg.fish"; complete -C "$argv[2]"'
-ZSH = 'PROMPT="> "; unsetopt beep; fpath=("$SHARE" $fpath); autoload -Uz compinit; compinit -u -D; compdef _framedbg framedbg; print ready'
+ZSH = (
+    'PROMPT="> "; unsetopt beep; fpath=("$SHARE" $fpath); autoload -Uz compinit; compinit -u -D; compdef '
+    '_framedbg framedbg; print ready'
+)
 
 
 def run(*words):
-    return subprocess.run(words, stdin=subprocess.DEVNULL, capture_output=True, text=True, timeout=SECONDS, check=True).stdout
+    return subprocess.run(
+        words, stdin=subprocess.DEVNULL, capture_output=True, text=True, timeout=SECONDS, check=True
+    ).stdout
 
 
 def bash(share, line):

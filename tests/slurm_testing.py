@@ -1,4 +1,5 @@
-"""A Slurm of one machine for tests: munged, slurmctld and slurmd on loopback, with a key, a configuration, states and ports of their own in a folder."""
+"""A Slurm of one machine for tests: munged, slurmctld and slurmd on loopback, with a key, a configuration, states
+and ports of their own in a folder."""
 import os
 import pathlib
 import shutil
@@ -8,7 +9,7 @@ import subprocess
 import time
 
 NEEDS = ("munged", "slurmctld", "slurmd", "sbatch", "squeue", "scancel", "sinfo", "runuser")
-PATIENCE = 60            # seconds until the machine is idle, or a daemon has ended
+PATIENCE = 60  # seconds until the machine is idle, or a daemon has ended
 
 CONF = """ClusterName=local
 SlurmctldHost={host}(127.0.0.1)
@@ -70,7 +71,15 @@ class Slurm:
         self.stop()
 
     def call(self, *words):
-        subprocess.run([str(word) for word in words], env=self.environment, stdin=subprocess.DEVNULL, stdout=subprocess.DEVNULL, stderr=subprocess.DEVNULL, timeout=PATIENCE, check=True)
+        subprocess.run(
+            [str(word) for word in words],
+            env=self.environment,
+            stdin=subprocess.DEVNULL,
+            stdout=subprocess.DEVNULL,
+            stderr=subprocess.DEVNULL,
+            timeout=PATIENCE,
+            check=True,
+        )
 
     def start(self):
         munge, host = self.room / "munge", socket.gethostname().split(".")[0]
@@ -82,13 +91,31 @@ class Slurm:
         for path, mode in ((key, 0o400), (munge, 0o700)):
             shutil.chown(path, "munge")
             path.chmod(mode)
-        self.call("runuser", "-u", "munge", "--", "munged", f"--socket={munge}/socket", f"--key-file={key}", f"--pid-file={munge}/pid", f"--log-file={munge}/log",
-                  f"--seed-file={munge}/seed", "--force")
+        self.call(
+            "runuser",
+            "-u",
+            "munge",
+            "--",
+            "munged",
+            f"--socket={munge}/socket",
+            f"--key-file={key}",
+            f"--pid-file={munge}/pid",
+            f"--log-file={munge}/log",
+            f"--seed-file={munge}/seed",
+            "--force",
+        )
         first, second = free_ports(2)
-        (self.room / "slurm.conf").write_text(CONF.format(host=host, room=self.room, first=first, second=second, cores=os.cpu_count()))
+        (self.room / "slurm.conf").write_text(
+            CONF.format(host=host, room=self.room, first=first, second=second, cores=os.cpu_count())
+        )
         self.call("slurmctld")
         self.call("slurmd", "-N", host)
-        self.wait_until(lambda: b"idle" in subprocess.run(["sinfo", "-h", "-o", "%T"], env=self.environment, capture_output=True, check=False).stdout)
+        self.wait_until(
+            lambda: b"idle"
+            in subprocess.run(
+                ["sinfo", "-h", "-o", "%T"], env=self.environment, capture_output=True, check=False
+            ).stdout
+        )
 
     def wait_until(self, is_so):
         end = time.monotonic() + PATIENCE
@@ -99,7 +126,11 @@ class Slurm:
 
     def stop(self):
         """Ends the daemons by their own numbers."""
-        pids = [int(path.read_text()) for path in (self.room / "slurmd.pid", self.room / "slurmctld.pid", self.room / "munge/pid") if path.exists() and path.read_text().strip().isdigit()]
+        pids = [
+            int(path.read_text())
+            for path in (self.room / "slurmd.pid", self.room / "slurmctld.pid", self.room / "munge/pid")
+            if path.exists() and path.read_text().strip().isdigit()
+        ]
         for pid in pids:
             try:
                 os.kill(pid, signal.SIGTERM)

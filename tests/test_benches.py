@@ -1,5 +1,6 @@
 #!/usr/bin/env python3
-"""test_benches: the town that the benches draw, and how two programs are measured by turns. Nothing is measured, and no built program is needed.
+"""test_benches: the town that the benches draw, and how two programs are measured by turns. Nothing is measured, and
+no built program is needed.
 
     tests/test_benches.py [TEST ..]
 """
@@ -18,6 +19,7 @@ from unittest import mock
 
 from folders import BENCHES
 
+import count_instructions
 import few_tiles
 import scenes
 import table
@@ -26,7 +28,7 @@ import turns
 from bench import Asked, Bench
 from turns import Taken, Work
 
-from reference import fault
+from reference import Frame, fault
 
 SMALL = 16
 STATES = {"raster", "scissor", "blend", "factor", "depth"}
@@ -57,7 +59,9 @@ def made(seed=1, pieces=None, scale=1):
 
 
 def ran(*words, **more):
-    return subprocess.run([sys.executable, *words], capture_output=True, check=False, timeout=300, env={**os.environ, **more})
+    return subprocess.run(
+        [sys.executable, *words], capture_output=True, check=False, timeout=300, env={**os.environ, **more}
+    )
 
 
 def program(folder, name, text):
@@ -89,9 +93,34 @@ def drawn(capture):
 
 
 def doubled(corners):
-    """Twice a triangle's area in pixels, above zero where its corners go clockwise as they are seen, since y goes down."""
+    """Twice a triangle's area in pixels, above zero where its corners go clockwise as they are seen, since y goes
+    down."""
     (ax, ay), (bx, by), (cx, cy) = [corner[:2] for corner in corners]
     return (bx - ax) * (cy - ay) - (by - ay) * (cx - ax)
+
+
+def entries(capture):
+    """The history of a pixel near the middle, by the reference: event, triangle and verdict first."""
+    frame = Frame(json.loads(capture))
+    return frame.replay(len(frame.events), frame.width // 2 + 1, frame.height // 2)[1]
+
+
+class CountedScenes(unittest.TestCase):
+    def test_states_let_draw_nothing(self):
+        for states, verdict in [(count_instructions.CULLED, "culled"), (count_instructions.SHUT, "scissored")]:
+            capture = count_instructions.undrawn(24, 3, states)
+            self.assertIsNone(fault(capture))
+            self.assertEqual({entry[2] for entry in entries(capture)}, {verdict})
+            self.assertEqual(len(entries(capture)), 3)
+
+    def test_pictures_cover_each_pixel_once(self):
+        capture = count_instructions.pictures(4, 2)
+        self.assertIsNone(fault(capture))
+        self.assertEqual([entry[2] for entry in entries(capture)], ["drawn", "drawn"])
+
+    def test_a_scene_ends_at_its_last_event(self):
+        scene = count_instructions.SCENES["small"]()
+        self.assertEqual(scene.commands, f"goto {len(json.loads(scene.capture)['events'])}\n")
 
 
 class Towns(InAFolder):
@@ -99,7 +128,10 @@ class Towns(InAFolder):
         written = []
         for number, (seed, order) in enumerate([("1", "1"), ("1", "2"), ("2", "1")]):
             path = self.folder / str(number)
-            self.assertEqual(ran(BENCHES / "town.py", "--scale", str(SMALL), "--seed", seed, path, PYTHONHASHSEED=order).returncode, 0)
+            self.assertEqual(
+                ran(BENCHES / "town.py", "--scale", str(SMALL), "--seed", seed, path, PYTHONHASHSEED=order).returncode,
+                0,
+            )
             written.append(path.read_bytes())
         self.assertEqual(written[0], written[1])
         self.assertNotEqual(written[0], written[2])
@@ -107,7 +139,11 @@ class Towns(InAFolder):
     def test_how_large_they_are(self):
         for pieces, draws, events in [(None, 3_250, 7_000), (3, 35_000, 70_000)]:
             self.assertEqual(made(pieces=pieces).side, 2048)
-            for there, wanted in [(made(pieces=pieces).draws, draws), (len(made(pieces=pieces).events), events), (made(pieces=pieces).triangles, 104_000)]:
+            for there, wanted in [
+                (made(pieces=pieces).draws, draws),
+                (len(made(pieces=pieces).events), events),
+                (made(pieces=pieces).triangles, 104_000),
+            ]:
                 self.assertLess(abs(there - wanted), 0.05 * wanted)
 
     def test_counts_are_those_of_the_events(self):
@@ -121,7 +157,9 @@ class Towns(InAFolder):
         self.assertEqual({event["kind"] for event in events}, STATES | {"clear", "depth_clear", "draw", "marker"})
         names = collections.Counter(event["name"].split()[0] for event in events if event["kind"] == "marker")
         # a sixteenth of 900 houses, 700 clouds and 660 panels
-        self.assertEqual(names, {"sky": 1, "ground": 1, "house": 56, "bunny": 16, "particles": 43, "fog": 3, "tone": 3, "panel": 41})
+        self.assertEqual(
+            names, {"sky": 1, "ground": 1, "house": 56, "bunny": 16, "particles": 43, "fog": 3, "tone": 3, "panel": 41}
+        )
 
     def test_pieces_draw_the_same(self):
         self.assertEqual(drawn(made(scale=SMALL).capture()), drawn(made(pieces=3, scale=SMALL).capture()))
@@ -140,7 +178,11 @@ class Towns(InAFolder):
             self.assertLess(sum(front) / len(front), sum(back) / len(back))
 
     def test_the_camera_sees_the_land_from_above(self):
-        ground = next(event for event in made(scale=SMALL).events if event["kind"] == "draw" and event["interp"] == "linear" and len(event["vertices"]) > 20)
+        ground = next(
+            event
+            for event in made(scale=SMALL).events
+            if event["kind"] == "draw" and event["interp"] == "linear" and len(event["vertices"]) > 20
+        )
         corners = [(vertex["x"], vertex["y"]) for vertex in ground["vertices"]]
         for at in range(0, len(ground["indices"]), 3):
             self.assertGreater(doubled([corners[number] for number in ground["indices"][at : at + 3]]), 0)
@@ -159,7 +201,10 @@ class Towns(InAFolder):
         there = made(scale=SMALL)
         told = ran(BENCHES / "town.py", "--scale", str(SMALL), "-")
         self.assertEqual((told.returncode, told.stdout), (0, there.capture()))
-        self.assertEqual(told.stderr.decode(), f"town: {there.draws} draws of {there.triangles:,} triangles, {len(there.events)} events, 128 by 128\n")
+        self.assertEqual(
+            told.stderr.decode(),
+            f"town: {there.draws} draws of {there.triangles:,} triangles, {len(there.events)} events, 128 by 128\n",
+        )
         self.assertIn(b"--pieces", ran(BENCHES / "town.py", "--help").stdout)
 
     def test_faults_are_a_line(self):
@@ -177,7 +222,11 @@ class Captures(unittest.TestCase):
             corners = [(vertex["x"], vertex["y"]) for vertex in draw["vertices"]]
             self.assertEqual(draw["indices"], [0, 1, 2] * 10)
             # by default triangles that go counter-clockwise are culled
-            self.assertTrue(doubled(corners) == 0 and raster["cull"] == "none" if flat else doubled(corners) < 0 and raster["kind"] == "marker")
+            self.assertTrue(
+                doubled(corners) == 0 and raster["cull"] == "none"
+                if flat
+                else doubled(corners) < 0 and raster["kind"] == "marker"
+            )
 
     def test_triangles_in_random_order_lie_apart(self):
         scene = scenes.shuffled_mesh(256, 1_000)
@@ -206,15 +255,24 @@ class Turns(InAFolder):
 
     def test_what_is_asked(self):
         for asked, compared, is_beside, words, is_reached in [
-            (Asked(times=10), Taken(1, 11), True, "<= 1/10", True), (Asked(times=10), Taken(1, 9), True, "<= 1/10", False),
-            (Asked(times=10), Taken(1, 9), False, "", True), (Asked(ratio=2), Taken(3, 1), False, "<= 2", False),
-            (Asked(ratio=2), Taken(3, 1), True, "", True), (Asked(most=4), Taken(5), False, "<= 4 s", False),
-            (Asked(least=4), Taken(3), False, ">= 4 s", False), (Asked(least=2, most=4), Taken(3), False, "<= 4 s, >= 2 s", True),
+            (Asked(times=10), Taken(1, 11), True, "<= 1/10", True),
+            (Asked(times=10), Taken(1, 9), True, "<= 1/10", False),
+            (Asked(times=10), Taken(1, 9), False, "", True),
+            (Asked(ratio=2), Taken(3, 1), False, "<= 2", False),
+            (Asked(ratio=2), Taken(3, 1), True, "", True),
+            (Asked(most=4), Taken(5), False, "<= 4 s", False),
+            (Asked(least=4), Taken(3), False, ">= 4 s", False),
+            (Asked(least=2, most=4), Taken(3), False, "<= 4 s, >= 2 s", True),
         ]:
-            self.assertEqual((asked.words(compared, "s", is_beside), asked.is_reached(compared, is_beside)), (words, is_reached))
+            self.assertEqual(
+                (asked.words(compared, "s", is_beside), asked.is_reached(compared, is_beside)), (words, is_reached)
+            )
 
     def test_both_programs_are_measured(self):
-        light, heavy = (program(self.folder, name, STAND_IN.format(python=sys.executable, thousands=thousands)) for name, thousands in (("light", 20), ("heavy", 3_000)))
+        light, heavy = (
+            program(self.folder, name, STAND_IN.format(python=sys.executable, thousands=thousands))
+            for name, thousands in (("light", 20), ("heavy", 3_000))
+        )
         bench, printed = Bench(self.folder, False, heavy), io.StringIO()
         bench.programs[0] = light
         with contextlib.redirect_stdout(printed):
@@ -262,7 +320,10 @@ class Counting(InAFolder):
         self.assertEqual(sorted(given), [b"a\n", b"a\nbc\nd\n"])
 
     def test_where_it_is_not_there(self):
-        for perf, why in [(None, "there is no perf"), (PERF.format(line="<not supported>,,instructions:u,0"), "no instructions on this machine")]:
+        for perf, why in [
+            (None, "there is no perf"),
+            (PERF.format(line="<not supported>,,instructions:u,0"), "no instructions on this machine"),
+        ]:
             with self.assertRaisesRegex(turns.NotCounted, why):
                 self.counted(perf)
 
@@ -289,13 +350,26 @@ These will be.
 
 - a
 """
-ROWS = [table.Row("a", ("first",)), table.Row("b", ("second",)), table.Row("the same", ("third",)), table.Row("c", ("fourth", "fifth"))]
+ROWS = [
+    table.Row("a", ("first",)),
+    table.Row("b", ("second",)),
+    table.Row("the same", ("third",)),
+    table.Row("c", ("fourth", "fifth")),
+]
 
 
 class Tables(unittest.TestCase):
     def test_what_is_measured_first_goes_to_its_place(self):
         once, count = table.written(HALF, {"first": (1, "s", None)}, ROWS)
-        self.assertEqual((once, count), (HALF.replace("| b |", "| a | | 1 s | |\n| b |").replace("yet\n\nThese will be.\n\n- a\n", "yet\n\nThese will be.\n\n"), 1))
+        self.assertEqual(
+            (once, count),
+            (
+                HALF.replace("| b |", "| a | | 1 s | |\n| b |").replace(
+                    "yet\n\nThese will be.\n\n- a\n", "yet\n\nThese will be.\n\n"
+                ),
+                1,
+            ),
+        )
         twice, count = table.written(once, {"third": (2, "s", None), "fourth": (3, "s", 2), "fifth": (4, "s", 2)}, ROWS)
         wanted = once.replace("| the same | | 9 s | |", "| the same | | 2 s | |\n| c | 1.5, 2 | 3, 4 s | 2, 2 |")
         self.assertEqual((twice, count), (wanted.replace("## Not measured yet\n\nThese will be.\n\n- c\n\n", ""), 2))
@@ -308,7 +382,11 @@ class Tables(unittest.TestCase):
         self.assertEqual(table.waiting(f"{table.HEAD}\n|---|---|---|---|\n"), [])
 
     def test_a_page_of_other_rows(self):
-        for page in (HALF.replace("- c\n", ""), HALF.replace("- c\n", "- c\n- d\n"), HALF.replace("| b | | 9 s | |\n", "")):
+        for page in (
+            HALF.replace("- c\n", ""),
+            HALF.replace("- c\n", "- c\n- d\n"),
+            HALF.replace("| b | | 9 s | |\n", ""),
+        ):
             with self.assertRaises(table.Fault):
                 table.written(page, {}, ROWS)
 
@@ -318,8 +396,13 @@ class Measures(unittest.TestCase):
         for words, why in [(["nothing"], b"nothing"), (["--beside", "x", "workers"], b"measure one program alone")]:
             told = ran(BENCHES / "measure.py", *words)
             self.assertEqual((told.returncode, why in told.stderr, b"Traceback" in told.stderr), (2, True, False))
-        told = ran(BENCHES / "measure.py", "--write", "events_on_a_tile", SCALE="2", MEASURED=os.devnull)        # a wrong version writes
-        self.assertEqual((told.returncode, told.stderr), (1, b"measure: with SCALE the sizes aren't those of the page, so nothing is written\n"))
+        told = ran(
+            BENCHES / "measure.py", "--write", "events_on_a_tile", SCALE="2", MEASURED=os.devnull
+        )  # a wrong version writes
+        self.assertEqual(
+            (told.returncode, told.stderr),
+            (1, b"measure: with SCALE the sizes aren't those of the page, so nothing is written\n"),
+        )
 
 
 if __name__ == "__main__":

@@ -1,4 +1,5 @@
-"""What the documents show of blame: each command of docs/BLAME.md, what docs/HUNTS.md says of each hunt, the man pages and the completions."""
+"""What the documents show of blame: each command of docs/BLAME.md, what docs/HUNTS.md says of each hunt, the man
+pages and the completions."""
 import contextlib
 import io
 import json
@@ -25,7 +26,10 @@ PAGE = (ROOT / "docs/BLAME.md").read_text()
 
 def commands(block):
     """(command, the lines that it says) of each in a block."""
-    return [(part.partition("\n")[0], part.partition("\n")[2].splitlines()) for part in re.split(r"^\$ ", block, flags=re.M)[1:]]
+    return [
+        (part.partition("\n")[0], part.partition("\n")[2].splitlines())
+        for part in re.split(r"^\$ ", block, flags=re.M)[1:]
+    ]
 
 
 class Replayed(unittest.TestCase):
@@ -34,13 +38,26 @@ class Replayed(unittest.TestCase):
     def setUp(self):
         self.room = pathlib.Path(self.enterContext(tempfile.TemporaryDirectory()))
         (self.room / "bin").mkdir()
-        for name, what in (("framedbg", PROGRAM), ("framedbg-blame", TOOLS / "framedbg-blame"), ("framedbg-night", TOOLS / "framedbg-night"), ("python3", sys.executable)):
+        for name, what in (
+            ("framedbg", PROGRAM),
+            ("framedbg-blame", TOOLS / "framedbg-blame"),
+            ("framedbg-night", TOOLS / "framedbg-night"),
+            ("python3", sys.executable),
+        ):
             (self.room / "bin" / name).symlink_to(what)
         (self.room / "examples").symlink_to(ROOT / "examples")
         self.environment = {**os.environ, "PATH": f"{self.room / 'bin'}:{os.environ['PATH']}"}
 
     def typed(self, command):
-        ran = subprocess.run(["bash", "-c", command], cwd=self.room, env=self.environment, capture_output=True, text=True, timeout=300, check=False)
+        ran = subprocess.run(
+            ["bash", "-c", command],
+            cwd=self.room,
+            env=self.environment,
+            capture_output=True,
+            text=True,
+            timeout=300,
+            check=False,
+        )
         self.assertEqual(ran.stderr, "", command)
         return ran.stdout.splitlines()
 
@@ -65,12 +82,23 @@ class Replayed(unittest.TestCase):
 
 class HuntsTold(Folder):
     def test_what_blame_says(self):
-        rows = re.findall(r"^\| `(\w+)` \| ([\d,]+) \| (\d+) \| (.+?) \| (\d+) \|$", (ROOT / "docs/HUNTS.md").read_text(), re.M)
+        rows = re.findall(
+            r"^\| `(\w+)` \| ([\d,]+) \| (\d+) \| (.+?) \| (\d+) \|$", (ROOT / "docs/HUNTS.md").read_text(), re.M
+        )
         self.assertEqual([row[0] for row in rows], list(NAMES))
         for name, differ, event, change, left in rows:
             value = value_of(self.found(json.loads((HUNTS / f"{name}.json").read_text()), hunt_picture(name)))
             best = value["changes"][0]
-            self.assertEqual((f"{value['differ']:,}", str(value["suspects"][0]["event"]), f"event {best['event']}, {best['change']}", str(best["differ"])), (differ, event, change, left), name)
+            self.assertEqual(
+                (
+                    f"{value['differ']:,}",
+                    str(value["suspects"][0]["event"]),
+                    f"event {best['event']}, {best['change']}",
+                    str(best["differ"]),
+                ),
+                (differ, event, change, left),
+                name,
+            )
 
 
 class Pages(unittest.TestCase):
@@ -82,8 +110,11 @@ class Pages(unittest.TestCase):
         self.assertEqual(sorted(rows), sorted(kind.name for kind in KINDS))
 
     def test_the_readme(self):
-        """What its first screen shows of blame is what the page's first session has of these lines, which is replayed."""
-        shown = re.search(r"\| grep -E '\^\(who\|mends\|sure\)'\n(.*?)^```", (ROOT / "README.md").read_text(), re.M | re.S)[1]
+        """What its first screen shows of blame is what the page's first session has of these lines, which is
+        replayed."""
+        shown = re.search(
+            r"\| grep -E '\^\(who\|mends\|sure\)'\n(.*?)^```", (ROOT / "README.md").read_text(), re.M | re.S
+        )[1]
         session = PAGE.partition("$ framedbg-blame examples/hunts/chain.json wanted.pam")[2].partition("```")[0]
         self.assertEqual(shown.splitlines(), re.findall(r"^(?:who|mends|sure) .*$", session, re.M))
 
@@ -91,7 +122,11 @@ class Pages(unittest.TestCase):
         """--help, the page and the man page say the same of them."""
         cells = {status: row for status, *row in re.findall(r"^\| (\d) \| ([^|]+) \| ([^|]+) \|$", PAGE, re.M)}
         for column, (tool, words) in enumerate(self.tools):
-            said = dict(re.findall(r"(\d+) (.*?)(?=, \d+ |$)", " ".join(words.__doc__.split()).partition("Statuses: ")[2].rstrip(".")))
+            said = dict(
+                re.findall(
+                    r"(\d+) (.*?)(?=, \d+ |$)", " ".join(words.__doc__.split()).partition("Statuses: ")[2].rstrip(".")
+                )
+            )
             self.assertEqual(said, dict(re.findall(r"^\.B (\d+)\n(.+)$", self.man(tool), re.M)))
             for status, what in said.items():
                 if status not in ("5", "130"):
@@ -113,14 +148,22 @@ class Pages(unittest.TestCase):
             wanted = {option for option, _ in options(words) if option.startswith("--")} | {"--help"}
             for name in (f"{tool}.bash", f"_{tool}", f"{tool}.fish"):
                 text = (ROOT / "share" / name).read_text()
-                named = set(re.findall(r"(?<![\w-])(--[a-z-]+)", text)) | {f"--{option}" for option in re.findall(r" -l ([\w-]+)", text)}
+                named = set(re.findall(r"(?<![\w-])(--[a-z-]+)", text)) | {
+                    f"--{option}" for option in re.findall(r" -l ([\w-]+)", text)
+                }
                 self.assertEqual(named, wanted, name)
 
     def test_bash_completes(self):
         for tool, function in (("framedbg-blame", "_framedbg_blame"), ("framedbg-night", "_framedbg_night")):
-            script = (f'source {ROOT / "share" / tool}.bash; COMP_WORDS=({tool} --to); COMP_CWORD=1; {function}; echo "${{COMPREPLY[*]}}"; '
-                      f'COMP_WORDS=({tool} --processes 6); COMP_CWORD=2; {function}; echo "${{COMPREPLY[*]}}"')
-            self.assertEqual(subprocess.run(["bash", "-c", script], capture_output=True, text=True, check=True).stdout, "--tolerance\n64\n")
+            script = (
+                f'source {ROOT / "share" / tool}.bash; COMP_WORDS=({tool} --to); COMP_CWORD=1; {function}; echo '
+                f'"${{COMPREPLY[*]}}"; '
+                f'COMP_WORDS=({tool} --processes 6); COMP_CWORD=2; {function}; echo "${{COMPREPLY[*]}}"'
+            )
+            self.assertEqual(
+                subprocess.run(["bash", "-c", script], capture_output=True, text=True, check=True).stdout,
+                "--tolerance\n64\n",
+            )
 
 
 def options(words):

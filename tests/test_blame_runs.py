@@ -1,4 +1,5 @@
-"""framedbg-blame as it is called: the hunts, findings, reports, JSON, statuses, what it keeps, and how it ends. Pictures are the reference's."""
+"""framedbg-blame as it is called: the hunts, findings, reports, JSON, statuses, what it keeps, and how it ends.
+Pictures are the reference's."""
 import json
 import os
 import pathlib
@@ -13,7 +14,25 @@ from unittest import mock
 
 import folders
 
-from blame_testing import HUNTS, NAMES, PROGRAM, TOOLS, Folder, blend, box, capture, clear, draw, hunt_picture, launched, pam, raster, reference, told, value_of
+from blame_testing import (
+    HUNTS,
+    NAMES,
+    PROGRAM,
+    TOOLS,
+    Folder,
+    blend,
+    box,
+    capture,
+    clear,
+    draw,
+    hunt_picture,
+    launched,
+    pam,
+    raster,
+    reference,
+    told,
+    value_of,
+)
 
 from full_disk import LACKING, OF_NULL, full_device, made_device
 
@@ -24,7 +43,17 @@ SKY, RED, GREEN, GLASS = (10, 20, 30, 255), (200, 40, 30, 255), (30, 180, 60, 25
 RIGHT = [clear(*SKY), box(2, 2, 14, 12, RED), blend(), box(6, 5, 20, 16, GLASS)]
 WRONG = [*RIGHT[:2], blend(mask=6), RIGHT[3]]
 # of each hunt, the events by which a person finds it: docs/HUNTS.md
-GUILTY = {"lantern": {10, 12}, "balloons": {11}, "island": {11, 16}, "fish": {12, 13}, "planet": {8, 10}, "lighthouse": {10}, "vase": {9}, "doughnut": {9}, "chain": {8}}
+GUILTY = {
+    "lantern": {10, 12},
+    "balloons": {11},
+    "island": {11, 16},
+    "fish": {12, 13},
+    "planet": {8, 10},
+    "lighthouse": {10},
+    "vase": {9},
+    "doughnut": {9},
+    "chain": {8},
+}
 # The program, which says nothing of a capture that the tool has changed
 SLOW = """#!/usr/bin/env python3
 import os
@@ -44,7 +73,10 @@ class Hunts(Folder):
             with self.subTest(name):
                 outcome = self.found(json.loads((HUNTS / f"{name}.json").read_text()), hunt_picture(name))
                 self.assertTrue(outcome.is_mended, name)
-                self.assertTrue(GUILTY[name] & {suspect.event for suspect in outcome.suspects[:2]}, [suspect.event for suspect in outcome.suspects])
+                self.assertTrue(
+                    GUILTY[name] & {suspect.event for suspect in outcome.suspects[:2]},
+                    [suspect.event for suspect in outcome.suspects],
+                )
                 wanted = read_pam(hunt_picture(name)).samples
                 self.assertEqual(self.drawn(outcome.changes[0].change.events), wanted)
 
@@ -62,7 +94,9 @@ class Findings(Folder):
 
     def test_each_place_has_its_own(self):
         outcome = self.found(*self.two())
-        self.assertEqual([finding["box"] for finding in value_of(outcome)["findings"]], [[40, 30, 60, 44], [4, 3, 9, 9]])
+        self.assertEqual(
+            [finding["box"] for finding in value_of(outcome)["findings"]], [[40, 30, 60, 44], [4, 3, 9, 9]]
+        )
         self.assertEqual([finding["pixels"] for finding in value_of(outcome)["findings"]], [280, 30])
         self.assertTrue(outcome.is_mended)
         told_ = self.report(outcome)
@@ -97,7 +131,9 @@ class Findings(Folder):
         wrong = [clear(*SKY), box(10, 10, 40, 40, RED), box(20, 10, 60, 40, GLASS)]
         with mock.patch.object(trying.Trials, "is_over", lambda trials: trials.best == 0):
             outcome = self.found(capture(wrong, 600, 400, 1), self.picture(capture(right, 600, 400, 1)))
-        self.assertEqual((outcome.is_mended, outcome.changes[0].change.event, outcome.changes[0].is_whole), (True, 3, True))
+        self.assertEqual(
+            (outcome.is_mended, outcome.changes[0].change.event, outcome.changes[0].is_whole), (True, 3, True)
+        )
 
     def picture(self, made):
         """A large picture whose pixels are of few kinds: the reference asks one pixel of each run."""
@@ -115,53 +151,117 @@ class Findings(Folder):
 
     def test_suspects_beyond_the_first(self):
         """A layer below the last of twelve, with as little evidence as the others: the list isn't cut before it."""
-        layer = lambda i, interp="linear": draw((1, 1, (20 * i, 90, 200, 90)), (23, 1, (250, 10 * i, 0, 120)), (23, 17, (0, 0, 99, 160)), (1, 17, (70, 200, 3 * i, 100)), interp=interp, indices=[0, 1, 2, 0, 2, 3])
+        layer = lambda i, interp="linear": draw(
+            (1, 1, (20 * i, 90, 200, 90)),
+            (23, 1, (250, 10 * i, 0, 120)),
+            (23, 17, (0, 0, 99, 160)),
+            (1, 17, (70, 200, 3 * i, 100)),
+            interp=interp,
+            indices=[0, 1, 2, 0, 2, 3],
+        )
         right = [clear(*SKY), blend(), *[layer(i) for i in range(12)]]
         wrong = [*right[:12], layer(10, "flat"), right[13]]
         outcome = self.found(capture(wrong), capture(right))
-        self.assertEqual((outcome.is_mended, outcome.suspects[0].event, outcome.changes[0].change.says), (True, 13, "linear in place of flat"))
+        self.assertEqual(
+            (outcome.is_mended, outcome.suspects[0].event, outcome.changes[0].change.says),
+            (True, 13, "linear in place of flat"),
+        )
         self.assertEqual({suspect.event for suspect in outcome.suspects}, set(range(1, 15)))
 
     def test_suspects_of_a_large_frame(self):
-        """Forty layers, each as suspect as the others but the last: the one whose triangles are shaded wrong is the thirtieth."""
-        layer = lambda i, interp="linear": draw((1, 1, (6 * i, 90, 200, 90)), (23, 1, (250, 5 * i, 0, 120)), (23, 17, (0, 0, 99, 160)), (1, 17, (70, 200, 3 * i, 100)), interp=interp, indices=[0, 1, 2, 0, 2, 3])
+        """Forty layers, each as suspect as the others but the last: the one whose triangles are shaded wrong is the
+        thirtieth."""
+        layer = lambda i, interp="linear": draw(
+            (1, 1, (6 * i, 90, 200, 90)),
+            (23, 1, (250, 5 * i, 0, 120)),
+            (23, 17, (0, 0, 99, 160)),
+            (1, 17, (70, 200, 3 * i, 100)),
+            interp=interp,
+            indices=[0, 1, 2, 0, 2, 3],
+        )
         right = [clear(*SKY), blend(rgb="ONE ONE ADD"), *[layer(i) for i in range(40)]]
         wrong = [*right[:31], layer(29, "flat"), *right[32:]]
-        dim = lambda events: [event if event["kind"] != "draw" else event | {"vertices": [corner | {"color": [value // 40 for value in corner["color"]]} for corner in event["vertices"]]} for event in events]
+        dim = lambda events: [
+            event
+            if event["kind"] != "draw"
+            else event
+            | {
+                "vertices": [
+                    corner | {"color": [value // 40 for value in corner["color"]]} for corner in event["vertices"]
+                ]
+            }
+            for event in events
+        ]
         outcome = self.found(capture(dim(wrong)), capture(dim(right)))
-        self.assertEqual((outcome.is_mended, outcome.suspects[0].event, outcome.changes[0].change.says), (True, 32, "linear in place of flat"))
+        self.assertEqual(
+            (outcome.is_mended, outcome.suspects[0].event, outcome.changes[0].change.says),
+            (True, 32, "linear in place of flat"),
+        )
 
     def test_a_scissor_that_is_missing(self):
-        """It is nowhere in the frame. Two boxes that it leaves are wrong; the rectangle round both, or round the one that there is, mends all."""
+        """It is nowhere in the frame. Two boxes that it leaves are wrong; the rectangle round both, or round the one
+        that there is, mends all."""
         first, cut = {"kind": "scissor", "rect": [1, 1, 5, 5]}, {"kind": "scissor", "rect": [12, 3, 23, 15]}
         for boxes in ([box(0, 0, 24, 18, GREEN)], [box(12, 3, 13, 17, GREEN), box(20, 2, 24, 18, GREEN)]):
-            drawn = [{"kind": "draw", "interp": "flat", "vertices": [vertex for one in boxes for vertex in one["vertices"]],
-                      "indices": [4 * number + i for number, one in enumerate(boxes) for i in one["indices"]]}]
+            drawn = [
+                {
+                    "kind": "draw",
+                    "interp": "flat",
+                    "vertices": [vertex for one in boxes for vertex in one["vertices"]],
+                    "indices": [4 * number + i for number, one in enumerate(boxes) for i in one["indices"]],
+                }
+            ]
             right = [clear(*SKY), raster(scissor=True), first, box(0, 0, 24, 18, RED), cut, *drawn]
             outcome = self.found(capture([*right[:4], *drawn]), capture(right))
-            self.assertEqual((outcome.is_mended, outcome.changes[0].change.event, outcome.changes[0].change.says), (True, 5, "with scissor 12 3 23 15"))
+            self.assertEqual(
+                (outcome.is_mended, outcome.changes[0].change.event, outcome.changes[0].change.says),
+                (True, 5, "with scissor 12 3 23 15"),
+            )
 
     def test_the_event_that_a_change_stands_in_for(self):
-        """The blending of the lower glass is wrong. That the one behind it is set earlier mends all too, and is tried first; but the event that is there says more."""
-        right = [clear(*SKY), box(5, 5, 17, 13, RED), box(5, 5, 17, 13, GREEN), blend(), box(5, 5, 17, 13, GLASS), blend() | {"source": 1}, box(4, 4, 18, 14, GLASS)]
+        """The blending of the lower glass is wrong. That the one behind it is set earlier mends all too, and is
+        tried first; but the event that is there says more."""
+        right = [
+            clear(*SKY),
+            box(5, 5, 17, 13, RED),
+            box(5, 5, 17, 13, GREEN),
+            blend(),
+            box(5, 5, 17, 13, GLASS),
+            blend() | {"source": 1},
+            box(4, 4, 18, 14, GLASS),
+        ]
         wrong = [*right[:3], blend(rgb="SRC_ALPHA INV_SRC_ALPHA REV_SUBTRACT"), *right[4:]]
         outcome = self.found(capture(wrong), capture(right))
         self.assertIn("set before event 5", {one.change.says for one in outcome.changes if one.left == 0})
-        self.assertEqual((outcome.suspects[0].event, outcome.changes[0].change.event, outcome.changes[0].change.kind), (4, 4, "operation of blending"))
+        self.assertEqual(
+            (outcome.suspects[0].event, outcome.changes[0].change.event, outcome.changes[0].change.kind),
+            (4, 4, "operation of blending"),
+        )
 
     def test_the_event_whose_state_is_replaced(self):
-        """Where no change of its own mends all, the event whose state another one stands in for is a suspect behind it."""
-        right = [clear(*SKY), box(4, 4, 18, 14, RED), blend(), box(5, 5, 17, 13, GLASS), blend() | {"source": 1}, box(4, 4, 18, 14, GLASS)]
+        """Where no change of its own mends all, the event whose state another one stands in for is a suspect behind
+        it."""
+        right = [
+            clear(*SKY),
+            box(4, 4, 18, 14, RED),
+            blend(),
+            box(5, 5, 17, 13, GLASS),
+            blend() | {"source": 1},
+            box(4, 4, 18, 14, GLASS),
+        ]
         wrong = [*right[:2], blend(False, "ZERO ZERO MIN", "ZERO ZERO MAX", 3), *right[3:]]
         outcome = self.found(capture(wrong), capture(right))
         self.assertEqual((outcome.is_mended, outcome.changes[0].change.event), (True, 5))
         self.assertIn(3, [suspect.event for suspect in outcome.suspects[:3]])
 
     def test_off_and_what_is_spoilt(self):
-        """Without the box that is drawn last the ones below show, 20 pixels as they should be; 30 that were right aren't any more."""
+        """Without the box that is drawn last the ones below show, 20 pixels as they should be; 30 that were right
+        aren't any more."""
         right = [clear(*SKY), box(2, 2, 12, 7, RED), box(2, 7, 12, 10, GREEN)]
         wrong = [clear(*SKY), box(2, 2, 12, 7, RED), box(2, 5, 12, 10, GREEN)]
-        without = next(one for one in value_of(self.found(capture(wrong), capture(right)))["suspects"] if one["event"] == 3)["without"]
+        without = next(
+            one for one in value_of(self.found(capture(wrong), capture(right)))["suspects"] if one["event"] == 3
+        )["without"]
         self.assertEqual(without, {"right": 20, "wrong": 30})
 
     def test_when_it_shows(self):
@@ -191,12 +291,17 @@ class Tolerances(Folder):
             tolerance = tuple(2 if c == channel else 0 for c in range(4))
             picture = self.nearly(2, channel) if channel < 3 else self.nearly(2, 3)
             self.assertEqual(same(picture, tolerance), 0)
-            self.assertEqual(self.found(capture(RIGHT), self.nearly(2, 0), tolerance=(1, 9, 9, 9), seconds=0.1).wrong, 24 * 18)
+            self.assertEqual(
+                self.found(capture(RIGHT), self.nearly(2, 0), tolerance=(1, 9, 9, 9), seconds=0.1).wrong, 24 * 18
+            )
 
     def test_a_driver_that_rounds_otherwise(self):
         """The driver ignored the mask, and rounds reds one up."""
         outcome = self.found(capture(WRONG), self.nearly(1), tolerance=(1, 0, 0, 0))
-        self.assertEqual((outcome.is_mended, outcome.changes[0].change.event, outcome.changes[0].change.says), (True, 3, "mask 15 in place of 6"))
+        self.assertEqual(
+            (outcome.is_mended, outcome.changes[0].change.event, outcome.changes[0].change.says),
+            (True, 3, "mask 15 in place of 6"),
+        )
         self.assertIn("the driver drew as with event 3, mask 15 in place of 6", self.report(outcome, is_driver=True))
 
     def test_a_picture_without_alpha(self):
@@ -221,7 +326,10 @@ class Called(Folder):
         status, lines, errors = told(*self.files(), "--json")
         value = json.loads("\n".join(lines))
         self.assertEqual((status, errors, value["differ"], value["mended"]), (1, "", 154, True))
-        self.assertEqual((value["suspects"][0]["event"], value["changes"][0]), (3, {"event": 3, "change": "mask 15 in place of 6", "differ": 0, "kind": "write mask", "also": []}))
+        self.assertEqual(
+            (value["suspects"][0]["event"], value["changes"][0]),
+            (3, {"event": 3, "change": "mask 15 in place of 6", "differ": 0, "kind": "write mask", "also": []}),
+        )
         differ = [change["differ"] for change in value["changes"]]
         self.assertEqual(differ, sorted(differ))
         self.assertTrue(all(number < value["differ"] for number in differ))
@@ -245,7 +353,9 @@ class Called(Folder):
         self.assertEqual(pam(json.loads(there.read_text())), pam(capture(RIGHT)))
         with full_device() as full:
             if full:
-                self.assertEqual(told(*self.files(), "--write", full)[::2], (3, f"framedbg-blame: {full}: No space left on device\n"))
+                self.assertEqual(
+                    told(*self.files(), "--write", full)[::2], (3, f"framedbg-blame: {full}: No space left on device\n")
+                )
 
     def test_depths_of_version_1(self):
         """They are passed over, whatever they are."""
@@ -272,16 +382,29 @@ class Called(Folder):
         wrong, picture = self.files()
         small = self.written("small.pam", pam(capture(RIGHT, 4, 4)))
         text = self.written("text", "no picture")
-        for words, status, said in (((wrong, text), 2, "no picture"), ((wrong, small), 2, "target is 24 by 18, the picture 4 by 4"), ((wrong, self.folder / "nothing"), 3, "No such file"),
-                                    ((text, picture), 2, "refused 2 not json"), ((self.folder / "nothing", picture), 3, "cannot read capture"),
-                                    ((self.written("bad.json", capture([{"kind": "clear"}])), picture), 2, "refused 8 bad field 1")):
+        for words, status, said in (
+            ((wrong, text), 2, "no picture"),
+            ((wrong, small), 2, "target is 24 by 18, the picture 4 by 4"),
+            ((wrong, self.folder / "nothing"), 3, "No such file"),
+            ((text, picture), 2, "refused 2 not json"),
+            ((self.folder / "nothing", picture), 3, "cannot read capture"),
+            ((self.written("bad.json", capture([{"kind": "clear"}])), picture), 2, "refused 8 bad field 1"),
+        ):
             ended = told(*words)
             self.assertEqual((ended[0], ended[1]), (status, []), words)
             self.assertIn(said, ended[2])
             self.assertEqual(ended[2].count("\n"), 1)
 
     def test_words(self):
-        for words in ((), ("one",), ("--tolerance", "1,2", "a", "b"), ("--tolerance", "256", "a", "b"), ("--seconds", "0", "a", "b"), ("--seconds", "x", "a", "b"), ("--processes", "0", "a", "b")):
+        for words in (
+            (),
+            ("one",),
+            ("--tolerance", "1,2", "a", "b"),
+            ("--tolerance", "256", "a", "b"),
+            ("--seconds", "0", "a", "b"),
+            ("--seconds", "x", "a", "b"),
+            ("--processes", "0", "a", "b"),
+        ):
             status, out, errors = launched(*words)
             self.assertEqual((status, out), (2, ""), words)
             self.assertIn("framedbg-blame: ", errors)
@@ -298,7 +421,10 @@ class Called(Folder):
         """An index slip in a draw of many triangles, and no time for it: evidence at least, and it says so."""
         strip = [(x, 2 + 12 * (x % 2), (9 * x % 256, 200 - 3 * x, 80, 255)) for x in range(23)]
         order = [i for x in range(21) for i in ((x, x + 1, x + 2) if x % 2 == 0 else (x + 1, x, x + 2))]
-        right, wrong = ([clear(*SKY), raster("none"), draw(*strip, interp="linear", indices=some)] for some in (order, order[:10] + order[11:]))
+        right, wrong = (
+            [clear(*SKY), raster("none"), draw(*strip, interp="linear", indices=some)]
+            for some in (order, order[:10] + order[11:])
+        )
         outcome = self.found(capture(wrong), capture(right), seconds=1e-9)
         self.assertTrue(outcome.is_over and outcome.suspects)
         self.assertTrue(any("and then the time was over" in line for line in self.report(outcome)))
@@ -307,15 +433,24 @@ class Called(Folder):
         """While the program is at a changed capture, and says nothing."""
         program = pathlib.Path(self.written("program", SLOW % str(PROGRAM)))
         program.chmod(0o755)
-        words = [sys.executable, str(TOOLS / "framedbg-blame"), str(HUNTS / "doughnut.json"), self.written("wanted.pam", hunt_picture("doughnut")), "--program", str(program)]
-        signal.signal(signal.SIGINT, signal.default_int_handler)        # what is ignored here would be there too
+        words = [
+            sys.executable,
+            str(TOOLS / "framedbg-blame"),
+            str(HUNTS / "doughnut.json"),
+            self.written("wanted.pam", hunt_picture("doughnut")),
+            "--program",
+            str(program),
+        ]
+        signal.signal(signal.SIGINT, signal.default_int_handler)  # what is ignored here would be there too
         for number in (signal.SIGINT, signal.SIGTERM):
             with self.subTest(number):
                 self.ended_by(number, words, program.with_name("asked"))
 
     def ended_by(self, number, words, asked):
         asked.unlink(missing_ok=True)
-        with tempfile.TemporaryDirectory() as room, subprocess.Popen(words, stdout=subprocess.PIPE, stderr=subprocess.PIPE, env={**os.environ, "TMPDIR": room}) as run:
+        with tempfile.TemporaryDirectory() as room, subprocess.Popen(
+            words, stdout=subprocess.PIPE, stderr=subprocess.PIPE, env={**os.environ, "TMPDIR": room}
+        ) as run:
             while not asked.exists() and run.poll() is None:
                 time.sleep(0.01)
             run.send_signal(number)

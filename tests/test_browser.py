@@ -23,7 +23,9 @@ exec "{program}" "$@"
 """
 
 
-@unittest.skipUnless(browser.is_installed() and browser.Firefox.installed(), "no Chromium with chromedriver, or no Firefox")
+@unittest.skipUnless(
+    browser.is_installed() and browser.Firefox.installed(), "no Chromium with chromedriver, or no Firefox"
+)
 class Starts(unittest.TestCase):
     def setUp(self):
         folder = tempfile.TemporaryDirectory()
@@ -48,18 +50,10 @@ class Starts(unittest.TestCase):
     def test_chromium(self):
         self.assertEqual(self.starts(browser.Browser, "chromedriver", 2), 3)
 
-    def test_firefox(self):
-        self.assertEqual(self.starts(browser.Firefox, pathlib.Path(browser.Firefox.installed()).name, 2), 3)
-
     def test_none_starts(self):
         with self.assertRaisesRegex(AssertionError, "chromedriver ended: no port is free"):
             self.starts(browser.Browser, "chromedriver", 99)
         self.assertEqual(self.count, browser.Browser.TRIES)
-
-    def test_no_driver(self):
-        """Then that is said, at once."""
-        with mock.patch.dict(os.environ, PATH=str(self.here)), self.assertRaisesRegex(FileNotFoundError, "chromedriver"):
-            browser.Browser()
 
 
 if __name__ == "__main__":

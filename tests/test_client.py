@@ -1,5 +1,6 @@
 #!/usr/bin/env python3
-"""test_client: framedbg_client's values, against docs/FORMATS.md, build/reference.py's images and the replies in examples/; its endings; docs/CLIENTS.md.
+"""test_client: framedbg_client's values, against docs/FORMATS.md, build/reference.py's images and the replies in
+examples/; its endings; docs/CLIENTS.md.
 
     tests/test_client.py [TEST ..]
 
@@ -24,12 +25,34 @@ from fdb_testing import EXAMPLES, PROGRAM, ROOT, TOOLS, stand_in
 
 import framedbg_client
 import reference
-from framedbg_client import (At, Bad, Bye, Client, Colour, Depths, DepthState, Ended, Entry, Event, Fault, Garbled, Pixel, Refusal, Refused, Reply, State, Stopped,
-                             read_pam)
+from framedbg_client import (
+    At,
+    Bad,
+    Bye,
+    Client,
+    Colour,
+    Depths,
+    DepthState,
+    Ended,
+    Entry,
+    Event,
+    Fault,
+    Garbled,
+    Pixel,
+    Refusal,
+    Refused,
+    Reply,
+    State,
+    Stopped,
+    read_pam,
+)
 from framedbg_client import program as client_program
 
 HOUSE = EXAMPLES / "house.json"
-STATE = "state cull none ccw 1 scissor 0 rect -3 4 116 30 blend 1 SRC_ALPHA INV_SRC_ALPHA ADD ONE ZERO MAX mask 12 factor 1 2 3 4"
+STATE = (
+    "state cull none ccw 1 scissor 0 rect -3 4 116 30 blend 1 SRC_ALPHA INV_SRC_ALPHA ADD ONE ZERO MAX mask 12 "
+    "factor 1 2 3 4"
+)
 
 
 def client(capture=HOUSE, **how):
@@ -40,8 +63,13 @@ class Values(unittest.TestCase):
     """Each reply of docs/FORMATS.md, as its value."""
 
     def test_moves_and_refusals(self):
-        for text, value in (("at 13", At(13)), ("stopped 4", Stopped(4)), ("refused 3 no such position", Refused(3, "no such position")),
-                            ("bad 1 unknown command", Bad(1, "unknown command")), ("bye", Bye())):
+        for text, value in (
+            ("at 13", At(13)),
+            ("stopped 4", Stopped(4)),
+            ("refused 3 no such position", Refused(3, "no such position")),
+            ("bad 1 unknown command", Bad(1, "unknown command")),
+            ("bye", Bye()),
+        ):
             self.assertEqual(Reply(text).value, value)
 
     def test_pixels(self):
@@ -50,21 +78,46 @@ class Values(unittest.TestCase):
 
     def test_entries(self):
         lines = ("2 - drawn 0 0 0 255 1 2 3 4 5 6 7 8", "11 3 culled 190 60 50 128 60 130 60 255 60 130 61 255")
-        self.assertEqual(Reply("history 2", lines).value.entries, [
-            Entry(2, None, "drawn", Colour(0, 0, 0, 255), Colour(1, 2, 3, 4), Colour(5, 6, 7, 8)),
-            Entry(11, 3, "culled", Colour(190, 60, 50, 128), Colour(60, 130, 60, 255), Colour(60, 130, 61, 255))])
-        entry = Reply("history 1", ("9 57 depthfailed 59 67 75 255 71 77 84 255 71 77 84 254 45215 65534 65535",)).value.entries[0]
-        self.assertEqual((entry.depths, entry.after, entry.is_drawn), (Depths(45215, 65534, 65535), Colour(71, 77, 84, 254), False))
-        entry = Reply("history 1", ("3 0 discarded 0 0 0 0 100 100 100 100 100 100 100 100 500 65535 65535",)).value.entries[0]
+        self.assertEqual(
+            Reply("history 2", lines).value.entries,
+            [
+                Entry(2, None, "drawn", Colour(0, 0, 0, 255), Colour(1, 2, 3, 4), Colour(5, 6, 7, 8)),
+                Entry(11, 3, "culled", Colour(190, 60, 50, 128), Colour(60, 130, 60, 255), Colour(60, 130, 61, 255)),
+            ],
+        )
+        entry = Reply(
+            "history 1", ("9 57 depthfailed 59 67 75 255 71 77 84 255 71 77 84 254 45215 65534 65535",)
+        ).value.entries[0]
+        self.assertEqual(
+            (entry.depths, entry.after, entry.is_drawn), (Depths(45215, 65534, 65535), Colour(71, 77, 84, 254), False)
+        )
+        entry = Reply(
+            "history 1", ("3 0 discarded 0 0 0 0 100 100 100 100 100 100 100 100 500 65535 65535",)
+        ).value.entries[0]
         self.assertEqual((entry.verdict, entry.source, entry.is_drawn), ("discarded", Colour(0, 0, 0, 0), False))
 
     def test_states(self):
-        state = State("none", True, False, (-3, 4, 116, 30), True, ("SRC_ALPHA", "INV_SRC_ALPHA", "ADD"), ("ONE", "ZERO", "MAX"), 12, Colour(1, 2, 3, 4))
+        state = State(
+            "none",
+            True,
+            False,
+            (-3, 4, 116, 30),
+            True,
+            ("SRC_ALPHA", "INV_SRC_ALPHA", "ADD"),
+            ("ONE", "ZERO", "MAX"),
+            12,
+            Colour(1, 2, 3, 4),
+        )
         self.assertEqual(Reply(STATE).value, state)
         self.assertEqual(Reply(STATE + " depth 1 0 LESS").value.depth, DepthState(True, False, "LESS"))
 
     def test_events(self):
-        lines = ("1 on marker sun  and hills", "2 off clear 0 1 2 255", "3 on marker ", "4 on blend 0 ONE ZERO ADD ONE ZERO ADD 15")
+        lines = (
+            "1 on marker sun  and hills",
+            "2 off clear 0 1 2 255",
+            "3 on marker ",
+            "4 on blend 0 ONE ZERO ADD ONE ZERO ADD 15",
+        )
         value = Reply("events 4 at 3", lines).value
         self.assertEqual((value.position, [event.on for event in value.events]), (3, [True, False, True, True]))
         self.assertEqual([event.name for event in value.events[::2]], ["sun  and hills", ""])
@@ -72,7 +125,17 @@ class Values(unittest.TestCase):
         self.assertEqual((value.events[1].colour, value.events[3].colour), (Colour(0, 1, 2, 255), None))
 
     def test_what_is_no_reply(self):
-        for text in ("", "at", "at x", "hello", "pixel 1 2 3", "refused x y", "history x", STATE.replace("mask", "mesk"), STATE + " depth 1"):
+        for text in (
+            "",
+            "at",
+            "at x",
+            "hello",
+            "pixel 1 2 3",
+            "refused x y",
+            "history x",
+            STATE.replace("mask", "mesk"),
+            STATE + " depth 1",
+        ):
             with self.assertRaises(Garbled, msg=text):
                 Reply(text).value
         for text in ("history x", "pam -1", "events", "pam \u00b2"):
@@ -88,19 +151,41 @@ class Images(unittest.TestCase):
         self.assertEqual((image.width, image.height, image.pixel(1, 0), image.pam()), (2, 1, (5, 6, 7, 8), self.PAM))
 
     def test_what_is_no_image(self):
-        for wrong in (self.PAM[:-1], self.PAM + b"\0", self.PAM.replace(b"P7", b"P6"), self.PAM.replace(b"ENDHDR", b"END"), self.PAM.replace(b"DEPTH 4", b"DEPTH 3"),
-                      self.PAM.replace(b"255", b"65535"), self.PAM.replace(b"RGB_ALPHA", b"RGB"), self.PAM.replace(b"WIDTH 2", b"WIDTH -2"), b""):
+        for wrong in (
+            self.PAM[:-1],
+            self.PAM + b"\0",
+            self.PAM.replace(b"P7", b"P6"),
+            self.PAM.replace(b"ENDHDR", b"END"),
+            self.PAM.replace(b"DEPTH 4", b"DEPTH 3"),
+            self.PAM.replace(b"255", b"65535"),
+            self.PAM.replace(b"RGB_ALPHA", b"RGB"),
+            self.PAM.replace(b"WIDTH 2", b"WIDTH -2"),
+            b"",
+        ):
             with self.assertRaises(Fault, msg=wrong):
                 read_pam(wrong)
 
     def test_png(self):
-        """The colours alone, as tools/pam_to_png has them."""
-        pam = shown_house()
-        ours, theirs = read_pam(pam).png(), subprocess.run([TOOLS / "pam_to_png"], input=pam, capture_output=True, check=True).stdout
-        for png in (ours, theirs):
-            self.assertEqual(png[:8], b"\x89PNG\r\n\x1a\n")
-        self.assertEqual(chunks(ours)[b"IHDR"], chunks(theirs)[b"IHDR"])
-        self.assertEqual(zlib.decompress(chunks(ours)[b"IDAT"]), zlib.decompress(chunks(theirs)[b"IDAT"]))
+        """The colours alone, eight bits each, in rows without a filter: of the client, and of tools/pam_to_png,
+        which takes the most trouble to pack them."""
+        for pam, width, height in ((self.PAM, 2, 1), (shown_house(), 96, 64)):
+            ours, theirs = (
+                read_pam(pam).png(),
+                subprocess.run([TOOLS / "pam_to_png"], input=pam, capture_output=True, check=True).stdout,
+            )
+            colours = [pam[-4 * width * height :][at : at + 3] for at in range(0, 4 * width * height, 4)]
+            rows = b"".join(
+                b"\0" + b"".join(colours[start : start + width]) for start in range(0, width * height, width)
+            )
+            for png, packed in ((ours, zlib.compress(rows)), (theirs, zlib.compress(rows, 9))):
+                self.assertEqual(png[:8], b"\x89PNG\r\n\x1a\n")
+                self.assertEqual(
+                    chunks(png),
+                    {b"IHDR": struct.pack(">IIBBBBB", width, height, 8, 2, 0, 0, 0), b"IDAT": packed, b"IEND": b""},
+                )
+        ran = subprocess.run([TOOLS / "pam_to_png"], input=self.PAM[:-1], capture_output=True, check=False)
+        self.assertEqual((ran.returncode, ran.stdout), (1, b""))
+        self.assertRegex(ran.stderr, rb"^pam_to_png: [^\n]+\n$")
 
 
 def shown_house():
@@ -108,15 +193,15 @@ def shown_house():
     replies = (EXAMPLES / "house_show.expected").read_bytes()
     head, _, rest = replies.partition(b"\npam ")
     size, _, rest = rest.partition(b"\n")
-    return rest[:int(size)]
+    return rest[: int(size)]
 
 
 def chunks(png):
     found, at = {}, 8
     while at < len(png):
-        size, kind = struct.unpack(">I4s", png[at:at + 8])
-        data = png[at + 8:at + 8 + size]
-        assert struct.unpack(">I", png[at + 8 + size:at + 12 + size])[0] == zlib.crc32(kind + data)
+        size, kind = struct.unpack(">I4s", png[at : at + 8])
+        data = png[at + 8 : at + 8 + size]
+        assert struct.unpack(">I", png[at + 8 + size : at + 12 + size])[0] == zlib.crc32(kind + data)
         found[kind], at = data, at + 12 + size
     return found
 
@@ -135,7 +220,10 @@ class Asked(unittest.TestCase):
             lines = (EXAMPLES / f"{name}.session").read_text().splitlines()
             with client(capture) as frame:
                 replies = frame.ask_all(lines)
-            told = b"".join("".join(text + "\n" for text in (reply.text, *reply.lines)).encode() + (reply.data or b"") for reply in replies)
+            told = b"".join(
+                "".join(text + "\n" for text in (reply.text, *reply.lines)).encode() + (reply.data or b"")
+                for reply in replies
+            )
             self.assertEqual(told, (EXAMPLES / f"{name}.expected").read_bytes(), name)
             for reply in replies:
                 self.assertIsNotNone(reply.value)
@@ -166,8 +254,17 @@ class Asked(unittest.TestCase):
         places = [(x, y) for y in range(3, 9) for x in range(2, 14)]
         with client(EXAMPLES / "crossing.json") as frame:
             frame.goto(3)
-            found = [[(entry.event, entry.verdict, tuple(entry.after), entry.depths.after) for entry in entries] for entries in frame.histories(places)]
-            self.assertEqual(found, [[(entry[0], entry[2], tuple(entry[5]), entry[8]) for entry in wanted.replay(3, x, y)[1]] for x, y in places])
+            found = [
+                [(entry.event, entry.verdict, tuple(entry.after), entry.depths.after) for entry in entries]
+                for entries in frame.histories(places)
+            ]
+            self.assertEqual(
+                found,
+                [
+                    [(entry[0], entry[2], tuple(entry[5]), entry[8]) for entry in wanted.replay(3, x, y)[1]]
+                    for x, y in places
+                ],
+            )
             with self.assertRaises(Refusal):
                 frame.histories([(0, 0), (9999, 0), (1, 0)])
             self.assertEqual((frame.goto(1), frame.histories([])), (1, []))
@@ -202,8 +299,15 @@ class Asked(unittest.TestCase):
 
     def test_refusals(self):
         with client() as frame:
-            for line, reply in (("back", Refused(2, "at start")), ("goto 14", Refused(3, "no such position")), ("off 0", Refused(4, "no such event")), ("on 8", Refused(5, "already so")),
-                                ("pixel 96 0", Refused(6, "no such pixel")), ("warp", Bad(1, "unknown command")), ("goto", Bad(2, "arguments"))):
+            for line, reply in (
+                ("back", Refused(2, "at start")),
+                ("goto 14", Refused(3, "no such position")),
+                ("off 0", Refused(4, "no such event")),
+                ("on 8", Refused(5, "already so")),
+                ("pixel 96 0", Refused(6, "no such pixel")),
+                ("warp", Bad(1, "unknown command")),
+                ("goto", Bad(2, "arguments")),
+            ):
                 with self.assertRaises(Refusal) as refusal:
                     frame.value(line)
                 self.assertEqual(refusal.exception.reply, reply)
@@ -217,7 +321,9 @@ class Asked(unittest.TestCase):
             (pathlib.Path(folder) / "no.json").write_text("[]")
             with client(pathlib.Path(folder) / "no.json") as frame, self.assertRaises(Ended) as ended:
                 frame.events()
-        self.assertEqual((ended.exception.status, ended.exception.said), (2, "framedbg: capture refused 3 not a capture"))
+        self.assertEqual(
+            (ended.exception.status, ended.exception.said), (2, "framedbg: capture refused 3 not a capture")
+        )
         with client() as frame:
             frame.connection.process.kill()
             for _ in range(2):
@@ -261,7 +367,9 @@ class Asked(unittest.TestCase):
 
     def test_a_reply_that_was_not_read(self):
         with client() as frame:
-            with mock.patch.object(frame.connection, "line", side_effect=KeyboardInterrupt), self.assertRaises(KeyboardInterrupt):
+            with mock.patch.object(frame.connection, "line", side_effect=KeyboardInterrupt), self.assertRaises(
+                KeyboardInterrupt
+            ):
                 frame.goto(13)
             with self.assertRaises(Garbled):
                 frame.ask("state")
@@ -284,9 +392,13 @@ class Asked(unittest.TestCase):
 
     def test_where_the_program_is(self):
         with tempfile.TemporaryDirectory() as folder:
-            built, installed, on_path = (pathlib.Path(folder) / name for name in ("built", "installed", "path/framedbg"))
+            built, installed, on_path = (
+                pathlib.Path(folder) / name for name in ("built", "installed", "path/framedbg")
+            )
             on_path.parent.mkdir()
-            with mock.patch.object(client_program, "PLACES", (built, installed)), mock.patch.dict(os.environ, {"PATH": str(on_path.parent)}):
+            with mock.patch.object(client_program, "PLACES", (built, installed)), mock.patch.dict(
+                os.environ, {"PATH": str(on_path.parent)}
+            ):
                 self.assertIsNone(client_program.find_program())
                 with self.assertRaises(FileNotFoundError):
                     Client(HOUSE)
@@ -294,10 +406,25 @@ class Asked(unittest.TestCase):
                     path.write_text("#!/bin/sh\n")
                     path.chmod(0o755)
                     self.assertEqual(client_program.find_program(), str(path))
-        self.assertEqual(client_program.PLACES, (TOP / "crates/framedbg/out/framedbg", TOP.parent.parent / "bin/framedbg"))
+        self.assertEqual(
+            client_program.PLACES, (TOP / "crates/framedbg/out/framedbg", TOP.parent.parent / "bin/framedbg")
+        )
 
 
 class Page(unittest.TestCase):
+    def test_errors(self):
+        """The page has a row for each that the client has of its own, and for those of Python that a call raises."""
+        rows = re.findall(
+            r"^\| `(\w+)` \| (.*) \|$", (TOP / "docs/CLIENTS.md").read_text().partition("| Error | ")[2], re.M
+        )
+        told = {name for row, text in rows for name in [row, *re.findall(r"`(\w+)`, which is one", text)]}
+        own = {
+            name
+            for name in framedbg_client.__all__
+            if isinstance(what := getattr(framedbg_client, name), type) and issubclass(what, Exception)
+        }
+        self.assertEqual(told, own | {"OSError", "ValueError"})
+
     """docs/CLIENTS.md: its scripts say what they are shown to say."""
 
     def test_each_script(self):
@@ -312,7 +439,9 @@ class Page(unittest.TestCase):
             environment = {**os.environ, "PATH": f"{room / 'bin'}:{os.environ['PATH']}", "PYTHONPATH": str(TOOLS)}
             for kind, script, says in found:
                 words = [sys.executable, "-c", script] if kind == "python" else ["sh", "-eu", "-c", script]
-                ran = subprocess.run(words, cwd=room, env=environment, capture_output=True, text=True, timeout=60, check=False)
+                ran = subprocess.run(
+                    words, cwd=room, env=environment, capture_output=True, text=True, timeout=60, check=False
+                )
                 self.assertEqual((ran.returncode, ran.stdout, ran.stderr), (0, says, ""))
                 self.assertLessEqual(len(script.splitlines()), 22)
 

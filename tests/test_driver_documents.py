@@ -1,4 +1,5 @@
-"""What the documents show of framedbg-driver: each command of docs/DRIVERS.md, its tables, the man page and the completions."""
+"""What the documents show of framedbg-driver: each command of docs/DRIVERS.md, its tables, the man page and the
+completions."""
 import contextlib
 import io
 import os
@@ -22,8 +23,14 @@ PAGE = (ROOT / "docs/DRIVERS.md").read_text()
 BLOCK = re.compile(r"^```text\n(\$ .*?)^```$", re.M | re.S)
 COMMANDS = ("draw", "compare", "try", "reduce", "rules")
 # what is another on each machine and at each time
-VARYING = [(r"\d+(\.\d)? s\b", "S s"), (r"Mesa [\d.]+\S*", "Mesa"), (r"\(LLVM .*?\)", "(LLVM)"), (r"^(softpipe|llvmpipe \(LLVM\)), \d\.\d ", r"\1, "),
-           (r"(driver  (?:softpipe|llvmpipe \(LLVM\))), \d\.\d ", r"\1, "), (r"\d+ captures tried", "N captures tried")]
+VARYING = [
+    (r"\d+(\.\d)? s\b", "S s"),
+    (r"Mesa [\d.]+\S*", "Mesa"),
+    (r"\(LLVM .*?\)", "(LLVM)"),
+    (r"^(softpipe|llvmpipe \(LLVM\)), \d\.\d ", r"\1, "),
+    (r"(driver  (?:softpipe|llvmpipe \(LLVM\))), \d\.\d ", r"\1, "),
+    (r"\d+ captures tried", "N captures tried"),
+]
 
 
 def settled(lines):
@@ -55,13 +62,26 @@ class Replayed(unittest.TestCase):
     def setUp(self):
         self.room = pathlib.Path(self.enterContext(tempfile.TemporaryDirectory()))
         (self.room / "bin").mkdir()
-        for name, what in (("framedbg", PROGRAM), ("framedbg-driver", TOOLS / "framedbg-driver"), ("python3", sys.executable)):
+        for name, what in (
+            ("framedbg", PROGRAM),
+            ("framedbg-driver", TOOLS / "framedbg-driver"),
+            ("framedbg-blame", TOOLS / "framedbg-blame"),
+            ("python3", sys.executable),
+        ):
             (self.room / "bin" / name).symlink_to(what)
         (self.room / "examples").symlink_to(ROOT / "examples")
         self.environment = environment("llvmpipe", PATH=f"{self.room / 'bin'}:{os.environ['PATH']}", FRAMEDBG=PROGRAM)
 
     def typed(self, command):
-        ran = subprocess.run(["bash", "-c", command], cwd=self.room, env=self.environment, capture_output=True, text=True, timeout=300, check=False)
+        ran = subprocess.run(
+            ["bash", "-c", command],
+            cwd=self.room,
+            env=self.environment,
+            capture_output=True,
+            text=True,
+            timeout=300,
+            check=False,
+        )
         return (ran.stdout + ran.stderr).splitlines()
 
     def test_each_command(self):
@@ -97,11 +117,21 @@ class Pages(unittest.TestCase):
         rows = dict(re.findall(r"^\| `(draw|compare|try|reduce|rules)[A-Z ]*` \| (.*) \|$", PAGE, re.M))
         shared = PAGE.partition("All but `rules` take `--api`")[2]
         for option, _, command in options():
-            self.assertTrue(f"`{option}" in rows[command] or option in shared or option in ("--api", "--plant", "--program", "--help"), (option, command))
+            self.assertTrue(
+                f"`{option}" in rows[command]
+                or option in shared
+                or option in ("--api", "--plant", "--program", "--help"),
+                (option, command),
+            )
 
     def test_statuses(self):
         """--help, the page and the man page say the same of them."""
-        said = dict(re.findall(r"(\d+) (.*?)(?=, \d+ |$)", " ".join(command_line.__doc__.split()).partition("Statuses: ")[2].rstrip(".")))
+        said = dict(
+            re.findall(
+                r"(\d+) (.*?)(?=, \d+ |$)",
+                " ".join(command_line.__doc__.split()).partition("Statuses: ")[2].rstrip("."),
+            )
+        )
         self.assertEqual(said, dict(re.findall(r"^\.B (\d+)\n(.+)$", self.man(), re.M)))
         told = dict(re.findall(r"^\| (\d+) \| ([^;|]+?)(?:;.*)? \|$", PAGE, re.M))
         self.assertEqual(said, told)
@@ -109,7 +139,9 @@ class Pages(unittest.TestCase):
     def test_the_man_page(self):
         flat = " ".join(re.sub(r"^\.\w+ ?", "", self.man(), flags=re.M).replace('"', "").split())
         for option, text, _ in options():
-            self.assertEqual([some for some in (f"{option} ", text) if some not in flat], [], "the man page leaves these out")
+            self.assertEqual(
+                [some for some in (f"{option} ", text) if some not in flat], [], "the man page leaves these out"
+            )
         known = {option for option, _, _ in options()} | {"--help"}
         self.assertEqual(set(re.findall(r"(?<![\w-])--[a-z][a-z-]*", self.man())), known)
         version = re.compile(r'^\.TH \S+ 1 "" "(framedbg [\d.]+)"', re.M)
@@ -128,12 +160,24 @@ class Pages(unittest.TestCase):
             self.assertIn(" ".join(sorted(command_line.KINDS)), text, name)
 
     def test_bash_completes(self):
-        for line, wanted in (("co", "compare"), ("try --sc", "--scenes --scene"), ("draw --ea", "--each"), ("reduce --ki", "--kind"),
-                ("try --api v", "vulkan")):
+        for line, wanted in (
+            ("co", "compare"),
+            ("try --sc", "--scenes --scene"),
+            ("draw --ea", "--each"),
+            ("reduce --ki", "--kind"),
+            ("try --api v", "vulkan"),
+        ):
             words = ["framedbg-driver", *line.split()]
-            script = (f'source {ROOT / "share/framedbg-driver.bash"}; COMP_WORDS=({" ".join(words)}); COMP_CWORD={len(words) - 1}; _framedbg_driver; '
-                      'echo "${COMPREPLY[*]}"')
-            self.assertEqual(subprocess.run(["bash", "-c", script], capture_output=True, text=True, check=True).stdout, f"{wanted}\n", line)
+            script = (
+                f'source {ROOT / "share/framedbg-driver.bash"}; COMP_WORDS=({" ".join(words)}); '
+                f'COMP_CWORD={len(words) - 1}; _framedbg_driver; '
+                'echo "${COMPREPLY[*]}"'
+            )
+            self.assertEqual(
+                subprocess.run(["bash", "-c", script], capture_output=True, text=True, check=True).stdout,
+                f"{wanted}\n",
+                line,
+            )
 
     def test_plants(self):
         """Those that the page shows are there."""

@@ -1,19 +1,18 @@
 #!/usr/bin/env python3
-"""test_endings: tries how the tools write and end: on a full disk, without standard output, and when Ctrl-C comes early.
+"""test_endings: tries how the tools write and end: on a full disk, without standard output, and when Ctrl-C comes
+early.
 
     tests/test_endings.py [TEST ..]
 
 FRAMEDBG names another program.
 """
 import os
-import pathlib
 import pty
 import select
 import signal
 import stat
 import subprocess
 import sys
-import tempfile
 import time
 import types
 import unittest
@@ -22,18 +21,34 @@ from unittest import mock
 import folders
 
 import passed_over
-from blame_testing import EXAMPLES, PROGRAM, Folder, box, capture, clear, pam
+from blame_testing import PROGRAM, Folder, box, capture, clear, pam
 from folders import TOOLS
 from full_disk import LACKING, OF_NULL, full_device, made_device
 
-from writing import ending, files
+from writing import files
 
-ALL = ("fdb", "framedbg-blame", "framedbg-night", "view", "explain", "mesh_to_capture", "renderdoc_to_capture",
-       "apitrace_to_capture", "take_frame", "pam_to_png")
+ALL = (
+    "fdb",
+    "framedbg-blame",
+    "framedbg-night",
+    "view",
+    "explain",
+    "mesh_to_capture",
+    "renderdoc_to_capture",
+    "apitrace_to_capture",
+    "take_frame",
+    "pam_to_png",
+    "framedbg-driver",
+)
 BEFORE = f"import sys\nsys.path.insert(0, {str(TOOLS)!r})\nfrom writing.ending import ends_as\n"
 SKY, RED = (10, 20, 30, 255), (200, 40, 30, 255)
 OBJ = "v 0 0 0\nv 1 0 0\nv 0 1 0\nf 1 2 3\n"
-WAITS = "import os, time\nopen(os.environ['BEGUN'], 'w').close()\ntime.sleep(60)\n"      # a module whose import takes long
+WAITS = "import os, time\nopen(os.environ['BEGUN'], 'w').close()\ntime.sleep(60)\n"  # a module whose import takes long
+
+
+def status_of(words):
+    """That of what can't be written: framedbg-driver's 3 says that there is no driver."""
+    return 4 if words[0] == "framedbg-driver" else 3
 
 
 class Tools(Folder):
@@ -42,19 +57,33 @@ class Tools(Folder):
     def commands(self):
         """Commands that write something, each with what it reads."""
         wrong, right = capture([clear(*SKY), box(2, 2, 14, 12, RED)]), capture([clear(*SKY)])
-        wrong, picture, mesh = self.written("wrong.json", wrong), self.written("wanted.pam", pam(right)), self.written("mesh.obj", OBJ)
+        wrong, picture, mesh = (
+            self.written("wrong.json", wrong),
+            self.written("wanted.pam", pam(right)),
+            self.written("mesh.obj", OBJ),
+        )
         (self.folder / "captures").mkdir()
         self.written("captures/a.json", right)
         self.written("captures/a.pam", pam(right))
         large = capture([clear(*SKY)], 400, 300)
-        return [(["fdb", wrong, "--batch", "--program", PROGRAM], b"l\nsave kept.png\n"), (["framedbg-blame", wrong, picture, "--program", PROGRAM], b""),
-                (["framedbg-night", str(self.folder / "captures"), "--program", PROGRAM], b""), (["explain", wrong], b""), (["mesh_to_capture", mesh], b""),
-                (["pam_to_png"], pam(large)), (["view", wrong, "--no-browser", "--program", PROGRAM], b""), *(([tool, "--help"], b"") for tool in ALL)]
+        return [
+            (["fdb", wrong, "--batch", "--program", PROGRAM], b"l\nsave kept.png\n"),
+            (["framedbg-blame", wrong, picture, "--program", PROGRAM], b""),
+            (["framedbg-night", str(self.folder / "captures"), "--program", PROGRAM], b""),
+            (["explain", wrong], b""),
+            (["mesh_to_capture", mesh], b""),
+            (["pam_to_png"], pam(large)),
+            (["view", wrong, "--no-browser", "--program", PROGRAM], b""),
+            (["framedbg-driver", "try", "--features"], b""),
+            *(([tool, "--help"], b"") for tool in ALL),
+        ]
 
     def ran(self, words, given, out, closing=""):
         """Its status and what it said; the shell may close something of it."""
         words = ["sh", "-c", f'exec "$@" {closing}', "sh", sys.executable, str(TOOLS / words[0]), *words[1:]]
-        ran = subprocess.run(words, input=given, stdout=out, stderr=subprocess.PIPE, timeout=60, check=False, cwd=self.folder)
+        ran = subprocess.run(
+            words, input=given, stdout=out, stderr=subprocess.PIPE, timeout=60, check=False, cwd=self.folder
+        )
         return ran.returncode, ran.stderr.decode()
 
     def test_a_full_disk(self):
@@ -63,19 +92,26 @@ class Tools(Folder):
                 self.skipTest(LACKING)
             for words, given in self.commands():
                 with self.subTest(words[0]), open(full, "wb") as out:
-                    self.assertEqual(self.ran(words, given, out), (3, f"{words[0]}: standard output: No space left on device\n"))
+                    told = f"{words[0]}: standard output: No space left on device\n"
+                    self.assertEqual(self.ran(words, given, out), (status_of(words), told))
 
     def test_standard_output_that_is_closed(self):
         for words, given in self.commands():
             with self.subTest(words[0]):
-                self.assertEqual(self.ran(words, given, subprocess.DEVNULL, ">&-"), (3, f"{words[0]}: standard output: it is closed\n"))
+                told = f"{words[0]}: standard output: it is closed\n"
+                self.assertEqual(self.ran(words, given, subprocess.DEVNULL, ">&-"), (status_of(words), told))
 
     def test_what_else_is_closed(self):
-        """Without standard input there is none to read; without standard error nothing is told, and the status is the same."""
+        """Without standard input there is none to read; without standard error nothing is told, and the status is
+        the same."""
         wrong = self.written("wrong.json", capture([clear(*SKY)]))
         fdb = ["fdb", wrong, "--batch", "--program", PROGRAM]
-        for closing, words, wanted in (("<&-", fdb, 0), ("2>&-", fdb, 0),
-                                       ("2>&-", ["explain", self.written("bad.json", "[]")], 2), ("2>&-", ["explain", "nothing"], 3)):
+        for closing, words, wanted in (
+            ("<&-", fdb, 0),
+            ("2>&-", fdb, 0),
+            ("2>&-", ["explain", self.written("bad.json", "[]")], 2),
+            ("2>&-", ["explain", "nothing"], 3),
+        ):
             with self.subTest(words[0], closing=closing):
                 self.assertEqual(self.ran(words, b"", subprocess.DEVNULL, closing)[0], wanted)
 
@@ -85,7 +121,7 @@ class Tools(Folder):
         with open(theirs, "wb") as out:
             for words, given in self.commands():
                 with self.subTest(words[0]):
-                    self.assertEqual(self.ran(words, given, out), (3, ""))
+                    self.assertEqual(self.ran(words, given, out), (status_of(words), ""))
 
     def test_an_early_interrupt(self):
         """While the tool's modules are read."""
@@ -93,12 +129,17 @@ class Tools(Folder):
         stubs.mkdir()
         (stubs / "argparse.py").write_text(WAITS)
         begun = self.folder / "begun"
-        signal.signal(signal.SIGINT, signal.default_int_handler)        # what is ignored here would be there too
+        signal.signal(signal.SIGINT, signal.default_int_handler)  # what is ignored here would be there too
         for tool in ALL:
             with self.subTest(tool):
                 begun.unlink(missing_ok=True)
-                with subprocess.Popen([sys.executable, TOOLS / tool, "x"], stdin=subprocess.DEVNULL, stdout=subprocess.PIPE, stderr=subprocess.PIPE,
-                                      env={**os.environ, "PYTHONPATH": str(stubs), "BEGUN": str(begun)}) as run:
+                with subprocess.Popen(
+                    [sys.executable, TOOLS / tool, "x"],
+                    stdin=subprocess.DEVNULL,
+                    stdout=subprocess.PIPE,
+                    stderr=subprocess.PIPE,
+                    env={**os.environ, "PYTHONPATH": str(stubs), "BEGUN": str(begun)},
+                ) as run:
                     while not begun.exists() and run.poll() is None:
                         time.sleep(0.01)
                     run.send_signal(signal.SIGINT)
@@ -108,10 +149,16 @@ class Tools(Folder):
     def test_an_old_python(self):
         """One line, before anything is read that it can't."""
         for tool in ALL:
-            script = (f"import runpy, sys\nsys.version_info, sys.argv = (3, 9, 2, 'final', 0), [{tool!r}]\n"
-                      f"runpy.run_path({str(TOOLS / tool)!r}, run_name='__main__')")
-            ran = subprocess.run([sys.executable, "-c", script], capture_output=True, text=True, timeout=60, check=False)
-            self.assertEqual((ran.returncode, ran.stderr), (1, f"{tool}: Python 3.10 or newer is wanted, and this is 3.9\n"), tool)
+            script = (
+                f"import runpy, sys\nsys.version_info, sys.argv = (3, 9, 2, 'final', 0), [{tool!r}]\n"
+                f"runpy.run_path({str(TOOLS / tool)!r}, run_name='__main__')"
+            )
+            ran = subprocess.run(
+                [sys.executable, "-c", script], capture_output=True, text=True, timeout=60, check=False
+            )
+            self.assertEqual(
+                (ran.returncode, ran.stderr), (1, f"{tool}: Python 3.10 or newer is wanted, and this is 3.9\n"), tool
+            )
 
 
 class Endings(unittest.TestCase):
@@ -119,12 +166,24 @@ class Endings(unittest.TestCase):
 
     def status(self, body, closing=""):
         script = f"{BEFORE}{body}\nends_as('tool', main)"
-        ran = subprocess.run(["sh", "-c", f'exec "$@" {closing}', "sh", sys.executable, "-c", script], capture_output=True, text=True, timeout=60, check=False)
+        ran = subprocess.run(
+            ["sh", "-c", f'exec "$@" {closing}', "sh", sys.executable, "-c", script],
+            capture_output=True,
+            text=True,
+            timeout=60,
+            check=False,
+        )
         return ran.returncode, ran.stdout, ran.stderr
 
     def test_statuses(self):
-        for body, wanted in (("print('a')", (0, "a\n", "")), ("return 4", (4, "", "")), ("sys.exit('tool: why')", (1, "", "tool: why\n")),
-                             ("sys.exit(2)", (2, "", "")), ("sys.exit()", (0, "", "")), ("raise KeyboardInterrupt", (130, "", "tool: interrupted\n"))):
+        for body, wanted in (
+            ("print('a')", (0, "a\n", "")),
+            ("return 4", (4, "", "")),
+            ("sys.exit('tool: why')", (1, "", "tool: why\n")),
+            ("sys.exit(2)", (2, "", "")),
+            ("sys.exit()", (0, "", "")),
+            ("raise KeyboardInterrupt", (130, "", "tool: interrupted\n")),
+        ):
             self.assertEqual(self.status(f"def main(): {body}"), wanted, body)
 
     def test_a_fault_of_the_tool_itself(self):
@@ -176,7 +235,7 @@ class Files(Folder):
                 files.keep(pipe, b"a" * 200_000)
                 counted = reader.communicate(timeout=20)[0].split()[0]
             finally:
-                reader.kill()        # who waits for what never comes
+                reader.kill()  # who waits for what never comes
         self.assertEqual(counted, b"200000")
         kept = bytearray()
         files.write_all(types.SimpleNamespace(write=lambda rest: kept.extend(rest[:3]) or len(rest[:3])), b"abcdefgh")

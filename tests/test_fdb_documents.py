@@ -1,4 +1,5 @@
-"""The sessions of fdb that the documents show, typed at a terminal without colours; what they count; the man page and the completions."""
+"""The sessions of fdb that the documents show, typed at a terminal without colours; what they count; the man page
+and the completions."""
 import contextlib
 import io
 import re
@@ -47,11 +48,18 @@ class Counts(unittest.TestCase):
     """docs/HUNTS.md says how many lines each hunt takes in a plain session and in fdb."""
 
     def lines(self, path):
-        return [line for line in path.read_text().splitlines() if not line.startswith(("#", "expect")) and line not in ("quit", "q")]
+        return [
+            line
+            for line in path.read_text().splitlines()
+            if not line.startswith(("#", "expect")) and line not in ("quit", "q")
+        ]
 
     def test_lines(self):
         page = (ROOT / "docs/HUNTS.md").read_text()
-        told = {name: (int(plain), int(ours)) for name, plain, ours in re.findall(r"^\| `(\w+)` \| (\d+) \| (\d+) \|$", page, re.M)}
+        told = {
+            name: (int(plain), int(ours))
+            for name, plain, ours in re.findall(r"^\| `(\w+)` \| (\d+) \| (\d+) \|$", page, re.M)
+        }
         names = ["house", *(path.stem.removesuffix("_find") for path in HUNTS.glob("*_find.session"))]
         self.assertEqual(sorted(told), sorted(names))
         for name in names:
@@ -66,26 +74,39 @@ class Pages(unittest.TestCase):
         page = (ROOT / "share/fdb.1").read_text().replace("\\-", "-").replace("\\&", "").replace("\\e", "\\")
         flat = " ".join(re.sub(r"^\.\w+ ?", "", page, flags=re.M).replace('"', "").split())
         wanted = [text for word in WORDS.listed for text in (word.usage, word.short, word.long, *word.also)]
-        self.assertEqual([text for text in [*wanted, *OWN, *options()] if " ".join(text.split()) not in flat], [], "share/fdb.1 leaves these out")
+        self.assertEqual(
+            [text for text in [*wanted, *OWN, *options()] if " ".join(text.split()) not in flat],
+            [],
+            "share/fdb.1 leaves these out",
+        )
         version = re.compile(r'^\.TH \w+ 1 "" "(framedbg [\d.]+)"', re.M)
         self.assertEqual(version.search(page)[1], version.search((ROOT / "share/framedbg.1").read_text())[1])
 
     def test_two_captures(self):
         """What the man page shows of --diff."""
         shown = re.search(r"^  \$ fdb \\-\\-diff (\S+) (\S+)\n((?:  .*\n)+)", (ROOT / "share/fdb.1").read_text(), re.M)
-        self.assertEqual(launched("--diff", HUNTS / shown[1], HUNTS / shown[2], "--program", PROGRAM)[:2], (1, re.sub("^  ", "", shown[3], flags=re.M)))
+        self.assertEqual(
+            launched("--diff", HUNTS / shown[1], HUNTS / shown[2], "--program", PROGRAM)[:2],
+            (1, re.sub("^  ", "", shown[3], flags=re.M)),
+        )
 
     def test_completions(self):
         for name in ("fdb.bash", "_fdb", "fdb.fish"):
             text = (ROOT / "share" / name).read_text()
-            named = {f"--{option}" for option in re.findall(r"(?<![\w-])--(\w+)", text)} | {f"--{option}" for option in re.findall(r" -l (\w+)", text)}
+            named = {f"--{option}" for option in re.findall(r"(?<![\w-])--(\w+)", text)} | {
+                f"--{option}" for option in re.findall(r" -l (\w+)", text)
+            }
             self.assertEqual(named, {option for option in options() if option.startswith("--")}, name)
             self.assertTrue("-x" in text or "-s x" in text, name)
 
     def test_bash_completes(self):
-        script = (f'source {ROOT / "share/fdb.bash"}; COMP_WORDS=(fdb --b); COMP_CWORD=1; _fdb; echo "${{COMPREPLY[*]}}"; '
-                  'COMP_WORDS=(fdb --workers 6); COMP_CWORD=2; _fdb; echo "${COMPREPLY[*]}"')
-        self.assertEqual(subprocess.run(["bash", "-c", script], capture_output=True, text=True, check=True).stdout, "--batch\n64\n")
+        script = (
+            f'source {ROOT / "share/fdb.bash"}; COMP_WORDS=(fdb --b); COMP_CWORD=1; _fdb; echo "${{COMPREPLY[*]}}"; '
+            'COMP_WORDS=(fdb --workers 6); COMP_CWORD=2; _fdb; echo "${COMPREPLY[*]}"'
+        )
+        self.assertEqual(
+            subprocess.run(["bash", "-c", script], capture_output=True, text=True, check=True).stdout, "--batch\n64\n"
+        )
 
 
 def options():

@@ -26,9 +26,9 @@ class Prompts(Folder):
             self.assertIn("house.json: 13 events.", terminal.until("13 events."))
             self.assertEqual(terminal.prompt(), "(13/13) ")
             self.assertEqual(plain(terminal.ask("rs")), ["=> 12 draw 1 flat"])
-            self.assertEqual(plain(terminal.ask("")), ["=> 11 draw 2 flat"])     # an empty line: the same again
+            self.assertEqual(plain(terminal.ask("")), ["=> 11 draw 2 flat"])  # an empty line: the same again
             self.assertEqual(plain(terminal.ask("p 50 50")), ["125 95 55 128"])
-            self.assertEqual(plain(terminal.ask("")), [])                               # a question isn't asked again
+            self.assertEqual(plain(terminal.ask("")), [])  # a question isn't asked again
             self.assertEqual(plain(terminal.ask("stpe")), ["no such word: stpe; did you mean step?"])
             self.assertEqual(plain(terminal.ask("g 99")), ["refused 3 no such position"])
             terminal.type("q\n")
@@ -58,7 +58,11 @@ class Prompts(Folder):
 
     def test_a_capture_that_drives_the_terminal(self):
         """A marker may have what some terminals obey: U+009B, and U+202E, which turns the text round."""
-        path = self.written("bad.json", '{"format":"framedbg","version":1,"width":1,"height":1,"events":[{"kind":"marker","name":"\u009b2J\u202eh\u00e9"}]}')
+        path = self.written(
+            "bad.json",
+            '{"format":"framedbg","version":1,"width":1,"height":1,"events":[{"kind":"marker","name":"\u009b2J'
+            '\u202eh\u00e9"}]}',
+        )
         with Terminal(path) as terminal:
             self.assertIn(r"\x9b2J\u202eh\xe9".replace(r"\xe9", "\u00e9"), terminal.until(re.compile(r"\(1/1\) ")))
             for line in ("l", "events"):
@@ -67,9 +71,21 @@ class Prompts(Folder):
                 self.assertFalse({"\u009b", "\u202e"} & set(told), line)
 
     def test_completion(self):
-        cases = [("who\t 50 50\n", "50  drawn"), ("wat\t 1 1\n", "breakpoint 1: pixel 1 1"), ("b ma\t\n", "each marker"), ("l 1\t\t", "1   10  11  12  13"),
-                 ("\x15off 8\n", "at 13"), ("on \t\n", "at 13"), ("info o\t\n", "all events are on"), ("hel\tdelete\n", "takes breakpoint"), ("delete \t\n", "(13/13)"),
-                 ("g e\t\n", "13   draw"), ("mark roof\n", "mark roof at 13"), ("goto ro\t\n", "13   draw"), ("goto 9\t\n", "at 9")]
+        cases = [
+            ("who\t 50 50\n", "50  drawn"),
+            ("wat\t 1 1\n", "breakpoint 1: pixel 1 1"),
+            ("b ma\t\n", "each marker"),
+            ("l 1\t\t", "1   10  11  12  13"),
+            ("\x15off 8\n", "at 13"),
+            ("on \t\n", "at 13"),
+            ("info o\t\n", "all events are on"),
+            ("hel\tdelete\n", "takes breakpoint"),
+            ("delete \t\n", "(13/13)"),
+            ("g e\t\n", "13   draw"),
+            ("mark roof\n", "mark roof at 13"),
+            ("goto ro\t\n", "13   draw"),
+            ("goto 9\t\n", "at 9"),
+        ]
         with Terminal(HOUSE, size=(40, 100)) as terminal:
             terminal.prompt()
             for typed, shows in cases:
@@ -96,7 +112,7 @@ class Prompts(Folder):
     def test_editing_and_history(self):
         with Terminal(HOUSE, folder=self.folder) as terminal:
             terminal.prompt()
-            terminal.type("g 99\x1b[D\x1b[D\x0b11\n")            # two to the left, cut to the end
+            terminal.type("g 99\x1b[D\x1b[D\x0b11\n")  # two to the left, cut to the end
             terminal.until("11   draw")
             terminal.prompt()
             terminal.type("q\n")
@@ -105,7 +121,7 @@ class Prompts(Folder):
         self.assertEqual(stat.S_IMODE((self.folder / "history").stat().st_mode), 0o600)
         with Terminal(HOUSE, folder=self.folder) as terminal:
             terminal.prompt()
-            terminal.type("\x1b[A\x1b[A\n")                      # the line before the last
+            terminal.type("\x1b[A\x1b[A\n")  # the line before the last
             terminal.until("11   draw")
 
     def test_the_start_file_of_the_home_folder(self):
@@ -143,7 +159,9 @@ class Prompts(Folder):
     def test_scripts_before_the_prompt(self):
         script = self.written("a.fdb", "last 50 50\nexpect 11 on draw\nexpect 12 on draw\np 1 1\n")
         with Terminal(HOUSE, "-x", str(script), size=(24, 300)) as terminal:
-            terminal.until(f"{script}:3: expected 12 on draw")   # plainly told facts are what is expected, also at a terminal
+            terminal.until(
+                f"{script}:3: expected 12 on draw"
+            )  # plainly told facts are what is expected, also at a terminal
             self.assertEqual(terminal.prompt(), "(11/13) ")
         with Terminal(HOUSE, "-x", str(script), "--batch", size=(24, 300)) as terminal:
             self.assertEqual(terminal.ended(), 1)
@@ -152,7 +170,8 @@ class Prompts(Folder):
 
 class Looks(Folder):
     def test_half_blocks_at_each_size(self):
-        """As many cells as the terminal has columns and rows for, after a resize too; each has the two colours of the image."""
+        """As many cells as the terminal has columns and rows for, after a resize too; each has the two colours of
+        the image."""
         image = read_pam(shown_house())
         with Terminal(HOUSE, size=(24, 80), FDB_LOOK="half") as terminal:
             terminal.prompt()
@@ -178,7 +197,7 @@ class Looks(Folder):
             terminal.prompt()
             terminal.type("look\n")
             terminal.until("\x1b[c")
-            terminal.type("x\x1b[?62;4;22c")                     # somebody types an x meanwhile
+            terminal.type("x\x1b[?62;4;22c")  # somebody types an x meanwhile
             picture = re.search(r"\x1bP.*?\x1b\\", terminal.until("\x1b\\"), re.S)[0]
             self.assertEqual((len(unsixeled(picture)[0]), len(unsixeled(picture))), (96 * 6, 64 * 6))
             terminal.until(re.compile(r"\(13/13\) .*x"))
@@ -227,15 +246,17 @@ class Interrupted(Folder):
             terminal.type("g 1")
             terminal.until("g 1")
             terminal.interrupt()
-            terminal.type("p 50 50\n")                           # what was begun is gone
+            terminal.type("p 50 50\n")  # what was begun is gone
             terminal.until("125 95 55 128")
             self.assertEqual(terminal.prompt(), "(13/13) ")
 
     def test_a_long_move(self):
         """It ends the run, and another one stands at the position before, with the same events off."""
         steps = self.steps()
-        with Terminal(steps, program=stand_in(self.folder), **self.environment(HANG="goto 3", HUNG=str(self.folder / "hung"))) as terminal:
-            self.waits(terminal)                                 # on the way to the end, at the start
+        with Terminal(
+            steps, program=stand_in(self.folder), **self.environment(HANG="goto 3", HUNG=str(self.folder / "hung"))
+        ) as terminal:
+            self.waits(terminal)  # on the way to the end, at the start
             terminal.type("\x03")
             self.assertEqual(terminal.prompt(), "(0/3) ")
             terminal.ask("off 2")
@@ -254,7 +275,9 @@ class Interrupted(Folder):
     def test_a_switch(self):
         """The flags are as they were before the line that was interrupted."""
         for line in ("off 1", "off 1 2 3"):
-            with Terminal(self.steps(), program=stand_in(self.folder), **self.environment(HANG=line[:4] + line[-1])) as terminal:
+            with Terminal(
+                self.steps(), program=stand_in(self.folder), **self.environment(HANG=line[:4] + line[-1])
+            ) as terminal:
                 terminal.prompt()
                 terminal.type(line + "\n")
                 self.waits(terminal)
@@ -294,7 +317,9 @@ class Interrupted(Folder):
     def test_a_script(self):
         """What the script had done stays done; the line that was interrupted is taken back."""
         script = self.written("a.fdb", "off 3\ng 1\ng 2\np 0 0\n")
-        with Terminal(self.steps(), program=stand_in(self.folder), size=(24, 300), **self.environment(HANG="goto 2")) as terminal:
+        with Terminal(
+            self.steps(), program=stand_in(self.folder), size=(24, 300), **self.environment(HANG="goto 2")
+        ) as terminal:
             terminal.prompt()
             terminal.type(f"source {script}\n")
             self.waits(terminal)
@@ -304,7 +329,9 @@ class Interrupted(Folder):
 
     def test_a_script_before_the_prompt(self):
         script = self.written("a.fdb", "g 1\ng 2\n")
-        with Terminal(self.steps(), "-x", str(script), program=stand_in(self.folder), **self.environment(HANG="goto 2")) as terminal:
+        with Terminal(
+            self.steps(), "-x", str(script), program=stand_in(self.folder), **self.environment(HANG="goto 2")
+        ) as terminal:
             self.waits(terminal)
             terminal.type("\x03")
             self.assertEqual(terminal.prompt(), "(1/3) ")
@@ -312,11 +339,20 @@ class Interrupted(Folder):
 
     def test_without_a_prompt(self):
         script = self.written("a.fdb", "g 3\n")
-        with Terminal(self.steps(), "--batch", "--at", "1", "-x", str(script), program=stand_in(self.folder), **self.environment(HANG="goto 3")) as terminal:
+        with Terminal(
+            self.steps(),
+            "--batch",
+            "--at",
+            "1",
+            "-x",
+            str(script),
+            program=stand_in(self.folder),
+            **self.environment(HANG="goto 3"),
+        ) as terminal:
             self.waits(terminal)
             terminal.type("\x03")
             self.assertEqual(terminal.ended(), 130)
-        self.assertEqual((self.folder / "asked").read_text(), "events\ngoto 1\n")       # no other run for nobody
+        self.assertEqual((self.folder / "asked").read_text(), "events\ngoto 1\n")  # no other run for nobody
 
     def test_a_run_that_ends(self):
         with Terminal(self.steps(), program=stand_in(self.folder), **self.environment(END="back")) as terminal:
@@ -331,7 +367,9 @@ class Interrupted(Folder):
     def test_a_run_that_is_killed(self):
         with Terminal(HOUSE) as terminal:
             terminal.prompt()
-            children = subprocess.run(["ps", "-o", "pid=", "--ppid", str(terminal.run.pid)], capture_output=True, text=True, check=True).stdout
+            children = subprocess.run(
+                ["ps", "-o", "pid=", "--ppid", str(terminal.run.pid)], capture_output=True, text=True, check=True
+            ).stdout
             for pid in children.split():
                 os.kill(int(pid), signal.SIGKILL)
             self.assertIn("run starts another", terminal.ask("s")[0])
@@ -339,9 +377,14 @@ class Interrupted(Folder):
             self.assertEqual(plain(terminal.ask("p 50 50")), ["125 95 55 128"])
 
     def test_want_of_memory(self):
-        with Terminal(self.steps(), "--at", "0", program=stand_in(self.folder), **self.environment(MOST="2")) as terminal:
+        with Terminal(
+            self.steps(), "--at", "0", program=stand_in(self.folder), **self.environment(MOST="2")
+        ) as terminal:
             terminal.prompt()
-            self.assertEqual(plain(terminal.ask("g 3")), ["stopped 2: no more memory; the same word goes on from here", "=> 2 clear 2 2 3 4"])
+            self.assertEqual(
+                plain(terminal.ask("g 3")),
+                ["stopped 2: no more memory; the same word goes on from here", "=> 2 clear 2 2 3 4"],
+            )
 
 
 if __name__ == "__main__":

@@ -1,5 +1,6 @@
 #!/usr/bin/env python3
-"""test_night: tries framedbg-night on this machine, and on a Slurm that it starts: what differs, what fails, what is killed, and what goes on.
+"""test_night: tries framedbg-night on this machine, and on a Slurm that it starts: what differs, what fails, what is
+killed, and what goes on.
 
     tests/test_night.py [TEST ..]
 
@@ -24,6 +25,7 @@ import xml.etree.ElementTree
 import folders
 
 import passed_over
+import driver_testing
 import slurm_testing
 from blame_testing import PROGRAM, TOOLS, blend, box, capture, clear, painted, pam
 
@@ -32,8 +34,9 @@ from framedbg_client import read_pam
 SKY, RED, GLASS = (10, 20, 30, 255), (200, 40, 30, 255), (220, 210, 90, 120)
 RIGHT = [clear(*SKY), box(2, 2, 14, 12, RED), blend(), box(6, 5, 20, 16, GLASS)]
 WRONG = [*RIGHT[:2], blend(mask=6), RIGHT[3]]
-DIFFER = 14 * 11         # the pixels of the glass
-# runs the real program, and notes what it is asked; the job of a capture with a marker `deadly` is killed, as long as a file isn't there
+DIFFER = 14 * 11  # the pixels of the glass
+# runs the real program, and notes what it is asked; the job of a capture with a marker `deadly` is killed, as long as a
+# file isn't there
 DEADLY = """#!/bin/sh
 for last; do :; done
 echo "$last" >> ROOM/asked
@@ -66,8 +69,15 @@ class Night(unittest.TestCase):
             (self.folder / f"{name}{picture}").write_bytes(data if picture == ".pam" else read_pam(data).png())
 
     def night(self, *words, **how):
-        ran = subprocess.run([sys.executable, TOOLS / "framedbg-night", self.folder, "--program", self.program, *map(str, words)], capture_output=True, text=True,
-                             env=self.environment, timeout=300, check=False, **how)
+        ran = subprocess.run(
+            [sys.executable, TOOLS / "framedbg-night", self.folder, "--program", self.program, *map(str, words)],
+            capture_output=True,
+            text=True,
+            env=self.environment,
+            timeout=300,
+            check=False,
+            **how,
+        )
         return ran.returncode, ran.stdout.splitlines(), ran.stderr
 
     def asked(self):
@@ -86,6 +96,7 @@ class Night(unittest.TestCase):
 
 class Reports:
     """What holds here and on a cluster alike."""
+
     words = ()
 
     def test_what_differs(self):
@@ -94,8 +105,23 @@ class Reports:
         status, lines, errors = self.night(*self.words, "--allow-missing")
         self.assertEqual((status, errors), (1, ""), lines)
         self.assertEqual(lines[0], "5 captures: 1 alike, 3 differ, 0 failed, 1 without a picture; 4 done now")
-        self.assertEqual(lines[1:4], [f"{name}: {DIFFER} of 432 pixels differ: event 3; mended by event 3, mask 15 in place of 6" for name in ("glass", "of the town/glass & <more>", "small")])
-        self.assertEqual(self.verdicts(), {"alone": ["skipped"], "fine": [], "glass": ["failure"], "of the town/glass & <more>": ["failure"], "small": ["failure"]})
+        self.assertEqual(
+            lines[1:4],
+            [
+                f"{name}: {DIFFER} of 432 pixels differ: event 3; mended by event 3, mask 15 in place of 6"
+                for name in ("glass", "of the town/glass & <more>", "small")
+            ],
+        )
+        self.assertEqual(
+            self.verdicts(),
+            {
+                "alone": ["skipped"],
+                "fine": [],
+                "glass": ["failure"],
+                "of the town/glass & <more>": ["failure"],
+                "small": ["failure"],
+            },
+        )
         suite = self.suite()
         self.assertEqual([suite.get(name) for name in ("tests", "failures", "errors", "skipped")], ["5", "3", "0", "1"])
         self.assertIn("who     event 3", suite.find("testcase[@name='glass']/failure").text)
@@ -122,7 +148,9 @@ class Reports:
         self.asked()
         (self.room / "cured").touch()
         status, lines, _ = self.night(*self.words)
-        self.assertEqual((status, lines[0]), (1, "4 captures: 1 alike, 3 differ, 0 failed, 0 without a picture; 1 done now"))
+        self.assertEqual(
+            (status, lines[0]), (1, "4 captures: 1 alike, 3 differ, 0 failed, 0 without a picture; 1 done now")
+        )
         self.assertEqual(self.asked(), {"mortal"})
         self.assertEqual(self.verdicts()["mortal"], ["failure"])
 
@@ -130,8 +158,14 @@ class Reports:
         for name in (os.fsdecode(b"caf\xe9"), "-o", "two\nlines", "\u2028"):
             self.put(name, WRONG)
         status, lines, errors = self.night(*self.words)
-        self.assertEqual((status, errors, lines[0]), (1, "", "7 captures: 1 alike, 6 differ, 0 failed, 0 without a picture; 7 done now"))
-        self.assertEqual([line.partition(":")[0] for line in lines[1:-1]], ["-o", "caf\\xe9", "glass", "of the town/glass & <more>", "two\\nlines", "\\u2028"])
+        self.assertEqual(
+            (status, errors, lines[0]),
+            (1, "", "7 captures: 1 alike, 6 differ, 0 failed, 0 without a picture; 7 done now"),
+        )
+        self.assertEqual(
+            [line.partition(":")[0] for line in lines[1:-1]],
+            ["-o", "caf\\xe9", "glass", "of the town/glass & <more>", "two\\nlines", "\\u2028"],
+        )
         self.assertIn("caf\\xe9", self.verdicts())
         self.assertIn("caf\\xe9", (self.folder / "night/night.html").read_text())
 
@@ -144,7 +178,7 @@ def has_ended(process):
         return True
 
 
-def soon(is_so, seconds=5):
+def soon(is_so, seconds=30):
     end = time.monotonic() + seconds
     while not is_so() and time.monotonic() < end:
         time.sleep(0.01)
@@ -163,7 +197,10 @@ class Here(Reports, Night):
         self.put("fine", RIGHT, WRONG)
         self.assertEqual(self.night()[1][0], "3 captures: 1 alike, 2 differ, 0 failed, 0 without a picture; 1 done now")
         self.asked()
-        self.assertEqual(self.night("--tolerance", "255")[0:2][1][0], "3 captures: 3 alike, 0 differ, 0 failed, 0 without a picture; 3 done now")
+        self.assertEqual(
+            self.night("--tolerance", "255")[0:2][1][0],
+            "3 captures: 3 alike, 0 differ, 0 failed, 0 without a picture; 3 done now",
+        )
         self.asked()
         self.assertEqual(self.night("--tolerance", "255", "--again")[0], 0)
         self.assertEqual(self.asked(), {"fine", "glass", "glass & <more>"})
@@ -198,6 +235,7 @@ class Here(Reports, Night):
 
     def white(self, png):
         from blaming import pictures
+
         read = pictures.picture_of(png)
         return sum(read.pixel(i)[:3] == (255, 255, 255) for i in range(24 * 18))
 
@@ -207,7 +245,16 @@ class Here(Reports, Night):
         self.put("of the town/glass & <more>", RIGHT)
         self.put("alone", RIGHT, picture=None)
         status, lines, _ = self.night()
-        self.assertEqual((status, lines[:2]), (4, ["4 captures: 3 alike, 0 differ, 0 failed, 1 without a picture; 3 done now", "alone: no picture of this name"]))
+        self.assertEqual(
+            (status, lines[:2]),
+            (
+                4,
+                [
+                    "4 captures: 3 alike, 0 differ, 0 failed, 1 without a picture; 3 done now",
+                    "alone: no picture of this name",
+                ],
+            ),
+        )
         status, lines, _ = self.night("--allow-missing")
         self.assertEqual((status, len(lines)), (0, 2))
         self.folder = self.room / "empty"
@@ -232,7 +279,10 @@ class Here(Reports, Night):
         self.refused("--results", self.folder)
         self.refused("--results", self.room)
         self.refused("--results", self.folder / "of the town")
-        self.assertEqual(self.night("--results", self.room / "results")[1][0], "4 captures: 2 alike, 2 differ, 0 failed, 0 without a picture; 4 done now")
+        self.assertEqual(
+            self.night("--results", self.room / "results")[1][0],
+            "4 captures: 2 alike, 2 differ, 0 failed, 0 without a picture; 4 done now",
+        )
         (self.room / ".framedbg-night").touch()
         self.refused("--results", self.room)
 
@@ -258,7 +308,10 @@ class Here(Reports, Night):
                     time.sleep(0.01)
                 run.send_signal(number)
                 out, errors = run.communicate(timeout=50)
-            self.assertEqual((run.returncode, out, errors), (130, b"", b"framedbg-night: interrupted: the same command goes on from here\n"))
+            self.assertEqual(
+                (run.returncode, out, errors),
+                (130, b"", b"framedbg-night: interrupted: the same command goes on from here\n"),
+            )
             for process in map(int, running.read_text().split()):
                 self.assertTrue(soon(lambda process=process: has_ended(process)), process)
 
@@ -270,7 +323,12 @@ class Here(Reports, Night):
     def test_words(self):
         for words in (("--processes", "0"), ("--tolerance", "x"), ("--seconds", "-1")):
             self.assertEqual(self.night(*words)[0], 2)
-        ran = subprocess.run([sys.executable, TOOLS / "framedbg-night", self.room / "nowhere"], capture_output=True, text=True, check=False)
+        ran = subprocess.run(
+            [sys.executable, TOOLS / "framedbg-night", self.room / "nowhere"],
+            capture_output=True,
+            text=True,
+            check=False,
+        )
         self.assertEqual((ran.returncode, ran.stdout, ran.stderr.count("\n")), (2, "", 1))
 
     def test_interrupted(self):
@@ -287,7 +345,9 @@ class Here(Reports, Night):
         self.assertNotIn(b"Traceback", errors)
         done = len(list((self.folder / "night").glob("*.json")))
         self.assertGreater(9, done)
-        self.assertIn(f"{9 - done - len(list((self.folder / 'night').glob('of*/*.json')))} done now", self.night()[1][0])
+        self.assertIn(
+            f"{9 - done - len(list((self.folder / 'night').glob('of*/*.json')))} done now", self.night()[1][0]
+        )
 
     def test_the_bar(self):
         ours, theirs = pty.openpty()
@@ -310,6 +370,57 @@ class Here(Reports, Night):
         self.assertIn("sbatch", errors)
 
 
+class HeldAgainst:
+    """Drivers of Mesa, of which one has faults that are known. Its folder has a capture that shows one."""
+
+    words = ()
+
+    def held(self, *words):
+        (self.folder / "tie.json").write_bytes((driver_testing.FOUND / "softpipe_tie_in_x.json").read_bytes())
+        return self.night("--tolerance", 1, "--driver", "--driver=GALLIUM_DRIVER=softpipe", *self.words, *words)
+
+    def test_drivers(self):
+        """Each capture by each driver, and their features, which stand beside each other on the page; what is done
+        isn't done again."""
+        status, lines, errors = self.held()
+        self.assertEqual(
+            (status, errors, lines[0]),
+            (1, "", "10 jobs: 8 alike, 2 differ, 0 failed, 0 without a picture; 10 done now"),
+        )
+        self.assertRegex(lines[1], "^driver 2 features: 68 features: .*top-left rule.* beyond rounding$")
+        self.assertEqual(lines[2], "driver 2/tie: 1 coverage: first event 1, pixel 0 0, coverage")
+        page = (self.folder / "night/night.html").read_text()
+        [table] = re.findall('<table class="features">.*?</table>', page, re.S)
+        self.assertEqual(
+            [re.sub(r"[ ,].*", "", name) for name in re.findall("<th>(.*?)</th>", table)],
+            ["feature", "llvmpipe", "softpipe"],
+        )
+        rows = {
+            name: cells for name, *cells in (re.findall("<td.*?>(.*?)</td>", row) for row in table.splitlines()[1:])
+        }
+        self.assertEqual(
+            (len(rows), rows["top-left rule"], rows["flat"]), (68, ["exact", "differs (Direct3D)"], ["exact", "exact"])
+        )
+        self.assertEqual(self.held()[1][0], "10 jobs: 8 alike, 2 differ, 0 failed, 0 without a picture; 0 done now")
+
+    def test_no_such_driver(self):
+        """It is told why."""
+        status, lines, _ = self.night("--driver=--device 99", *self.words)
+        self.assertEqual(
+            (status, lines[0]), (4, "4 jobs: 0 alike, 0 differ, 4 failed, 0 without a picture; 4 done now")
+        )
+        self.assertRegex(lines[1], "^driver 1 features: .*device")
+
+
+@unittest.skipIf(driver_testing.missing(), driver_testing.missing())
+class Drivers(HeldAgainst, Night):
+    environment = driver_testing.environment("llvmpipe")
+
+    def test_words_of_a_driver(self):
+        status, _, errors = self.night("--driver='")
+        self.assertEqual((status, "No closing quotation" in errors), (2, True))
+
+
 @unittest.skipIf(slurm_testing.missing(), slurm_testing.missing())
 class OnSlurm(Reports, Night):
     words = ("--slurm",)
@@ -324,7 +435,10 @@ class OnSlurm(Reports, Night):
         self.put("held", WRONG)
         (self.room / "bin").mkdir()
         cancelling = self.room / "bin/sbatch"
-        cancelling.write_text('#!/bin/sh\nPATH=${PATH#*:}\njob=$(sbatch --hold "$@") || exit\nscancel "${job}_2"\nscontrol release "$job"\necho "$job"\n')
+        cancelling.write_text(
+            '#!/bin/sh\nPATH=${PATH#*:}\njob=$(sbatch --hold "$@") || exit\nscancel "${job}_2"\nscontrol '
+            'release "$job"\necho "$job"\n'
+        )
         cancelling.chmod(0o755)
         usual = self.environment
         self.environment = {**usual, "PATH": f"{self.room / 'bin'}:{os.environ['PATH']}"}
@@ -334,15 +448,66 @@ class OnSlurm(Reports, Night):
         self.environment = usual
         self.asked()
         status, lines, _ = self.night("--slurm")
-        self.assertEqual((status, lines[0]), (1, "4 captures: 1 alike, 3 differ, 0 failed, 0 without a picture; 1 done now"))
+        self.assertEqual(
+            (status, lines[0]), (1, "4 captures: 1 alike, 3 differ, 0 failed, 0 without a picture; 1 done now")
+        )
         self.assertEqual(self.asked(), {"held"})
+
+    def test_ended_by_another(self):
+        """The array is taken back."""
+        (self.room / "slow").touch()
+        running = self.room / "running"
+        words = [sys.executable, TOOLS / "framedbg-night", self.folder, "--program", self.program, "--slurm"]
+        waiting = ["squeue", "--noheader", "--format=%i"]
+        with subprocess.Popen(words, stdout=subprocess.PIPE, stderr=subprocess.PIPE, env=self.environment) as run:
+            while not running.exists() and run.poll() is None:
+                time.sleep(0.1)
+            run.send_signal(signal.SIGTERM)
+            out, errors = run.communicate(timeout=100)
+        self.assertEqual(
+            (run.returncode, out, errors),
+            (130, b"", b"framedbg-night: interrupted: the same command goes on from here\n"),
+        )
+        self.assertTrue(
+            soon(
+                lambda: not subprocess.run(waiting, env=self.environment, capture_output=True, check=True).stdout,
+                seconds=60,
+            )
+        )
 
     def test_several_arrays(self):
         """More captures than an array may have tasks: here it may have two."""
-        words = [sys.executable, "-c", "import sys; sys.path.insert(0, sys.argv.pop(1)); from nights import command_line, night, slurm; slurm.MOST_TASKS = 2; sys.exit(night.run(command_line.words()))",
-                 TOOLS, self.folder, "--slurm", "--program", self.program]
+        words = [
+            sys.executable,
+            "-c",
+            "import sys; sys.path.insert(0, sys.argv.pop(1)); from nights import command_line, night, slurm; "
+            "slurm.MOST_TASKS = 2; sys.exit(night.run(command_line.words()))",
+            TOOLS,
+            self.folder,
+            "--slurm",
+            "--program",
+            self.program,
+        ]
         ran = subprocess.run(words, capture_output=True, text=True, env=self.environment, timeout=300, check=False)
-        self.assertEqual((ran.returncode, ran.stderr, ran.stdout.splitlines()[0]), (1, "", "3 captures: 1 alike, 2 differ, 0 failed, 0 without a picture; 3 done now"))
+        self.assertEqual(
+            (ran.returncode, ran.stderr, ran.stdout.splitlines()[0]),
+            (1, "", "3 captures: 1 alike, 2 differ, 0 failed, 0 without a picture; 3 done now"),
+        )
+
+
+@unittest.skipIf(
+    slurm_testing.missing() or driver_testing.missing(), slurm_testing.missing() or driver_testing.missing()
+)
+class DriversOnSlurm(HeldAgainst, Night):
+    words = ("--slurm",)
+
+    @classmethod
+    def setUpClass(cls):
+        room = cls.enterClassContext(tempfile.TemporaryDirectory(prefix="slurm-"))
+        cls.environment = cls.enterClassContext(slurm_testing.Slurm(room)).environment | {
+            "LIBGL_ALWAYS_SOFTWARE": "1",
+            "GALLIUM_DRIVER": "llvmpipe",
+        }
 
 
 if __name__ == "__main__":

@@ -1,10 +1,11 @@
 #!/usr/bin/env python3
-"""test_page: tries the page alone, opened from the disk: the viewer's own tests over it, and its answers beside those of the program.
+"""test_page: tries the page alone, opened from the disk: the viewer's own tests over it, and its answers beside
+those of the program.
 
     tests/test_page.py [TEST ..]
 
-It makes the page, and wants Chromium and chromedriver; Firefox is tried too where it is installed. FRAMEDBG names another program. With another kit
-than the one it was tried with, a page that can't be made is told and passed over.
+It makes the page, and wants Chromium and chromedriver; Firefox is tried too where it is installed. FRAMEDBG names
+another program. With another kit than the one it was tried with, a page that can't be made is told and passed over.
 """
 import base64
 import json
@@ -24,20 +25,29 @@ import browser
 import passed_over
 import test_blame_kinds
 import test_viewer_answers
+import test_viewer_beside
 import test_viewer_blame
+import test_viewer_card
 import test_viewer_maps
 import test_viewer_page
 import test_viewer_what_if
+from blaming.everywhere import EVERYWHERE
 from viewer_testing import DEPTH, EXAMPLES, PROGRAM, capture_of, image, png
+from debugger.aligning import aligned
 from viewer import image as viewer_image
+from viewer.beside import Beside
 from viewer.session import Session
 from page import kit, module, packing, runs
 
 HOUSE, CHAIN = EXAMPLES / "house.json", EXAMPLES / "hunts/chain.json"
 FOLDER = tempfile.TemporaryDirectory()
-OBJECTS, PAGE, PACKED = TOP / "out/page", pathlib.Path(FOLDER.name) / "framedbg.html", pathlib.Path(FOLDER.name) / "framedbg_house.html"
+OBJECTS, PAGE, PACKED = (
+    TOP / "out/page",
+    pathlib.Path(FOLDER.name) / "framedbg.html",
+    pathlib.Path(FOLDER.name) / "framedbg_house.html",
+)
 SEED, RUNS = 1, 60
-SMALL = 64 << 20        # bytes of memory, for a page that wants more
+SMALL = 64 << 20  # bytes of memory, for a page that wants more
 # Calls of the page's own run, with a window of the images: what each is answered with
 ASKED = """
 const { ask } = await import("run.js"), told = [];
@@ -47,6 +57,20 @@ for (const [lines, window] of given[0]) {
   told.push((await ask(lines, window)).map(({ image, ...more }) => image ? { ...more, image: own(image) } : more));
 }
 return told;
+"""
+# What another capture beside the one that is shown is told by, or why it is refused; and what its run answers where
+# events of the first are off
+BESIDE = """
+const { ask, putBeside, wherePicturesDiffer } = await import("run.js"), [name, letters] = given;
+const bytes = Uint8Array.from(atob(letters), letter => letter.charCodeAt(0));
+try {
+  const told = await putBeside(new File([bytes], name)), pictures = await wherePicturesDiffer();
+  await ask(["off 1"]);
+  const [{ lines }] = await ask(["events"], null, "other");
+  return [told, pictures, lines.every(line => /^\\d+ on /.test(line))];
+} catch (fault) {
+  return String(fault.message);
+}
 """
 DROP = """
 const [name, letters, place] = given, moved = new DataTransfer();
@@ -85,8 +109,23 @@ WINDOWED = """
 const { Capture } = await import("capture.js"), [text, window] = given, capture = new Capture(new TextEncoder().encode(text));
 return JSON.parse(new TextDecoder().decode(capture.bytesOf(capture.events, window)));
 """
-GEOMETRY = {"both factors of blending", "direction of triangles", "a triangle too many", "indices left out", "indices doubled", "indices exchanged", "an index that is wrong",
-            "a triangle that is missing", "a part of the state from a triangle on", "colour of a vertex", "place of a vertex", "depth of a vertex"}      # kinds that the page doesn't try
+GEOMETRY = {
+    "both factors of blending",
+    "both factors of alpha",
+    "corner of the flat colour",
+    EVERYWHERE,
+    "direction of triangles",
+    "a triangle too many",
+    "indices left out",
+    "indices doubled",
+    "indices exchanged",
+    "an index that is wrong",
+    "a triangle that is missing",
+    "a part of the state from a triangle on",
+    "colour of a vertex",
+    "place of a vertex",
+    "depth of a vertex",
+}  # kinds that the page doesn't try
 RED = (200, 40, 30, 255)
 WITHOUT = "delete WebAssembly.Suspending; WebAssembly.validate = () => false;"
 
@@ -130,6 +169,7 @@ def exchanged(file, old, new):
 
 class Opened:
     """The page alone, opened in the place of the viewer's."""
+
     page = PAGE
 
     def open(self, viewer):
@@ -162,8 +202,15 @@ class Alone(Opened):
     def test_sessions(self):
         self.plain()
         pairs = [line.split() for line in (EXAMPLES / "sessions.txt").read_text().splitlines()]
-        asked = [runs.Run(["run", "CAPTURE"], (EXAMPLES / f"{capture}.json").read_bytes(), [(EXAMPLES / f"{session}.session").read_bytes()], 1 << 20)
-                 for session, capture in pairs]
+        asked = [
+            runs.Run(
+                ["run", "CAPTURE"],
+                (EXAMPLES / f"{capture}.json").read_bytes(),
+                [(EXAMPLES / f"{session}.session").read_bytes()],
+                1 << 20,
+            )
+            for session, capture in pairs
+        ]
         for (session, _), (out, *_) in zip(pairs, runs.in_page(self.browser, asked)):
             self.assertEqual(out, (EXAMPLES / f"{session}.expected").read_bytes(), session)
 
@@ -175,28 +222,66 @@ class Alone(Opened):
         """No thread can be had here, and the work of all is done."""
         self.plain()
         capture, session = (EXAMPLES / "crowd.json").read_bytes(), (EXAMPLES / "crowd.session").read_bytes()
-        asked = [runs.Run([word, "--workers", str(count), "CAPTURE"], capture, [session], 1 << 20) for word in ("run", "image") for count in (1, 2, 4, 64)]
+        asked = [
+            runs.Run([word, "--workers", str(count), "CAPTURE"], capture, [session], 1 << 20)
+            for word in ("run", "image")
+            for count in (1, 2, 4, 64)
+        ]
         self.assertEqual(list(runs.compare(self.browser, asked)), [])
 
     def test_large_blocks_of_memory(self):
         """A capture whose lists grow by doubling, and an image of as many bytes."""
         self.plain()
         dice = random.Random(SEED)
-        corners = [{"x": dice.randrange(1 << 25), "y": dice.randrange(1 << 25), "z": 5, "color": [9, 9, dice.randrange(256), 99]} for _ in range(300)]
+        corners = [
+            {
+                "x": dice.randrange(1 << 25),
+                "y": dice.randrange(1 << 25),
+                "z": 5,
+                "color": [9, 9, dice.randrange(256), 99],
+            }
+            for _ in range(300)
+        ]
         many = {"kind": "draw", "interp": "flat", "vertices": corners, "indices": [at % 300 for at in range(5000)]}
-        events = [runs.event(dice, 600, 500, 2) for _ in range(20)] + [{"kind": "marker", "name": str(at)} for at in range(5000)] + [many]
-        capture, session = capture_of(600, 500, events, 2).encode(), b"goto 20\nshow\nhistory 60 50\ngoto 5021\nevents\npixel 20 20\ngoto 10\nshow\n"
-        self.assertEqual(list(runs.compare(self.browser, [runs.Run(["run", "CAPTURE"], capture, [session], 1 << 20)])), [])
+        events = (
+            [runs.event(dice, 600, 500, 2) for _ in range(20)]
+            + [{"kind": "marker", "name": str(at)} for at in range(5000)]
+            + [many]
+        )
+        capture, session = (
+            capture_of(600, 500, events, 2).encode(),
+            b"goto 20\nshow\nhistory 60 50\ngoto 5021\nevents\npixel 20 20\ngoto 10\nshow\n",
+        )
+        self.assertEqual(
+            list(runs.compare(self.browser, [runs.Run(["run", "CAPTURE"], capture, [session], 1 << 20)])), []
+        )
 
     def test_answers_as_the_server_does(self):
         """Replies, lists and parts of images are those of the viewer's server."""
         dice = random.Random(SEED)
-        calls = [([f"goto {dice.randrange(15)}", "show", "state", "events", "sing", f"history {dice.randrange(99)} 50", "show"],
-                  dice.choice([None, sorted(dice.randrange(70) for _ in range(4)), [dice.randrange(200) for _ in range(4)]])) for _ in range(40)]
+        calls = [
+            (
+                [
+                    f"goto {dice.randrange(15)}",
+                    "show",
+                    "state",
+                    "events",
+                    "sing",
+                    f"history {dice.randrange(99)} 50",
+                    "show",
+                ],
+                dice.choice(
+                    [None, sorted(dice.randrange(70) for _ in range(4)), [dice.randrange(200) for _ in range(4)]]
+                ),
+            )
+            for _ in range(40)
+        ]
         session = Session(PROGRAM, str(HOUSE), 1)
         try:
             for most in (1 << 22, 1000, 7):
-                with mock.patch.object(self, "page", exchanged("part.js", "1 << 22", str(most))), mock.patch.object(viewer_image, "MOST_PIXELS", most):
+                with mock.patch.object(self, "page", exchanged("part.js", "1 << 22", str(most))), mock.patch.object(
+                    viewer_image, "MOST_PIXELS", most
+                ):
                     self.show(HOUSE)
                     found = self.browser.within(ASKED, calls)
                     self.assertEqual(found, [self.answered(session, *call) for call in calls])
@@ -206,7 +291,12 @@ class Alone(Opened):
     def answered(self, session, lines, window):
         replies, images, _ = session.answer([line.encode() for line in lines], window)
         images = iter(images)
-        return [{**reply, "image": {**reply["image"], "bytes": base64.b64encode(next(images)).decode()}} if "image" in reply else reply for reply in replies]
+        return [
+            {**reply, "image": {**reply["image"], "bytes": base64.b64encode(next(images)).decode()}}
+            if "image" in reply
+            else reply
+            for reply in replies
+        ]
 
     def test_another_capture(self):
         """Captures are dropped one after another, and nothing of one is left in the next."""
@@ -223,9 +313,18 @@ class Alone(Opened):
         self.reads("#capture", "depth.json")
         self.reads("#size", "8 × 8")
         self.assertEqual(self.browser.run("return [document.title, window.loaded]"), ["depth.json – framedbg", "once"])
-        self.assertEqual(self.browser.run("return ['#history', '#cross', '#comparison'].map(s => document.querySelector(s).checkVisibility())"), [False] * 3)
-        self.assertEqual(self.browser.run("return document.querySelector('#outline polygon').getAttribute('points') || ''"), "")
-        self.assertEqual(self.browser.run("return [...document.querySelectorAll('#log .asked')].map(e => e.innerText)"), ["goto 6"])
+        self.assertEqual(
+            self.browser.run(
+                "return ['#history', '#cross', '#comparison'].map(s => document.querySelector(s).checkVisibility())"
+            ),
+            [False] * 3,
+        )
+        self.assertEqual(
+            self.browser.run("return document.querySelector('#outline polygon').getAttribute('points') || ''"), ""
+        )
+        self.assertEqual(
+            self.browser.run("return [...document.querySelectorAll('#log .asked')].map(e => e.innerText)"), ["goto 6"]
+        )
         self.assertEqual(self.drawn(1, 1), [255, 0, 0, 255])
         self.click_pixel(1, 1, 8)
         self.reads("#depth-here", "depth 3000")
@@ -240,33 +339,108 @@ class Alone(Opened):
         self.at(13)
         self.browser.run("const f = document.getElementById('filter'); f.value = 'stars'; f.oninput()")
         self.reads("#found", "nothing found")
-        self.drop("stars.json", capture_of(4, 4, [clear, clear, {"kind": "marker", "name": "stars"}, clear, clear]).encode())
+        self.drop(
+            "stars.json", capture_of(4, 4, [clear, clear, {"kind": "marker", "name": "stars"}, clear, clear]).encode()
+        )
         self.at(5)
-        self.comes(lambda: self.browser.run("return [...document.querySelectorAll('#event-list .event')].map(e => e.dataset.number).join()"), "3,4,5")
+        self.comes(
+            lambda: self.browser.run(
+                "return [...document.querySelectorAll('#event-list .event')].map(e => e.dataset.number).join()"
+            ),
+            "3,4,5",
+        )
 
     def test_another_triangle(self):
         """The outline is that of the capture that is shown."""
         self.show(HOUSE)
         self.at(13)
-        self.assertEqual(self.browser.within("return (await import('run.js')).triangle(11, 0)"), [[44, 36], [76, 36], [44, 60]])
-        self.assertEqual(self.browser.within("const { triangle } = await import('run.js'); return [await triangle(11, 2), await triangle(10, 0), await triangle(14, 0)]"), [None] * 3)
+        self.assertEqual(
+            self.browser.within("return (await import('run.js')).triangle(11, 0)"), [[44, 36], [76, 36], [44, 60]]
+        )
+        self.assertEqual(
+            self.browser.within(
+                "const { triangle } = await import('run.js'); return [await triangle(11, 2), await triangle(10, "
+                "0), await triangle(14, 0)]"
+            ),
+            [None] * 3,
+        )
         self.drop("indexed.json", (EXAMPLES / "indexed.json").read_bytes())
         self.reads("#capture", "indexed.json")
         capture = json.loads((EXAMPLES / "indexed.json").read_text())
         number, event = next((number, event) for number, event in enumerate(capture["events"], 1) if "indices" in event)
         corners = [event["vertices"][at] for at in event["indices"][3:6] or event["indices"][:3]]
-        found = self.browser.within("return (await import('run.js')).triangle(...given)", number, int(len(event["indices"]) >= 6))
+        found = self.browser.within(
+            "return (await import('run.js')).triangle(...given)", number, int(len(event["indices"]) >= 6)
+        )
         self.assertEqual(found, [[corner["x"] / 65536, corner["y"] / 65536] for corner in corners])
+
+    def test_depths_of_version_1(self):
+        """They are passed over, whatever they are."""
+        corners = [{"x": x << 16, "y": y << 16, "z": "deep", "color": [9] * 4} for x, y in ((0, 0), (4, 0), (0, 4))]
+        self.show(HOUSE)
+        self.at(13)
+        self.drop("deep.json", capture_of(4, 4, [{"kind": "draw", "interp": "flat", "vertices": corners}], 1).encode())
+        self.reads("#capture", "deep.json")
+        told = self.browser.within("return (await import('run.js')).draw(1)")
+        self.assertEqual([vertex[2] for vertex in told["vertices"]], [None] * 3)
 
     def test_another_capture_while_it_answers(self):
         self.show(HOUSE)
         self.at(13)
-        asking = "const asking = async () => { for (;;) await ask(Array(99).fill(['goto 13', 'show', 'goto 0']).flat()); };"
-        self.browser.within(f"const {{ ask }} = await import('run.js'); {asking} asking().catch(fault => {{ document.body.dataset.refused = fault.message; }});")
+        asking = (
+            "const asking = async () => { for (;;) await ask(Array(99).fill(['goto 13', 'show', 'goto 0']).flat()); };"
+        )
+        self.browser.within(
+            f"const {{ ask }} = await import('run.js'); {asking} asking().catch(fault => {{ "
+            f"document.body.dataset.refused = fault.message; }});"
+        )
         self.drop("depth.json", DEPTH.encode())
         self.at(6)
         self.reads("#capture", "depth.json")
         self.assertEqual(self.browser.until("return document.body.dataset.refused"), "depth.json is shown now")
+
+    def test_two_captures(self):
+        """What differs, and where the pictures do, is told as the viewer's server tells it; what is off is off in
+        the first alone."""
+        moved = json.loads(HOUSE.read_text())
+        moved["events"].insert(8, moved["events"].pop(10))
+        moved["events"][0]["name"] = "another"
+        plain = pathlib.Path(FOLDER.name) / "moved.json"
+        plain.write_text(json.dumps(moved))
+        for one, other in (
+            (HOUSE, plain),
+            (CHAIN, CHAIN.with_stem("chain_mended")),
+            (EXAMPLES / "indexed.json", EXAMPLES / "row01.json"),
+        ):
+            self.show(one)
+            told = self.browser.within(BESIDE, other.name, base64.b64encode(other.read_bytes()).decode())
+            beside = Beside((PROGRAM, str(one), None), str(other))
+            try:
+                self.assertEqual(told[:2], [json.loads(json.dumps(beside.differs())), beside.pictures()], other.name)
+            finally:
+                beside.close()
+            self.assertTrue(told[2], other.name)
+        text = capture_of(1, 1, [{"kind": "clear", "color": [1, 2, 3]}])
+        refused = self.browser.within(BESIDE, "bad.json", base64.b64encode(text.encode()).decode())
+        self.assertIn("event 1 (clear), color: an array of 4 is wanted", refused)
+
+    def test_pairs_by_chance(self):
+        """Lists of few letters and of many, some of them shuffled, are paired as in Python."""
+        self.plain()
+        dice, lists = random.Random(SEED), []
+        for _ in range(200):
+            letters, one = dice.choice((2, 4, 9, 200)), []
+            one = [str(dice.randrange(letters)) for _ in range(dice.randrange(dice.choice((3, 30, 90))))]
+            other = [letter for letter in one if dice.random() < 0.9] + [
+                str(dice.randrange(letters)) for _ in range(dice.randrange(3))
+            ]
+            if dice.random() < 0.3:
+                dice.shuffle(other)
+            lists.append((one, other, [[letter[-1] for letter in some] for some in (one, other)]))
+        found = self.browser.within(
+            "const { aligned } = await import('aligned.js'); return given[0].map(lists => aligned(...lists));", lists
+        )
+        self.assertEqual(found, [[list(step) for step in aligned(*some)] for some in lists])
 
     def test_a_dropped_picture(self):
         """It is compared with, as in the viewer, and is no capture."""
@@ -284,9 +458,18 @@ class Alone(Opened):
         self.at(13)
         self.switch(8, False)
         self.drop("README.md", b"# no capture")
-        self.reads("#refusal p", "README.md: refused, 2 not json line 1, column 1: a value is wanted here house.json is shown as before.")
+        self.reads(
+            "#refusal p",
+            "README.md: refused, 2 not json line 1, column 1: a value is wanted here house.json is shown as before.",
+        )
         self.assertLessEqual(sum(self.box("#refusal")[1::2]), self.box("#stage")[1])
-        self.assertEqual(self.browser.run("return [document.querySelectorAll('#event-list .event').length, ...['#capture', '#size'].map(s => document.querySelector(s).innerText)]"), [13, "house.json", "96 × 64"])
+        self.assertEqual(
+            self.browser.run(
+                "return [document.querySelectorAll('#event-list .event').length, ...['#capture', '#size'].map(s "
+                "=> document.querySelector(s).innerText)]"
+            ),
+            [13, "house.json", "96 × 64"],
+        )
         self.assertEqual(self.drawn(50, 50), [190, 60, 50, 255])
         self.browser.press("Escape", "Left")
         self.at(12)
@@ -298,7 +481,10 @@ class Alone(Opened):
     def test_a_refused_capture_is_explained(self):
         """Member and place are named, in the first choice too, which stays until there is a capture to show."""
         self.plain()
-        text = '{"format":"framedbg","version":1,"width":4,"height":4,\n"events":[{"kind":"clear","color":[1,2,3,4]},\n  {"kind":"clear","color":[1,2,300,4]}]}'
+        text = (
+            '{"format":"framedbg","version":1,"width":4,"height":4,\n"events":[{"kind":"clear","color":[1,2,3,4]'
+            '},\n  {"kind":"clear","color":[1,2,300,4]}]}'
+        )
         why = "line 3, column 32: event 2 (clear), color 2: a whole number from 0 to 255 is wanted, not 300"
         wrong = pathlib.Path(FOLDER.name) / "wrong.json"
         wrong.write_text(text)
@@ -307,9 +493,17 @@ class Alone(Opened):
         self.browser.click("#own-capture")
         self.at(13)
         self.assertFalse(self.browser.run("return document.getElementById('choice').open"))
-        for text, why in (('{"events":[], "format":"framedbg","version":1,"width":4,"height":4,"x":[{"events":[9]}],"events":[{"kind":"marker","name":"],\\"{"},{"kind":"claer"}]}',
-                           '7 unknown event 2 line 1, column 140: event 2, kind: there is no kind "claer" (did you mean clear?)'),
-                          ('{"format":"framedbg","version":4,"width":4,"height":4,"events":[]}', "4 version line 1, column 32: version: 1, 2 or 3 is wanted, not 4")):
+        for text, why in (
+            (
+                '{"events":[], "format":"framedbg","version":1,"width":4,"height":4,"x":[{"events":[9]}],"events'
+                '":[{"kind":"marker","name":"],\\"{"},{"kind":"claer"}]}',
+                '7 unknown event 2 line 1, column 140: event 2, kind: there is no kind "claer" (did you mean clear?)',
+            ),
+            (
+                '{"format":"framedbg","version":4,"width":4,"height":4,"events":[]}',
+                "4 version line 1, column 32: version: 1, 2 or 3 is wanted, not 4",
+            ),
+        ):
             self.drop("wrong.json", text.encode())
             self.reads("#refusal p", f"wrong.json: refused, {why} house.json is shown as before.")
         self.browser.click("#refusal button")
@@ -322,13 +516,33 @@ class Alone(Opened):
         driver = pathlib.Path(FOLDER.name) / "driver.png"
         driver.write_bytes(png(samples, 96, 64))
         self.browser.choose("#capture-file", driver)
-        self.reads("#choice #refusal p", "driver.png is a picture, and no capture. Open a capture first; then drop the picture on its frame, to see what differs.")
+        self.reads(
+            "#choice #refusal p",
+            "driver.png is a picture, and no capture. Open a capture first; then drop the picture on its frame, "
+            "to see what differs.",
+        )
         self.browser.click("#own-capture")
         self.at(13)
         self.browser.choose("#capture-file", driver)
-        self.reads("#refusal p", "driver.png is a picture, and no capture. Drop it on the frame, or open it at Compared, to see what differs. house.json is shown as before.")
-        for name, data, advice in (("town.rdc", b"RDOC\0", "a frame that RenderDoc took. Turn it into a capture at a terminal, and open that: renderdoc_to_capture town.rdc > town.json"),
-                                   ("game.trace", b"at", "a trace of apitrace. Turn it into a capture at a terminal, and open that: apitrace_to_capture game.trace > game.json")):
+        self.reads(
+            "#refusal p",
+            "driver.png is a picture, and no capture. Drop it on the frame, or open it at Compared, to see what "
+            "differs. house.json is shown as before.",
+        )
+        for name, data, advice in (
+            (
+                "town.rdc",
+                b"RDOC\0",
+                "a frame that RenderDoc took. Turn it into a capture at a terminal, and open that: "
+                "renderdoc_to_capture town.rdc > town.json",
+            ),
+            (
+                "game.trace",
+                b"at",
+                "a trace of apitrace. Turn it into a capture at a terminal, and open that: apitrace_to_capture "
+                "game.trace > game.json",
+            ),
+        ):
             self.drop(name, data)
             self.reads("#refusal p", f"{name} is {advice} house.json is shown as before.")
 
@@ -340,13 +554,19 @@ class Alone(Opened):
         self.reads("#capture", "house.json")
 
     def test_the_hunts(self):
-        """The start has the nine of them with their pictures; one is opened by a click."""
+        """The start has the ten of them with their pictures; one is opened by a click."""
         self.plain()
         names = sorted(file.stem for file in (EXAMPLES / "hunts").glob("*.json") if not file.stem.endswith("_mended"))
-        self.assertEqual(self.browser.until("return [...document.querySelectorAll('#hunts button')].map(b => b.innerText.trim())"), names)
-        self.assertEqual(len(names), 9)
-        pixels = "return [...document.querySelectorAll('#hunts canvas')].map(c => [...c.getContext('2d').getImageData(60, 60, 1, 1).data])"
-        own = [[*image(EXAMPLES / f"hunts/{name}.json")[0][4 * (60 * 120 + 60):][:3], 255] for name in names]
+        self.assertEqual(
+            self.browser.until("return [...document.querySelectorAll('#hunts button')].map(b => b.innerText.trim())"),
+            names,
+        )
+        self.assertEqual(len(names), 10)
+        pixels = (
+            "return [...document.querySelectorAll('#hunts canvas')].map(c => "
+            "[...c.getContext('2d').getImageData(60, 60, 1, 1).data])"
+        )
+        own = [[*image(EXAMPLES / f"hunts/{name}.json")[0][4 * (60 * 120 + 60) :][:3], 255] for name in names]
         self.comes(lambda: self.browser.run(pixels), own, 60)
         self.browser.click(f"#hunts button:nth-child({names.index('chain') + 1})")
         self.at(9)
@@ -367,7 +587,9 @@ class Alone(Opened):
         self.reads("#capture", "house.json")
         self.browser.click("#open-capture")
         chain = "[...document.querySelectorAll('#hunts button')].find(b => b.innerText.trim() === 'chain')"
-        self.browser.until(f"return {chain}?.querySelector('canvas').getContext('2d').getImageData(60, 60, 1, 1).data[3] === 255")      # drawn, though the choice was closed meanwhile
+        self.browser.until(
+            f"return {chain}?.querySelector('canvas').getContext('2d').getImageData(60, 60, 1, 1).data[3] === 255"
+        )  # drawn, though the choice was closed meanwhile
         self.browser.run(f"{chain}.click()")
         self.reads("#capture", "chain.json")
         self.at(9)
@@ -396,14 +618,16 @@ class Alone(Opened):
         self.browser.press(*"quit", "Enter")
         self.reads("#log .told:last-child .reply", "bye")
         self.browser.press("Escape", "Left")
-        self.browser.until("return document.getElementById('notice').innerText.includes('framedbg has ended (status 0)')")
+        self.browser.until(
+            "return document.getElementById('notice').innerText.includes('framedbg has ended (status 0)')"
+        )
         self.browser.click("#notice button")
         self.browser.until("return document.getElementById('notice').hidden")
         self.browser.press("Home")
         self.at(0)
         self.browser.press("End")
         self.at(13)
-        self.assertEqual(self.drawn(50, 50), [190, 60, 50, 255])     # event 8 is off as it was
+        self.assertEqual(self.drawn(50, 50), [190, 60, 50, 255])  # event 8 is off as it was
 
     def test_a_move_without_end_is_stopped(self):
         """A run that never comes to the end of the frame is ended, and another has the same events off."""
@@ -416,14 +640,17 @@ class Alone(Opened):
             self.stopped_at_the_start()
             self.browser.click(self.row(12) + " .what")
             self.at(12)
-            self.comes(lambda: self.drawn(50, 50), [190, 60, 50, 255])     # event 8 is off as it was
+            self.comes(lambda: self.drawn(50, 50), [190, 60, 50, 255])  # event 8 is off as it was
             self.assertEqual(self.browser.run("return document.querySelectorAll('#event-list .event.off').length"), 1)
             self.drop("chain.json", CHAIN.read_bytes())
             self.at(9)
             self.assertEqual(self.browser.run("return document.querySelectorAll('#event-list .event.off').length"), 0)
-            told = self.browser.within("const { ask, stop } = await import('run.js'); await stop(); return JSON.stringify(await ask(['events']))")
+            told = self.browser.within(
+                "const { ask, stop } = await import('run.js'); await stop(); return JSON.stringify(await "
+                "ask(['events']))"
+            )
             self.assertIn("9 on ", told)
-            self.assertNotIn("8 off ", told)       # the run that begins after a stop has all events of the other capture on
+            self.assertNotIn("8 off ", told)  # the run that begins after a stop has all events of the other capture on
 
     def stopped_at_the_start(self):
         self.stop()
@@ -446,42 +673,68 @@ class Alone(Opened):
         self.browser.open(saved.as_uri())
         self.at(9)
         self.reads("#capture", "the chain's <1> & \"2\".json")
-        self.comes(lambda: self.browser.run("return document.querySelectorAll('#event-list .event').length"), 9)        # and not those of another capture, at the same place
+        self.comes(
+            lambda: self.browser.run("return document.querySelectorAll('#event-list .event').length"), 9
+        )  # and not those of another capture, at the same place
         again, _ = self.browser.within(SAVED)
         self.assertEqual(again, text)
 
     def test_nothing_is_sent(self):
         self.plain()
-        self.browser.within("addEventListener('securitypolicyviolation', fault => { window.refused = fault.effectiveDirective; }); fetch('http://127.0.0.1:9/').catch(() => {});")
-        self.assertEqual(self.browser.within("while (!window.refused) await new Promise(resolve => setTimeout(resolve, 10)); return window.refused"), "connect-src")
+        self.browser.within(
+            "addEventListener('securitypolicyviolation', fault => { window.refused = fault.effectiveDirective; "
+            "}); fetch('http://127.0.0.1:9/').catch(() => {});"
+        )
+        self.assertEqual(
+            self.browser.within(
+                "while (!window.refused) await new Promise(resolve => setTimeout(resolve, 10)); return window.refused"
+            ),
+            "connect-src",
+        )
 
     def test_without_memory(self):
         """Where memory is wanted the session stays where it stands, and goes on."""
         page = PAGE.with_stem("small")
         page.write_text(packing.page(linked(most_memory=SMALL), HOUSE))
         self.plain(page)
-        colours = [255, 0, 9, 99], [0, 255, 200, 0], [40, 90, 0, 255]       # a span of one colour takes no memory: these change every few pixels
-        corners = [{"x": x << 16, "y": y << 16, "color": colour} for (x, y), colour in zip(((0, 0), (2048, 0), (0, 2048)), colours)]
-        capture, steps = capture_of(1024, 1024, [{"kind": "draw", "interp": "linear", "vertices": corners}] * 24).encode(), 24
+        colours = (
+            [255, 0, 9, 99],
+            [0, 255, 200, 0],
+            [40, 90, 0, 255],
+        )  # a span of one colour takes no memory: these change every few pixels
+        corners = [
+            {"x": x << 16, "y": y << 16, "color": colour}
+            for (x, y), colour in zip(((0, 0), (2048, 0), (0, 2048)), colours)
+        ]
+        capture, steps = (
+            capture_of(1024, 1024, [{"kind": "draw", "interp": "linear", "vertices": corners}] * 24).encode(),
+            24,
+        )
         then = b"pixel 3 3\nback\nstep\nhistory 3 3\ngoto 0\nstep\nquit\n"
-        (out, errors, ending), = runs.in_page(self.browser, [runs.Run(["run", "CAPTURE"], capture, [b"step\n" * steps + then], 1 << 20)])
+        ((out, errors, ending),) = runs.in_page(
+            self.browser, [runs.Run(["run", "CAPTURE"], capture, [b"step\n" * steps + then], 1 << 20)]
+        )
         stands = out.count(b"\n", 0, out.index(b"stopped"))
         self.assertGreater(stands, 0)
         told = [b"at %d\n" % at for at in range(1, stands + 1)] + [b"stopped %d\n" % stands] * (steps - stands)
-        replies = runs.by_program(runs.Run(["run", "CAPTURE"], capture, [b"goto %d\n%s" % (stands, then)], 1))[0].partition(b"\n")[2]
+        replies = runs.by_program(runs.Run(["run", "CAPTURE"], capture, [b"goto %d\n%s" % (stands, then)], 1))[
+            0
+        ].partition(b"\n")[2]
         self.assertEqual((out, errors, ending), (b"".join(told) + replies, "", "status 0"))
 
 
 @unittest.skipUnless(browser.is_installed(), "Chromium and chromedriver aren't installed")
 class InChromium(Alone, test_viewer_page.Page):
     # Of the server alone
-    test_two_pages_at_once = test_the_file_for_the_browser_leads_to_the_page = test_without_the_token = test_stopped_and_ended = None
+    test_two_pages_at_once = (
+        test_the_file_for_the_browser_leads_to_the_page
+    ) = test_without_the_token = test_stopped_and_ended = None
     test_a_long_move_is_stopped = test_a_long_history_is_stopped = test_a_look_that_waits_outlasts_a_stop = None
 
     def test_nothing_is_sent(self):
         super().test_nothing_is_sent()
         end = time.time() + 10
-        while not self.browser.complaints() and time.time() < end:      # the one that is wanted here comes when it comes
+        while not self.browser.complaints() and time.time() < end:  # the one that is wanted here comes when it comes
             time.sleep(0.02)
 
     def test_dark_and_light(self):
@@ -493,11 +746,17 @@ class InChromium(Alone, test_viewer_page.Page):
             super().test_a_target_that_is_too_large_at_once()
 
     def test_a_browser_that_lacks_something(self):
-        added = self.browser.call("/goog/cdp/execute", {"cmd": "Page.addScriptToEvaluateOnNewDocument", "params": {"source": WITHOUT}})
+        added = self.browser.call(
+            "/goog/cdp/execute", {"cmd": "Page.addScriptToEvaluateOnNewDocument", "params": {"source": WITHOUT}}
+        )
         try:
             self.browser.open(self.page.as_uri())
-            self.reads("body", "This browser can't run framedbg: its WebAssembly lacks 64-bit memory and JavaScript promise integration. "
-                       "Chromium 156 and Firefox 153 have both, and tools/view needs neither.")
+            self.reads(
+                "body",
+                "This browser can't run framedbg: its WebAssembly lacks 64-bit memory and JavaScript promise "
+                "integration. "
+                "Chromium 156 and Firefox 153 have both, and tools/view needs neither.",
+            )
         finally:
             self.browser.call("/goog/cdp/execute", {"cmd": "Page.removeScriptToEvaluateOnNewDocument", "params": added})
 
@@ -510,7 +769,10 @@ class InFirefox(Alone, test_viewer_page.Page):
 
 
 class AnswersInChromium(Opened, test_viewer_answers.AnswersInChromium):
-    test_a_place_outlasts_a_reload = test_a_pixel_is_picked_anywhere = test_a_filter_before_the_history = None      # of the server; places of a saved page are tried below
+    test_a_place_outlasts_a_reload = (
+        test_a_pixel_is_picked_anywhere
+    ) = test_a_filter_before_the_history = None  # of the server; places of a saved page are tried below
+    test_the_targets_of_a_frame = None  # a page of one capture has no tabs
 
     def test_a_place_is_saved(self):
         """A saved page opens where it was saved; an address goes before that."""
@@ -531,14 +793,52 @@ class AnswersInChromium(Opened, test_viewer_answers.AnswersInChromium):
 
 
 class AnswersInFirefox(Opened, test_viewer_answers.AnswersInFirefox):
-    test_a_place_outlasts_a_reload = test_a_pixel_is_picked_anywhere = test_a_filter_before_the_history = None
+    test_a_place_outlasts_a_reload = (
+        test_a_pixel_is_picked_anywhere
+    ) = test_a_filter_before_the_history = test_the_targets_of_a_frame = None
 
 
 class MapsInChromium(Opened, test_viewer_maps.MapsInChromium):
-    test_no_button_is_lit_over_another_picture = None       # a server that waits
+    test_no_button_is_lit_over_another_picture = None  # a server that waits
 
 
 class MapsInFirefox(Opened, test_viewer_maps.MapsInFirefox):
+    pass
+
+
+class CardInChromium(Opened, test_viewer_card.CardInChromium):
+    test_the_whole_table = None  # it is tried over the server
+
+    def test_before_a_capture_is_chosen(self):
+        """The choice leads to the view, where no frame is shown yet."""
+        self.plain()
+        self.browser.run("document.getElementById('choice-card').scrollIntoView()")  # below the ten hunts
+        self.browser.click("#choice-card")
+        self.browser.click("#card-frame")
+        self.reads("#card-told", "no capture is shown yet")
+
+
+@unittest.skipUnless(browser.Firefox.installed() and shutil.which("Xvfb"), "Firefox or Xvfb isn't installed")
+class CardInFirefox(CardInChromium):
+    kind, bits = browser.DrawingFirefox, 8
+
+
+class BesideInChromium(Opened, test_viewer_beside.BesideInChromium):
+    def test_a_capture_dropped_at_compared(self):
+        """It stands beside; one that is dropped elsewhere is shown in the place of the first."""
+        self.show(HOUSE)
+        self.at(13)
+        self.browser.press("Escape", "d")
+        self.browser.until("return document.getElementById('comparison').checkVisibility()")
+        self.drop("plain.json", test_viewer_beside.house_changed().encode(), "#comparison")
+        self.reads("#beside-name", "plain.json at 13")
+        self.reads("#capture", "house.json")
+        self.drop("depth.json", DEPTH.encode())
+        self.at(6)
+        self.assertEqual(self.browser.run(test_viewer_beside.SHOWN), [False] * 3)
+
+
+class BesideInFirefox(Opened, test_viewer_beside.BesideInFirefox):
     pass
 
 
@@ -568,7 +868,9 @@ class Blamed(Opened):
         """What is found, and whether the picture after the best change is the wanted one."""
         head, _, samples = picture.partition(b"ENDHDR\n")
         width, height = (int(re.search(rb"%b (\d+)" % side, head)[1]) for side in (b"WIDTH", b"HEIGHT"))
-        found = self.browser.within(BLAMED, base64.b64encode(samples).decode(), width, height, by, has_alpha, seconds=1200)
+        found = self.browser.within(
+            BLAMED, base64.b64encode(samples).decode(), width, height, by, has_alpha, seconds=1200
+        )
         return found, base64.b64decode(found["samples"]) == samples
 
     def show_chain(self, folder):
@@ -581,8 +883,13 @@ class Blamed(Opened):
         self.reads("#compared-with", "wanted.pam")
 
     def test_the_hunts_are_mended(self):
-        """As docs/HUNTS.md says of framedbg-blame, but for the one whose indices are wrong: there the event is named."""
-        table = re.findall(r"^\| `(\w+)` \| ([\d,]+) \| (\d+) \| event (\d+), (.+?) \| 0 \|$", (TOP / "docs/HUNTS.md").read_text(), re.M)
+        """As docs/HUNTS.md says of framedbg-blame, but for the one whose indices are wrong: there the event is
+        named."""
+        table = re.findall(
+            r"^\| `(\w+)` \| ([\d,]+) \| (\d+) \| event (\d+), (.+?) \| 0 \|$",
+            (TOP / "docs/HUNTS.md").read_text(),
+            re.M,
+        )
         self.assertEqual([name for name, *_ in table], list(blame_testing.NAMES))
         self.show(HOUSE)
         for name, differ, _, event, change in table:
@@ -593,7 +900,9 @@ class Blamed(Opened):
                 if name == "doughnut":
                     self.assertEqual((found["changes"], found["findings"][0]["event"]), ([], 9))
                 else:
-                    self.assertEqual((found["changes"][0], is_wanted), ({"event": int(event), "change": change, "differ": 0}, True))
+                    self.assertEqual(
+                        (found["changes"][0], is_wanted), ({"event": int(event), "change": change, "differ": 0}, True)
+                    )
                     self.assertEqual([finding["left"] for finding in found["findings"]], [0] * len(found["findings"]))
 
     def test_kinds_of_change(self):
@@ -605,43 +914,72 @@ class Blamed(Opened):
                     self.put(f"{name}.json", blame_testing.capture(wrong))
                     found, is_wanted = self.found(blame_testing.pam(blame_testing.capture(right)))
                     self.assertTrue(is_wanted, found["changes"][:2])
-                    if name not in ("value of a depth clear", "order of states"):        # another event's change does it too, of a kind that is tried before
+                    if name not in (
+                        "value of a depth clear",
+                        "order of states",
+                    ):  # another event's change does it too, of a kind that is tried before
                         self.assertEqual(found["changes"][0]["event"], number, found["changes"][:2])
 
     def test_channels_tolerance_and_events_off(self):
         self.show(HOUSE)
         first, last = blame_testing.clear(1, 2, 3, 4), blame_testing.clear(7, 7, 7, 7)
         self.put("plain.json", blame_testing.capture([first, last], 2, 2))
-        for colour, by, has_alpha, differ in (((7, 7, 7, 9), 0, True, 4), ((7, 7, 7, 9), 0, False, 0), ((7, 7, 7, 9), 2, True, 0), ((7, 7, 7, 9), 1, True, 4), ((9, 7, 7, 7), 1, True, 4),
-                                              ((7, 4, 7, 7), 2, True, 4), ((7, 7, 4, 7), 2, True, 4), ((7, 7, 7, 7), 0, True, 0)):
-            found, _ = self.found(blame_testing.pam(blame_testing.capture([blame_testing.clear(*colour)], 2, 2)), by, has_alpha)
+        for colour, by, has_alpha, differ in (
+            ((7, 7, 7, 9), 0, True, 4),
+            ((7, 7, 7, 9), 0, False, 0),
+            ((7, 7, 7, 9), 2, True, 0),
+            ((7, 7, 7, 9), 1, True, 4),
+            ((9, 7, 7, 7), 1, True, 4),
+            ((7, 4, 7, 7), 2, True, 4),
+            ((7, 7, 4, 7), 2, True, 4),
+            ((7, 7, 7, 7), 0, True, 0),
+        ):
+            found, _ = self.found(
+                blame_testing.pam(blame_testing.capture([blame_testing.clear(*colour)], 2, 2)), by, has_alpha
+            )
             self.assertEqual((found["differ"], len(found["findings"])), (differ, differ and 1), (colour, by))
         self.switch(2, False)
         found, is_wanted = self.found(blame_testing.pam(blame_testing.capture([blame_testing.clear(1, 2, 3, 9)], 2, 2)))
-        self.assertEqual((found["differ"], found["changes"][0], is_wanted), (4, {"event": 1, "change": "clear 1 2 3 9 in place of 1 2 3 4", "differ": 0}, True))
+        self.assertEqual(
+            (found["differ"], found["changes"][0], is_wanted),
+            (4, {"event": 1, "change": "clear 1 2 3 9 in place of 1 2 3 4", "differ": 0}, True),
+        )
 
     def test_one_pixel(self):
         """Of a frame that is large enough for a window round it, which is drawn first."""
         self.show(HOUSE)
         right = [blame_testing.clear(1, 2, 3, 4)]
-        self.put("pixel.json", blame_testing.capture([*right, blame_testing.box(50, 40, 51, 41, (200, 40, 30, 255))], 120, 90))
+        self.put(
+            "pixel.json",
+            blame_testing.capture([*right, blame_testing.box(50, 40, 51, 41, (200, 40, 30, 255))], 120, 90),
+        )
         found, is_wanted = self.found(blame_testing.pam(blame_testing.capture(right, 120, 90)))
-        self.assertEqual((found["differ"], [(one["event"], one["differ"]) for one in found["changes"][:1]], is_wanted), (1, [(2, 0)], True))
+        self.assertEqual(
+            (found["differ"], [(one["event"], one["differ"]) for one in found["changes"][:1]], is_wanted),
+            (1, [(2, 0)], True),
+        )
 
     def test_a_clear_below_glass(self):
         """Its colour stands at no pixel as it is, and has to be worked out through what was blended over it."""
         self.show(HOUSE)
         glass = [blame_testing.blend(), blame_testing.box(0, 0, 24, 18, (220, 210, 90, 120))]
         self.put("glass.json", blame_testing.capture([blame_testing.clear(90, 5, 77, 255), *glass]))
-        found, is_wanted = self.found(blame_testing.pam(blame_testing.capture([blame_testing.clear(10, 20, 30, 255), *glass])))
-        self.assertEqual(([(one["event"], one["change"][:6]) for one in found["changes"][:1]], is_wanted), ([(1, "clear ")], True))
+        found, is_wanted = self.found(
+            blame_testing.pam(blame_testing.capture([blame_testing.clear(10, 20, 30, 255), *glass]))
+        )
+        self.assertEqual(
+            ([(one["event"], one["change"][:6]) for one in found["changes"][:1]], is_wanted), ([(1, "clear ")], True)
+        )
 
     def test_what_hangs_together(self):
         """Cells of four by four pixels that touch, also at a corner, and not round the edge of the target."""
         self.plain()
         places = [(3, 3), (4, 4), (12, 12), (39, 0), (0, 4), (39, 30), (0, 38)]
         found = self.browser.within(CLUSTERS, places, 40, 40)
-        self.assertEqual([cluster["box"] for cluster in found], [[0, 3, 5, 5], [39, 0, 40, 1], [12, 12, 13, 13], [39, 30, 40, 31], [0, 38, 1, 39]])
+        self.assertEqual(
+            [cluster["box"] for cluster in found],
+            [[0, 3, 5, 5], [39, 0, 40, 1], [12, 12, 13, 13], [39, 30, 40, 31], [0, 38, 1, 39]],
+        )
         self.assertEqual(found[0]["pixels"], [3 * 40 + 3, 4 * 40, 4 * 40 + 4])
         self.assertEqual(sorted(found[0]["spread"]), found[0]["pixels"])
         spread = self.browser.within(CLUSTERS, [(x, y) for x in range(40) for y in range(40)], 40, 40)[0]["spread"]
@@ -652,28 +990,52 @@ class Blamed(Opened):
         self.plain()
         left, top, right, bottom = 5, 4, 18, 12
         sheet = lambda *place: blame_testing.painted(blame_testing.box(0, 0, 24, 18, RED), random.Random(1), *place)
-        painted = [blame_testing.clear(9, 9, 9, 255), sheet(0, 0, 24, 18), sheet(7, 2, 3, 13), sheet(16, 10, 40, 40), sheet(0, 0, 5, 18)]
-        named = {name: test_blame_kinds.CASES[name][0] for name in ("rectangle of the scissor", "interpolation", "depth writes")}
+        painted = [
+            blame_testing.clear(9, 9, 9, 255),
+            sheet(0, 0, 24, 18),
+            sheet(7, 2, 3, 13),
+            sheet(16, 10, 40, 40),
+            sheet(0, 0, 5, 18),
+        ]
+        named = {
+            name: test_blame_kinds.CASES[name][0]
+            for name in ("rectangle of the scissor", "interpolation", "depth writes")
+        }
         for name, events in (named | {"pictures": painted}).items():
             made = blame_testing.capture(events, version=3)
-            window = self.browser.within(WINDOWED, json.dumps(made), {"left": left, "top": top, "right": right, "bottom": bottom})
+            window = self.browser.within(
+                WINDOWED, json.dumps(made), {"left": left, "top": top, "right": right, "bottom": bottom}
+            )
             rows = blame_testing.pam(made).partition(b"ENDHDR\n")[2]
-            cut = b"".join(rows[4 * (made["width"] * y + left):4 * (made["width"] * y + right)] for y in range(top, bottom))
-            self.assertEqual((window["width"], window["height"], blame_testing.pam(window).partition(b"ENDHDR\n")[2]), (13, 8, cut), name)
+            cut = b"".join(
+                rows[4 * (made["width"] * y + left) : 4 * (made["width"] * y + right)] for y in range(top, bottom)
+            )
+            self.assertEqual(
+                (window["width"], window["height"], blame_testing.pam(window).partition(b"ENDHDR\n")[2]),
+                (13, 8, cut),
+                name,
+            )
 
     def test_draws_with_pictures(self):
-        """A write mask under a picture with holes; what the picture discards, and how the draw is coloured, is changed by nothing."""
+        """A write mask under a picture with holes; what the picture discards, and how the draw is coloured, is
+        changed by nothing."""
         self.show(HOUSE)
         sheet = blame_testing.painted(blame_testing.box(0, 0, 24, 18, RED), random.Random(3), 3, 2, 17, 14)
-        below = blame_testing.box(0, 0, 24, 18, RED)       # so that pixels are wrong at which the picture has no texel
-        right, wrong = ([blame_testing.clear(9, 9, 9, 255), blame_testing.blend(mask=mask), below, sheet] for mask in (15, 6))
+        below = blame_testing.box(0, 0, 24, 18, RED)  # so that pixels are wrong at which the picture has no texel
+        right, wrong = (
+            [blame_testing.clear(9, 9, 9, 255), blame_testing.blend(mask=mask), below, sheet] for mask in (15, 6)
+        )
         self.put("sheet.json", blame_testing.capture(wrong, version=3))
         found, is_wanted = self.found(blame_testing.pam(blame_testing.capture(right, version=3)))
-        self.assertEqual((found["changes"][0]["event"], found["changes"][0]["change"], is_wanted), (2, "mask 15 in place of 6", True))
+        self.assertEqual(
+            (found["changes"][0]["event"], found["changes"][0]["change"], is_wanted), (2, "mask 15 in place of 6", True)
+        )
 
     def test_a_stop_of_the_search(self):
         """One change is never drawn: the search waits for it, until it is stopped. Then it may begin anew."""
-        with mock.patch.object(self, "page", exchanged("program.js", HELD_AT, HELD_CHANGE)), tempfile.TemporaryDirectory() as folder:
+        with mock.patch.object(
+            self, "page", exchanged("program.js", HELD_AT, HELD_CHANGE)
+        ), tempfile.TemporaryDirectory() as folder:
             self.show_chain(folder)
             for _ in range(2):
                 self.browser.run("window.told = null")
@@ -685,12 +1047,20 @@ class Blamed(Opened):
 
     def test_the_time_is_over(self):
         """The best so far is told, that the time was over, and what isn't tried here."""
-        with mock.patch.object(self, "page", exchanged("search.js", "SECONDS = 60", "SECONDS = 0")), tempfile.TemporaryDirectory() as folder:
+        with mock.patch.object(
+            self, "page", exchanged("search.js", "SECONDS = 60", "SECONDS = 0")
+        ), tempfile.TemporaryDirectory() as folder:
             self.show_chain(folder)
             self.browser.click("#who")
             self.reads("#findings .verdict", "No change that was tried mends it")
-            self.assertEqual(self.browser.run("return [...document.querySelectorAll('#findings .rest')].map(e => e.innerText)"),
-                             ["the time was over", "framedbg-blame tries more: vertices, indices, triangles, both factors of blending, two changes at once"])
+            self.assertEqual(
+                self.browser.run("return [...document.querySelectorAll('#findings .rest')].map(e => e.innerText)"),
+                [
+                    "the time was over",
+                    "framedbg-blame tries more: vertices, indices, triangles, both factors of blending, two "
+                    "changes at once",
+                ],
+            )
             self.assertIn(": event 8", self.text("#findings .finding"))
 
     def test_a_target_that_comes_in_parts(self):
@@ -698,15 +1068,20 @@ class Blamed(Opened):
         with mock.patch.object(self, "page", exchanged("part.js", "1 << 22", "1000")):
             self.show(CHAIN)
             found, is_wanted = self.found(test_viewer_blame.mended_picture())
-            self.assertEqual((found["differ"], found["changes"][0]["change"], is_wanted), (1045, "depth function LESS in place of GREATER", True))
+            self.assertEqual(
+                (found["differ"], found["changes"][0]["change"], is_wanted),
+                (1045, "depth function LESS in place of GREATER", True),
+            )
 
 
 class BlamedInChromium(Blamed, test_viewer_blame.WhoDidItInChromium):
-    test_nothing_mends_it = None        # a server that says so
+    test_nothing_mends_it = None  # a server that says so
 
 
 class BlamedInFirefox(Blamed, test_viewer_blame.WhoDidItInFirefox):
-    test_kinds_of_change = test_one_pixel = test_a_clear_below_glass = test_what_hangs_together = test_a_window = test_a_target_that_comes_in_parts = None
+    test_kinds_of_change = (
+        test_one_pixel
+    ) = test_a_clear_below_glass = test_what_hangs_together = test_a_window = test_a_target_that_comes_in_parts = None
 
 
 # Of the viewer's tests, those that are tried in Firefox too

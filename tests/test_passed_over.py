@@ -47,7 +47,9 @@ class PassedOver(unittest.TestCase):
 
     def ran(self, file, *words, ci=None):
         environment = {name: value for name, value in os.environ.items() if name != "CI"} | ({"CI": ci} if ci else {})
-        ran = subprocess.run([sys.executable, self.checks / file, *words], env=environment, capture_output=True, text=True, check=False)
+        ran = subprocess.run(
+            [sys.executable, self.checks / file, *words], env=environment, capture_output=True, text=True, check=False
+        )
         return ran.returncode, ran.stdout
 
     def some(self, holds, skips):
@@ -59,7 +61,9 @@ class PassedOver(unittest.TestCase):
     def test_it_is_said_and_listed(self):
         self.assertEqual(self.listed(), ["nothing was passed over"])
         for what in ("stars", "planets"):
-            self.assertEqual(self.ran("passed_over.py", what, "no telescope"), (0, f"passed over: {what}: no telescope\n"))
+            self.assertEqual(
+                self.ran("passed_over.py", what, "no telescope"), (0, f"passed over: {what}: no telescope\n")
+            )
         self.assertEqual(self.listed(), ["2 passed over", "  stars: no telescope", "  planets: no telescope"])
         self.ran("passed_over.py", "--begin")
         self.assertEqual(self.listed(), ["nothing was passed over"])
@@ -81,7 +85,9 @@ class PassedOver(unittest.TestCase):
 
     def test_tests_that_did_not_run_are_told(self):
         self.some(holds=True, skips=True)
-        self.assertEqual(self.ran("tests.py"), (0, "some: 2 tests ran, 2 didn't\npassed over: some, 2 tests: no moon\n"))
+        self.assertEqual(
+            self.ran("tests.py"), (0, "some: 2 tests ran, 2 didn't\npassed over: some, 2 tests: no moon\n")
+        )
         self.assertEqual(self.listed(), ["1 passed over", "  some, 2 tests: no moon"])
         self.assertEqual(self.ran("tests.py", ci="true"), (1, "some: 2 tests ran, 2 didn't\n"))
         self.some(holds=False, skips=True)

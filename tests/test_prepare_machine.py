@@ -12,7 +12,11 @@ import unittest
 
 from folders import CHECKS
 
-LISTED = [line.split()[0] for line in (CHECKS / "machine_packages.txt").read_text().splitlines() if line and not line.startswith("#")]
+LISTED = [
+    line.split()[0]
+    for line in (CHECKS / "machine_packages.txt").read_text().splitlines()
+    if line and not line.startswith("#")
+]
 NEEDED = ("bash", "env", "dirname", "sed", "awk", "grep", "timeout", "sleep", "cat", "id")
 DPKG_QUERY = '#!/bin/bash\nwhile read -r name; do echo "$name installed"; done < {0}/packages\n'
 APT_GET = """#!/bin/bash
@@ -45,7 +49,14 @@ class PreparesMachine(unittest.TestCase):
 
     def run_it(self, *words, seconds="60", most=60):
         environment = {"PATH": str(self.bin), "PREPARE_SECONDS": seconds}
-        ran = subprocess.run([CHECKS / "prepare_machine", *words], env=environment, capture_output=True, text=True, timeout=most, check=False)
+        ran = subprocess.run(
+            [CHECKS / "prepare_machine", *words],
+            env=environment,
+            capture_output=True,
+            text=True,
+            timeout=most,
+            check=False,
+        )
         asked = (self.room / "asked").read_text().splitlines() if (self.room / "asked").exists() else []
         return ran.returncode, ran.stdout + ran.stderr, asked
 
@@ -61,7 +72,11 @@ class PreparesMachine(unittest.TestCase):
 
     def test_half_installed_is_missing(self):
         self.machine()
-        self.put("dpkg-query", "#!/bin/bash\n" + "".join(f"echo {name} {'half-configured' if name == LISTED[3] else 'installed'}\n" for name in LISTED))
+        self.put(
+            "dpkg-query",
+            "#!/bin/bash\n"
+            + "".join(f"echo {name} {'half-configured' if name == LISTED[3] else 'installed'}\n" for name in LISTED),
+        )
         self.assertEqual(self.run_it("--list")[1].split(), [LISTED[3]])
 
     def test_lists_that_cannot_be_had(self):
@@ -96,7 +111,11 @@ class PreparesMachine(unittest.TestCase):
         self.assertEqual(self.run_it("--frob")[0], 1)
 
     def test_each_package_says_what_for(self):
-        lines = [line for line in (CHECKS / "machine_packages.txt").read_text().splitlines() if line and not line.startswith("#")]
+        lines = [
+            line
+            for line in (CHECKS / "machine_packages.txt").read_text().splitlines()
+            if line and not line.startswith("#")
+        ]
         for line in lines:
             self.assertRegex(line, re.compile(r"[a-z0-9.+-]+ +\w.+"))
         self.assertEqual(len(set(LISTED)), len(LISTED))

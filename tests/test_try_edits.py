@@ -3,10 +3,10 @@
 
     tests/test_try_edits.py [TEST ..]
 
-The crates are made up, and so is their prover. RealProver tries an edit of each kind by the toolchain's own, in fd_snap.
+The crates are made up, and so is their prover. RealProver tries an edit of each kind by the toolchain's own, in
+fd_snap.
 """
 import os
-import pathlib
 import re
 import subprocess
 import tempfile
@@ -78,7 +78,8 @@ class TriesEdits(kit_testing.Checkout):
         self.write("crates/made_up/src/lib.rt", CRATE)
 
     def tried(self, *words, **texts):
-        """The status, the lines on edits of these names, and how many checks there were beside that of the crate as it stands."""
+        """The status, the lines on edits of these names, and how many checks there were beside that of the crate as
+        it stands."""
         for name, text in texts.items():
             self.write(f"crates/made_up/edits/{name}.edit", text)
         status, said, errors = self.ran("checks/try_edits", *words)
@@ -86,26 +87,38 @@ class TriesEdits(kit_testing.Checkout):
         counts = re.sub(r", [\d.]+ minutes.*", "", said.pop())
         return status, sorted(said), counts
 
-    def test_refused(self):
-        self.assertEqual(self.tried(wrong=WRONG_TWO), (0, ["made_up/wrong: refused: two: returns-clause-two"], "try_edits: 1 refused; 1 checks"))
-        self.assertEqual(self.log(), ["checks 0 two", "checks 1 two"])
-
     def test_one_that_proves(self):
-        self.assertEqual(self.tried(same=SAME_TWO, wrong=WRONG_THREE),
-                         (1, ["made_up/same: proves: the crate is still proved", "made_up/wrong: refused: three: returns-clause-three"],
-                          "try_edits: 1 refused, 1 proves; 1 checks"))
+        self.assertEqual(
+            self.tried(same=SAME_TWO, wrong=WRONG_THREE),
+            (
+                1,
+                [
+                    "made_up/same: proves: the crate is still proved",
+                    "made_up/wrong: refused: three: returns-clause-three",
+                ],
+                "try_edits: 1 refused, 1 proves; 1 checks",
+            ),
+        )
         self.assertEqual(self.log(), ["checks 0 three two", "checks 1 three two", "checks 1 "])
 
     def test_one_that_cannot_be_applied(self):
         why = "shows nothing: an 'old:' text is in src/lib.rt 0 times, and not once"
-        self.assertEqual(self.tried(gone=edit("9 + 9", "1")), (1, [f"made_up/gone: {why}"], "try_edits: 1 shows nothing; 0 checks"))
+        self.assertEqual(
+            self.tried(gone=edit("9 + 9", "1")), (1, [f"made_up/gone: {why}"], "try_edits: 1 shows nothing; 0 checks")
+        )
         self.assertEqual(self.log(), [])
 
     def test_one_that_does_not_compile(self):
         """It is tried alone in the end, and the others of its batch are judged."""
-        status, said, counts = self.tried(broken=edit("1 + 1", "nowhere"), wrong=WRONG_THREE, most=edit("LIMIT + 0", "LIMIT + 1"))
+        status, said, counts = self.tried(
+            broken=edit("1 + 1", "nowhere"), wrong=WRONG_THREE, most=edit("LIMIT + 0", "LIMIT + 1")
+        )
         self.assertEqual(status, 1)
-        self.assertIn("made_up/broken: shows nothing: it can't be compiled or read: src/lib.rt:1:1: error[unresolved]: name 'nowhere' is not defined", said)
+        self.assertIn(
+            "made_up/broken: shows nothing: it can't be compiled or read: src/lib.rt:1:1: error[unresolved]: "
+            "name 'nowhere' is not defined",
+            said,
+        )
         self.assertIn("made_up/wrong: refused: three: returns-clause-three", said)
         self.assertIn("made_up/most: refused: most: returns-clause-most", said)
         self.assertEqual(counts, "try_edits: 2 refused, 1 shows nothing; 1 checks")
@@ -113,83 +126,97 @@ class TriesEdits(kit_testing.Checkout):
 
     def test_one_that_takes_a_name_away(self):
         self.write("crates/made_up/proofs/three/Answers.antt", "two()")
-        self.assertEqual(self.tried(lost=edit("two() + 1", "1 + 2"), wrong=WRONG_TWO)[:2],
-                         (1, ["made_up/lost: shows nothing: only a proof file names what it took away: proofs/three/Answers.antt: `two()` is not in scope",
-                              "made_up/wrong: refused: two: returns-clause-two"]))
+        self.assertEqual(
+            self.tried(lost=edit("two() + 1", "1 + 2"), wrong=WRONG_TWO)[:2],
+            (
+                1,
+                [
+                    "made_up/lost: shows nothing: only a proof file names what it took away: "
+                    "proofs/three/Answers.antt: `two()` is not in scope",
+                    "made_up/wrong: refused: two: returns-clause-two",
+                ],
+            ),
+        )
 
     def test_only_the_callee_is_wrong(self):
         """A caller whose own goals hold isn't refused as what it calls is."""
         status, said, _ = self.tried(callee=WRONG_TWO, caller=SAME_THREE)
-        self.assertEqual((status, said), (1, ["made_up/callee: refused: two: returns-clause-two", "made_up/caller: proves: the crate is still proved"]))
-
-    def test_callee_and_caller_are_wrong(self):
-        self.assertEqual(self.tried(callee=WRONG_TWO, caller=WRONG_THREE),
-                         (0, ["made_up/callee: refused: two: returns-clause-two",
-                              "made_up/caller: refused: three: returns-clause-three"], "try_edits: 2 refused; 1 checks"))
-
-    def test_its_caller_refuses_it(self):
-        """A function without a contract is proved whatever it answers."""
-        self.assertEqual(self.tried(part=edit("5 - 1", "5 - 2"))[:2], (0, ["made_up/part: refused: four: returns-clause-four"]))
+        self.assertEqual(
+            (status, said),
+            (
+                1,
+                [
+                    "made_up/callee: refused: two: returns-clause-two",
+                    "made_up/caller: proves: the crate is still proved",
+                ],
+            ),
+        )
 
     def test_a_constant_is_tried_alone(self):
-        self.assertEqual(self.tried(limit=edit("u32 = 7", "u32 = 6"), wrong=WRONG_TWO)[:2],
-                         (0, ["made_up/limit: refused: most: returns-clause-most", "made_up/wrong: refused: two: returns-clause-two"]))
+        self.assertEqual(
+            self.tried(limit=edit("u32 = 7", "u32 = 6"), wrong=WRONG_TWO)[:2],
+            (
+                0,
+                [
+                    "made_up/limit: refused: most: returns-clause-most",
+                    "made_up/wrong: refused: two: returns-clause-two",
+                ],
+            ),
+        )
         self.assertEqual(sorted(self.log()), ["checks 0 two", "checks 1 ", "checks 1 two"])
 
     def test_members_of_a_cycle_are_tried_apart(self):
-        self.assertEqual(self.tried(even=edit("4 + 4", "4 + 3"), odd=edit("4 + 5", "4 + 6")),
-                         (0, ["made_up/even: refused: even: returns-clause-even", "made_up/odd: refused: odd: returns-clause-odd"],
-                          "try_edits: 2 refused; 2 checks"))
+        self.assertEqual(
+            self.tried(even=edit("4 + 4", "4 + 3"), odd=edit("4 + 5", "4 + 6")),
+            (
+                0,
+                ["made_up/even: refused: even: returns-clause-even", "made_up/odd: refused: odd: returns-clause-odd"],
+                "try_edits: 2 refused; 2 checks",
+            ),
+        )
 
     def test_two_of_one_function_are_tried_apart(self):
-        self.assertEqual(self.tried(one=edit("LIMIT +", "LIMIT + 1 +"), other=edit("+ 0", "+ 2"))[2], "try_edits: 2 refused; 2 checks")
-
-
-    def test_at_most_so_many_in_one_check(self):
-        self.assertEqual(self.tried("--most", "1", one=WRONG_TWO, other=WRONG_THREE)[2], "try_edits: 2 refused; 2 checks")
-
-    def test_a_limit_of_the_prover(self):
-        self.assertEqual(self.tried(endless=edit("1 + 1", "1 + 1 # endless"))[:2], (0, ["made_up/endless: meets a limit of the prover: two: no verdict"]))
+        self.assertEqual(
+            self.tried(one=edit("LIMIT +", "LIMIT + 1 +"), other=edit("+ 0", "+ 2"))[2],
+            "try_edits: 2 refused; 2 checks",
+        )
 
     def test_a_check_that_is_killed(self):
         """Nothing is known of it, so nothing is kept."""
         for _ in range(2):
             status, said, counts = self.tried(killed=edit("1 + 1", "1 + 1 # killed"), wrong=WRONG_THREE)
-            self.assertEqual((status, said[0][:16], said[1]), (1, "made_up/killed: ", "made_up/wrong: refused: three: returns-clause-three"))
+            self.assertEqual(
+                (status, said[0][:16], said[1]),
+                (1, "made_up/killed: ", "made_up/wrong: refused: three: returns-clause-three"),
+            )
             self.assertIn("unsure: its check ended with status -9", said[0])
         self.assertEqual(counts, "try_edits: 1 refused, 1 unsure; 1 checks")
 
     def test_a_crate_that_is_not_proved(self):
         self.write("crates/made_up/src/lib.rt", CRATE.replace("{\n    1 + 1", "{\n    1 + 3"))
-        self.assertEqual(self.tried(wrong=edit("1 + 3", "1 + 2"))[:2], (1, ["made_up/wrong: unsure: the crate is not proved as it stands"]))
-
-    def test_verdicts_are_kept(self):
-        first = self.tried(wrong=WRONG_TWO, same=SAME_THREE)
-        self.log()
-        self.assertEqual((self.tried()[:2], self.log()), (first[:2], []))
-        self.tried("--kept", f"{self.top}/others")
-        self.assertNotEqual(self.log(), [])
+        self.assertEqual(
+            self.tried(wrong=edit("1 + 3", "1 + 2"))[:2],
+            (1, ["made_up/wrong: unsure: the crate is not proved as it stands"]),
+        )
 
     def test_what_is_kept_is_of_one_text(self):
         """The crate's own, of one below it, of the edit, and of the tool."""
         self.write("crates.txt", "low:\nmade_up: low\n")
         self.write("crates/low/src/lib.rt", CRATE)
         self.tried(wrong=WRONG_TWO)
-        for file in ("crates/made_up/src/lib.rt", "crates/low/src/lib.rt", "crates/made_up/edits/wrong.edit", "checks/editing/verdicts.py", "KIT-ID"):
+        for file in (
+            "crates/made_up/src/lib.rt",
+            "crates/low/src/lib.rt",
+            "crates/made_up/edits/wrong.edit",
+            "checks/editing/verdicts.py",
+            "KIT-ID",
+        ):
             self.log()
             self.tried()
             self.assertEqual(self.log(), [])
             self.write(file, (self.top / file).read_text() + "\n# more\n")
             self.tried()
             self.assertIn("checks 1 two", self.log(), file)
-
-    def test_libraries_are_built_first(self):
-        self.write("crates.txt", "low:\nmade_up: low\n")
-        self.write("crates/low/src/lib.rt", CRATE)
-        self.assertEqual(self.tried(wrong=WRONG_TWO)[1][-2:], [
-            "made_up/wrong: refused: two: returns-clause-two",
-            "try_edits: 1 libraries are built first; out/build/ has what the toolchain says"])
-        self.assertEqual(self.log(), ["shares its work", "begins low", "ends low", "checks 0 two", "checks 1 two"])
 
     def test_libraries_of_the_gate_serve(self):
         """`rt ci` leaves no stamp: they serve unless a source is newer."""
@@ -244,25 +271,6 @@ const AT: u32 = 1;
 """
 
 
-class Functions(unittest.TestCase):
-    """Where functions stand, and how the prover names them."""
-
-    def test_lines_of_bodies(self):
-        found = [functions.in_body("src/device.rt", SOURCE, line) for line in range(len(SOURCE.split("\n")))]
-        put, made = functions.Function(("device", "DeviceSink"), "put"), functions.Function(("device", "StopFromInvalid"), "from")
-        self.assertEqual(found, [None] * 7 + [put] * 5 + [None] * 3 + [made] * 3 + [None] * 4)
-
-    def test_lines_of_contracts(self):
-        self.assertEqual([str(functions.at("src/device.rt", SOURCE, line)) for line in (1, 2, 3, 6, 7)], ["None", *["device::DeviceSink::put"] * 4])
-
-    def test_of_the_root(self):
-        self.assertEqual(str(functions.in_body("src/lib.rt", "fn two() -> u32 {\n    2\n}\n", 1)), "two")
-
-    def test_proof_files(self):
-        self.assertEqual(functions.Function(("device", "DeviceSink"), "put").proofs(), "proofs/device/DeviceSink/put")
-        self.assertEqual(functions.Function(("device", "DeviceSink"), "put", "ring").proofs(), "proofs/device/+ring")
-
-
 class Words(unittest.TestCase):
     """What the prover's words come to."""
 
@@ -274,31 +282,28 @@ class Words(unittest.TestCase):
 
     def test_only_what_it_calls(self):
         self.assertIsNone(self.verdict("fn fd::a::f: no proof: it calls `fd::a::g`, which is not proved"))
-        self.assertIsNone(self.verdict("fn fd::a::f: no proof: in `fd::a::f`, of this cycle of calls: it calls `fd::a::g`, which is not proved"))
+        self.assertIsNone(
+            self.verdict(
+                "fn fd::a::f: no proof: in `fd::a::f`, of this cycle of calls: it calls `fd::a::g`, which is not proved"
+            )
+        )
         both = "fn fd::a::f: no proof: `search` did not prove `loop-x-kept`; it calls `fd::a::g`, which is not proved"
         self.assertEqual(self.verdict(both), "refused: a::f: loop-x-kept")
-
-    def test_the_clause(self):
-        line = "./proofs/a/f/Answers.antt:9:1: error: `returns`: computed as far as it goes"
-        self.assertEqual(self.verdict(line, "fn fd::a::f: not proved"), "refused: a::f: returns")
 
     def test_another_of_its_name(self):
         self.assertIsNone(self.verdict("fn fd::b::a::f: not proved", "fn fd::a::f2: not proved", "fn fd::a::f: proved"))
 
-    def test_its_closure(self):
-        self.assertEqual(self.verdict("fn fd::a::f: proved", "fn fd::a::f::closure_1: not proved"), "refused: a::f: not proved")
-
     def test_declarations_that_were_not_checked(self):
         """rt counts it as refused."""
-        line = "./proofs/a/f/Answers.antt:3:1: error: 2 declarations that depend on `Rattle.fd.a.f.first`, which was rejected, were not checked"
-        self.assertEqual(self.verdict(line, "fn fd::a::f: not proved")[:46], "shows nothing: only a proof file names what it")
+        line = (
+            "./proofs/a/f/Answers.antt:3:1: error: 2 declarations that depend on `Rattle.fd.a.f.first`, which "
+            "was rejected, were not checked"
+        )
+        self.assertEqual(
+            self.verdict(line, "fn fd::a::f: not proved")[:46], "shows nothing: only a proof file names what it"
+        )
         more = "./proofs/a/f/Answers.antt:9:1: error: `returns-clause-value`: `grind` found no proof"
         self.assertEqual(self.verdict(line, more, "fn fd::a::f: not proved"), "refused: a::f: returns-clause-value")
-
-    def test_names_that_are_gone_elsewhere(self):
-        """A proof file of another function says nothing of this one."""
-        line = "./proofs/a/g/Answers.antt:3:1: error: `x` is not in scope"
-        self.assertEqual(self.verdict(line, "fn fd::a::f: not proved"), "refused: a::f: not proved")
 
 
 KINDS = folders.TESTS / "edits_of_each_kind"
@@ -311,7 +316,10 @@ class RealProver(unittest.TestCase):
         with tempfile.TemporaryDirectory() as kept:
             words = ["fd_snap", "--folder", os.path.relpath(KINDS, folders.TOP / "crates/fd_snap"), "--kept", kept]
             ran = subprocess.run([folders.CHECKS / "try_edits", *words], capture_output=True, text=True, check=False)
-        found = dict(re.match(r"fd_snap/(\w+): (refused|proves|shows nothing)\b", line).groups() for line in ran.stdout.splitlines()[:-1])
+        found = dict(
+            re.match(r"fd_snap/(\w+): (refused|proves|shows nothing)\b", line).groups()
+            for line in ran.stdout.splitlines()[:-1]
+        )
         wanted = {file.stem: file.read_text().splitlines()[0].removeprefix("# ") for file in KINDS.glob("*.edit")}
         self.assertEqual((ran.returncode, found), (1, wanted), ran.stdout + ran.stderr)
         self.assertGreater(len(wanted), 6)

@@ -1,5 +1,6 @@
 #!/usr/bin/env python3
-"""test_viewer: tries the viewer: its server's doors, its run, and the page in a real browser (where Chromium and chromedriver are installed).
+"""test_viewer: tries the viewer: its server's doors, its run, and the page in a real browser (where Chromium and
+chromedriver are installed).
 
     tests/test_viewer.py [TEST ..]
 
@@ -8,12 +9,14 @@ FRAMEDBG names another program, EXAMPLES another folder of examples.
 import folders
 
 import passed_over
-from test_viewer_answers import *   # noqa: F401, F403
-from test_viewer_blame import *     # noqa: F401, F403
-from test_viewer_looks import *    # noqa: F401, F403
-from test_viewer_maps import *     # noqa: F401, F403
-from test_viewer_page import *     # noqa: F401, F403
-from test_viewer_server import *   # noqa: F401, F403
+from test_viewer_answers import *  # noqa: F401, F403
+from test_viewer_beside import *  # noqa: F401, F403
+from test_viewer_blame import *  # noqa: F401, F403
+from test_viewer_card import *  # noqa: F401, F403
+from test_viewer_looks import *  # noqa: F401, F403
+from test_viewer_maps import *  # noqa: F401, F403
+from test_viewer_page import *  # noqa: F401, F403
+from test_viewer_server import *  # noqa: F401, F403
 from test_viewer_what_if import *  # noqa: F401, F403
 
 if __name__ == "__main__":

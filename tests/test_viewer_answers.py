@@ -1,5 +1,7 @@
-"""What the viewer's page answers beyond framedbg's replies: who set a state, how a colour came about, what met a pixel. In Chromium, and in Firefox where it is installed."""
+"""What the viewer's page answers beyond framedbg's replies: who set a state, how a colour came about, what met a
+pixel. In Chromium, and in Firefox where it is installed."""
 import json
+import pathlib
 import random
 import tempfile
 import threading
@@ -13,8 +15,18 @@ import reference
 from viewer_hands import Hands
 from viewer_testing import HOUSE, PROGRAM, Viewer, asked, capture_of, file_of, replies, vertices
 from viewer.runs import Runs
+from viewer.tabs import joined
 
-FACTORS = ["ZERO", "ONE", "SRC_ALPHA", "INV_SRC_ALPHA", "DEST_ALPHA", "INV_DEST_ALPHA", "BLEND_FACTOR", "INV_BLEND_FACTOR"]
+FACTORS = [
+    "ZERO",
+    "ONE",
+    "SRC_ALPHA",
+    "INV_SRC_ALPHA",
+    "DEST_ALPHA",
+    "INV_DEST_ALPHA",
+    "BLEND_FACTOR",
+    "INV_BLEND_FACTOR",
+]
 COLOURS = ["SRC_COLOR", "INV_SRC_COLOR", "DEST_COLOR", "INV_DEST_COLOR"]
 OPERATIONS = ["ADD", "SUBTRACT", "REV_SUBTRACT", "MIN", "MAX"]
 # What the page makes of entries that were drawn, without what framedbg replied
@@ -56,10 +68,15 @@ class Answers(Hands):
 
     def setters(self):
         """Who set each part of the state, in the order of the table."""
-        return self.browser.run("return [...document.querySelectorAll('#state-table dd')].map(e => [...e.querySelectorAll('.setter')].map(s => s.innerText).join(' ')).filter(said => said)")
+        return self.browser.run(
+            "return [...document.querySelectorAll('#state-table dd')].map(e => "
+            "[...e.querySelectorAll('.setter')].map(s => s.innerText).join(' ')).filter(said => said)"
+        )
 
     def sum(self):
-        return self.browser.run("return [...document.querySelectorAll('#sum > div')].map(e => e.innerText.replace(/\\s+/g, ' ').trim())")
+        return self.browser.run(
+            "return [...document.querySelectorAll('#sum > div')].map(e => e.innerText.replace(/\\s+/g, ' ').trim())"
+        )
 
     def test_who_set_the_state(self):
         with Viewer(HOUSE) as viewer:
@@ -71,7 +88,7 @@ class Answers(Hands):
             self.comes(self.setters, ["set by 8 off", *["as at the start"] * 4])
             self.browser.click("#state-table .setter.go")
             self.at(8)
-            self.comes(self.setters, ["as at the start"] * 5)               # before the event, when its state is told; and after it
+            self.comes(self.setters, ["as at the start"] * 5)  # before the event, when its state is told; and after it
             self.browser.click("[data-state='next']")
             self.comes(self.setters, ["set by 8 off", *["as at the start"] * 4])
             self.browser.click("[data-state='with']")
@@ -84,16 +101,30 @@ class Answers(Hands):
 
     def test_each_part_has_its_own_event(self):
         """A scissor rectangle is set by one event and switched on by another."""
-        states = [{"kind": "raster", "cull": "none", "front_ccw": False, "scissor": True}, {"kind": "scissor", "rect": [1, 1, 7, 7]}, {"kind": "factor", "color": [1, 2, 3, 4]},
-                  {"kind": "depth", "enable": True, "write": True, "func": "LESS"}, {"kind": "factor", "color": [5, 6, 7, 8]}]
+        states = [
+            {"kind": "raster", "cull": "none", "front_ccw": False, "scissor": True},
+            {"kind": "scissor", "rect": [1, 1, 7, 7]},
+            {"kind": "factor", "color": [1, 2, 3, 4]},
+            {"kind": "depth", "enable": True, "write": True, "func": "LESS"},
+            {"kind": "factor", "color": [5, 6, 7, 8]},
+        ]
         with tempfile.TemporaryDirectory() as folder:
             self.shows(capture_of(8, 8, states, 2), folder)
             self.browser.click("[data-state='next']")
-            names = self.browser.run("return [...document.querySelectorAll('#state-table dd')].filter(e => e.querySelector('.setter')).map(e => e.previousElementSibling.innerText)")
+            names = self.browser.run(
+                "return [...document.querySelectorAll('#state-table dd')].filter(e => "
+                "e.querySelector('.setter')).map(e => e.previousElementSibling.innerText)"
+            )
             self.assertEqual(names, ["blend", "factor", "cull", "scissor", "rect", "depth"])
-            self.comes(self.setters, ["as at the start", "set by 5 off", "set by 1 off", "set by 1 off", "set by 2 off", "set by 4 off"])
+            self.comes(
+                self.setters,
+                ["as at the start", "set by 5 off", "set by 1 off", "set by 1 off", "set by 2 off", "set by 4 off"],
+            )
             self.browser.click("#state-table dd:nth-of-type(5) .setter.off")
-            self.comes(self.setters, ["as at the start", "set by 3 off", "set by 1 off", "set by 1 off", "set by 2 off", "set by 4 off"])
+            self.comes(
+                self.setters,
+                ["as at the start", "set by 3 off", "set by 1 off", "set by 1 off", "set by 2 off", "set by 4 off"],
+            )
             self.comes(lambda: self.state()["factor"], "1 2 3 4")
 
     def test_the_sum_under_an_entry(self):
@@ -102,40 +133,76 @@ class Answers(Hands):
             self.at(13)
             self.click_pixel(50, 50, 96)
             self.browser.until("return document.querySelectorAll('#history .entry').length === 4")
-            self.comes(self.sum, [])                                        # the last event did nothing to this pixel
+            self.comes(self.sum, [])  # the last event did nothing to this pixel
             self.choose_entry(11)
-            self.comes(self.sum, ["R 190 × 128/255 + 60 × 127/255 = 125.25 → 125", "G 60 × 128/255 + 130 × 127/255 = 94.86 → 95",
-                                  "B 50 × 128/255 + 60 × 127/255 = 54.98 → 55", "A 128 × 255/255 + 255 × 0/255 = 128.00 → 128"])
+            self.comes(
+                self.sum,
+                [
+                    "R 190 × 128/255 + 60 × 127/255 = 125.25 → 125",
+                    "G 60 × 128/255 + 130 × 127/255 = 94.86 → 95",
+                    "B 50 × 128/255 + 60 × 127/255 = 54.98 → 55",
+                    "A 128 × 255/255 + 255 × 0/255 = 128.00 → 128",
+                ],
+            )
             self.choose_entry(2)
             self.comes(self.sum, ["a clear: each pixel has its colour, whatever the state"])
             self.assertEqual(self.browser.run("return document.querySelectorAll('#sum .differs').length"), 0)
 
     def test_why_a_triangle_was_thrown_away(self):
-        events = [{"kind": "depth", "enable": True, "write": True, "func": "LESS"}, {"kind": "raster", "cull": "back", "front_ccw": False, "scissor": True},
-                  {"kind": "scissor", "rect": [0, 0, 4, 8]}]
-        one = {"kind": "draw", "interp": "flat", "vertices": vertices(*(((0, 0, 1000, [9, 8, 7, 6]), (16, 0, 1000, [1] * 4), (0, 16, 1000, [1] * 4))))}
+        events = [
+            {"kind": "depth", "enable": True, "write": True, "func": "LESS"},
+            {"kind": "raster", "cull": "back", "front_ccw": False, "scissor": True},
+            {"kind": "scissor", "rect": [0, 0, 4, 8]},
+        ]
+        one = {
+            "kind": "draw",
+            "interp": "flat",
+            "vertices": vertices(*(((0, 0, 1000, [9, 8, 7, 6]), (16, 0, 1000, [1] * 4), (0, 16, 1000, [1] * 4)))),
+        }
         far = {**one, "vertices": [{**vertex, "z": 2000} for vertex in one["vertices"]]}
         events += [one, far, {**one, "vertices": one["vertices"][::-1]}]
         with tempfile.TemporaryDirectory() as folder:
             self.shows(capture_of(8, 8, events, 2), folder)
             self.click_pixel(1, 1, 8)
-            self.comes(self.sum, ["thrown away: cull is back, the front is clockwise, and this triangle shows its back"])
+            self.comes(
+                self.sum, ["thrown away: cull is back, the front is clockwise, and this triangle shows its back"]
+            )
             self.choose_entry(5)
             self.comes(self.sum, ["thrown away: the depth test (2000 < 1000) doesn't hold"])
             self.choose_entry(4)
-            self.comes(self.sum, [*(f"{name} {value}, as blending is off → {value}" for name, value in zip("RGBA", (9, 8, 7, 6))), "the depth test (1000 < 65535) holds: 1000 is stored"])
+            self.comes(
+                self.sum,
+                [
+                    *(f"{name} {value}, as blending is off → {value}" for name, value in zip("RGBA", (9, 8, 7, 6))),
+                    "the depth test (1000 < 65535) holds: 1000 is stored",
+                ],
+            )
             self.click_pixel(6, 2, 8)
             self.comes(self.sum, ["thrown away: 6 2 is outside of the scissor rectangle 0 0 to 4 8"])
 
     def test_why_a_pixel_was_discarded(self):
         """By a hole of the draw's picture, and beyond it; where there is a texel the sum takes that for the source."""
         box = captures.picture(0, 0, 2, 2, bytes([9, 8, 7, 6] * 4), [0, 1, 0, 0])
-        blend = {"kind": "blend", "enable": True, "rgb": ["ONE", "ONE", "ADD"], "alpha": ["ONE", "ONE", "ADD"], "mask": 15}
+        blend = {
+            "kind": "blend",
+            "enable": True,
+            "rgb": ["ONE", "ONE", "ADD"],
+            "alpha": ["ONE", "ONE", "ADD"],
+            "mask": 15,
+        }
         corners = [captures.corner(x << 16, y << 16, 0) for x, y in ((0, 0), (16, 0), (0, 16))]
         with tempfile.TemporaryDirectory() as folder:
-            self.shows(capture_of(8, 8, [captures.clear(1, 1, 1, 1), blend, captures.picture_draw(corners, box)], 3), folder)
+            self.shows(
+                capture_of(8, 8, [captures.clear(1, 1, 1, 1), blend, captures.picture_draw(corners, box)], 3), folder
+            )
             self.click_pixel(0, 0, 8)
-            self.comes(self.sum, [f"{name} {value} × 255/255 + 1 × 255/255 = {value + 1}.00 → {value + 1}" for name, value in zip("RGBA", (9, 8, 7, 6))])
+            self.comes(
+                self.sum,
+                [
+                    f"{name} {value} × 255/255 + 1 × 255/255 = {value + 1}.00 → {value + 1}"
+                    for name, value in zip("RGBA", (9, 8, 7, 6))
+                ],
+            )
             self.click_pixel(1, 0, 8)
             self.comes(self.sum, ["thrown away: the draw's picture has no colour at 1 0"])
             self.click_pixel(4, 4, 8)
@@ -143,27 +210,58 @@ class Answers(Hands):
             self.browser.press("t")
             self.reads("#mesh-told", "1, with a picture of 2 by 2 at 0 0")
             self.comes(self.corners, ["0 clockwise: front, area 128", "0 0 0 0", "1 16 0 0", "2 0 16 0"])
-            self.assertEqual(self.browser.run("return document.querySelector('[data-number=\"3\"] .what').innerText"), "1 triangle, a picture")
+            self.assertEqual(
+                self.browser.run("return document.querySelector('[data-number=\"3\"] .what').innerText"),
+                "1 triangle, a picture",
+            )
 
     def test_a_sum_knows_the_state_before(self):
         """A draw's state is the one before it, also where another is marked in the table."""
-        blend = {"kind": "blend", "enable": True, "rgb": ["ONE", "ONE", "ADD"], "alpha": ["ONE", "ONE", "ADD"], "mask": 7}
-        events = [blend, {"kind": "draw", "interp": "flat", "vertices": vertices(*((x, y, [9, 8, 250, 6]) for x, y in ((0, 0), (16, 0), (0, 16))))}]
+        blend = {
+            "kind": "blend",
+            "enable": True,
+            "rgb": ["ONE", "ONE", "ADD"],
+            "alpha": ["ONE", "ONE", "ADD"],
+            "mask": 7,
+        }
+        events = [
+            blend,
+            {
+                "kind": "draw",
+                "interp": "flat",
+                "vertices": vertices(*((x, y, [9, 8, 250, 6]) for x, y in ((0, 0), (16, 0), (0, 16)))),
+            },
+        ]
         with tempfile.TemporaryDirectory() as folder:
             self.shows(capture_of(8, 8, [*events, events[1]]), folder)
             self.click_pixel(1, 1, 8)
-            self.comes(self.sum, ["R 9 × 255/255 + 9 × 255/255 = 18.00 → 18", "G 8 × 255/255 + 8 × 255/255 = 16.00 → 16", "B 250 × 255/255 + 250 × 255/255 = 500.00 → 255",
-                                  "A not written → 0"])
+            self.comes(
+                self.sum,
+                [
+                    "R 9 × 255/255 + 9 × 255/255 = 18.00 → 18",
+                    "G 8 × 255/255 + 8 × 255/255 = 16.00 → 16",
+                    "B 250 × 255/255 + 250 × 255/255 = 500.00 → 255",
+                    "A not written → 0",
+                ],
+            )
             self.browser.click("[data-state='next']")
             self.browser.click(self.row(1) + " input")
-            self.comes(self.sum, [f"{name} {value}, as blending is off → {value}" for name, value in zip("RGBA", (9, 8, 250, 6))])
+            self.comes(
+                self.sum,
+                [f"{name} {value}, as blending is off → {value}" for name, value in zip("RGBA", (9, 8, 250, 6))],
+            )
 
     def test_the_sum_is_the_definitions(self):
         """Of states and colours by chance, beside the definition of blending."""
         dice, asked = random.Random(5), []
         for _ in range(3000):
-            rgb, alpha = ([*dice.choices(factors, k=2), dice.choice(OPERATIONS)] for factors in (FACTORS + COLOURS, FACTORS))
-            colours = {name: [dice.choice((0, 255, dice.randrange(256))) for _ in range(4)] for name in ("source", "before", "factor")}
+            rgb, alpha = (
+                [*dice.choices(factors, k=2), dice.choice(OPERATIONS)] for factors in (FACTORS + COLOURS, FACTORS)
+            )
+            colours = {
+                name: [dice.choice((0, 255, dice.randrange(256))) for _ in range(4)]
+                for name in ("source", "before", "factor")
+            }
             asked.append({**colours, "blend": [dice.random() < 0.8, rgb, alpha, dice.choice((15, dice.randrange(16)))]})
         with Viewer(HOUSE) as viewer:
             self.open(viewer)
@@ -171,7 +269,9 @@ class Answers(Hands):
             found = self.within(SUMS, asked)
         for given, made in zip(asked, found):
             state = {"blend": given["blend"], "factor": given["factor"]}
-            self.assertEqual([ours for _, ours in made], list(reference.blend(state, given["source"], given["before"])), given)
+            self.assertEqual(
+                [ours for _, ours in made], list(reference.blend(state, given["source"], given["before"])), given
+            )
 
     def test_a_sum_that_differs_is_marked(self):
         """Where page and program differ, the page says so: here it is told of another source than was drawn."""
@@ -184,7 +284,10 @@ class Answers(Hands):
             self.comes(lambda: len(self.sum()), 4)
             self.within("const { frame } = await import(name('frame.js')); frame.entries.at(-1).source.r = 200;")
             self.browser.press("Escape", "Left", "Right")
-            self.comes(lambda: self.sum()[:1], ["R 200 × 128/255 + 60 × 127/255 = 130.27 → 125 (this page makes 130 of it: please tell its makers)"])
+            self.comes(
+                lambda: self.sum()[:1],
+                ["R 200 × 128/255 + 60 × 127/255 = 130.27 → 125 (this page makes 130 of it: please tell its makers)"],
+            )
 
     # ---- Places
 
@@ -193,7 +296,9 @@ class Answers(Hands):
         return self.browser.run("return location.hash")
 
     def off(self):
-        return self.browser.run("return [...document.querySelectorAll('#event-list .event.off')].map(e => e.dataset.number).join()")
+        return self.browser.run(
+            "return [...document.querySelectorAll('#event-list .event.off')].map(e => e.dataset.number).join()"
+        )
 
     def asked(self):
         return self.browser.run("return [...document.querySelectorAll('#log .asked')].map(e => e.innerText)")
@@ -215,11 +320,11 @@ class Answers(Hands):
             self.browser.run("location.hash = '#at=99&pixel=96,5'")
             self.at(13)
             self.comes(self.off, "")
-            self.reads("#place", "5 5")                                     # there is no pixel 96 5
+            self.reads("#place", "5 5")  # there is no pixel 96 5
             for text in ("#pixel=1,1", "#at=x", "#at=-3"):
                 self.browser.run("location.hash = arguments[0]", text)
             self.browser.press("Escape", "Left")
-            self.comes(self.address, "#at=12&pixel=5,5")                    # those were no places
+            self.comes(self.address, "#at=12&pixel=5,5")  # those were no places
 
     def test_a_place_outlasts_a_reload(self):
         """And what was told of since then is a session that leads there."""
@@ -235,7 +340,9 @@ class Answers(Hands):
             self.comes(self.off, "8")
             self.reads("#place", "50 50")
             session = self.asked()
-            self.assertEqual(replies(HOUSE, [*session, "pixel 50 50", "events"])[-15:-13], ["pixel 190 60 50 128", "events 13 at 11"])
+            self.assertEqual(
+                replies(HOUSE, [*session, "pixel 50 50", "events"])[-15:-13], ["pixel 190 60 50 128", "events 13 at 11"]
+            )
 
     # ---- Runs beside
 
@@ -251,12 +358,14 @@ class Answers(Hands):
                 self.click_pixel(x, y, 96)
                 self.reads("#place", f"{x} {y}")
                 self.comes(lambda: len(self.history()), entries)
-            self.assertEqual(viewer.session.lines - before, 4)               # the way here and the pixel, twice
+            self.assertEqual(viewer.session.lines - before, 4)  # the way here and the pixel, twice
             self.browser.click(self.row(3) + " input")
             self.comes(lambda: len(self.history()), 1)
-            told = self.browser.run("return [...document.querySelectorAll('#log .told')].map(e => [...e.children].map(c => c.innerText))")
+            told = self.browser.run(
+                "return [...document.querySelectorAll('#log .told')].map(e => [...e.children].map(c => c.innerText))"
+            )
             own = [line for line in replies(HOUSE, [asked for asked, *_ in told]) if not line[0].isdigit()]
-            self.assertEqual([reply for _, reply, *_ in told], own)          # what the page tells of is a session of framedbg
+            self.assertEqual([reply for _, reply, *_ in told], own)  # what the page tells of is a session of framedbg
 
     # ---- Moves
 
@@ -266,12 +375,28 @@ class Answers(Hands):
         with Viewer(HOUSE) as viewer:
             self.open(viewer)
             self.at(13)
-            whole = {position: asked(PROGRAM, HOUSE, [f"goto {position}", "show"]).stdout[-few:] for position in range(14)}
+            whole = {
+                position: asked(PROGRAM, HOUSE, [f"goto {position}", "show"]).stdout[-few:] for position in range(14)
+            }
             opaque = lambda data: [255 if i % 4 == 3 else v for i, v in enumerate(data)]
             pixels = "return [...document.getElementById('image').getContext('2d').getImageData(0, 0, 96, 64).data]"
-            shows = lambda position: self.browser.run(pixels) == opaque(whole[position])         # how they differ would take minutes to tell
+            shows = lambda position: self.browser.run(pixels) == opaque(
+                whole[position]
+            )  # how they differ would take minutes to tell
             self.browser.press("Escape")
-            for key, position in (("Left", 12), ("Left", 11), ("Left", 10), ("Right", 11), ("Right", 12), ("Home", 0), ("Right", 1), ("Right", 2), ("Right", 3), ("End", 13), ("Left", 12)):
+            for key, position in (
+                ("Left", 12),
+                ("Left", 11),
+                ("Left", 10),
+                ("Right", 11),
+                ("Right", 12),
+                ("Home", 0),
+                ("Right", 1),
+                ("Right", 2),
+                ("Right", 3),
+                ("End", 13),
+                ("Left", 12),
+            ):
                 self.browser.press(key)
                 self.at(position)
                 self.comes(lambda: shows(position), True)
@@ -297,8 +422,11 @@ class Answers(Hands):
 
     def test_rows_stay_and_are_right(self):
         """Of the list of events those rows alone are made anew that look otherwise after a move."""
-        rows = ("return [...document.querySelectorAll('#event-list .event')].map(e => [+e.dataset.number, e.classList.contains('ahead'), e.classList.contains('hit'),"
-                "e.getAttribute('aria-selected') === 'true'])")
+        rows = (
+            "return [...document.querySelectorAll('#event-list .event')].map(e => [+e.dataset.number, "
+            "e.classList.contains('ahead'), e.classList.contains('hit'),"
+            "e.getAttribute('aria-selected') === 'true'])"
+        )
         with Viewer(HOUSE) as viewer:
             self.open(viewer)
             self.at(13)
@@ -310,39 +438,59 @@ class Answers(Hands):
             for key, position in (("Left", 12), ("Left", 11), ("Right", 12), ("Home", 0), ("End", 13)):
                 self.browser.press(key)
                 self.at(position)
-                self.comes(lambda: self.browser.run(rows), [[n, n > position, n in (2, 3, 6, 11), n == position] for n in range(1, 14)])
+                self.comes(
+                    lambda: self.browser.run(rows),
+                    [[n, n > position, n in (2, 3, 6, 11), n == position] for n in range(1, 14)],
+                )
                 if key == "Right":
                     self.assertTrue(self.browser.run("return document.querySelector(arguments[0]).marked", self.row(4)))
 
     def test_entries_follow_the_position(self):
         """Which entries of the history are ahead, which is the last event's, and which one's triangle is outlined."""
-        rows = ("return [...document.querySelectorAll('#history .entry')].map(e => [+e.dataset.event, e.classList.contains('ahead'), e.getAttribute('aria-selected') === 'true',"
-                "e.classList.contains('outlined')])")
+        rows = (
+            "return [...document.querySelectorAll('#history .entry')].map(e => [+e.dataset.event, "
+            "e.classList.contains('ahead'), e.getAttribute('aria-selected') === 'true',"
+            "e.classList.contains('outlined')])"
+        )
         with Viewer(HOUSE) as viewer:
             self.open(viewer)
             self.at(13)
             self.click_pixel(50, 50, 96)
-            expected = lambda position, outlined=None: [[n, n > position, n == position, n == outlined] for n in (2, 3, 6, 11)]
+            expected = lambda position, outlined=None: [
+                [n, n > position, n == position, n == outlined] for n in (2, 3, 6, 11)
+            ]
             self.comes(lambda: self.browser.run(rows), expected(13))
             self.browser.press("Escape", "Left", "Left")
             self.comes(lambda: self.browser.run(rows), expected(11))
-            self.browser.click("#history [data-event='11']")                # which moves nothing
+            self.browser.click("#history [data-event='11']")  # which moves nothing
             self.comes(lambda: self.browser.run(rows), expected(11, 11))
             self.choose_entry(6)
             self.comes(lambda: self.browser.run(rows), expected(6, 6))
-            for key, position, outlined in (("Right", 7, 6), ("End", 13, 6), ("Left", 12, 6), ("Home", 0, None), ("End", 13, None)):
+            for key, position, outlined in (
+                ("Right", 7, 6),
+                ("End", 13, 6),
+                ("Left", 12, 6),
+                ("Home", 0, None),
+                ("End", 13, None),
+            ):
                 self.browser.press("Escape", key)
                 self.at(position)
                 self.comes(lambda: self.browser.run(rows), expected(position, outlined))
 
     def test_marks_over_the_slider(self):
         """Of all events, of those that write higher ones, and the highest of those that wrote the chosen pixel."""
-        seen = ("return [13, 8, 3].map(y => { const { width } = document.getElementById('ticks'), row = document.getElementById('ticks').getContext('2d').getImageData(0, y, width, 1).data;"
-                "let count = 0; for (let i = 3; i < row.length; i += 4) count += row[i] > 0 && !(i > 3 && row[i - 4] > 0); return count; })")
+        seen = (
+            "return [13, 8, 3].map(y => { const { width } = document.getElementById('ticks'), row = "
+            "document.getElementById('ticks').getContext('2d').getImageData(0, y, width, 1).data;"
+            "let count = 0; for (let i = 3; i < row.length; i += 4) count += row[i] > 0 && !(i > 3 && row[i - "
+            "4] > 0); return count; })"
+        )
         with Viewer(HOUSE) as viewer:
             self.open(viewer)
             self.at(13)
-            writes = sum(event["kind"] in ("clear", "draw", "depth_clear") for event in json.loads(HOUSE.read_bytes())["events"])
+            writes = sum(
+                event["kind"] in ("clear", "draw", "depth_clear") for event in json.loads(HOUSE.read_bytes())["events"]
+            )
             self.comes(lambda: self.browser.run(seen), [13, writes, 0])
             for x, y, entries in ((50, 50, 4), (5, 5, 2), (50, 50, 4)):
                 self.click_pixel(x, y, 96)
@@ -351,48 +499,72 @@ class Answers(Hands):
 
     def test_a_film(self):
         """It plays from where the frame stands to its end, by each event, and a key stops it."""
-        seen = "new MutationObserver(() => { (window.seen ??= []).push(document.querySelector('#position b').innerText); }).observe(document.getElementById('position'), { childList: true });"
+        seen = (
+            "new MutationObserver(() => { (window.seen ??= []).push(document.querySelector('#position "
+            "b').innerText); }).observe(document.getElementById('position'), { childList: true });"
+        )
         with Viewer(HOUSE) as viewer:
             self.open(viewer)
             self.at(13)
             self.browser.run(seen)
             began = time.monotonic()
-            self.browser.press("Escape", "f")                               # at the end: from the start
+            self.browser.press("Escape", "f")  # at the end: from the start
             self.comes(lambda: self.browser.run("return (window.seen ?? []).join(' ')"), " ".join(map(str, range(14))))
             each = (time.monotonic() - began) / 14
-            self.comes(lambda: self.browser.run("return document.getElementById('play').getAttribute('aria-pressed')"), "false")
+            self.comes(
+                lambda: self.browser.run("return document.getElementById('play').getAttribute('aria-pressed')"), "false"
+            )
             self.browser.press("Home")
             self.at(0)
-            self.browser.run(ONCE)                                          # in the page, where no film is over before the key comes
+            self.browser.run(ONCE)  # in the page, where no film is over before the key comes
             self.browser.press("f")
             self.browser.until("return window.pressed")
             self.assertLess(self.comes_to_rest(each), 13)
 
     def test_the_slider_is_dragged(self):
-        """Every so many pixels of a large target come meanwhile, the very ones, which the page says; and all of them once the hand rests."""
-        corners = lambda left, top, colour, by=20: vertices((left, top, colour), (left + 70 * by, top, [255, 9, 80, 255]), (left, top + 55 * by, [7, 250, 130, 255]))
-        events = [{"kind": "clear", "color": [20, 30, 40, 255]}] + [{"kind": "draw", "interp": "linear", "vertices": corners(50 * i, 40 * i, [40 * i, 90, 255 - 30 * i, 255])} for i in range(6)]
-        events += [{"kind": "draw", "interp": "linear", "vertices": corners(333 * i, 111 * i, [9, 200, 90, 255], 1)} for i in range(2)]      # small ones, whose pixels alone are asked for
-        drag = ("const [way, done] = arguments, slider = document.getElementById('slider'), image = document.getElementById('image');"
-                "const pixels = () => new Uint32Array(image.getContext('2d').getImageData(0, 0, image.width, image.height).data.buffer);"
-                "const here = () => +document.querySelector('#position b').innerText === way[0], told = () => document.getElementById('difference').innerText;"
-                "const until = (holds, go) => holds() ? go() : setTimeout(() => until(holds, go), 5);"
-                "const drag = () => { slider.value = way[0]; slider.dispatchEvent(new Event('input')); }, hand = setInterval(drag, 20);"        # which trembles until it lets go
-                "const go = () => until(here, () => { if (way.length === 1) return letGo(); way.shift(); drag(); go(); });"
-                "const letGo = () => { clearInterval(hand); const few = [image.width, pixels(), told()];"
-                "  until(() => image.width === 1900, () => { const all = pixels(), every = Math.round(1900 / few[0]);"
-                "    done([few[0], image.width, few[2], told(), few[1].every((word, i) => word === all[Math.floor(i / few[0]) * every * 1900 + i % few[0] * every])]); }); };"
-                "drag(); go();")
+        """Every so many pixels of a large target come meanwhile, the very ones, which the page says; and all of them
+        once the hand rests."""
+        corners = lambda left, top, colour, by=20: vertices(
+            (left, top, colour), (left + 70 * by, top, [255, 9, 80, 255]), (left, top + 55 * by, [7, 250, 130, 255])
+        )
+        events = [{"kind": "clear", "color": [20, 30, 40, 255]}] + [
+            {"kind": "draw", "interp": "linear", "vertices": corners(50 * i, 40 * i, [40 * i, 90, 255 - 30 * i, 255])}
+            for i in range(6)
+        ]
+        events += [
+            {"kind": "draw", "interp": "linear", "vertices": corners(333 * i, 111 * i, [9, 200, 90, 255], 1)}
+            for i in range(2)
+        ]  # small ones, whose pixels alone are asked for
+        drag = (
+            "const [way, done] = arguments, slider = document.getElementById('slider'), image = "
+            "document.getElementById('image');"
+            "const pixels = () => new Uint32Array(image.getContext('2d').getImageData(0, 0, image.width, "
+            "image.height).data.buffer);"
+            "const here = () => +document.querySelector('#position b').innerText === way[0], told = () => "
+            "document.getElementById('difference').innerText;"
+            "const until = (holds, go) => holds() ? go() : setTimeout(() => until(holds, go), 5);"
+            # which trembles until it lets go
+            "const drag = () => { slider.value = way[0]; slider.dispatchEvent(new Event('input')); }, hand = "
+            "setInterval(drag, 20);"
+            "const go = () => until(here, () => { if (way.length === 1) return letGo(); way.shift(); drag(); go(); });"
+            "const letGo = () => { clearInterval(hand); const few = [image.width, pixels(), told()];"
+            "  until(() => image.width === 1900, () => { const all = pixels(), every = Math.round(1900 / few[0]);"
+            "    done([few[0], image.width, few[2], told(), few[1].every((word, i) => word === all[Math.floor(i "
+            "/ few[0]) * every * 1900 + i % few[0] * every])]); }); };"
+            "drag(); go();"
+        )
         with tempfile.TemporaryDirectory() as folder, Viewer(file_of(folder, capture_of(1900, 1500, events))) as viewer:
             self.open(viewer)
             self.at(9)
             for way in ([3], [1], [6, 8, 7]):
                 few, all_of_it, told, rest, is_so = self.browser.run_to_end(drag, way)
-                every = {950: "2nd", 634: "3rd", 475: "4th", 380: "5th"}[few]       # as wide as the window lets the picture be
+                every = {950: "2nd", 634: "3rd", 475: "4th", 380: "5th"}[
+                    few
+                ]  # as wide as the window lets the picture be
                 self.assertEqual((all_of_it, told), (1900, f"every {every} pixel, while the slider is dragged"))
                 self.assertTrue(is_so)
                 self.assertIn("changed", rest)
-            self.browser.press("Escape", "c")                               # no other look is shown by fewer pixels
+            self.browser.press("Escape", "c")  # no other look is shown by fewer pixels
             few, _, told, *_ = self.browser.run_to_end(drag, [5])
             self.assertEqual((few, "dragged" in told), (1900, False))
 
@@ -411,7 +583,10 @@ class Answers(Hands):
 
     def corners(self):
         """The rows of the table of corners."""
-        return self.browser.run("return [...document.querySelectorAll('#vertices .row')].map(e => [...e.children].map(c => c.innerText).filter(said => said).join(' '))")
+        return self.browser.run(
+            "return [...document.querySelectorAll('#vertices .row')].map(e => [...e.children].map(c => "
+            "c.innerText).filter(said => said).join(' '))"
+        )
 
     def test_the_triangles_of_a_draw(self):
         """Outlined, with a table of corners; a click on one marks it."""
@@ -427,10 +602,18 @@ class Answers(Hands):
             for k, number in enumerate(event.get("indices", range(len(event["vertices"])))):
                 vertex = event["vertices"][number]
                 rows += [f"{k // 3} clockwise: front, area 384"] * (k % 3 == 0)
-                rows.append(f"{number} {vertex['x'] // 65536} {vertex['y'] // 65536} {' '.join(map(str, vertex['color']))}")
+                rows.append(
+                    f"{number} {vertex['x'] // 65536} {vertex['y'] // 65536} {' '.join(map(str, vertex['color']))}"
+                )
             self.comes(self.corners, rows)
-            wires = "const c = document.getElementById('wires'), [x, y] = arguments; const zoom = c.width / 96; return [...c.getContext('2d').getImageData(Math.round(x * zoom), Math.round(y * zoom), 1, 1).data]"
-            self.comes(lambda: self.browser.run(wires, 60, 48)[3] > 0, True)                 # on the edge from 76 36 to 44 60, which both have
+            wires = (
+                "const c = document.getElementById('wires'), [x, y] = arguments; const zoom = c.width / 96; "
+                "return [...c.getContext('2d').getImageData(Math.round(x * zoom), Math.round(y * zoom), 1, "
+                "1).data]"
+            )
+            self.comes(
+                lambda: self.browser.run(wires, 60, 48)[3] > 0, True
+            )  # on the edge from 76 36 to 44 60, which both have
             self.assertEqual(self.browser.run(wires, 50, 40), [0, 0, 0, 0])
             self.browser.click("#vertices .row:nth-child(3)")
             left, top, width, _ = self.box("#sheet")
@@ -440,7 +623,13 @@ class Answers(Hands):
             self.browser.press("Escape", "Left")
             self.at(10)
             self.reads("#mesh-told", "the last event is no draw")
-            self.assertEqual(self.browser.run("return ['#wires', '#mark', '#vertices .row'].map(s => document.querySelector(s)?.checkVisibility() ?? false)"), [False] * 3)
+            self.assertEqual(
+                self.browser.run(
+                    "return ['#wires', '#mark', '#vertices .row'].map(s => "
+                    "document.querySelector(s)?.checkVisibility() ?? false)"
+                ),
+                [False] * 3,
+            )
             self.browser.press("t")
             self.comes(lambda: self.browser.run("return document.getElementById('mesh').hidden"), True)
 
@@ -453,13 +642,24 @@ class Answers(Hands):
         shapes += [(0, 0), (65536 + 128, 0), (2 * 65536, 1), (0, 0), (65536, 128), (2 * 65536, 384)]
         corners = [{"x": x, "y": y, "z": 7 * i, "color": [i % 256] * 4} for i, (x, y) in enumerate(shapes)]
         indices = [*range(len(corners)), 0, 1][::-1]
-        events = [{"kind": "raster", "cull": "back", "front_ccw": True, "scissor": False}, {"kind": "draw", "interp": "linear", "vertices": corners, "indices": indices}]
+        events = [
+            {"kind": "raster", "cull": "back", "front_ccw": True, "scissor": False},
+            {"kind": "draw", "interp": "linear", "vertices": corners, "indices": indices},
+        ]
         told = []
-        for k in range(len(indices) // 3):
-            twice = reference.cross(*([reference.nearest_even(v) for v in shapes[i]] for i in indices[3 * k:3 * k + 3]))
+        for places, *_ in reference.Frame(json.loads(capture_of(8, 8, events, 2))).events[1][1][0]:
+            twice = reference.cross(*places)
             side = "back, culled" if twice > 0 else "front"
-            area = f"{abs(twice) / 2 / 65536:.2f}".rstrip("0").rstrip(".") if abs(twice) / 2 / 65536 >= 0.01 else "below 0.01"
-            told.append(f"{'counter-' * (twice < 0)}clockwise: {side}, area {area}" if twice else "area zero: it covers no pixel")
+            area = (
+                f"{abs(twice) / 2 / 65536:.2f}".rstrip("0").rstrip(".")
+                if abs(twice) / 2 / 65536 >= 0.01
+                else "below 0.01"
+            )
+            told.append(
+                f"{'counter-' * (twice < 0)}clockwise: {side}, area {area}"
+                if twice
+                else "area zero: it covers no pixel"
+            )
         with tempfile.TemporaryDirectory() as folder:
             self.shows(capture_of(8, 8, events, 2), folder)
             self.browser.press("t")
@@ -477,7 +677,9 @@ class Answers(Hands):
         self.browser.run("const f = document.getElementById('filter'); f.value = arguments[0]; f.oninput()", words)
 
     def listed(self):
-        return self.browser.run("return [...document.querySelectorAll('#event-list .event')].map(e => e.dataset.number).join()")
+        return self.browser.run(
+            "return [...document.querySelectorAll('#event-list .event')].map(e => e.dataset.number).join()"
+        )
 
     def shows_writers(self, viewer):
         """House, with the pixel that four events wrote."""
@@ -493,7 +695,13 @@ class Answers(Hands):
             self.comes(self.off, "3")
             kinds = [event["kind"] for event in json.loads(HOUSE.read_text())["events"]]
             draws = ",".join(str(i) for i, kind in enumerate(kinds, 1) if kind == "draw")
-            for words, numbers, found in (("off", "3", "1 found"), ("wrote", "2,6,11", "3 found"), ("wrote draw", "6,11", "2 found"), ("DRAW", draws, f"{draws.count(',') + 1} found"), ("sing", "", "nothing found")):
+            for words, numbers, found in (
+                ("off", "3", "1 found"),
+                ("wrote", "2,6,11", "3 found"),
+                ("wrote draw", "6,11", "2 found"),
+                ("DRAW", draws, f"{draws.count(',') + 1} found"),
+                ("sing", "", "nothing found"),
+            ):
                 self.filtered(words)
                 self.comes(self.listed, numbers)
                 self.reads("#found", found)
@@ -511,7 +719,8 @@ class Answers(Hands):
             self.comes(self.listed, "2")
 
     def test_a_filter_before_the_history(self):
-        """A switch's history comes late, and the word before it: then those are listed that are known, and later those that there are."""
+        """A switch's history comes late, and the word before it: then those are listed that are known, and later
+        those that there are."""
         go, answer = threading.Event(), Runs.answer
         slow = lambda runs, lines, *more: (b"history 50 50" in lines and go.wait(120), answer(runs, lines, *more))[1]
         with Viewer(HOUSE) as viewer:
@@ -531,7 +740,7 @@ class Answers(Hands):
             self.at(13)
             self.browser.click(self.row(8) + " input")
             self.comes(self.off, "8")
-            self.browser.click(self.row(10) + " input")                     # a group
+            self.browser.click(self.row(10) + " input")  # a group
             self.comes(lambda: len(self.off().split(",")), 4)
             self.reads("#off-told", "4 events off")
             self.browser.click("#undo")
@@ -546,17 +755,28 @@ class Answers(Hands):
             self.assertFalse(self.browser.run("return document.getElementById('off-bar').checkVisibility()"))
 
     def test_a_pixel_is_moved_by_keys(self):
-        press = "for (const key of arguments) document.body.dispatchEvent(new KeyboardEvent('keydown', { key, shiftKey: true, bubbles: true }))"
+        press = (
+            "for (const key of arguments) document.body.dispatchEvent(new KeyboardEvent('keydown', { key, "
+            "shiftKey: true, bubbles: true }))"
+        )
         with Viewer(HOUSE) as viewer:
             self.open(viewer)
             self.at(13)
-            for key, place in (("ArrowRight", "48 32"), ("ArrowRight", "49 32"), ("ArrowDown", "49 33"), ("ArrowLeft", "48 33"), ("ArrowUp", "48 32")):
+            for key, place in (
+                ("ArrowRight", "48 32"),
+                ("ArrowRight", "49 32"),
+                ("ArrowDown", "49 33"),
+                ("ArrowLeft", "48 33"),
+                ("ArrowUp", "48 32"),
+            ):
                 self.browser.run(press, key)
                 self.reads("#place", place)
             self.at(13)
             self.browser.run("location.hash = '#at=13&pixel=95,63'")
             self.reads("#place", "95 63")
-            self.browser.run(press, "ArrowRight", "ArrowDown", "ArrowLeft", "ArrowLeft", "ArrowLeft")       # faster than any reply
+            self.browser.run(
+                press, "ArrowRight", "ArrowDown", "ArrowLeft", "ArrowLeft", "ArrowLeft"
+            )  # faster than any reply
             self.reads("#place", "92 63")
 
     def test_the_line_remembers(self):
@@ -566,7 +786,13 @@ class Answers(Hands):
             self.command("goto 4")
             self.command("pixel 1 1")
             self.browser.click("#command")
-            for key, text in (("Up", "pixel 1 1"), ("Up", "goto 4"), ("Up", "goto 4"), ("Down", "pixel 1 1"), ("Down", "")):
+            for key, text in (
+                ("Up", "pixel 1 1"),
+                ("Up", "goto 4"),
+                ("Up", "goto 4"),
+                ("Down", "pixel 1 1"),
+                ("Down", ""),
+            ):
                 self.browser.press(key)
                 self.assertEqual(self.browser.run("return document.getElementById('command').value"), text)
 
@@ -580,7 +806,9 @@ class Answers(Hands):
             self.at(0)
             kept = "return [...document.getElementById('bookmarks').options].map(o => o.value).slice(1)"
             self.assertEqual(self.browser.run(kept), ["at=11&pixel=50,50&off=8"])
-            self.browser.run("const list = document.getElementById('bookmarks'); list.value = list.options[1].value; list.onchange()")
+            self.browser.run(
+                "const list = document.getElementById('bookmarks'); list.value = list.options[1].value; list.onchange()"
+            )
             self.at(11)
             self.browser.press("m")
             self.comes(lambda: self.browser.run(kept), [])
@@ -632,21 +860,92 @@ class Answers(Hands):
             self.click_pixel(50, 50, 96)
             self.browser.until("return document.querySelectorAll('#history .entry').length === 4")
             self.choose_entry(11)
-            self.comes(lambda: self.browser.run("return document.getElementById('live').textContent"), "position 11 of 13: draw; pixel 50 50 is 125 95 55 128")
-            self.assertEqual(self.browser.run("return document.getElementById('image').getAttribute('aria-label')"), "The image at position 11 of 13: draw")
-            nameless = "return [...document.querySelectorAll('button, input, select, canvas')].filter(e => !e.closest('[aria-hidden], dialog') && !e.hidden && !(e.innerText || e.ariaLabel || e.title || e.labels?.length)).map(e => e.outerHTML)"
+            self.comes(
+                lambda: self.browser.run("return document.getElementById('live').textContent"),
+                "position 11 of 13: draw; pixel 50 50 is 125 95 55 128",
+            )
+            self.assertEqual(
+                self.browser.run("return document.getElementById('image').getAttribute('aria-label')"),
+                "The image at position 11 of 13: draw",
+            )
+            nameless = (
+                "return [...document.querySelectorAll('button, input, select, canvas')].filter(e => "
+                "!e.closest('[aria-hidden], dialog') && !e.hidden && !(e.innerText || e.ariaLabel || e.title || "
+                "e.labels?.length)).map(e => e.outerHTML)"
+            )
             self.assertEqual(self.browser.run(nameless), [])
 
     # ---- Where events come from
 
+    def test_the_targets_of_a_frame(self):
+        """As tabs, each a page of its own; and from a draw to what it reads, as it was made."""
+        clear = lambda red: {"kind": "clear", "color": [red, 0, 0, 255]}
+        long = 1000000000000000371
+        frame = {
+            "targets": [
+                {"target": long, "name": "lit", "width": 4, "height": 4},
+                {"target": 7, "name": "", "width": 4, "height": 4},
+            ],
+            "reads": [{"target": 7, "position": 1, "reads": long, "made": 9, "at": 2, "laid": "upside down"}],
+        }
+        with tempfile.TemporaryDirectory() as folder:
+            paths = [pathlib.Path(folder) / f"target_{number}.json" for number in (3, 7)]
+            for path, events in zip(paths, ([clear(1), clear(2), clear(3)], [clear(4), clear(5)])):
+                path.write_text(capture_of(4, 4, events))
+            with Viewer(paths[0]) as lit, Viewer(paths[1]) as shown:
+                joined({long: lit.server, 7: shown.server}, frame)
+                self.open(shown)
+                self.at(2)
+                self.reads("#targets", "lit 7")
+                self.reads("#targets .own", "7")
+                self.assertEqual(self.browser.run("return document.querySelectorAll('#origin .way').length"), 0)
+                self.browser.click(self.row(1) + " .what")
+                self.reads("#origin", f"to target {long}, as this draw reads it")
+                self.click_pixel(1, 0, 4)
+                self.reads("#place", "1 0")
+                self.browser.click("#origin .way")
+                self.at(2)
+                self.reads("#capture", "target_3.json")
+                self.reads("#place", "1 3")
+                lit.leave = self.leave
+                self.reads("#targets .own", "lit")
+                self.browser.click("#targets .tab:not(.own)")
+                self.reads("#capture", "target_7.json")
+                self.assertEqual(shown.request(method="GET", path="/frame", X_Token=None)[0], 403)
+                self.leave()
+
     def test_the_program_s_calls(self):
         """Beside the events, known to the filter, and a captured group is folded as such."""
-        mark = lambda name, event, until: {"kind": "marker", "name": name, "source": {"event": event, "name": "push", "until": until}}
-        clear = lambda event, name: {"kind": "clear", "color": [event, 0, 0, 255], "source": {"event": event, "name": name}}
-        events = [mark("frame", 10, 40), mark("shadows", 11, 20), clear(15, "glClear 50"), clear(20, "vkCmdDraw"), clear(30, "glFinish"), clear(50, "after it")]
+        mark = lambda name, event, until: {
+            "kind": "marker",
+            "name": name,
+            "source": {"event": event, "name": "push", "until": until},
+        }
+        clear = lambda event, name: {
+            "kind": "clear",
+            "color": [event, 0, 0, 255],
+            "source": {"event": event, "name": name},
+        }
+        events = [
+            mark("frame", 10, 40),
+            mark("shadows", 11, 20),
+            clear(15, "glClear 50"),
+            clear(20, "vkCmdDraw"),
+            clear(30, "glFinish"),
+            clear(50, "after it"),
+        ]
+        events[5]["source"] |= {
+            "set_by": [[48, "glClearColor(1)"]],
+            "textures": [{"id": 9, "name": "lit"}],
+            "reads": [{"target": 9, "event": 20}],
+        }
         with tempfile.TemporaryDirectory() as folder:
             self.shows(capture_of(4, 4, events), folder)
             self.reads(self.row(4) + " .source", "20 vkCmdDraw")
+            self.reads(
+                "#origin",
+                "call 50 after it set by 48 glClearColor(1) reads texture 9 lit, made by target 9, at event 20",
+            )
             self.browser.click(self.row(2) + " .fold")
             self.comes(self.listed, "1,2,5,6")
             self.browser.click(self.row(2) + " .fold")
@@ -658,10 +957,22 @@ class Answers(Hands):
             for words, numbers in (("vkcmd", "4"), ("30", "5"), ("shadows gl", "3")):
                 self.filtered(words)
                 self.comes(self.listed, numbers)
-            leading = (("20", "Enter", 4), ("50", "Enter", 6), ("after", "Enter", 6), ("10", "Enter", 1), ("gl", "Enter", 3), ("20", "0", 3))
+            leading = (
+                ("20", "Enter", 4),
+                ("50", "Enter", 6),
+                ("after", "Enter", 6),
+                ("10", "Enter", 1),
+                ("gl", "Enter", 3),
+                ("20", "0", 3),
+            )
             for place, (words, key, number) in enumerate(leading):
-                self.browser.run("const f = document.getElementById('filter'); f.value = arguments[0]; f.oninput(); f.onkeydown({key: arguments[1]})", words, key)
-                self.command(f"pixel {place % 4} {place // 4}")         # it waits behind whatever the key led to
+                self.browser.run(
+                    "const f = document.getElementById('filter'); f.value = arguments[0]; f.oninput(); "
+                    "f.onkeydown({key: arguments[1]})",
+                    words,
+                    key,
+                )
+                self.command(f"pixel {place % 4} {place // 4}")  # it waits behind whatever the key led to
                 self.at(number)
 
 
@@ -673,7 +984,9 @@ class AnswersInChromium(Answers):
 @unittest.skipUnless(browser.Firefox.installed(), "Firefox isn't installed")
 class AnswersInFirefox(Answers):
     kind = browser.Firefox
-    test_the_sum_is_the_definitions = test_a_sum_that_differs_is_marked = test_no_image_holds_another = None       # its driver imports none of the page's scripts
+    test_the_sum_is_the_definitions = (
+        test_a_sum_that_differs_is_marked
+    ) = test_no_image_holds_another = None  # its driver imports none of the page's scripts
 
 
-del Answers     # it is tried in browsers alone
+del Answers  # it is tried in browsers alone

@@ -1,4 +1,5 @@
-"""The viewer without a browser: its server's doors, its run, the parts of an image, the file that hands the address over."""
+"""The viewer without a browser: its server's doors, its run, the parts of an image, the file that hands the address
+over."""
 import json
 import os
 import pathlib
@@ -48,17 +49,31 @@ class Doors(unittest.TestCase):
     def test_loopback(self):
         self.assertEqual(self.status(), 200)
         with self.assertRaises(OSError):
-            socket.create_connection(("127.0.0.2", self.port), timeout=2).close()      # another address of this machine
+            socket.create_connection(("127.0.0.2", self.port), timeout=2).close()  # another address of this machine
 
     def test_host(self):
-        for host in ("evil.example", f"evil.example:{self.port}", f"localhost:{self.port}", "127.0.0.1", f"127.0.0.1:{self.port}.evil.example", None):
+        for host in (
+            "evil.example",
+            f"evil.example:{self.port}",
+            f"localhost:{self.port}",
+            "127.0.0.1",
+            f"127.0.0.1:{self.port}.evil.example",
+            None,
+        ):
             self.assertEqual(self.status(Host=host), 403, host)
             self.assertEqual(self.status(Host=host, method="GET", path="/"), 403, host)
         self.assertEqual(self.status(more=[("Host", "evil.example")]), 403)
 
     def test_origin(self):
         own = self.viewer.server.origin
-        for origin in ("http://evil.example", "null", f"https://127.0.0.1:{self.port}", f"http://localhost:{self.port}", own + ".evil.example", own + "/"):
+        for origin in (
+            "http://evil.example",
+            "null",
+            f"https://127.0.0.1:{self.port}",
+            f"http://localhost:{self.port}",
+            own + ".evil.example",
+            own + "/",
+        ):
             self.assertEqual(self.status(Origin=origin), 403, origin)
         self.assertEqual(self.status(Origin=own, more=[("Origin", "http://evil.example")]), 403)
         self.assertEqual(self.status(Origin=own), 200)
@@ -70,14 +85,32 @@ class Doors(unittest.TestCase):
 
     def test_token(self):
         own = self.viewer.server.token
-        self.assertGreaterEqual(len(own), 43)            # 256 bits in letters of six bits
+        self.assertGreaterEqual(len(own), 43)  # 256 bits in letters of six bits
         for token in (None, "", "x", own[:-1], own + "x", own.swapcase()):
-            for call in ({}, {"path": "/triangle", "body": b"11 0"}, {"path": "/draw", "body": b"11"}, {"path": "/restart", "body": b""}, {"path": "/stop", "body": b""}, {"method": "GET", "path": "/capture"}, {"method": "GET", "path": "/sources"}):
+            for call in (
+                {},
+                {"path": "/triangle", "body": b"11 0"},
+                {"path": "/draw", "body": b"11"},
+                {"path": "/restart", "body": b""},
+                {"path": "/stop", "body": b""},
+                {"method": "GET", "path": "/capture"},
+                {"method": "GET", "path": "/sources"},
+            ):
                 self.assertEqual(self.status(X_Token=token, **call), 403, (token, call))
         self.assertEqual(self.status(more=[("X-Token", own)]), 403)
 
     def test_paths(self):
-        for path in ("/..", "/../session.py", "/viewer.js?x", "//etc/passwd", "/%2e%2e/session.py", "/__pycache__", "/commands", "/page/viewer.js", "/etc/passwd"):
+        for path in (
+            "/..",
+            "/../session.py",
+            "/viewer.js?x",
+            "//etc/passwd",
+            "/%2e%2e/session.py",
+            "/__pycache__",
+            "/commands",
+            "/page/viewer.js",
+            "/etc/passwd",
+        ):
             self.assertEqual(self.status(method="GET", path=path), 404, path)
         for path in ("/quit", "/", "/viewer.js", "/commands/"):
             self.assertEqual(self.status(path=path), 404, path)
@@ -88,7 +121,17 @@ class Doors(unittest.TestCase):
         self.assertEqual(self.status(Content_Length=str(MAX_BODY + 1)), 413)
 
     def test_bodies(self):
-        for body in (b"", b"quit\n", b"  quit\n", b"state\nquit", b"a" * 257, b"state\x00\n", b"state\tx\n", b"\xff\n", b"state\n" * 4097):
+        for body in (
+            b"",
+            b"quit\n",
+            b"  quit\n",
+            b"state\nquit",
+            b"a" * 257,
+            b"state\x00\n",
+            b"state\tx\n",
+            b"\xff\n",
+            b"state\n" * 4097,
+        ):
             self.assertEqual(self.status(body=body), 400, body[:20])
         for window in ("", "1 2 3", "1 2 3 4 5 6", "-1 0 2 2", "a 0 1 1", "0 0 1 11111111111"):
             self.assertEqual(self.status(X_Window=window), 400, window)
@@ -109,10 +152,14 @@ class Doors(unittest.TestCase):
             headers = self.viewer.request(method="GET", path=path, body=b"")[1]
             policy = dict(part.split(" ", 1) for part in headers["Content-Security-Policy"].split("; "))
             self.assertEqual(policy["default-src"], "'none'")
-            self.assertEqual((policy["script-src"], policy["connect-src"], policy["frame-ancestors"]), ("'self'", "'self'", "'none'"))
+            self.assertEqual(
+                (policy["script-src"], policy["connect-src"], policy["frame-ancestors"]), ("'self'", "'self'", "'none'")
+            )
             self.assertIsNone(headers["Access-Control-Allow-Origin"])
             self.assertEqual((headers["X-Content-Type-Options"], headers["Cache-Control"]), ("nosniff", "no-store"))
-            self.assertEqual((headers["Referrer-Policy"], headers["Cross-Origin-Resource-Policy"]), ("no-referrer", "same-origin"))
+            self.assertEqual(
+                (headers["Referrer-Policy"], headers["Cross-Origin-Resource-Policy"]), ("no-referrer", "same-origin")
+            )
 
 
 class Run(unittest.TestCase):
@@ -127,22 +174,49 @@ class Run(unittest.TestCase):
         with Viewer(HOUSE) as viewer:
             draw = lambda body: json.loads(viewer.request(path="/draw", body=body)[2])
             event = json.loads(HOUSE.read_text())["events"][10]
-            self.assertEqual(draw(b"11"), {"interp": "flat", "vertices": [[v["x"], v["y"], None, v["color"]] for v in event["vertices"]], "indices": event.get("indices")})
+            self.assertEqual(
+                draw(b"11"),
+                {
+                    "interp": "flat",
+                    "vertices": [[v["x"], v["y"], None, v["color"]] for v in event["vertices"]],
+                    "indices": event.get("indices"),
+                },
+            )
             for body in (b"10", b"0", b"14", b"4294967296"):
                 self.assertIsNone(draw(body), body)
+
+    def test_depths_of_version_1(self):
+        """They are passed over, whatever they are."""
+        corners = [
+            {"x": x << 16, "y": y << 16, "z": z, "color": [9] * 4}
+            for x, y, z in ((0, 0, "deep"), (4, 0, None), (0, 4, [2]))
+        ]
+        drawn = capture_of(4, 4, [{"kind": "draw", "interp": "flat", "vertices": corners}])
+        with tempfile.TemporaryDirectory() as folder, Viewer(file_of(folder, drawn)) as viewer:
+            told = json.loads(viewer.request(path="/draw", body=b"1")[2])
+            self.assertEqual(
+                told["vertices"], [[0, 0, None, [9] * 4], [4 << 16, 0, None, [9] * 4], [0, 4 << 16, None, [9] * 4]]
+            )
+            self.assertEqual(
+                [reply["text"] for reply in viewer.ask("goto 1", "pixel 0 0")[0]["replies"]], ["at 1", "pixel 9 9 9 9"]
+            )
 
     def test_draws_with_pictures(self):
         """The box of the picture, and no colours, of a file that is too large to be read but for its pictures."""
         corners = [captures.corner(x << 16, y << 16, 5) for x, y in ((0, 0), (9, 0), (0, 9))]
         large = captures.picture_draw(corners, captures.picture(0, 0, 4096, 2048, bytes(1 << 25)), [0, 1, 2])
-        small = captures.picture_draw([{**corner, "color": None} for corner in corners], captures.picture(3, 1, 2, 2, bytes(16), [0, 0, 0, 1]))
+        small = captures.picture_draw(
+            [{**corner, "color": None} for corner in corners], captures.picture(3, 1, 2, 2, bytes(16), [0, 0, 0, 1])
+        )
         with tempfile.TemporaryDirectory() as folder:
             capture = Capture(file_of(folder, capture_of(64, 48, [large, small], 3)))
             told = {"interp": "picture", "vertices": [[0, 0, 5, None], [9 << 16, 0, 5, None], [0, 9 << 16, 5, None]]}
             self.assertEqual(capture.draw(1), {**told, "indices": [0, 1, 2], "picture": [0, 0, 4096, 2048]})
             self.assertEqual(capture.draw(2), {**told, "indices": None, "picture": [3, 1, 2, 2]})
             self.assertEqual(capture.triangle(2, 0), [[0, 0], [9, 0], [0, 9]])
-            self.assertEqual((capture.boxes_between(0, 1), capture.boxes_between(1, 2)), ([(0, 0, 9, 9)], [(3, 1, 5, 3)]))
+            self.assertEqual(
+                (capture.boxes_between(0, 1), capture.boxes_between(1, 2)), ([(0, 0, 9, 9)], [(3, 1, 5, 3)])
+            )
             away = captures.picture_draw(corners, captures.picture(20, 0, 2, 2, bytes(16)))
             self.assertEqual(Capture(file_of(folder, capture_of(64, 48, [away], 3))).boxes_between(0, 1), [])
 
@@ -150,7 +224,7 @@ class Run(unittest.TestCase):
         for line in (EXAMPLES / "sessions.txt").read_text().splitlines():
             name, capture = line.split()
             if name.startswith("hunts/") or name.startswith("crowd"):
-                continue                                # those take their time
+                continue  # those take their time
             commands = [c for c in (EXAMPLES / f"{name}.session").read_text().splitlines() if c != "quit"]
             session = Session(PROGRAM, str(EXAMPLES / f"{capture}.json"), 4)
             told, images, _ = session.answer([c.encode() for c in commands])
@@ -180,12 +254,15 @@ class Run(unittest.TestCase):
             told, _ = viewer.ask("goto 13", *lines, "state")
             samples, _ = image(HOUSE)
             for i, reply in enumerate(told["replies"][1:-1]):
-                self.assertEqual(reply["text"], "pixel " + " ".join(map(str, samples[4 * i:4 * i + 4])))
+                self.assertEqual(reply["text"], "pixel " + " ".join(map(str, samples[4 * i : 4 * i + 4])))
             self.assertTrue(told["replies"][-1]["text"].startswith("state "))
 
     def test_switches_are_counted(self):
         with Viewer(HOUSE) as viewer:
-            counts = [viewer.ask(*lines)[0]["switches"] for lines in (["off 8"], ["off 8", "on 99", "goto 3"], ["on 8", "off 9"], ["state"])]
+            counts = [
+                viewer.ask(*lines)[0]["switches"]
+                for lines in (["off 8"], ["off 8", "on 99", "goto 3"], ["on 8", "off 9"], ["state"])
+            ]
             self.assertEqual(counts, [[1, 2], [2, 2], [2, 4], [4, 4]])
             viewer.request(path="/restart", body=b"")
             self.assertEqual(viewer.ask("state")[0]["switches"], [5, 5])
@@ -196,11 +273,21 @@ class Refusals(unittest.TestCase):
         """Before any page comes: the member, with line and column."""
         with tempfile.TemporaryDirectory() as folder:
             file = pathlib.Path(folder) / "wrong.json"
-            file.write_text('{"format":"framedbg","version":1,"width":4,"height":4,\n"events":[{"kind":"clear","color":[1,2,3,4]},\n  {"kind":"clear","color":[1,2,300,4]}]}\n')
-            run = subprocess.run([VIEW, "--no-browser", "--program", PROGRAM, file], capture_output=True, text=True, timeout=30)
-            self.assertEqual((run.returncode, run.stderr), (1, "view: framedbg: capture refused 8 bad field 2 (status 2)\n"
-                             "line 3, column 32: event 2 (clear), color 2: a whole number from 0 to 255 is wanted, not 300\n"))
-
+            file.write_text(
+                '{"format":"framedbg","version":1,"width":4,"height":4,\n"events":[{"kind":"clear","color":[1,2,'
+                '3,4]},\n  {"kind":"clear","color":[1,2,300,4]}]}\n'
+            )
+            run = subprocess.run(
+                [VIEW, "--no-browser", "--program", PROGRAM, file], capture_output=True, text=True, timeout=30
+            )
+            self.assertEqual(
+                (run.returncode, run.stderr),
+                (
+                    1,
+                    "view: framedbg: capture refused 8 bad field 2 (status 2)\n"
+                    "line 3, column 32: event 2 (clear), color 2: a whole number from 0 to 255 is wanted, not 300\n",
+                ),
+            )
 
     def test_what_can_not_be_served(self):
         """A line, and no traceback: a port that is another's, or none, and a capture that can't be read."""
@@ -208,11 +295,20 @@ class Refusals(unittest.TestCase):
             other.bind(("127.0.0.1", 0))
             other.listen()
             number = other.getsockname()[1]
-            for words, status, said in (([HOUSE, "--port", str(number)], 1, f"view: port {number}: Address already in use\n"),
-                                        ([folder], 1, f"view: {folder}: Is a directory\n"), ([f"{folder}/a\x1b[2J"], 1, f"view: {folder}/a\\x1b[2J: No such file or directory\n"),
-                                        ([HOUSE, "--port", "70000"], 2, "a number from 0 to 65535 is wanted\n"), ([HOUSE, "--port", "-1"], 2, "a number from 0 to 65535 is wanted\n")):
-                run = subprocess.run([VIEW, "--no-browser", "--program", PROGRAM, *words], capture_output=True, text=True, timeout=30)
-                self.assertEqual((run.returncode, run.stdout, run.stderr[-len(said):], "Traceback" in run.stderr), (status, "", said, False))
+            for words, status, said in (
+                ([HOUSE, "--port", str(number)], 1, f"view: port {number}: Address already in use\n"),
+                ([folder], 1, f"view: {folder}/frame.json: No such file or directory\n"),
+                ([f"{folder}/a\x1b[2J"], 1, f"view: {folder}/a\\x1b[2J: No such file or directory\n"),
+                ([HOUSE, "--port", "70000"], 2, "a number from 0 to 65535 is wanted\n"),
+                ([HOUSE, "--port", "-1"], 2, "a number from 0 to 65535 is wanted\n"),
+            ):
+                run = subprocess.run(
+                    [VIEW, "--no-browser", "--program", PROGRAM, *words], capture_output=True, text=True, timeout=30
+                )
+                self.assertEqual(
+                    (run.returncode, run.stdout, run.stderr[-len(said) :], "Traceback" in run.stderr),
+                    (status, "", said, False),
+                )
 
 
 class ChangedRows(unittest.TestCase):
@@ -227,15 +323,15 @@ class ChangedRows(unittest.TestCase):
                     self.assertEqual(told["base"], base)
                     self.assertEqual(sum(count for _, count in told["bands"]) * 96 * 4, len(data))
                     for first, count in told["bands"]:
-                        whole = whole[:384 * first] + data[:384 * count] + whole[384 * (first + count):]
-                        data = data[384 * count:]
+                        whole = whole[: 384 * first] + data[: 384 * count] + whole[384 * (first + count) :]
+                        data = data[384 * count :]
                     few += 1
                 else:
                     whole = data
                 self.assertEqual(whole, own)
                 base = told["number"]
             self.assertGreaterEqual(few, 6)
-            self.assertEqual(self.shown(viewer, 13, base)[0]["bytes"], 96 * 64 * 4)         # all but nothing is another
+            self.assertEqual(self.shown(viewer, 13, base)[0]["bytes"], 96 * 64 * 4)  # all but nothing is another
 
     def test_another_base(self):
         """A page that has another image gets all of it, and so does one that looks at another part."""
@@ -246,7 +342,7 @@ class ChangedRows(unittest.TestCase):
                 self.assertNotIn("bands", told)
                 number = told["number"]
             left = self.shown(viewer, 0, 0, (0, 0, 40, 64))[0]["number"]
-            self.assertNotIn("bands", self.shown(viewer, 0, left, (40, 0, 80, 64))[0])      # of the same bytes
+            self.assertNotIn("bands", self.shown(viewer, 0, left, (40, 0, 80, 64))[0])  # of the same bytes
 
     def test_a_picture_that_was_not_sent(self):
         """The rows that changed are those since the last one that was."""
@@ -257,34 +353,61 @@ class ChangedRows(unittest.TestCase):
             self.assertEqual((told.get("bands"), data), ([], b""))
             viewer.session.answer([b"goto 11", b"show"])
             told, data = self.shown(viewer, 11, told["number"])
-            self.assertEqual(whole[:384 * 36] + data + whole[384 * 60:], viewer.session.answer([b"show"])[1][0])
+            self.assertEqual(whole[: 384 * 36] + data + whole[384 * 60 :], viewer.session.answer([b"show"])[1][0])
 
     def shown(self, viewer, position, base, window=None):
         given = {"X_Window": " ".join(map(str, window))} if window else {}
-        told, _, data = viewer.request(body=b"goto %d\nshow\n" % position, X_Base=str(base), **given)[2].partition(b"\n")
+        told, _, data = viewer.request(body=b"goto %d\nshow\n" % position, X_Base=str(base), **given)[2].partition(
+            b"\n"
+        )
         return json.loads(told)["replies"][1]["image"], data
 
 
 class NearPictures(unittest.TestCase):
-    """The picture of a position near the last one, put together from the pixels that may be others: byte for byte the one that framedbg writes."""
+    """The picture of a position near the last one, put together from the pixels that may be others: byte for byte
+    the one that framedbg writes."""
 
     def walk(self, file, events, dice, moves):
-        """How many of the pictures on a way by chance weren't asked for as a whole; events are switched on it, and parts of the target looked at."""
+        """How many of the pictures on a way by chance weren't asked for as a whole; events are switched on it, and
+        parts of the target looked at."""
         capture, near = Capture(file), 0
         session, own = Session(PROGRAM, str(file), 1, capture.boxes_between), Session(PROGRAM, str(file), 1)
         self.addCleanup(session.close)
         self.addCleanup(own.close)
         position, window = events, None
         for _ in range(moves):
-            position = max(0, min(events, dice.choice((position - 1, position + 1, position + 1, position - 3, position + 5, dice.randrange(events + 1)))))
+            position = max(
+                0,
+                min(
+                    events,
+                    dice.choice(
+                        (
+                            position - 1,
+                            position + 1,
+                            position + 1,
+                            position - 3,
+                            position + 5,
+                            dice.randrange(events + 1),
+                        )
+                    ),
+                ),
+            )
             if dice.random() < 0.1:
                 window = dice.choice((None, (3, 2, 20, 19), (0, 0, 11, 30), (0, 0, 32, 28, 2), (3, 2, 20, 19, 3)))
-            number = dice.choice(sorted(session.off)) if session.off and dice.random() < 0.5 else dice.randrange(1, events + 1)
+            number = (
+                dice.choice(sorted(session.off))
+                if session.off and dice.random() < 0.5
+                else dice.randrange(1, events + 1)
+            )
             switch = [b"%s %d" % (b"on" if number in session.off else b"off", number)]
             if dice.random() < 0.1:
                 session.answer(switch)
                 own.answer(switch)
-            switched = [*switch, b"goto %d" % (number - 1), b"show", b"goto %d" % number, b"show"] if dice.random() < 0.1 else []
+            switched = (
+                [*switch, b"goto %d" % (number - 1), b"show", b"goto %d" % number, b"show"]
+                if dice.random() < 0.1
+                else []
+            )
             lines = [*switched, b"goto %d" % position, b"show", b"show"]
             (replies, images, _), (wanted, theirs, _) = session.answer(lines, window), own.answer(lines, window)
             self.assertEqual([reply["text"] for reply in replies], [reply["text"] for reply in wanted])
@@ -296,7 +419,11 @@ class NearPictures(unittest.TestCase):
         dice, near = random.Random(11), 0
         with tempfile.TemporaryDirectory() as folder:
             for _ in range(24):
-                events = [event for event in (chance.event(dice, 32, 28, 3) for _ in range(60)) if event["kind"] != "clear" or dice.random() < 0.2]
+                events = [
+                    event
+                    for event in (chance.event(dice, 32, 28, 3) for _ in range(60))
+                    if event["kind"] != "clear" or dice.random() < 0.2
+                ]
                 for event in events:
                     if event["kind"] == "draw" and dice.random() < 0.8:
                         self.make_small(dice, event)
@@ -321,26 +448,46 @@ class NearPictures(unittest.TestCase):
     def make_small(self, dice, event):
         """Its corners near each other, some on the middles of pixels and beside them."""
         left, top = dice.randrange(-3, 32), dice.randrange(-3, 28)
-        place = lambda start: (start << 16) + dice.choice((0, 32768, 32768 - 128, 32768 + 128, 32768 - 129, 32768 + 129, dice.randrange(65536))) + (dice.randrange(4) << 16)
+        place = (
+            lambda start: (start << 16)
+            + dice.choice((0, 32768, 32768 - 128, 32768 + 128, 32768 - 129, 32768 + 129, dice.randrange(65536)))
+            + (dice.randrange(4) << 16)
+        )
         for vertex in event["vertices"]:
             vertex.update(x=place(left), y=place(top))
-        if dice.random() < 0.3:         # edges at the left and at the top that are moved onto the middles of pixels
+        if dice.random() < 0.3:  # edges at the left and at the top that are moved onto the middles of pixels
             x, y = ((start << 16) + 32768 + 128 for start in (left, top))
             for i, vertex in enumerate(event["vertices"]):
                 vertex.update(x=x + (3 << 16) * (i % 3 == 1), y=y + (3 << 16) * (i % 3 == 2))
 
     def test_each_pixel_once(self):
-        """Of boxes that meet, lie inside of each other or beside each other, or have no pixels; of a part those that are kept, in lines that fit any pipe."""
+        """Of boxes that meet, lie inside of each other or beside each other, or have no pixels; of a part those that
+        are kept, in lines that fit any pipe."""
         dice, boxes = random.Random(5), [(0, 0, 9, 3), (2, 1, 5, 2), (9, 0, 11, 2), (20, 0, 20, 9), (3, 3, 4, 3)]
-        for some in [boxes] + [[(x, y, x + dice.randrange(6), y + dice.randrange(4)) for x, y in ((dice.randrange(9), dice.randrange(6)) for _ in range(5))] for _ in range(50)]:
-            inside = {(y, x) for left, top, right, bottom in some for y in range(top, bottom) for x in range(left, right)}
+        for some in [boxes] + [
+            [
+                (x, y, x + dice.randrange(6), y + dice.randrange(4))
+                for x, y in ((dice.randrange(9), dice.randrange(6)) for _ in range(5))
+            ]
+            for _ in range(50)
+        ]:
+            inside = {
+                (y, x) for left, top, right, bottom in some for y in range(top, bottom) for x in range(left, right)
+            }
             for window in ((0, 0, 640, 480), (2, 1, 8, 7), (1, 2, 9, 9, 2), (0, 0, 640, 480, 3)):
                 near = viewer_nearby.Nearby(lambda *_: some)
                 near.keep(1, "", viewer_image.kept_part(640, 480, window), b"")
                 runs, (left, top, right, bottom, every) = near.places(2, (), window), (*window, 1)[:5]
                 lines = list(near.lines(runs))
-                kept = sorted((y, x) for y, x in inside if left <= x < right and top <= y < bottom and (x - left) % every == (y - top) % every == 0)
-                self.assertEqual([line for text, _ in lines for line in text.split(b"\n")], [b"pixel %d %d" % (x, y) for y, x in kept])
+                kept = sorted(
+                    (y, x)
+                    for y, x in inside
+                    if left <= x < right and top <= y < bottom and (x - left) % every == (y - top) % every == 0
+                )
+                self.assertEqual(
+                    [line for text, _ in lines for line in text.split(b"\n")],
+                    [b"pixel %d %d" % (x, y) for y, x in kept],
+                )
                 self.assertEqual([count for _, count in lines], [text.count(b"\n") + 1 for text, _ in lines])
 
     def test_lines_that_fit_any_pipe(self):
@@ -350,13 +497,20 @@ class NearPictures(unittest.TestCase):
         lines = list(near.lines(near.places(2, (), None)))
         self.assertEqual([count for _, count in lines], [256] * 15 + [160])
         self.assertTrue(all(len(text) < 4096 for text, _ in lines))
-        for side, is_near in ((2000, True), (1999, False)):                 # 4,000 pixels are one in 512, or more
+        for side, is_near in ((2000, True), (1999, False)):  # 4,000 pixels are one in 512, or more
             near.keep(1, "", viewer_image.kept_part(1024, side, None), b"")
             self.assertEqual(near.places(2, (), None) is not None, is_near)
 
     def test_a_run_that_ends_amid_pixels(self):
         """Its picture isn't put together of fewer."""
-        few = HOLDING.replace('    elif word == "pixel":\n', '    elif word == "pixel" and rest[0] == "7":\n        break\n    elif word == "pixel":\n').replace("pam 69", "pam 321").replace("WIDTH 1\\", "WIDTH 8\\")
+        few = (
+            HOLDING.replace(
+                '    elif word == "pixel":\n',
+                '    elif word == "pixel" and rest[0] == "7":\n        break\n    elif word == "pixel":\n',
+            )
+            .replace("pam 69", "pam 321")
+            .replace("WIDTH 1\\", "WIDTH 8\\")
+        )
         few = few.replace("HEIGHT 1\\", "HEIGHT 8\\").replace("chr(position) * 4", "chr(position) * 256")
         with tempfile.TemporaryDirectory() as folder:
             session = Session(program_of(few, folder), str(HOUSE), 1, lambda *_: [(0, 0, 8, 8)])
@@ -368,6 +522,7 @@ class NearPictures(unittest.TestCase):
     def test_few_lines_are_asked(self):
         """Of a draw one for each pixel of its box, 32 by 24, and of state events, or of what is off, none at all."""
         with Viewer(HOUSE) as viewer:
+
             def lines(*asked):
                 before = viewer.session.lines
                 viewer.ask(*asked, "show")
@@ -378,8 +533,11 @@ class NearPictures(unittest.TestCase):
             self.assertEqual([lines("on 11", "goto 8"), lines("goto 7"), lines("goto 8")], [1, 0, 0])
 
     def test_the_triangles_of_a_draw_by_themselves(self):
-        """Of one of two triangles far from each other only their pixels are asked for; of one of many all that lies between."""
-        place = lambda x, y: [{"x": (x + dx) << 16, "y": (y + dy) << 16, "color": [9, 9, 9, 255]} for dx, dy in ((0, 0), (4, 0), (0, 3))]
+        """Of one of two triangles far from each other only their pixels are asked for; of one of many all that lies
+        between."""
+        place = lambda x, y: [
+            {"x": (x + dx) << 16, "y": (y + dy) << 16, "color": [9, 9, 9, 255]} for dx, dy in ((0, 0), (4, 0), (0, 3))
+        ]
         two = {"kind": "draw", "interp": "flat", "vertices": place(2, 1) + place(90, 50)}
         many = {**two, "vertices": two["vertices"] * 33}
         with tempfile.TemporaryDirectory() as folder:
@@ -393,28 +551,47 @@ class NearPictures(unittest.TestCase):
         with tempfile.TemporaryDirectory() as folder:
             file = file_of(folder, HOUSE.read_text())
             capture = Capture(file)
-            self.assertEqual([capture.boxes_between(*way) for way in ((7, 8), (10, 11), (8, 8))], [[], [(44, 36, 76, 60)], []])
+            self.assertEqual(
+                [capture.boxes_between(*way) for way in ((7, 8), (10, 11), (8, 8))], [[], [(44, 36, 76, 60)], []]
+            )
             file.write_text(HOUSE.read_text() + " ")
             self.assertEqual([capture.boxes_between(*way) for way in ((7, 8), (10, 11))], [None, None])
             self.assertIsNone(Capture("no capture").boxes_between(7, 8))
 
     def test_a_run_without_lines_left(self):
         """Another stands in its place, with the same events off."""
-        with mock.patch.object(viewer_session, "MOST_LINES", 2000), mock.patch.object(viewer_nearby, "MOST_PIXELS", 800), Viewer(HOUSE) as viewer:
+        with mock.patch.object(viewer_session, "MOST_LINES", 2000), mock.patch.object(
+            viewer_nearby, "MOST_PIXELS", 800
+        ), Viewer(HOUSE) as viewer:
             viewer.ask("off 8")
             processes = set()
-            for *others, position in ((13,), (11,), (10, 11), (10,), (11,), (10,), (11,), (10, 11)):       # each picture beside the last one is 768 lines
-                told = viewer.ask(*(line for other in others for line in (f"goto {other}", "show")), f"goto {position}", "pixel 50 50", "show")[0]["replies"]
+            for *others, position in (
+                (13,),
+                (11,),
+                (10, 11),
+                (10,),
+                (11,),
+                (10,),
+                (11,),
+                (10, 11),
+            ):  # each picture beside the last one is 768 lines
+                told = viewer.ask(
+                    *(line for other in others for line in (f"goto {other}", "show")),
+                    f"goto {position}",
+                    "pixel 50 50",
+                    "show",
+                )[0]["replies"]
                 self.assertEqual(told[-2]["text"], "pixel 190 60 50 128" if position > 10 else "pixel 60 130 60 255")
                 processes.add(viewer.session.run.pid)
                 self.assertLessEqual(viewer.session.lines, 2000)
             self.assertGreater(len(processes), 1)
             self.assertEqual(viewer.ask("state")[0]["switches"], [2, 2])
 
-
     def test_the_next_run_is_begun_before(self):
         """It stands where the other one stood, and what was switched meanwhile is switched there too."""
-        with mock.patch.object(viewer_session, "MOST_LINES", 4000), mock.patch.object(viewer_session, "BEGUN_BEFORE", 2000), Viewer(HOUSE) as viewer:
+        with mock.patch.object(viewer_session, "MOST_LINES", 4000), mock.patch.object(
+            viewer_session, "BEGUN_BEFORE", 2000
+        ), Viewer(HOUSE) as viewer:
             session, lines = viewer.session, [f"pixel {i % 96} {i // 96}" for i in range(1500)]
             viewer.ask("off 8", "off 12", "goto 11")
             viewer.ask(*lines)
@@ -425,8 +602,13 @@ class NearPictures(unittest.TestCase):
             self.assertEqual((session.run.pid, session.begun[0].process.pid), (first, begun))
             told, _ = viewer.ask("goto 13", *lines, "events")
             self.assertEqual((session.run.pid, session.begun), (begun, None))
-            self.assertEqual([reply["text"] for reply in told["replies"][1:-1]], replies(HOUSE, ["off 3", "off 8", "off 10", "goto 13", *lines])[4:])
-            self.assertEqual([line.split()[0] for line in told["replies"][-1]["lines"] if line.split()[1] == "off"], ["3", "8", "10"])
+            self.assertEqual(
+                [reply["text"] for reply in told["replies"][1:-1]],
+                replies(HOUSE, ["off 3", "off 8", "off 10", "goto 13", *lines])[4:],
+            )
+            self.assertEqual(
+                [line.split()[0] for line in told["replies"][-1]["lines"] if line.split()[1] == "off"], ["3", "8", "10"]
+            )
             self.assertEqual(told["switches"], [6, 6])
             viewer.ask(*lines)
             ended = session.begun[0].process
@@ -445,17 +627,29 @@ class Beside(unittest.TestCase):
             viewer.ask("goto 4")
             self.assertEqual(self.ask(viewer, "goto 13", "pixel 50 50"), ["at 13", "pixel 125 95 55 128"])
             self.assertEqual(self.ask(viewer, "goto 10", "pixel 50 50", run="depths"), ["at 10", "pixel 60 130 60 255"])
-            self.assertEqual([viewer.ask("events")[0]["replies"][0]["text"], *self.ask(viewer, "events"), *self.ask(viewer, "events", run="depths")],
-                             ["events 13 at 4", "events 13 at 13", "events 13 at 10"])
+            self.assertEqual(
+                [
+                    viewer.ask("events")[0]["replies"][0]["text"],
+                    *self.ask(viewer, "events"),
+                    *self.ask(viewer, "events", run="depths"),
+                ],
+                ["events 13 at 4", "events 13 at 13", "events 13 at 10"],
+            )
 
     def test_the_last_lines_of_a_call(self):
         """The page's own run answers the first, and that at the end the others, with what the first switched off."""
         with Viewer(HOUSE) as viewer:
             body = b"goto 13\noff 8\ngoto 4\npixel 50 50\ngoto 13\npixel 50 50\n"
             told = json.loads(viewer.request(body=body, X_End="2")[2].partition(b"\n")[0])
-            self.assertEqual([reply["text"] for reply in told["replies"]], ["at 13", "at 13", "at 4", "pixel 174 205 236 255", "at 13", "pixel 190 60 50 128"])
+            self.assertEqual(
+                [reply["text"] for reply in told["replies"]],
+                ["at 13", "at 13", "at 4", "pixel 174 205 236 255", "at 13", "pixel 190 60 50 128"],
+            )
             self.assertEqual(told["switches"], [1, 2])
-            self.assertEqual([viewer.ask("events")[0]["replies"][0]["text"], *self.ask(viewer, "events")], ["events 13 at 4", "events 13 at 13"])
+            self.assertEqual(
+                [viewer.ask("events")[0]["replies"][0]["text"], *self.ask(viewer, "events")],
+                ["events 13 at 4", "events 13 at 13"],
+            )
             self.assertEqual(viewer.request(body=b"state\n", X_End="-1")[0], 400)
 
     def test_the_same_events_are_off(self):
@@ -463,7 +657,9 @@ class Beside(unittest.TestCase):
             self.ask(viewer, "goto 13")
             for lines in (["off 8"], ["off 10", "off 12"], ["on 8", "on 10", "off 3"], ["on 12", "on 3"]):
                 own = viewer.ask("goto 13", *lines, "goto 13", "pixel 50 50", "events")[0]["replies"]
-                told = json.loads(viewer.request(body=b"goto 13\npixel 50 50\nevents\n", X_Run="end")[2].partition(b"\n")[0])["replies"]
+                told = json.loads(
+                    viewer.request(body=b"goto 13\npixel 50 50\nevents\n", X_Run="end")[2].partition(b"\n")[0]
+                )["replies"]
                 self.assertEqual(told, own[-3:])
             viewer.ask("off 8")
             viewer.request(path="/restart", body=b"")
@@ -471,11 +667,15 @@ class Beside(unittest.TestCase):
 
     def test_the_bound_on_lines(self):
         """Before a run has no lines left another stands in its place, with the same events off."""
-        with mock.patch.object(viewer_session, "MOST_LINES", 10), mock.patch.object(viewer_session, "BEGUN_BEFORE", 0), Viewer(HOUSE) as viewer:
+        with mock.patch.object(viewer_session, "MOST_LINES", 10), mock.patch.object(
+            viewer_session, "BEGUN_BEFORE", 0
+        ), Viewer(HOUSE) as viewer:
             viewer.ask("off 8")
             processes = set()
             for _ in range(4):
-                self.assertEqual(self.ask(viewer, "goto 13", *["pixel 50 50"] * 3), ["at 13", *["pixel 190 60 50 128"] * 3])
+                self.assertEqual(
+                    self.ask(viewer, "goto 13", *["pixel 50 50"] * 3), ["at 13", *["pixel 190 60 50 128"] * 3]
+                )
                 processes.add(viewer.server.runs.beside["end"].run.pid)
                 self.assertLessEqual(viewer.server.runs.beside["end"].lines, 10)
             self.assertEqual(len(processes), 2)
@@ -495,7 +695,9 @@ class Beside(unittest.TestCase):
             with Viewer(HOUSE, program_of(HOLDING, folder)) as viewer:
                 hold.touch()
                 found = []
-                caller = threading.Thread(target=lambda: found.append(viewer.request(body=b"goto 3\n", X_Run="end")), daemon=True)
+                caller = threading.Thread(
+                    target=lambda: found.append(viewer.request(body=b"goto 3\n", X_Run="end")), daemon=True
+                )
                 caller.start()
                 end = time.time() + 10
                 while not held.exists() and time.time() < end:
@@ -532,6 +734,7 @@ class Stops(unittest.TestCase):
                 done.append(job(*given))
             except Ended as ended:
                 done.append(type(ended))
+
         thread = threading.Thread(target=attempt, daemon=True)
         thread.start()
         thread.join(20)
@@ -581,6 +784,7 @@ class Stops(unittest.TestCase):
             waiting.start()
             self.session.stop()
             waiting.join(20)
+
         self.in_the_midst_of([b"goto 3"], stop)
         self.assertEqual(others, [["events 3 at 0", "off", "on", "on"]])
 
@@ -597,7 +801,7 @@ class Stops(unittest.TestCase):
                 time.sleep(0.01)
             self.assertEqual(viewer.request(path="/stop", body=b"")[0], 200)
             caller.join(20)
-            (status, _, told), = answers
+            ((status, _, told),) = answers
             self.assertEqual((status, json.loads(told)), (410, {"ended": "stopped", "stopped": True}))
             viewer.session.run.kill()
             viewer.session.run.wait()
@@ -606,12 +810,17 @@ class Stops(unittest.TestCase):
 
 
 class Rows:
-    """A PAM of a square target, made row by row as it is read: at each pixel its column and its row, of 16 bits each."""
+    """A PAM of a square target, made row by row as it is read: at each pixel its column and its row, of 16 bits
+    each."""
 
     def __init__(self, side):
         self.side, self.row = side, 0
         self.blank = bytes(4 * side)
-        self.header = iter(f"P7\nWIDTH {side}\nHEIGHT {side}\nDEPTH 4\nMAXVAL 255\nTUPLTYPE RGB_ALPHA\nENDHDR\n".encode().splitlines(True))
+        self.header = iter(
+            f"P7\nWIDTH {side}\nHEIGHT {side}\nDEPTH 4\nMAXVAL 255\nTUPLTYPE RGB_ALPHA\nENDHDR\n".encode().splitlines(
+                True
+            )
+        )
 
     def readline(self):
         return next(self.header)
@@ -620,7 +829,10 @@ class Rows:
         rows, rest = divmod(size, 4 * self.side)
         assert rest == 0
         y, self.row = self.row, self.row + rows
-        return b"".join(self.blank if row < self.side - 9 else b"".join(struct.pack("<HH", x, row) for x in range(self.side)) for row in range(y, y + rows))
+        return b"".join(
+            self.blank if row < self.side - 9 else b"".join(struct.pack("<HH", x, row) for x in range(self.side))
+            for row in range(y, y + rows)
+        )
 
 
 class Parts(unittest.TestCase):
@@ -631,8 +843,12 @@ class Parts(unittest.TestCase):
         return told["replies"][1]["image"], pixels
 
     def expected(self, samples, part):
-        at = lambda x, y: samples[4 * (y * 96 + x):4 * (y * 96 + x) + 4]
-        places = [(part["left"] + c * part["every"], part["top"] + r * part["every"]) for r in range(part["rows"]) for c in range(part["columns"])]
+        at = lambda x, y: samples[4 * (y * 96 + x) : 4 * (y * 96 + x) + 4]
+        places = [
+            (part["left"] + c * part["every"], part["top"] + r * part["every"])
+            for r in range(part["rows"])
+            for c in range(part["columns"])
+        ]
         return b"".join(bytes(at(x, y)) for x, y in places)
 
     def test_parts_of_an_image(self):
@@ -640,14 +856,29 @@ class Parts(unittest.TestCase):
         with Viewer(HOUSE) as viewer:
             part, pixels = self.kept(viewer)
             self.assertEqual((part["columns"], part["rows"], part["every"], pixels), (96, 64, 1, bytes(samples)))
-            cases = [(6144, None, 96, 64, 1), (6143, None, 48, 32, 2), (100, None, 12, 8, 8), (6144, (10, 20, 31, 25), 21, 5, 1),
-                     (30, (10, 20, 31, 25), 7, 2, 3), (6144, (90, 60, 200, 200), 6, 4, 1), (6144, (500, 500, 600, 600), 1, 1, 1), (6144, (5, 5, 5, 5), 1, 1, 1),
-                     (6144, (0, 0, 96, 64, 3), 32, 22, 3), (6144, (10, 20, 31, 25, 2), 11, 3, 2), (30, (10, 20, 31, 25, 2), 7, 2, 3), (6144, (0, 0, 96, 64, 0), 96, 64, 1),
-                     (6144, (9, 9, 96, 64, 500), 1, 1, 500)]
+            cases = [
+                (6144, None, 96, 64, 1),
+                (6143, None, 48, 32, 2),
+                (100, None, 12, 8, 8),
+                (6144, (10, 20, 31, 25), 21, 5, 1),
+                (30, (10, 20, 31, 25), 7, 2, 3),
+                (6144, (90, 60, 200, 200), 6, 4, 1),
+                (6144, (500, 500, 600, 600), 1, 1, 1),
+                (6144, (5, 5, 5, 5), 1, 1, 1),
+                (6144, (0, 0, 96, 64, 3), 32, 22, 3),
+                (6144, (10, 20, 31, 25, 2), 11, 3, 2),
+                (30, (10, 20, 31, 25, 2), 7, 2, 3),
+                (6144, (0, 0, 96, 64, 0), 96, 64, 1),
+                (6144, (9, 9, 96, 64, 500), 1, 1, 500),
+            ]
             for most, window, columns, rows, every in cases:
                 with mock.patch.object(viewer_image, "MOST_PIXELS", most):
                     part, pixels = self.kept(viewer, window)
-                self.assertEqual((part["width"], part["height"], part["columns"], part["rows"], part["every"]), (96, 64, columns, rows, every), (most, window))
+                self.assertEqual(
+                    (part["width"], part["height"], part["columns"], part["rows"], part["every"]),
+                    (96, 64, columns, rows, every),
+                    (most, window),
+                )
                 self.assertLessEqual(columns * rows, most)
                 self.assertEqual(pixels, self.expected(samples, part), (most, window))
 
@@ -655,13 +886,17 @@ class Parts(unittest.TestCase):
         window = (16384 - 5, 16384 - 3, 16384, 16384)
         part, pixels = viewer_image.read_image(Rows(16384), 0, window)
         self.assertEqual((part["columns"], part["rows"], part["every"]), (5, 3, 1))
-        self.assertEqual(pixels, b"".join(struct.pack("<HH", x, y) for y in range(window[1], 16384) for x in range(window[0], 16384)))
+        self.assertEqual(
+            pixels, b"".join(struct.pack("<HH", x, y) for y in range(window[1], 16384) for x in range(window[0], 16384))
+        )
 
     def test_the_largest_target(self):
         part = viewer_image.kept_part(16384, 16384, None)
         self.assertEqual((part["columns"], part["rows"], part["every"]), (2048, 2048, 8))
         part = viewer_image.kept_part(16384, 16384, (16000, 3000, 17000, 3500))
-        self.assertEqual((part["left"], part["top"], part["columns"], part["rows"], part["every"]), (16000, 3000, 384, 500, 1))
+        self.assertEqual(
+            (part["left"], part["top"], part["columns"], part["rows"], part["every"]), (16000, 3000, 384, 500, 1)
+        )
 
 
 # A browser that tells what it was given and what it was answered, and then stays
@@ -706,7 +941,9 @@ class AddressForTheBrowser(unittest.TestCase):
                 os.kill(int(told.read_text().split("\n")[0]), signal.SIGKILL)
             except ProcessLookupError:
                 pass
-        self.assertEqual([p.name for p in pathlib.Path(self.folder.name).iterdir() if p.name.startswith("framedbg-view")], [])
+        self.assertEqual(
+            [p.name for p in pathlib.Path(self.folder.name).iterdir() if p.name.startswith("framedbg-view")], []
+        )
 
     def setUp(self):
         self.folder = tempfile.TemporaryDirectory()
@@ -736,9 +973,16 @@ class AddressForTheBrowser(unittest.TestCase):
         """One that ends at once with a fault, and one that ends and never asks."""
         run, _ = self.opened("raise SystemExit(1)")
         root = " (as root most refuse to start)" if os.geteuid() == 0 else ""
-        self.assertEqual(run.stderr.readline(), f"view: no browser could be opened{root}: open the address above in one\n")
-        for comes, opener, expected in ((False, "pass", ["no browser has come yet"]), (True, "pass", []), (False, "raise SystemExit(1)", ["no browser could be opened"]),
-                                        (False, "import time; time.sleep(600)", ["no browser has come yet"]), (True, "raise SystemExit(1)", [])):
+        self.assertEqual(
+            run.stderr.readline(), f"view: no browser could be opened{root}: open the address above in one\n"
+        )
+        for comes, opener, expected in (
+            (False, "pass", ["no browser has come yet"]),
+            (True, "pass", []),
+            (False, "raise SystemExit(1)", ["no browser could be opened"]),
+            (False, "import time; time.sleep(600)", ["no browser has come yet"]),
+            (True, "raise SystemExit(1)", []),
+        ):
             handover, trouble = Handover("http://127.0.0.1:1/#secret"), []
             if comes:
                 handover.close()

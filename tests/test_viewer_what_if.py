@@ -1,4 +1,5 @@
-"""What if an event were another one: the server's call, and the line in the page. In Chromium, and in Firefox where it is installed."""
+"""What if an event were another one: the server's call, and the line in the page. In Chromium, and in Firefox where
+it is installed."""
 import json
 import tempfile
 import unittest
@@ -7,8 +8,9 @@ import folders
 
 import browser
 from captures import clear
+from changes_testing import KINDS, LINES
 from viewer_hands import Hands
-from viewer_testing import HOUSE, Viewer, capture_of, file_of
+from viewer_testing import HOUSE, Viewer, file_of
 
 FRAME = {"format": "framedbg", "version": 1, "width": 2, "height": 2, "events": [clear(1, 2, 3, 4), clear(9, 9, 9, 9)]}
 # Presses Keep, and leaves the file that is given to the browser: its name and its text
@@ -18,8 +20,8 @@ document.getElementById("changed-keep").onclick();
 const text = await (await made).text();
 URL.createObjectURL = create;
 return [window.keptAs, text];"""
-# What becomes of some lines, with so many events: a change, or a sentence
-READ = """const { readChange } = await import(name("whatif.js")), events = ["clear", "blend", "draw", "marker", "depth"].map((kind, i) => ({ number: i + 1, kind }));
+# What becomes of some lines, with events of some kinds: a change, or a sentence
+READ = """const { readChange } = await import(name("whatif.js")), events = given[1].map((kind, i) => ({ number: i + 1, kind }));
 return given[0].map(line => { try { return readChange(line, events); } catch (fault) { return fault.message; } });"""
 
 
@@ -33,7 +35,9 @@ class ChangedCalled(unittest.TestCase):
         self.addCleanup(self.viewer.__exit__)
 
     def asked(self, change, path="/changed", **headers):
-        status, _, answer = self.viewer.request(path=path, body=change if isinstance(change, bytes) else json.dumps(change).encode(), **headers)
+        status, _, answer = self.viewer.request(
+            path=path, body=change if isinstance(change, bytes) else json.dumps(change).encode(), **headers
+        )
         return status, answer
 
     def colour(self, change):
@@ -53,15 +57,32 @@ class ChangedCalled(unittest.TestCase):
     def test_it_is_kept(self):
         """All of the capture, with the change alone; the file stays as it is."""
         status, answer = self.asked({"set": 1, "members": {"color": [5, 6, 7, 8]}}, "/changed/capture")
-        self.assertEqual((status, json.loads(answer)), (200, {**FRAME, "events": [clear(5, 6, 7, 8), clear(9, 9, 9, 9)]}))
+        self.assertEqual(
+            (status, json.loads(answer)), (200, {**FRAME, "events": [clear(5, 6, 7, 8), clear(9, 9, 9, 9)]})
+        )
         self.assertEqual(json.loads(self.viewer.server.changed.capture.read_text()), FRAME)
 
     def test_refusals(self):
-        for change in (b"", b"{", b"[]", b"7", b"{}", {"set": 1}, {"set": 1, "members": 7}, {"move": 1}, {"set": 1, "members": {"kind": "factor"}}, {"set": 1, "members": {"mask": 7}},
-                       *({"set": number, "members": {}} for number in (0, 3, -1, True, "1", None, 1.0)), {"move": 1, "to": 3}):
+        for change in (
+            b"",
+            b"{",
+            b"[]",
+            b"7",
+            b"{}",
+            {"set": 1},
+            {"set": 1, "members": 7},
+            {"move": 1},
+            {"set": 1, "members": {"kind": "factor"}},
+            {"set": 1, "members": {"mask": 7}},
+            *({"set": number, "members": {}} for number in (0, 3, -1, True, "1", None, 1.0)),
+            {"move": 1, "to": 3},
+        ):
             self.assertEqual(self.asked(change)[0], 400, change)
         status, why = self.asked({"set": 2, "members": {"color": [5, 6, 7]}})
-        self.assertEqual((status, why.decode().partition(": ")[2]), (400, "event 2 (clear), color: an array of 4 is wanted, not an array of 3\n"))
+        self.assertEqual(
+            (status, why.decode().partition(": ")[2]),
+            (400, "event 2 (clear), color: an array of 4 is wanted, not an array of 3\n"),
+        )
         for path in ("/changed", "/changed/capture"):
             self.assertEqual(self.asked({"move": 1, "to": 2}, path, X_Token=None)[0], 403)
 
@@ -72,20 +93,14 @@ class WhatIf(Hands):
         self.browser.press(*line, "Enter", "Escape")
 
     def test_lines(self):
-        """What each is read as, worked out by hand: a moved event's number is that which it has then."""
-        lines = {"set 1 color 1 2 3 4": {"set": 1, "members": {"color": [1, 2, 3, 4]}}, "set 2 mask 15": {"set": 2, "members": {"mask": 15}}, "set 2 enable off": {"set": 2, "members": {"enable": False}},
-                 "set 2 rgb ONE ZERO ADD": {"set": 2, "members": {"rgb": ["ONE", "ZERO", "ADD"]}}, " set  5 func LESS ": {"set": 5, "members": {"func": "LESS"}},
-                 "set 4 name a new one": {"set": 4, "members": {"name": "a new one"}},
-                 "move 4 after 2": {"move": 4, "to": 3}, "move 4 before 2": {"move": 4, "to": 2}, "move 2 after 4": {"move": 2, "to": 4}, "move 2 before 4": {"move": 2, "to": 3}, "move 3 after 3": {"move": 3, "to": 3},
-                 "set 2 color 1 2 3 4": "set EVENT NAME VALUE: event 2 is a blend, and has enable, rgb, alpha, mask", "set 2 mask": "set EVENT NAME VALUE: event 2 is a blend, and has enable, rgb, alpha, mask",
-                 "set 6 mask 15": "set 6 mask 15: events are numbered from 1 to 5", "move 1 2": "move EVENT after EVENT, or move EVENT before EVENT"}
         with Viewer(HOUSE) as viewer:
             self.open(viewer)
             self.at(13)
-            self.assertEqual(dict(zip(lines, self.within(READ, list(lines)))), lines)
+            self.assertEqual(dict(zip(LINES, self.within(READ, list(LINES), KINDS))), LINES)
 
     def test_what_if(self):
-        """A state's value and an event's place, drawn and compared at the end of the frame, and kept; the frame itself stays."""
+        """A state's value and an event's place, drawn and compared at the end of the frame, and kept; the frame
+        itself stays."""
         with Viewer(HOUSE) as viewer:
             self.open(viewer)
             self.at(13)
@@ -95,20 +110,25 @@ class WhatIf(Hands):
             self.reads("#changed-told", "set 8 enable off")
             self.at(13)
             self.comes(lambda: self.drawn(50, 50), [190, 60, 50, 255])
-            self.comes(lambda: self.text("#difference").partition(" px differ")[0], "824")        # 12 by 14 of event 9 and 32 by 24 of event 11, but for 8 by 14 that event 13 covers
+            self.comes(
+                lambda: self.text("#difference").partition(" px differ")[0], "824"
+            )  # 12 by 14 of event 9 and 32 by 24 of event 11, but for 8 by 14 that event 13 covers
             self.browser.click("#changed-shown")
             self.comes(lambda: self.drawn(50, 50), [125, 95, 55, 255])
             kept_as, text = self.within(KEEP)
             wanted = json.loads(HOUSE.read_text())
             wanted["events"][7]["enable"] = False
             self.assertEqual((kept_as, json.loads(text)["events"]), ("house_changed.json", wanted["events"]))
-            self.type("move 11 after 2")                # below the sky and the hill
+            self.type("move 11 after 2")  # below the sky and the hill
             self.comes(lambda: self.drawn(50, 50), [60, 130, 60, 255])
             self.browser.click("#changed-forget")
             self.comes(lambda: self.drawn(50, 50), [125, 95, 55, 255])
             self.assertTrue(self.browser.run("return document.getElementById('what-if').hidden"))
             self.type("set 8 mask 16")
-            self.browser.until("return /^line \\d+, column \\d+: event 8 \\(blend\\), mask: a whole number from 0 to 15 is wanted, not 16$/.test(document.getElementById('notice').innerText)")
+            self.browser.until(
+                "return /^line \\d+, column \\d+: event 8 \\(blend\\), mask: a whole number from 0 to 15 is "
+                "wanted, not 16$/.test(document.getElementById('notice').innerText)"
+            )
 
 
 @unittest.skipUnless(browser.is_installed(), "Chromium and chromedriver aren't installed")
@@ -121,7 +141,7 @@ class WhatIfInFirefox(WhatIf):
     kind = browser.Firefox
 
 
-del WhatIf       # it is tried in browsers alone
+del WhatIf  # it is tried in browsers alone
 
 if __name__ == "__main__":
     unittest.main()

@@ -34,12 +34,30 @@ def capture_of(width, height, events, version=1):
 
 
 RED, GREEN, BLUE = [255, 0, 0, 255], [0, 255, 0, 0], [0, 0, 255, 128]
-WINDOW = capture_of(64, 48, [
-    clear(30, 60, 90, 255), raster("none", scissor=True), scissor(8, 4, 40, 30), draw(vertices((0, 0, RED), (64, 0, GREEN), (0, 48, BLUE)), "linear")])
+WINDOW = capture_of(
+    64,
+    48,
+    [
+        clear(30, 60, 90, 255),
+        raster("none", scissor=True),
+        scissor(8, 4, 40, 30),
+        draw(vertices((0, 0, RED), (64, 0, GREEN), (0, 48, BLUE)), "linear"),
+    ],
+)
 # A near triangle, then a farther one that fails the test where the near one is, on 8 by 8 pixels
-DEPTH = capture_of(8, 8, [
-    clear(40, 40, 40, 255), depth(), draw(vertices((0, 0, 1000, RED), (8, 0, 1000, RED), (0, 8, 1000, RED))),
-    draw(vertices((0, 0, 2000, BLUE), (16, 0, 2000, BLUE), (0, 16, 2000, BLUE))), depth(write=False, func="GREATER_EQUAL"), depth_clear(3000)], 2)
+DEPTH = capture_of(
+    8,
+    8,
+    [
+        clear(40, 40, 40, 255),
+        depth(),
+        draw(vertices((0, 0, 1000, RED), (8, 0, 1000, RED), (0, 8, 1000, RED))),
+        draw(vertices((0, 0, 2000, BLUE), (16, 0, 2000, BLUE), (0, 16, 2000, BLUE))),
+        depth(write=False, func="GREATER_EQUAL"),
+        depth_clear(3000),
+    ],
+    2,
+)
 # Answers as framedbg does where memory is wanted on the way forward: it never comes past position 2
 STOPPING = """#!/usr/bin/env python3
 import sys
@@ -62,7 +80,8 @@ for line in sys.stdin:
     sys.stdout.flush()
 """
 
-# Answers for three clears, and goes to no position from 2 on while the file beside it is there: then it says so in another file, and stays silent
+# Answers for three clears, and goes to no position from 2 on while the file beside it is there: then it says so in
+# another file, and stays silent
 HOLDING = """#!/usr/bin/env python3
 import pathlib
 import signal
@@ -111,7 +130,9 @@ def program_of(text, folder):
 
 
 def asked(program, capture, commands):
-    return subprocess.run([program, "run", str(capture)], input="".join(c + "\n" for c in commands).encode(), capture_output=True)
+    return subprocess.run(
+        [program, "run", str(capture)], input="".join(c + "\n" for c in commands).encode(), capture_output=True
+    )
 
 
 def replies(capture, commands):
@@ -128,6 +149,7 @@ def image(capture):
 
 def png(samples, width, height):
     """A PNG of four channels that goes through the five filters, row by row."""
+
     def predicted(filter, a, b, c):
         near = min((abs(b - c), 0, a), (abs(a - c), 1, b), (abs(a + b - 2 * c), 2, c))[2]
         return (0, a, b, (a + b) // 2, near)[filter]
@@ -135,15 +157,23 @@ def png(samples, width, height):
     rows, stride, at = bytearray(), 4 * width, lambda x, y: samples[y * 4 * width + x] if x >= 0 and y >= 0 else 0
     for y in range(height):
         rows.append(y % 5)
-        rows += bytes((at(x, y) - predicted(y % 5, at(x - 4, y), at(x, y - 1), at(x - 4, y - 1))) % 256 for x in range(stride))
+        rows += bytes(
+            (at(x, y) - predicted(y % 5, at(x - 4, y), at(x, y - 1), at(x - 4, y - 1))) % 256 for x in range(stride)
+        )
     chunk = lambda kind, data: struct.pack(">I", len(data)) + kind + data + struct.pack(">I", zlib.crc32(kind + data))
     packed = zlib.compress(bytes(rows))
-    return (b"\x89PNG\r\n\x1a\n" + chunk(b"IHDR", struct.pack(">IIBBBBB", width, height, 8, 6, 0, 0, 0))
-            + chunk(b"IDAT", packed[:100]) + chunk(b"IDAT", packed[100:]) + chunk(b"IEND", b""))
+    return (
+        b"\x89PNG\r\n\x1a\n"
+        + chunk(b"IHDR", struct.pack(">IIBBBBB", width, height, 8, 6, 0, 0, 0))
+        + chunk(b"IDAT", packed[:100])
+        + chunk(b"IDAT", packed[100:])
+        + chunk(b"IEND", b"")
+    )
 
 
 class Viewer:
-    """A server over a run, for the time of a test. A page that asks while it closes complains in one of several ways, so a browser leaves first."""
+    """A server over a run, for the time of a test. A page that asks while it closes complains in one of several
+    ways, so a browser leaves first."""
 
     def __init__(self, capture, program=PROGRAM):
         self.leave = lambda: None
@@ -183,5 +213,7 @@ class Viewer:
     def ask(self, *lines, window=None):
         """The replies to some lines, by the server's call, and the images' bytes behind them."""
         given = {"X_Window": " ".join(map(str, window))} if window else {}
-        told, _, images = self.request(body="".join(line + "\n" for line in lines).encode(), **given)[2].partition(b"\n")
+        told, _, images = self.request(body="".join(line + "\n" for line in lines).encode(), **given)[2].partition(
+            b"\n"
+        )
         return json.loads(told), images

@@ -1,15 +1,16 @@
-"""Programs of Windows under Wine for tests: a display, a prefix and a server of their own in a folder, which end with it."""
+"""Programs of Windows under Wine for tests: a display, a prefix and a server of their own in a folder, which end
+with it."""
 import os
 import pathlib
 import shutil
 import subprocess
-import time
+
+from display import Display
 
 NEEDS = {"wine": "wine", "wineserver": "wine", "Xvfb": "xvfb", "x86_64-w64-mingw32-gcc": "gcc-mingw-w64-x86-64-win32"}
 ZLIB = pathlib.Path("/usr/x86_64-w64-mingw32/include/zlib.h")
-WINESERVERS = ("/usr/lib/wine", "/usr/lib/wine64")         # where Debian has a wineserver that isn't on the path
-DISPLAYS = range(90, 140)
-SECONDS, TRIES = 180, 2         # Wine itself may end at a cold start
+WINESERVERS = ("/usr/lib/wine", "/usr/lib/wine64")  # where Debian has a wineserver that isn't on the path
+SECONDS, TRIES = 180, 2  # Wine itself may end at a cold start
 
 
 def wineserver():
@@ -19,7 +20,9 @@ def wineserver():
 
 def missing():
     """Why there is no Wine here, or no compiler for it, or None."""
-    absent = [package for name, package in NEEDS.items() if not (wineserver() if name == "wineserver" else shutil.which(name))]
+    absent = [
+        package for name, package in NEEDS.items() if not (wineserver() if name == "wineserver" else shutil.which(name))
+    ]
     absent += [] if ZLIB.exists() else ["libz-mingw-w64-dev"]
     return f"{', '.join(sorted(set(absent)))} isn't installed" if absent else None
 
@@ -30,52 +33,57 @@ class Wine:
     def __init__(self, folder):
         self.folder = pathlib.Path(folder)
         self.environment = {name: value for name, value in os.environ.items() if name != "GALLIUM_DRIVER"}
-        self.environment |= {"WINEPREFIX": str(self.folder / "prefix"), "WINEARCH": "win64", "WINEDEBUG": "-all", "WINEDLLOVERRIDES": "mscoree,mshtml=",
-                             "LIBGL_ALWAYS_SOFTWARE": "1"}
+        self.environment |= {
+            "WINEPREFIX": str(self.folder / "prefix"),
+            "WINEARCH": "win64",
+            "WINEDEBUG": "-all",
+            "WINEDLLOVERRIDES": "mscoree,mshtml=",
+            "LIBGL_ALWAYS_SOFTWARE": "1",
+        }
         self.display = None
 
     def __enter__(self):
         try:
-            self._start_display()
+            self.display = Display()
+            self.environment["DISPLAY"] = self.display.name
             self.run("wineboot", "--init")
         except BaseException:
             self.__exit__()
             raise
         return self
 
-    def _start_display(self):
-        for number in DISPLAYS:
-            words = ["Xvfb", f":{number}", "-screen", "0", "800x600x24", "-nolisten", "tcp"]
-            self.display = subprocess.Popen(words, stdin=subprocess.DEVNULL, stdout=subprocess.DEVNULL, stderr=subprocess.DEVNULL)
-            until = time.monotonic() + 30
-            while self.display.poll() is None and time.monotonic() < until:
-                if pathlib.Path(f"/tmp/.X11-unix/X{number}").exists():
-                    time.sleep(0.3)
-                    if self.display.poll() is None:
-                        self.environment["DISPLAY"] = f":{number}"
-                        return
-                time.sleep(0.1)
-            self._end_display()
-        raise OSError("no display starts here")
-
-    def _end_display(self):
+    def __exit__(self, *_):
+        subprocess.run(
+            [wineserver(), "-k"],
+            env=self.environment,
+            stdin=subprocess.DEVNULL,
+            stdout=subprocess.DEVNULL,
+            stderr=subprocess.DEVNULL,
+            check=False,
+        )
         if self.display:
-            self.display.terminate()
-            self.display.wait()
+            self.display.end()
             self.display = None
 
-    def __exit__(self, *_):
-        subprocess.run([wineserver(), "-k"], env=self.environment, stdin=subprocess.DEVNULL, stdout=subprocess.DEVNULL, stderr=subprocess.DEVNULL, check=False)
-        self._end_display()
-
     def run(self, *words):
-        """(status, the lines on standard output, those on standard error) of a program. It is tried once more where a signal ended it. Files stand for
-        pipes, which Wine's server would hold open."""
+        """(status, the lines on standard output, those on standard error) of a program. It is tried once more where
+        a signal ended it. Files stand for pipes, which Wine's server would hold open."""
         for _ in range(TRIES):
             with open(self.folder / "out", "wb") as out, open(self.folder / "errors", "wb") as errors:
-                ran = subprocess.run(["wine", *map(str, words)], cwd=self.folder, env=self.environment, stdin=subprocess.DEVNULL, stdout=out, stderr=errors,
-                                     timeout=SECONDS, check=False)
+                ran = subprocess.run(
+                    ["wine", *map(str, words)],
+                    cwd=self.folder,
+                    env=self.environment,
+                    stdin=subprocess.DEVNULL,
+                    stdout=out,
+                    stderr=errors,
+                    timeout=SECONDS,
+                    check=False,
+                )
             if 0 <= ran.returncode < 128:
                 break
-        out, errors = ((self.folder / name).read_text(errors="replace").replace("\r", "").splitlines() for name in ("out", "errors"))
+        out, errors = (
+            (self.folder / name).read_text(errors="replace").replace("\r", "").splitlines()
+            for name in ("out", "errors")
+        )
         return ran.returncode, out, errors

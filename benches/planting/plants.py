@@ -3,14 +3,17 @@ from blaming.frame import order_of
 from blaming.kinds import inserted, replaced
 from captures import ALPHA_FACTORS, FACTORS, FUNCTIONS, OPERATIONS
 
-PLANTS = {}              # by the name of the kind of change that mends it
+PLANTS = {}  # by the name of the kind of change that mends it
 
 
 def plant(name):
-    """Puts a bug into the table. It takes a random source and a frame, and gives (events, numbers of events), or None where the frame has no room for it."""
+    """Puts a bug into the table. It takes a random source and a frame, and gives (events, numbers of events), or
+    None where the frame has no room for it."""
+
     def add(make):
         PLANTS[name] = make
         return make
+
     return add
 
 
@@ -25,12 +28,16 @@ def some(rng, frame, *kinds):
 
 
 def a_draw(rng, frame, least=1):
-    numbers = [i for i, event in enumerate(frame.events, 1) if event["kind"] == "draw" and len(order_of(event)) >= 3 * least]
+    numbers = [
+        i for i, event in enumerate(frame.events, 1) if event["kind"] == "draw" and len(order_of(event)) >= 3 * least
+    ]
     return rng.choice(numbers) if numbers else None
 
 
 def of_state(name, kind, members):
-    """A bug in a state event: one of the frame, or where it has none another one before a draw that is never taken back."""
+    """A bug in a state event: one of the frame, or where it has none another one before a draw that is never taken
+    back."""
+
     @plant(name)
     def make(rng, frame):
         if kind not in frame.states:
@@ -44,6 +51,7 @@ def of_state(name, kind, members):
             return None
         event = frame.state(before, kind)
         return inserted(frame.events, before, event | members(rng, event)), {before}
+
     return make
 
 
@@ -67,12 +75,15 @@ of_state("front face", "raster", lambda rng, event: {"front_ccw": not event["fro
 of_state("scissor on or off", "raster", lambda rng, event: {"scissor": not event["scissor"]})
 of_state("depth test on or off", "depth", lambda rng, event: {"enable": not event["enable"]})
 of_state("depth writes", "depth", lambda rng, event: {"write": not event["write"]})
-of_state("depth function", "depth", lambda rng, event: {"func": rng.choice(others(FUNCTIONS, event["func"])), "enable": True})
+of_state(
+    "depth function", "depth", lambda rng, event: {"func": rng.choice(others(FUNCTIONS, event["func"])), "enable": True}
+)
 
 
 @plant("rectangle of the scissor")
 def rectangle(rng, frame):
-    """A rectangle that is too small by one edge; where the frame has none, one before a draw that is for the whole target, and then not."""
+    """A rectangle that is too small by one edge; where the frame has none, one before a draw that is for the whole
+    target, and then not."""
     number = some(rng, frame, "scissor")
     if number:
         rect = list(frame.events[number - 1]["rect"])
@@ -92,26 +103,42 @@ def rectangle(rng, frame):
 @plant("interpolation")
 def interpolation(rng, frame):
     number = a_draw(rng, frame)
-    return number and (replaced(frame.events, number, frame.events[number - 1] | {"interp": "flat" if frame.events[number - 1]["interp"] == "linear" else "linear"}), {number})
+    return number and (
+        replaced(
+            frame.events,
+            number,
+            frame.events[number - 1]
+            | {"interp": "flat" if frame.events[number - 1]["interp"] == "linear" else "linear"},
+        ),
+        {number},
+    )
 
 
 @plant("colour of a clear")
 def clear(rng, frame):
     number = some(rng, frame, "clear")
-    return number and (replaced(frame.events, number, frame.events[number - 1] | {"color": [rng.randrange(256) for _ in range(4)]}), {number})
+    return number and (
+        replaced(frame.events, number, frame.events[number - 1] | {"color": [rng.randrange(256) for _ in range(4)]}),
+        {number},
+    )
 
 
 @plant("value of a depth clear")
 def depth_clear(rng, frame):
     number = some(rng, frame, "depth_clear")
-    return number and (replaced(frame.events, number, frame.events[number - 1] | {"depth": rng.randrange(65536)}), {number})
+    return number and (
+        replaced(frame.events, number, frame.events[number - 1] | {"depth": rng.randrange(65536)}),
+        {number},
+    )
 
 
 @plant("blend factor")
 def blend_factor(rng, frame):
     number = some(rng, frame, "factor")
     if number:
-        return replaced(frame.events, number, frame.events[number - 1] | {"color": [rng.randrange(256) for _ in range(4)]}), {number}
+        return replaced(
+            frame.events, number, frame.events[number - 1] | {"color": [rng.randrange(256) for _ in range(4)]}
+        ), {number}
     return None
 
 
@@ -122,11 +149,13 @@ def not_taken_back(rng, frame):
     if not number:
         return None
     kind = frame.events[number - 1]["kind"]
-    draws = [i for i, event in enumerate(frame.events, 1) if event["kind"] == "draw" and frame.setter(i, kind) == number]
+    draws = [
+        i for i, event in enumerate(frame.events, 1) if event["kind"] == "draw" and frame.setter(i, kind) == number
+    ]
     if not draws:
         return None
     left = frame.setter(number, kind)
-    return frame.events[:number - 1] + frame.events[number:], {*(i - 1 for i in draws), *([left] if left else [])}
+    return frame.events[: number - 1] + frame.events[number:], {*(i - 1 for i in draws), *([left] if left else [])}
 
 
 @plant("without an event")
@@ -143,11 +172,19 @@ def one_too_many(rng, frame):
 def one_less(rng, frame):
     """A clear or a draw that the frame has twice, and now once."""
     texts = [str(event) for event in frame.events]
-    numbers = [i for i, event in enumerate(frame.events, 1) if event["kind"] in ("draw", "clear", "depth_clear") and texts.count(texts[i - 1]) > 1]
+    numbers = [
+        i
+        for i, event in enumerate(frame.events, 1)
+        if event["kind"] in ("draw", "clear", "depth_clear") and texts.count(texts[i - 1]) > 1
+    ]
     if not numbers:
         return None
     number = rng.choice(numbers)
-    return frame.events[:number - 1] + frame.events[number:], {i for i in range(1, len(texts)) if str((frame.events[:number - 1] + frame.events[number:])[i - 1]) == texts[number - 1]}
+    return frame.events[: number - 1] + frame.events[number:], {
+        i
+        for i in range(1, len(texts))
+        if str((frame.events[: number - 1] + frame.events[number:])[i - 1]) == texts[number - 1]
+    }
 
 
 @plant("order of draws")
@@ -158,9 +195,9 @@ def order(rng, frame):
         return None
     near = sorted(draws, key=lambda i: abs(i - number))[:6]
     to = rng.choice(near)
-    rest = frame.events[:number - 1] + frame.events[number:]
+    rest = frame.events[: number - 1] + frame.events[number:]
     passed = {i if i < number else i - 1 for i in range(min(to, number), max(to, number) + 1) if i != number} | {to}
-    return rest[:to - 1] + [frame.events[number - 1]] + rest[to - 1:], passed
+    return rest[: to - 1] + [frame.events[number - 1]] + rest[to - 1 :], passed
 
 
 @plant("direction of triangles")
@@ -184,17 +221,18 @@ def slipped(name, change, least=4):
             return None
         order = change(rng, list(order_of(frame.events[number - 1])))
         return replaced(frame.events, number, frame.events[number - 1] | {"indices": order}), {number}
+
     return make
 
 
 def leave_out(rng, order):
     at, slip = rng.randrange(len(order) - 3), rng.choice((1, 2, 3))
-    return order[:at] + order[at + slip:]
+    return order[:at] + order[at + slip :]
 
 
 def double(rng, order):
     at, slip = rng.randrange(len(order) - 3), rng.choice((1, 2, 3))
-    return order[:at + slip] + order[at:]
+    return order[: at + slip] + order[at:]
 
 
 def exchange(rng, order):
@@ -213,7 +251,10 @@ slipped("indices left out", leave_out)
 slipped("indices doubled", double)
 slipped("indices exchanged", exchange)
 slipped("an index that is wrong", mistake)
-slipped("a triangle that is missing", lambda rng, order: (lambda t: order[:3 * t] + order[3 * t + 3:])(rng.randrange(len(order) // 3)))
+slipped(
+    "a triangle that is missing",
+    lambda rng, order: (lambda t: order[: 3 * t] + order[3 * t + 3 :])(rng.randrange(len(order) // 3)),
+)
 
 
 def of_vertex(name, members):
@@ -226,18 +267,33 @@ def of_vertex(name, members):
         at, vertices = rng.choice(order_of(event)), list(event["vertices"])
         vertices[at] = vertices[at] | members(rng, vertices[at])
         return replaced(frame.events, number, event | {"vertices": vertices}), {number}
+
     return make
 
 
-of_vertex("colour of a vertex", lambda rng, vertex: {"color": [rng.randrange(256), rng.randrange(256), rng.randrange(256), vertex["color"][3]]})
-of_vertex("place of a vertex", lambda rng, vertex: {name: vertex[name] + rng.choice((-1, 1)) * rng.randrange(2 << 16, 24 << 16) for name in "xy"})
+of_vertex(
+    "colour of a vertex",
+    lambda rng, vertex: {"color": [rng.randrange(256), rng.randrange(256), rng.randrange(256), vertex["color"][3]]},
+)
+of_vertex(
+    "place of a vertex",
+    lambda rng, vertex: {name: vertex[name] + rng.choice((-1, 1)) * rng.randrange(2 << 16, 24 << 16) for name in "xy"},
+)
 of_vertex("depth of a vertex", lambda rng, vertex: {"z": rng.randrange(65536)})
 
 
 @plant("two at once")
 def two(rng, frame):
     """Two bugs of simple kinds in different events."""
-    simple = ("write mask", "factor of blending", "interpolation", "colour of a clear", "cull", "direction of triangles", "depth function")
+    simple = (
+        "write mask",
+        "factor of blending",
+        "interpolation",
+        "colour of a clear",
+        "cull",
+        "direction of triangles",
+        "depth function",
+    )
     first = PLANTS[rng.choice(simple)](rng, frame)
     if not first or len(first[0]) != len(frame.events):
         return None
@@ -245,4 +301,3 @@ def two(rng, frame):
     if not second or len(second[0]) != len(frame.events) or second[1] & first[1]:
         return None
     return second[0], first[1] | second[1]
-

@@ -1,19 +1,14 @@
 // A capture as a search changes it: its events, the state before each, and the bytes of any list of events.
 // No list is ever changed: a change makes another one.
 
+import { AT_START, lastUpTo } from "./setters.js";
+
 export const STATES = ["raster", "scissor", "blend", "factor", "depth"], DRAWN = ["draw", "clear", "depth_clear"];
-export const AT_START = {
-  raster: { kind: "raster", cull: "back", front_ccw: false, scissor: false },
-  scissor: { kind: "scissor", rect: [0, 0, 0, 0] },
-  blend: { kind: "blend", enable: false, rgb: ["ONE", "ZERO", "ADD"], alpha: ["ONE", "ZERO", "ADD"], mask: 15 },
-  factor: { kind: "factor", color: [255, 255, 255, 255] },
-  depth: { kind: "depth", enable: false, write: true, func: "LESS" },
-};
 const PIXEL = 65_536, LEAST = 2 ** 31;       // places are in 1/65536 pixel; no edge of a scissor is less
 const OFF = { kind: "marker", name: "off" }, NOTHING = { kind: "draw", interp: "flat", vertices: [] };
 
 export class Capture {
-  texts = new Map(); setters = new Map();          // by window and event; by an event's number and a part
+  texts = new Map(); setters = new Map();          // by window and event; the events that set a part
 
   // Of a capture that framedbg accepts. Events that are off are none, and the others keep their numbers
   constructor(bytes, off = new Set()) {
@@ -28,9 +23,8 @@ export class Capture {
 
   // The event that set a part of the state with which an event is drawn; 0 where that is as at the start
   setter(number, part) {
-    const key = `${number} ${part}`;
-    if (!this.setters.has(key)) this.setters.set(key, this.events.findLastIndex(({ kind }, i) => kind === part && i < number - 1) + 1);
-    return this.setters.get(key);
+    if (!this.setters.has(part)) this.setters.set(part, this.those([part]));
+    return lastUpTo(this.setters.get(part), number - 1) ?? 0;
   }
 
   state(number, part) { return this.event(this.setter(number, part)) ?? AT_START[part]; }

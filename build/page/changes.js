@@ -1,6 +1,7 @@
 // The kinds of change, in the order in which they are tried: each changes one thing of one event, or where it stands. The words are those of framedbg-blame.
 
-import { AT_START, DRAWN, STATES } from "./capture.js";
+import { DRAWN, STATES } from "./capture.js";
+import { AT_START } from "./setters.js";
 import { valuesFor } from "./worked.js";
 
 const FACTORS = ["ZERO", "ONE", ...["SRC_COLOR", "SRC_ALPHA", "DEST_ALPHA", "DEST_COLOR", "BLEND_FACTOR"].flatMap(name => [name, `INV_${name}`])];

@@ -1,5 +1,6 @@
 // Which capture is shown: the one that came with the page, or one that is chosen or dropped. It stays in this page: nothing is sent anywhere.
 
+import { showCard } from "./card.js";
 import { adviceOn, isNamedAsPicture, kindOf } from "./files.js";
 import { pack, unpack } from "./packed.js";
 import { forgetRefusal, tellRefusal } from "./refusal.js";
@@ -91,12 +92,14 @@ function choiceOf(takeFile, takeOwn) {
   const made = element(`<dialog id="choice"><h2>Which capture?</h2><p>Drop one anywhere on this page. It stays here: nothing is sent.</p>
     <p><input id="capture-file" type="file" accept=".json,application/json" aria-label="A capture of your own"> or the sample, <button id="own-capture"></button></p>
     <p id="hunts-told" hidden>Or look for what was planted in one of these frames (<button id="choice-guide" class="quiet">how to find who did it</button>):</p><div id="hunts"></div>
+    <p>Or see whether <button id="choice-card" class="quiet">this card</button> draws as it should.</p>
     <p><button id="choice-close" hidden>Close</button></p></dialog>`);
-  const [file, button, guide, close] = made.querySelectorAll("input, #own-capture, #choice-guide, #choice-close");
+  const [file, button, guide, card, close] = made.querySelectorAll("input, #own-capture, #choice-guide, #choice-card, #choice-close");
   button.textContent = inside.dataset.name;
   button.onclick = takeOwn;
   file.onchange = () => { if (file.files.length) takeFile(file.files[0]); file.value = ""; };
   guide.onclick = () => document.getElementById("guide").showModal();
+  card.onclick = showCard;
   close.onclick = () => made.close();
   made.oncancel = event => { if (!shown) event.preventDefault(); };
   return made;
@@ -111,13 +114,14 @@ function addButtons() {
   save.onclick = () => shown && savePage(shown);
 }
 
-// A file that is dropped anywhere is a capture, but for a picture on a frame, which is the viewer's
+// A file that is dropped anywhere is a capture, but for a picture on a frame, and what is dropped at Compared: both are the viewer's
 function listen(takeFile) {
   addEventListener("dragover", event => event.preventDefault());       // else the browser would leave for the file
   addEventListener("drop", event => {
     const [file] = event.dataTransfer.files;
     event.preventDefault();
-    if (!file || (isNamedAsPicture(file.name) && !dialog.open && stage.contains(event.target))) return;
+    const isCompared = !dialog.open && (document.getElementById("comparison").contains(event.target) || isNamedAsPicture(file?.name ?? "") && stage.contains(event.target));
+    if (!file || document.getElementById("card")?.open || isCompared) return;
     event.stopPropagation();
     stage.classList.remove("over");
     takeFile(file);

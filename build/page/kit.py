@@ -5,9 +5,9 @@ import shutil
 import subprocess
 import time
 
-TRIED = "rattle-kit-13b logic dac8208d650f15bf"     # the kit that the steps were tried with
+TRIED = "rattle-kit-13b logic dac8208d650f15bf"  # the kit that the steps were tried with
 
-WORTH_TELLING = 5       # seconds that a step took
+WORTH_TELLING = 5  # seconds that a step took
 
 
 class Failed(Exception):

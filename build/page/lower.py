@@ -1,8 +1,9 @@
 #!/usr/bin/env python3
 """lower: the program framedbg, proved and lowered by rattle for x86-64, as LLVM's text.
 
-rattle hands its module to the clang of the toolchain that it is given, and keeps nothing. So it is given the kit's, but for a clang that first
-copies the module aside and then does its work. The kit, and the program as it was built, stay as they are.
+rattle hands its module to the clang of the toolchain that it is given, and keeps nothing. So it is given the kit's,
+but for a clang that first copies the module aside and then does its work. The kit, and the program as it was built,
+stay as they are.
 """
 import argparse
 import importlib
@@ -10,7 +11,7 @@ import pathlib
 import sys
 
 sys.path.insert(0, str(pathlib.Path(__file__).resolve().parent.parent))
-from page import kit   # noqa: E402
+from page import kit  # noqa: E402
 
 TOP = pathlib.Path(__file__).resolve().parent.parent.parent
 # The first of the x86-64 processors, so that no instruction of that machine is named
@@ -46,8 +47,20 @@ def main():
     status = crate.compile(WORDS, str(folder / "framedbg.o"))
     if status or not kept.exists():
         sys.exit("lower: the program is not proved, or rattle compiled it in another way")
-    kit.run(kit.tool("clang"), "--target=x86_64-unknown-linux-gnu", "--no-default-config", "-S", "-emit-llvm", "-Xclang", "-disable-llvm-passes", "-x", "ir", kept,
-            "-o", folder / "framedbg.ll")
+    kit.run(
+        kit.tool("clang"),
+        "--target=x86_64-unknown-linux-gnu",
+        "--no-default-config",
+        "-S",
+        "-emit-llvm",
+        "-Xclang",
+        "-disable-llvm-passes",
+        "-x",
+        "ir",
+        kept,
+        "-o",
+        folder / "framedbg.ll",
+    )
 
 
 if __name__ == "__main__":

@@ -1,10 +1,12 @@
 // Why framedbg refuses a capture: which member of which event, and where in the text, in the words of framedbg-explain (tools/explaining/verdict.py).
 
 import { decoded, lineAndColumn, locate, Malformed, read } from "./json_text.js";
+import { originOf } from "./origin.js";
 import { check, Wrong } from "./rules.js";
 import { printable } from "./printable.js";
 
 const MOST_BYTES = 67_108_864, MOST_NAME = 60, MOST_NUMBER = 2n ** 64n;      // of a capture; of a call's name that is shown, and its number is below
+const MOST_ORIGIN = 160;               // characters of what else is told of where an event comes from
 const OF_ONE = { vertices: "vertex", indices: "index" };
 
 // What an ended run said of a capture, in words of two lines; what isn't a refusal stays as it is, and where both don't agree framedbg's word alone counts
@@ -36,12 +38,15 @@ function place(text, at) {
   return `line ${line}, column ${column}`;
 }
 
-// The call that an event comes from, where it says one: " of call 363 glDrawElements()"
+const plain = value => value instanceof Map ? Object.fromEntries([...value].map(([name, inner]) => [name, plain(inner)])) : Array.isArray(value) ? value.map(plain) : value;
+
+// The call that an event comes from, where it says one, and what else it tells of that: " of call 363 glDrawElements() (reads texture 35 lit)"
 function call(event) {
   const source = event instanceof Map ? event.get("source") : null, [number, name] = ["event", "name"].map(word => source instanceof Map ? source.get(word) : null);
   const isNumber = (typeof number === "number" || typeof number === "bigint") && number >= 0 && number < MOST_NUMBER;
   const words = [...(isNumber ? [String(number)] : []), ...(typeof name === "string" && name ? [[...name.slice(0, 2 * MOST_NAME)].slice(0, MOST_NAME).join("")] : [])];
-  return words.length ? ` of call ${words.join(" ")}` : "";
+  const more = source instanceof Map ? [...originOf(plain(source)).filter(line => !line.startsWith("call ")).join("; ")].slice(0, MOST_ORIGIN).join("") : "";
+  return `${words.length ? ` of call ${words.join(" ")}` : ""}${more && ` (${more})`}`;
 }
 
 // The way to the member in words: event 5 (draw) of call 363 glDrawElements(), vertex 3, color 0

@@ -3,16 +3,22 @@
 
 import { Capture } from "./capture.js";
 import { chooseCaptures } from "./choose.js";
+import { Contents } from "./contents.js";
+import { differences, stepsThrough, tellPictures } from "./differing.js";
 import { bandsBetween } from "./image.js";
+import { toldOf } from "./origin.js";
 import { unpack } from "./packed.js";
 import { explained } from "./refused.js";
-import { Ended, Runner, Stopped } from "./runner.js";
+import { positionIn } from "./replies.js";
+import { Ended, MOST_LINES, Runner, Stopped } from "./runner.js";
 import { Search } from "./search.js";
 
 const WORDS = ["framedbg", "run", "--workers", "1", "CAPTURE"];
 const MAX_OUTLINED = 32 << 20;     // bytes of a capture, for outlines without its pictures, that is read for outlines, and changed by a search
 const TEXTS = /"(texels|holes)"(\s*:\s*)"[^"\\]*"/g;       // of pictures, which no outline needs
 const PIXEL = 65536;               // positions are in 1/65536 pixel
+const SECOND = "other";            // the run of a capture that is shown beside
+const TOO_LARGE = "a capture of more than 32 MiB isn't shown beside another here: tools/view does it";
 
 export { Ended, Stopped };
 
@@ -20,7 +26,7 @@ const text = name => document.getElementById(name).textContent;
 const script = URL.createObjectURL(new Blob([text("program")], { type: "text/javascript" }));
 const program = unpack(text("module")).then(bytes => WebAssembly.compile(bytes));
 const main = new Runner(started), beside = new Map();      // the run that the page moves, and those that stand elsewhere
-let turn = Promise.resolve(), events = null, capture, tried = null, newest = null, images = 0, stops = 0, search = null, tellCapture = () => {};
+let turn = Promise.resolve(), events = null, hasDepths = true, capture, tried = null, newest = null, images = 0, stops = 0, search = null, second = null, tellCapture = () => {};
 
 // What the address says, or the saved page of the capture that it opens
 export const firstPlace = () => {
@@ -47,6 +53,7 @@ const chosen = new Promise(resolve => chooseCaptures(async other => {
   }
   [capture, events, tried] = [other, null, null];
   endBeside(new Error(`${capture.name} is shown now`));
+  second = null;
   main.takeOver(run, new Error(`${capture.name} is shown now`));
   if (isFirst) resolve();
   else tellCapture();
@@ -88,6 +95,30 @@ async function drawOther(bytes) {
   return image;
 }
 
+// A run of another capture, for the view of the card: lines in, replies out. Where it has answered all lines that it may, another goes on there
+export function openCapture(bytes) {
+  const run = new Runner(() => workerOf(bytes));
+  let position = 0;
+  return {
+    async ask(lines) {
+      if (run.lines + lines.length > MOST_LINES) {
+        await run.start();
+        await run.ask([`goto ${position}`], null);
+      }
+      const replies = await run.ask(lines, null).catch(fault => { throw fault instanceof Ended ? new Ended(explained(fault.message, bytes)) : fault; });
+      position = replies.reduce((at, { text }) => positionIn(text) ?? at, position);
+      return replies;
+    },
+    end: () => run.end(new Ended("drawn")),
+  };
+}
+
+// The capture that is shown
+export const ownCapture = async () => {
+  if (!capture) throw new Error("no capture is shown yet");
+  return capture;
+};
+
 const inTurn = job => {
   const done = turn.then(job);
   turn = done.catch(() => {});
@@ -104,10 +135,11 @@ export const ask = (lines, window = null, name = null, atEnd = []) => inTurn(asy
 });
 
 async function askBeside(name, lines, window) {
-  if (!beside.has(name)) beside.set(name, new Runner(started));
+  if (name === SECOND && !second) throw new Error("no capture is shown beside");
+  if (!beside.has(name)) beside.set(name, new Runner(name === SECOND ? () => workerOf(second.bytes) : started));
   const run = beside.get(name);
   try {
-    await run.follow(main.off, lines.length);
+    await run.follow(name === SECOND ? new Set() : main.off, lines.length);        // all events of another capture are on
     return await run.ask(lines, window);
   } catch (fault) {
     run.end(fault);
@@ -165,6 +197,43 @@ export async function changed(change) {
   }
 }
 
+// Depths are asked for by lines
+export const depths = null;
+
+// Another capture beside this one (beside.js), or none: what differs, and in which words the pictures do. It has a run of its own
+export const takesBeside = true;
+export const differing = async () => null;
+
+export async function putBeside(file) {
+  if (!file) return endSecond();
+  const bytes = new Uint8Array(await file.arrayBuffer()), run = openCapture(bytes);
+  if (Math.max(bytes.length, capture.bytes.length) > MAX_OUTLINED) throw new Error(TOO_LARGE);
+  try {
+    await run.ask(["state"]);        // what is refused is told, and what is beside stays
+  } finally {
+    run.end();
+  }
+  const contents = [capture.bytes, bytes].map(its => new Contents(its)), found = stepsThrough(contents);
+  endSecond();
+  second = { bytes, contents, steps: found[0] };
+  return { name: file.name, ...differences(contents, found) };
+}
+
+export async function wherePicturesDiffer() {
+  const { contents, steps } = second, runs = [capture.bytes, second.bytes].map(openCapture);
+  try {
+    return await tellPictures(runs, contents, steps);
+  } finally {
+    for (const run of runs) run.end();
+  }
+}
+
+function endSecond() {
+  beside.get(SECOND)?.end(new Error("another capture is shown beside, or none"));
+  beside.delete(SECOND);
+  return second = null;
+}
+
 // An event of the capture, or undefined where that is too large to be read for it
 function eventOf(number) {
   const { bytes } = capture;
@@ -172,7 +241,12 @@ function eventOf(number) {
   return events[number - 1];
 }
 
-const eventsIn = text => text.length > MAX_OUTLINED ? [] : JSON.parse(text).events;
+// Depths that stand in a capture of version 1 are passed over
+function eventsIn(text) {
+  const read = text.length > MAX_OUTLINED ? { events: [] } : JSON.parse(text);
+  hasDepths = read.version !== 1;
+  return read.events;
+}
 
 // The corners of a triangle in pixels, as the capture has them, or null
 export async function triangle(event, number) {
@@ -188,16 +262,19 @@ export async function triangle(event, number) {
 export async function draw(event) {
   const { interp, vertices, indices = null, picture } = eventOf(event) ?? {};
   if (!vertices) return null;
-  if (interp !== "picture") return { interp, vertices: vertices.map(({ x, y, z = null, color }) => [x, y, z, color]), indices };
+  if (interp !== "picture") return { interp, vertices: vertices.map(({ x, y, z = null, color }) => [x, y, hasDepths ? z : null, color]), indices };
   const { left, top, width, height } = picture;
   return { interp, vertices: vertices.map(({ x, y, z }) => [x, y, z, null]), indices, picture: [left, top, width, height] };
 }
 
-// The calls that events come from: [number, { event, name, until }]
+// The page alone has one capture, and no other targets of its frame
+export const frameOf = async () => null;
+
+// The calls that events come from: [number, { event, name, until, and what else is told (origin.js) }]
 export async function sources() {
   try {
     eventOf(0);
-    return events.flatMap(({ source }, i) => Number.isInteger(source?.event) ? [[i + 1, { event: source.event, name: String(source.name ?? ""), until: source.until ?? null }]] : []);
+    return events.flatMap(({ source }, i) => Number.isInteger(source?.event) ? [[i + 1, { event: source.event, name: String(source.name ?? ""), until: source.until ?? null, ...toldOf(source) }]] : []);
   } catch {
     return [];
   }

@@ -2,7 +2,7 @@
 
 import { Output } from "./output.js";
 
-const MOST_LINES = 1_000_000;      // that framedbg answers in a run
+export const MOST_LINES = 1_000_000;      // that framedbg answers in a run
 
 export class Ended extends Error {}
 export class Stopped extends Error {}

@@ -13,8 +13,8 @@ class Edit(NamedTuple):
     crate: str
     name: str
     text: str
-    pairs: tuple        # of a file, what stands there, and what is to stand there
-    functions: frozenset        # whose bodies it changes; None among them is a place outside of them
+    pairs: tuple  # of a file, what stands there, and what is to stand there
+    functions: frozenset  # whose bodies it changes; None among them is a place outside of them
 
     def __str__(self):
         return f"{self.crate}/{self.name}"
@@ -43,14 +43,16 @@ def pairs_of(text):
 
 
 def made_by(pairs, texts):
-    """The changed texts with these pairs exchanged, and the functions in whose bodies that is; None where one doesn't stand
-    once in its file."""
+    """The changed texts with these pairs exchanged, and the functions in whose bodies that is; None where one
+    doesn't stand once in its file."""
     made, changed = {}, set()
     for file, old, new in pairs:
         now = made.get(file, texts.get(file, ""))
         if not old or now.count(old) != 1:
             return None
-        changed.add(functions.in_body(file, now, now.count("\n", 0, now.index(old))) if file.startswith("src/") else None)
+        changed.add(
+            functions.in_body(file, now, now.count("\n", 0, now.index(old))) if file.startswith("src/") else None
+        )
         made[file] = now.replace(old, new)
     return made, frozenset(changed)
 

@@ -7,13 +7,13 @@ from typing import NamedTuple
 HEAD = re.compile(r"( *)(?:pub(?:\([\w:]+\))? )?(?:const )?(?:unsafe )?fn (\w+)")
 OF = re.compile(r"(?:unsafe )?(?:impl|(?:pub(?:\(\w+\))? )?trait)\b(?:<.*?>)? ?(.*?)(?:\s*\{| where|$)")
 CYCLE = re.compile(r"#\[cycle\((\w+)\)\]")
-ROOTS = ("lib", "main", "mod")      # files that give their module no name
+ROOTS = ("lib", "main", "mod")  # files that give their module no name
 
 
 class Function(NamedTuple):
-    path: tuple         # its modules below the crate, and its type or trait
+    path: tuple  # its modules below the crate, and its type or trait
     name: str
-    cycle: str = ""     # of calls, whose members share one proof
+    cycle: str = ""  # of calls, whose members share one proof
 
     def __str__(self):
         return "::".join((*self.path, self.name))
@@ -31,14 +31,14 @@ class Function(NamedTuple):
 
 class Place(NamedTuple):
     function: Function
-    first: int          # its first line, counted from 0: that of its attributes
-    body: int           # the line that opens its body
+    first: int  # its first line, counted from 0: that of its attributes
+    body: int  # the line that opens its body
     last: int
 
 
 def type_of(line):
-    """The type or trait to which an item gives functions, as the prover names it: `impl Sink for File<T>` gives those of
-    FileSink, `impl From<Bad> for Stop` those of StopFromBad."""
+    """The type or trait to which an item gives functions, as the prover names it: `impl Sink for File<T>` gives
+    those of FileSink, `impl From<Bad> for Stop` those of StopFromBad."""
     head = OF.match(line)
     names = re.sub(r"\bFrom<(\w+)", r"From\1<", head[1]).split(" for ")[::-1] if head else []
     return "".join(re.sub(r"<.*", "", name).split("::")[-1].strip("& ") for name in names)

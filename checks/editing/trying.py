@@ -10,13 +10,13 @@ import libraries
 from editing import edits, verdicts
 from editing.verdicts import Kind, Verdict
 
-OVER = 0.7      # what a check takes of the memory of one from nothing, once its crate was checked
+OVER = 0.7  # what a check takes of the memory of one from nothing, once its crate was checked
 
 
 class Said(NamedTuple):
     status: int
     text: str
-    unread: str     # a line on an edited text that can't be read, or nothing
+    unread: str  # a line on an edited text that can't be read, or nothing
 
     def is_checked(self):
         """Whether the check came as far as the functions."""
@@ -36,8 +36,10 @@ class Trial:
         seed, needs = (self.crate.name, "seed", 0), libraries.memory(self.crate)
         yield seed, ([], 0, needs, lambda given, jobs: self.seeded(jobs))
         for number, batch in enumerate(self.batches):
+
             def call(given, jobs, batch=batch):
                 tell(self.tried(batch, given[seed]))
+
             yield (self.crate.name, "edits", number), ([seed], len(batch) * len(self.texts), OVER * needs, call)
 
     def seeded(self, jobs):
@@ -53,7 +55,7 @@ class Trial:
         try:
             rt.linked(f"{seed}/seed", over)
             ran = rt.checked(self.crate, made, ["--jobs", "1", *flags], over)
-            if ran.returncode == -signal.SIGKILL:       # most likely for memory
+            if ran.returncode == -signal.SIGKILL:  # most likely for memory
                 ran = rt.checked(self.crate, made, ["--jobs", "1", *flags], over)
         finally:
             shutil.rmtree(over, ignore_errors=True)

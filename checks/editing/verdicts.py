@@ -34,7 +34,7 @@ class Verdict(NamedTuple):
 
 class Message(NamedTuple):
     file: str
-    line: int           # counted from 0
+    line: int  # counted from 0
     text: str
 
     def is_of(self, edited, sources):
@@ -74,8 +74,8 @@ def refused(function, shown, own):
 
 
 def of_batch(edit, status, said, sources):
-    """The verdict on an edit of bodies that was made with others, or in a check of its own functions alone; None where that
-    can't tell."""
+    """The verdict on an edit of bodies that was made with others, or in a check of its own functions alone; None
+    where that can't tell."""
     own = {it: [state for state in states(it, said) if is_own(state)] for it in edit.functions}
     edited = next((it for it in own if own[it]), None)
     if edited is None:

@@ -7,19 +7,37 @@ import captures
 from captures import FARTHEST, MOST_EDGE, PIXEL
 
 from . import limits, texts, trees, values
-from .trees import Members, Written
+from .trees import Members
 
 EXAMPLES = pathlib.Path(__file__).resolve().parent.parent.parent / "examples"
 LONG = 4000  # one case of so many is a long one
 CORNER = captures.vertex(PIXEL, -PIXEL, (1, 2, 3, 4), 9)
-EVERY_KIND = captures.frame(4, 4, [
-    captures.clear(1, 2, 3, 4), captures.raster("none", scissor=True), captures.scissor(0, -1, 2, MOST_EDGE),
-    captures.blend(True, ("ONE", "SRC_COLOR", "ADD"), ("ONE", "ZERO", "MIN")), captures.factor(0, 255, 0, 0),
-    captures.draw([CORNER] * 3, "flat", [0, 1, 2]), captures.draw([], "linear"), captures.marker("a name"), captures.depth(), captures.depth_clear(FARTHEST)])
+EVERY_KIND = captures.frame(
+    4,
+    4,
+    [
+        captures.clear(1, 2, 3, 4),
+        captures.raster("none", scissor=True),
+        captures.scissor(0, -1, 2, MOST_EDGE),
+        captures.blend(True, ("ONE", "SRC_COLOR", "ADD"), ("ONE", "ZERO", "MIN")),
+        captures.factor(0, 255, 0, 0),
+        captures.draw([CORNER] * 3, "flat", [0, 1, 2]),
+        captures.draw([], "linear"),
+        captures.marker("a name"),
+        captures.depth(),
+        captures.depth_clear(FARTHEST),
+    ],
+)
 OF_VERSION_1 = EVERY_KIND | {"version": 1, "events": EVERY_KIND["events"][:8]}
-PICTURES = [captures.picture(1, 0, 3, 3, bytes(range(36)), [1, 0, 0, 0, 1, 0, 0, 0, 1]), captures.picture(0, 3, 2, 1, bytes(range(248, 256)))]
-OF_VERSION_3 = EVERY_KIND | {"version": 3, "events": [captures.picture_draw([captures.corner(PIXEL, -PIXEL, 9)] * 3, box, [0, 2, 1]) for box in PICTURES]
-                             + EVERY_KIND["events"][5:]}
+PICTURES = [
+    captures.picture(1, 0, 3, 3, bytes(range(36)), [1, 0, 0, 0, 1, 0, 0, 0, 1]),
+    captures.picture(0, 3, 2, 1, bytes(range(248, 256))),
+]
+OF_VERSION_3 = EVERY_KIND | {
+    "version": 3,
+    "events": [captures.picture_draw([captures.corner(PIXEL, -PIXEL, 9)] * 3, box, [0, 2, 1]) for box in PICTURES]
+    + EVERY_KIND["events"][5:],
+}
 MOST_EVENTS, MOST_CORNERS, MOST_TEXELS = 10, 4, 200
 
 
@@ -48,7 +66,9 @@ def seeds():
     plain = trees.Writer(random.Random(0))
     plain.space = plain.escape = 0
     examples = [plain.written(thinned(trees.read(path.read_text()))) for path in sorted(EXAMPLES.glob("**/*.json"))]
-    return list(dict.fromkeys(examples)) + [json.dumps(frame) for frame in (EVERY_KIND, OF_VERSION_1, OF_VERSION_3, OF_VERSION_3) for _ in range(16)]
+    return list(dict.fromkeys(examples)) + [
+        json.dumps(frame) for frame in (EVERY_KIND, OF_VERSION_1, OF_VERSION_3, OF_VERSION_3) for _ in range(16)
+    ]
 
 
 SEEDS = seeds()

@@ -1,11 +1,69 @@
 """Changes of a capture as bytes. Each takes the bytes and dice, and gives others."""
 
-PIECES = [b"\xc0\x80", b"\xc1\xbf", b"\xc2\x80", b"\xc3\xa9", b"\xdf\xbf", b"\xe0\x80\x80", b"\xe0\x9f\xbf", b"\xe0\xa0\x80", b"\xed\x9f\xbf", b"\xed\xa0\x80",
-          b"\xed\xbf\xbf", b"\xee\x80\x80", b"\xef\xbf\xbf", b"\xf0\x80\x80\x80", b"\xf0\x8f\xbf\xbf", b"\xf0\x90\x80\x80", b"\xf4\x8f\xbf\xbf", b"\xf4\x90\x80\x80",
-          b"\xf5\x80\x80\x80", b"\xf8\x88\x80\x80\x80", b"\xff", b"\xfe", b"\x80", b"\xbf", b"\xc2", b"\xe2\x82", b"\xf0\x9f\x98", b"\xef\xbb\xbf", b"\0", b"\x0b",
-          b"\x0c", b"\x1f", b"\x7f", b"\xc2\xa0", b"\xe2\x80\xa8", b" ", b"\t", b"\r\n",
-          b"-", b"-0", b"+", b".", b"e", b"0", b"9", b"1e400", b"null", b"true", b"tru", b"//", b",", b":", b'"', b"\\", b"\\u", b"[", b"]", b"{", b"}",
-          b'"kind":"clear",', b'"version":1,', b"\\ud800"]
+PIECES = [
+    b"\xc0\x80",
+    b"\xc1\xbf",
+    b"\xc2\x80",
+    b"\xc3\xa9",
+    b"\xdf\xbf",
+    b"\xe0\x80\x80",
+    b"\xe0\x9f\xbf",
+    b"\xe0\xa0\x80",
+    b"\xed\x9f\xbf",
+    b"\xed\xa0\x80",
+    b"\xed\xbf\xbf",
+    b"\xee\x80\x80",
+    b"\xef\xbf\xbf",
+    b"\xf0\x80\x80\x80",
+    b"\xf0\x8f\xbf\xbf",
+    b"\xf0\x90\x80\x80",
+    b"\xf4\x8f\xbf\xbf",
+    b"\xf4\x90\x80\x80",
+    b"\xf5\x80\x80\x80",
+    b"\xf8\x88\x80\x80\x80",
+    b"\xff",
+    b"\xfe",
+    b"\x80",
+    b"\xbf",
+    b"\xc2",
+    b"\xe2\x82",
+    b"\xf0\x9f\x98",
+    b"\xef\xbb\xbf",
+    b"\0",
+    b"\x0b",
+    b"\x0c",
+    b"\x1f",
+    b"\x7f",
+    b"\xc2\xa0",
+    b"\xe2\x80\xa8",
+    b" ",
+    b"\t",
+    b"\r\n",
+    b"-",
+    b"-0",
+    b"+",
+    b".",
+    b"e",
+    b"0",
+    b"9",
+    b"1e400",
+    b"null",
+    b"true",
+    b"tru",
+    b"//",
+    b",",
+    b":",
+    b'"',
+    b"\\",
+    b"\\u",
+    b"[",
+    b"]",
+    b"{",
+    b"}",
+    b'"kind":"clear",',
+    b'"version":1,',
+    b"\\ud800",
+]
 
 
 def a_stretch(data, dice):
@@ -25,11 +83,11 @@ def overwritten(data, dice):
 
 
 def cut(data, dice):
-    return data[:dice.randrange(len(data) + 1)]
+    return data[: dice.randrange(len(data) + 1)]
 
 
 def beginning_cut(data, dice):
-    return data[dice.randrange(len(data) + 1):]
+    return data[dice.randrange(len(data) + 1) :]
 
 
 def taken_out(data, dice):
@@ -75,4 +133,18 @@ def marked(data, _):
     return b"\xef\xbb\xbf" + data
 
 
-CHANGES = [flipped, overwritten, cut, beginning_cut, taken_out, doubled, moved, exchanged, put_in, put_in, put_over, put_around, marked]
+CHANGES = [
+    flipped,
+    overwritten,
+    cut,
+    beginning_cut,
+    taken_out,
+    doubled,
+    moved,
+    exchanged,
+    put_in,
+    put_in,
+    put_over,
+    put_around,
+    marked,
+]

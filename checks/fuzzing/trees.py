@@ -10,7 +10,9 @@ class Members(list):
     """An object: pairs of a name and a value, as lists of two."""
 
 
-READER = json.JSONDecoder(object_pairs_hook=lambda pairs: Members(map(list, pairs)), parse_int=Written, parse_float=Written)
+READER = json.JSONDecoder(
+    object_pairs_hook=lambda pairs: Members(map(list, pairs)), parse_int=Written, parse_float=Written
+)
 
 
 def read(text):
@@ -26,7 +28,8 @@ def is_array(value):
 
 
 def places(owner, first=0, depth=0):
-    """Where values stand: a list, the place in it, and how many arrays and objects are around it. A member's value stands at 1 of its pair."""
+    """Where values stand: a list, the place in it, and how many arrays and objects are around it. A member's value
+    stands at 1 of its pair."""
     found = []
     for at in range(first, len(owner)):
         found.append((owner, at, depth))
@@ -56,11 +59,15 @@ class Writer:
         self.plain = json.JSONEncoder(ensure_ascii=dice.random() < 0.3).encode
 
     def gap(self):
-        return self.dice.choice([" ", "\n", "\t", "\r", "\r\n", "  "]) if self.space and self.dice.random() < self.space else ""
+        return (
+            self.dice.choice([" ", "\n", "\t", "\r", "\r\n", "  "])
+            if self.space and self.dice.random() < self.space
+            else ""
+        )
 
     def character(self, character):
         code = ord(character)
-        if self.dice.random() >= self.escape or code > 0xffff:
+        if self.dice.random() >= self.escape or code > 0xFFFF:
             return self.plain(character)[1:-1]
         return "\\/" if character == "/" else self.dice.choice(["\\u%04x", "\\u%04X"]) % code
 

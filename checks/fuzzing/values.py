@@ -1,30 +1,248 @@
-"""Changes of a capture as a tree: members, types, numbers, texts, nesting, counts. Each takes a list with the tree in it, and dice."""
-from captures import (CULLS, FACTORS, FARTHEST, FUNCTIONS, INTERPOLATIONS, KINDS, LEAST_EDGE, MOST_CORNER, MOST_CORNERS, MOST_EDGE, MOST_NAME, MOST_POSITION,
-                      MOST_SIDE, OPERATIONS, PICTURE)
+"""Changes of a capture as a tree: members, types, numbers, texts, nesting, counts. Each takes a list with the tree
+in it, and dice."""
+from captures import (
+    CULLS,
+    FACTORS,
+    FARTHEST,
+    FUNCTIONS,
+    INTERPOLATIONS,
+    KINDS,
+    LEAST_EDGE,
+    MOST_CORNER,
+    MOST_CORNERS,
+    MOST_EDGE,
+    MOST_NAME,
+    MOST_POSITION,
+    MOST_SIDE,
+    OPERATIONS,
+    PICTURE,
+)
 
 from .trees import Members, Written, arrays, copied, is_array, objects, places
 
-NAMES = ["format", "version", "width", "height", "events", "kind", "color", "cull", "front_ccw", "scissor", "rect", "enable", "rgb", "alpha", "mask", "interp",
-         "vertices", "indices", "x", "y", "z", "name", "write", "func", "depth", "picture", "left", "top", "texels", "holes", "new"]
+NAMES = [
+    "format",
+    "version",
+    "width",
+    "height",
+    "events",
+    "kind",
+    "color",
+    "cull",
+    "front_ccw",
+    "scissor",
+    "rect",
+    "enable",
+    "rgb",
+    "alpha",
+    "mask",
+    "interp",
+    "vertices",
+    "indices",
+    "x",
+    "y",
+    "z",
+    "name",
+    "write",
+    "func",
+    "depth",
+    "picture",
+    "left",
+    "top",
+    "texels",
+    "holes",
+    "new",
+]
 SPELLED = [*map(list, (KINDS, (*INTERPOLATIONS, PICTURE), CULLS, FACTORS, OPERATIONS, FUNCTIONS)), ["framedbg"]]
 WORDS = sum(SPELLED, [])
-CHARACTERS = ["\0", "\x01", "\x1f", " ", "\x7e", "\x7f", "\x80", "\u07ff", "\u0800", "\ud7ff", "\ue000", "\ufeff", "\uffff", "\U00010000", "\U0010ffff", "\ud800",
-              "\udfff", "\u2028", "\n", '"', "\\", "/", "\b", "a", "\u00e9", "\u20ac"]
-LIMITS = [0, 1, 2, 3, 15, 255, MOST_SIDE, 2048, FARTHEST, MOST_CORNERS, MOST_POSITION, 2**29, 2**31 - 1, 2**31, 2**32 - 1, 2**53, 2**63 - 1, 2**63, 2**64 - 1]
-LEAST_AND_MOST = {"version": (1, 2, 3), "width": (1, MOST_SIDE), "height": (1, MOST_SIDE), "left": (0, MOST_CORNER), "top": (0, MOST_CORNER), "x": (-MOST_POSITION, MOST_POSITION), "y": (-MOST_POSITION, MOST_POSITION),
-                  "z": (0, FARTHEST), "mask": (0, 15), "depth": (0, FARTHEST), "color": (0, 255), "rect": (LEAST_EDGE, MOST_EDGE)}
-NUMERALS = ["-0", "-0", "-0.0", "0.0", "-0e0", "0e400", "0E-400", "-0e99999999999999999999", "1e-400", "1e308", "1.7976931348623157e308", "1.7976931348623158e308",
-            "1.7976931348623159e308", "1e309", "-1e400", "1e99999999999999999999", "-1e-99999999999999999999", "1" * 309, "-" + "9" * 400, "0." + "0" * 400 + "1",
-            "4.9e-324", "12345678901234567890123", "1.0", "255.0", "1e0", "1E+0", "10e-1"]
-NO_NUMERALS = ["01", "-01", "00", "-00", "+1", ".5", "1.", "1.e1", "1e", "1e+", "-", "--1", "- 1", "0x10", "1_000", "NaN", "Infinity", "-Infinity", "1 2", "\u0661",
-               "1e1.5", ""]
-SPELLINGS = ['"\\ud800"', '"\\udc00"', '"\\ud83d\\ude00"', '"\\uD83D\\uDE00"', '"\\ud83dx"', '"\\ud83d\\u0041"', '"\\ud83d\\ud83d\\ude00"', '"\\udbff\\udfff"',
-             '"\\ude00\\ud83d"', '"\\ud83d\\n"', '"\\u0000"', '"\\u00"', '"\\u004"', '"\\u00g0"', '"\\u+041"', '"\\u 041"', '"\\U0041"', '"\\x41"', '"\\u{41}"',
-             '"\\a"', '"\\\'"', '"\t"', '"\n"', '"\0"', "'a'", '"a', 'a"', '"\\"', '"a"b"', "nul", "Null", "TRUE", "true1", "undefined", "//", "/**/1", "[1,]",
-             "[,1]", '{"a":1,}', "{a:1}", "{1:1}", '{"a"}', '{"a",1}', "[1;2]",
-             "[1 2]", '["a":1]', "\ufeff1", "\x0b1", "\x0c1", "\xa01", "\u20281", "]", "}", "[", "{", ",", ":"]
-OTHER_TYPES = [None, None, None, True, False, Written("0"), Written("1"), Written("2"), "", "clear",
-               *map(Written, ["[]", "{}", "[0,0,0,0]", "0.5", '["ONE","ZERO","ADD"]', '{"kind":"clear"}', "[null]"])]
+CHARACTERS = [
+    "\0",
+    "\x01",
+    "\x1f",
+    " ",
+    "\x7e",
+    "\x7f",
+    "\x80",
+    "\u07ff",
+    "\u0800",
+    "\ud7ff",
+    "\ue000",
+    "\ufeff",
+    "\uffff",
+    "\U00010000",
+    "\U0010ffff",
+    "\ud800",
+    "\udfff",
+    "\u2028",
+    "\n",
+    '"',
+    "\\",
+    "/",
+    "\b",
+    "a",
+    "\u00e9",
+    "\u20ac",
+]
+LIMITS = [
+    0,
+    1,
+    2,
+    3,
+    15,
+    255,
+    MOST_SIDE,
+    2048,
+    FARTHEST,
+    MOST_CORNERS,
+    MOST_POSITION,
+    2**29,
+    2**31 - 1,
+    2**31,
+    2**32 - 1,
+    2**53,
+    2**63 - 1,
+    2**63,
+    2**64 - 1,
+]
+LEAST_AND_MOST = {
+    "version": (1, 2, 3),
+    "width": (1, MOST_SIDE),
+    "height": (1, MOST_SIDE),
+    "left": (0, MOST_CORNER),
+    "top": (0, MOST_CORNER),
+    "x": (-MOST_POSITION, MOST_POSITION),
+    "y": (-MOST_POSITION, MOST_POSITION),
+    "z": (0, FARTHEST),
+    "mask": (0, 15),
+    "depth": (0, FARTHEST),
+    "color": (0, 255),
+    "rect": (LEAST_EDGE, MOST_EDGE),
+}
+NUMERALS = [
+    "-0",
+    "-0",
+    "-0.0",
+    "0.0",
+    "-0e0",
+    "0e400",
+    "0E-400",
+    "-0e99999999999999999999",
+    "1e-400",
+    "1e308",
+    "1.7976931348623157e308",
+    "1.7976931348623158e308",
+    "1.7976931348623159e308",
+    "1e309",
+    "-1e400",
+    "1e99999999999999999999",
+    "-1e-99999999999999999999",
+    "1" * 309,
+    "-" + "9" * 400,
+    "0." + "0" * 400 + "1",
+    "4.9e-324",
+    "12345678901234567890123",
+    "1.0",
+    "255.0",
+    "1e0",
+    "1E+0",
+    "10e-1",
+]
+NO_NUMERALS = [
+    "01",
+    "-01",
+    "00",
+    "-00",
+    "+1",
+    ".5",
+    "1.",
+    "1.e1",
+    "1e",
+    "1e+",
+    "-",
+    "--1",
+    "- 1",
+    "0x10",
+    "1_000",
+    "NaN",
+    "Infinity",
+    "-Infinity",
+    "1 2",
+    "\u0661",
+    "1e1.5",
+    "",
+]
+SPELLINGS = [
+    '"\\ud800"',
+    '"\\udc00"',
+    '"\\ud83d\\ude00"',
+    '"\\uD83D\\uDE00"',
+    '"\\ud83dx"',
+    '"\\ud83d\\u0041"',
+    '"\\ud83d\\ud83d\\ude00"',
+    '"\\udbff\\udfff"',
+    '"\\ude00\\ud83d"',
+    '"\\ud83d\\n"',
+    '"\\u0000"',
+    '"\\u00"',
+    '"\\u004"',
+    '"\\u00g0"',
+    '"\\u+041"',
+    '"\\u 041"',
+    '"\\U0041"',
+    '"\\x41"',
+    '"\\u{41}"',
+    '"\\a"',
+    '"\\\'"',
+    '"\t"',
+    '"\n"',
+    '"\0"',
+    "'a'",
+    '"a',
+    'a"',
+    '"\\"',
+    '"a"b"',
+    "nul",
+    "Null",
+    "TRUE",
+    "true1",
+    "undefined",
+    "//",
+    "/**/1",
+    "[1,]",
+    "[,1]",
+    '{"a":1,}',
+    "{a:1}",
+    "{1:1}",
+    '{"a"}',
+    '{"a",1}',
+    "[1;2]",
+    "[1 2]",
+    '["a":1]',
+    "\ufeff1",
+    "\x0b1",
+    "\x0c1",
+    "\xa01",
+    "\u20281",
+    "]",
+    "}",
+    "[",
+    "{",
+    ",",
+    ":",
+]
+OTHER_TYPES = [
+    None,
+    None,
+    None,
+    True,
+    False,
+    Written("0"),
+    Written("1"),
+    Written("2"),
+    "",
+    "clear",
+    *map(Written, ["[]", "{}", "[0,0,0,0]", "0.5", '["ONE","ZERO","ADD"]', '{"kind":"clear"}', "[null]"]),
+]
 
 
 def a_place(root, dice, wanted=lambda value: True):
@@ -48,7 +266,8 @@ def a_name(dice):
 
 
 def nearly_base64(text, dice):
-    """A text in base64 of another length, without its padding, with bits behind its last byte, or with characters that are none of its own."""
+    """A text in base64 of another length, without its padding, with bits behind its last byte, or with characters
+    that are none of its own."""
     at = dice.randrange(len(text) + 1)
     how = dice.randrange(10)
     if how < 5:
@@ -56,11 +275,15 @@ def nearly_base64(text, dice):
     if how == 5:
         return text[:at] + dice.choice("AAAA - _ = \n é ~".split(" ")) + text[at:]
     if how == 6:
-        return text[:at] + dice.choice(["-", "_", "=", "\n", " ", "/", "+", "\0", "\u00c1"]) + text[at + 1:]
+        return text[:at] + dice.choice(["-", "_", "=", "\n", " ", "/", "+", "\0", "\u00c1"]) + text[at + 1 :]
     if how == 7:
         return text[:-2] + dice.choice(["==", "A=", "AA", "B=", "g=", "Q="])
     stem, padding = text.rstrip("="), "=" * text.count("=")
-    return stem[:-1] + dice.choice("ABCDEQgw/+") + padding if how == 8 else Written('"' + "".join(f"\\u{ord(character):04x}" for character in text) + '"')
+    return (
+        stem[:-1] + dice.choice("ABCDEQgw/+") + padding
+        if how == 8
+        else Written('"' + "".join(f"\\u{ord(character):04x}" for character in text) + '"')
+    )
 
 
 def a_text(dice):
@@ -71,7 +294,16 @@ def a_text(dice):
         return a_name(dice)
     if how == 2:
         word, at = dice.choice(WORDS), dice.randrange(4)
-        return dice.choice([word.lower(), word.upper(), word[:at] + word[at + 1:], word[:at] + dice.choice(CHARACTERS) + word[at:], word + " ", ""])
+        return dice.choice(
+            [
+                word.lower(),
+                word.upper(),
+                word[:at] + word[at + 1 :],
+                word[:at] + dice.choice(CHARACTERS) + word[at:],
+                word + " ",
+                "",
+            ]
+        )
     return Written(dice.choice(SPELLINGS))
 
 
@@ -179,7 +411,8 @@ def nested(root, dice):
 
 
 def by_name(root, dice):
-    """What a name stands for, each name as likely as another: the value or one in it becomes one of its kind that is nearly right."""
+    """What a name stands for, each name as likely as another: the value or one in it becomes one of its kind that is
+    nearly right."""
     members = [member for members in objects(root) for member in members if isinstance(member[0], str)]
     if not members:
         return
@@ -198,7 +431,11 @@ def alike(word):
 
 def nearly(name, value, dice):
     if isinstance(value, Written):
-        return Written(dice.choice(LEAST_AND_MOST.get(name, LIMITS)) + dice.choice([-1, 0, 1])) if dice.random() < 0.7 else a_number(dice)
+        return (
+            Written(dice.choice(LEAST_AND_MOST.get(name, LIMITS)) + dice.choice([-1, 0, 1]))
+            if dice.random() < 0.7
+            else a_number(dice)
+        )
     if isinstance(value, str):
         if name in ("texels", "holes"):
             return nearly_base64(value, dice) if dice.random() < 0.8 else dice.choice(OTHER_TYPES)
@@ -225,6 +462,21 @@ def other_version(root, dice):
                 member[1] = Written(dice.choice(["1", "2", "2", "3", "3", "4", "0"]))
 
 
-CHANGES = [*[by_name] * 14, other_root, other_value, other_number, fraction, other_text, swapped, member_renamed, member_dropped, member_doubled, member_added,
-           members_shuffled,
-           count_changed, nested, index_at_its_limit, other_version]
+CHANGES = [
+    *[by_name] * 14,
+    other_root,
+    other_value,
+    other_number,
+    fraction,
+    other_text,
+    swapped,
+    member_renamed,
+    member_dropped,
+    member_doubled,
+    member_added,
+    members_shuffled,
+    count_changed,
+    nested,
+    index_at_its_limit,
+    other_version,
+]

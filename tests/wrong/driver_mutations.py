@@ -13,8 +13,6 @@ DRAWN = "Pictures.test_each_position"
 
 MUTATIONS = [
     # what a capture is in OpenGL
-    ("mapping: snapped up on a tie", "mapping.py",
-     "rest > 128 or rest == 128 and low & 1", "rest >= 128", PARTS, "Mapping.test_positions"),
     ("mapping: a viewport of the target's size", "mapping.py",
      "max(wanted, power_from(max(width, height)))", "power_from(max(width, height))", PARTS, "Mapping.test_viewports"),
     ("mapping: a viewport that begins at the target", "mapping.py",
@@ -33,11 +31,11 @@ MUTATIONS = [
      "        self.gl.Disable(opengl.SCISSOR_TEST)\n        self.gl.ColorMask", "        self.gl.ColorMask", RUNS, DRAWN),
     ("player: clears obey the mask", "player.py", "        self.gl.ColorMask(1, 1, 1, 1)\n", "", RUNS, DRAWN),
     ("player: a clear leaves the mask open", "player.py",
-     'self._set_states("raster", "blend")', 'self._set_states("raster")', RUNS, "Tables.test_vulkan_and_es"),
+     'self._set_states("raster", "blend")', 'self._set_states("raster")', RUNS, "Pictures.test_what_a_clear_leaves"),
     ("player: the front face of a picture that is flipped", "mapping.py",
      "{False: opengl.CCW, True: opengl.CW}", "{False: opengl.CW, True: opengl.CCW}", RUNS, DRAWN),
     ("player: a corner left over", "player.py",
-     "len(vertices if order is None else order) // 3 * 3", "len(vertices if order is None else order)", RUNS, "Tables.test_some_features"),
+     "len(vertices if order is None else order) // 3 * 3", "len(vertices if order is None else order)", RUNS, "Pictures.test_what_a_clear_leaves"),
     ("player: the last corner's colour", "player.py",
      "gl.ProvokingVertex(opengl.FIRST_VERTEX)", "pass", RUNS, "Pictures.test_ways"),
     ("player: flat triangles of ES have the last corner's colour", "player.py",
@@ -47,7 +45,7 @@ MUTATIONS = [
     ("player: depths of ES between 0 and 1", "player.py",
      "depth if self.is_zero_to_one else 2 * depth - 1", "depth", RUNS, DRAWN),
     ("player: positions as they are", "player.py",
-     "(mapping.FRACTIONS, int) if self.is_raw", "(mapping.FRACTIONS, int) if True", RUNS, "Tables.test_some_features"),
+     "(mapping.FRACTIONS, int) if self.is_raw", "(mapping.FRACTIONS, int) if True", RUNS, "Pictures.test_positions_that_are_not_snapped"),
     ("player: states stay as they were after depths are drawn", "player.py",
      "            self._set_viewport()\n            self._set_states()\n", "            self._set_viewport()\n", RUNS, DRAWN),
     ("player: no viewport after depths are drawn", "player.py",
@@ -90,8 +88,8 @@ MUTATIONS = [
      "Planted.test_what_blame_does_not_name"),
     ("judge: depths in half of the box", "depths.py",
      "range(top, bottom)):", "range(top, (top + bottom + 1) // 2)):", RUNS, "Tables.test_some_features"),
-    ("judge: a box without its last pixel", "depths.py",
-     "max(max(places) // 256 + 1, 0)", "max(max(places) // 256, 0)", RUNS, "Tables.test_some_features"),
+    ("judge: a box without its last pixels", "depths.py",
+     "max(max(places) // 256 + 1, 0)", "max(max(places) // 256 - 12, 0)", RUNS, "Tables.test_some_features"),
     ("reasons: what is culled is coverage", "reasons.py",
      'BY_VERDICT = {"culled": Kind.CULL, "scissored": Kind.SCISSOR}', "BY_VERDICT = {}", PARTS, "Why.test_culled_scissored_and_failed"),
     ("reasons: the most of the entries", "reasons.py",
@@ -121,10 +119,14 @@ MUTATIONS = [
     ("reasons: shaded as at another edge", "reasons.py",
      "(edges[1], edges[2], edges[0])", "(edges[0], edges[1], edges[2])", PARTS, "Why.test_a_triangle_that_only_touches"),
     # commands
+    ("draw: pictures are numbered from 0", "drawing.py", "keep(given.pictures, len(kinds) - 1,", "keep(given.pictures, len(kinds) - 2,", RUNS,
+     "Pictures.test_pictures_after_each_event"),
+    ("run: what can't be written is no driver", "tools/framedbg-driver", "main, faults.READING)", "main)", "test_endings.py",
+     "Tools.test_standard_output_that_is_closed"),
     ("try: OpenGL leaves all open", "trying.py",
      '"Direct3D" if self.left_open == self.beyond else "both"', '"Direct3D"', PARTS, "Kinds.test_verdicts"),
     ("try: bits as the driver says", "trying.py",
-     "        return MOST_BITS\n", '        return self.player.named()["subpixel_bits"]\n', RUNS, "Tables.test_bits"),
+     "                return bits\n", '                return self.player.named()["subpixel_bits"]\n', RUNS, "Tables.test_bits"),
     ("try: eight bits, whatever comes", "trying.py",
      "for bits in (MOST_BITS, FEWER_BITS):", "for bits in (MOST_BITS,):", RUNS, "Tables.test_bits"),
     ("try: the scenes before the one that differs are kept", "trying.py",
@@ -134,11 +136,13 @@ MUTATIONS = [
     ("compare: the first that differs, rounding or not", "comparing.py",
      "return self.worst or self.first", "return self.first or self.worst", RUNS, "Compared.test_the_first_beyond_rounding"),
     ("compare: blame looks at the last event", "blame.py",
-     'capture["events"][:judgement.number]', 'capture["events"]', RUNS, "Compared.test_a_report"),
+     'cut.write_text(json.dumps(capture | {"events": capture["events"][: judgement.number]}))', 'cut.write_text(json.dumps(capture | {"events": capture["events"]}))', RUNS, "Compared.test_a_report"),
     ("compare: corners are moved for one alone", "comparing.py",
      "coarse(reading.read_capture(given.capture), given.bits)", "reading.read_capture(given.capture)", RUNS, "Compared.test_bits"),
     ("compare: a failure is none in the report", "comparing.py",
      'line(one) if failure else ""', '""', RUNS, "Compared.test_junit"),
+    ("compare: blame leaves the alpha part as it is", "tools/blaming/states.py",
+     '[name.replace("_COLOR", "_ALPHA") for name in event["rgb"]]', 'event["alpha"]', RUNS, "Planted.test_blame"),
     ("reduce: what doesn't differ any more", "reducing.py",
      "        if not self.differs(capture):\n            return False\n", "", RUNS, "Reduced"),
     ("reduce: indices stay", "smaller.py",
@@ -156,8 +160,8 @@ MUTATIONS = [
      "    signal.signal(signal.SIGTERM, signal.default_int_handler)\n", "", RUNS, "Ended.test_interrupted"),
     ("run: files stay", "exact.py",
      "                pathlib.Path(self.path).unlink(missing_ok=True)\n", "                pass\n", PARTS, "Words.test_no_framedbg"),
-    ("run: half a report stays", "reading.py",
-     "            os.unlink(made)\n", "            pass\n", PARTS, "Words.test_what_cannot_be_written"),
+    ("run: a link becomes a file", "reading.py",
+     "files.keep(os.path.abspath(path),", "files.replace(os.path.abspath(path),", PARTS, "Words.test_what_is_written_through"),
     ("run: a capture that is refused", "reading.py",
      "    if not is_accepted:\n", "    if False:\n", PARTS, "Words.test_captures"),
     ("report: names as they are", "junit.py",
@@ -167,5 +171,5 @@ MUTATIONS = [
 
 if __name__ == "__main__":
     why = missing() or ""
-    try_all(__doc__, [Version(name, f"tools/driving/{file}", text, instead, tests, test, why if tests == RUNS else "")
+    try_all(__doc__, [Version(name, file if "/" in file else f"tools/driving/{file}", text, instead, tests, test, why if tests == RUNS else "")
                       for name, file, text, instead, tests, test in MUTATIONS])

@@ -13,16 +13,23 @@ from folders import TOP
 
 import passed_over
 
-COPIED = ("benches", "build", "checks", "share", "tests", "tools")      # what may be exchanged; the rest of a copy leads to the repository
-SECONDS = 900       # for the run of a test
-RUNNING = set()     # the numbers of those that haven't ended
+COPIED = (
+    "benches",
+    "build",
+    "checks",
+    "share",
+    "tests",
+    "tools",
+)  # what may be exchanged; the rest of a copy leads to the repository
+SECONDS = 900  # for the run of a test
+RUNNING = set()  # the numbers of those that haven't ended
 
 
 def twin(file, to):
     """A file once more. A hard link costs a tenth of a copy; what is exchanged is written as a file of its own."""
     try:
         os.link(file, to)
-    except OSError:         # another disk
+    except OSError:  # another disk
         shutil.copy2(file, to)
 
 
@@ -73,10 +80,18 @@ def end_all():
 
 
 def run(words, more):
-    """The status of a run that meets more variables, none where it took too long, and what it said. CI isn't one: what wants something that isn't there is passed over by the list."""
+    """The status of a run that meets more variables, none where it took too long, and what it said. CI isn't one:
+    what wants something that isn't there is passed over by the list."""
     environment = {name: value for name, value in os.environ.items() if name != "CI"} | more
     with tempfile.TemporaryFile("w+", errors="replace") as said:
-        ran = subprocess.Popen(words, env=environment, stdin=subprocess.DEVNULL, stdout=subprocess.DEVNULL, stderr=said, start_new_session=True)
+        ran = subprocess.Popen(
+            words,
+            env=environment,
+            stdin=subprocess.DEVNULL,
+            stdout=subprocess.DEVNULL,
+            stderr=said,
+            start_new_session=True,
+        )
         RUNNING.add(ran.pid)
         try:
             status = ran.wait(SECONDS)
@@ -90,7 +105,8 @@ def run(words, more):
 
 
 def tried(file, tests, more, change=None):
-    """The verdict of tests of a file of tests/, and what they said, in a copy where the text of a file may be another one. Those that can't begin are tried once more."""
+    """The verdict of tests of a file of tests/, and what they said, in a copy where the text of a file may be
+    another one. Those that can't begin are tried once more."""
     with copy() as room:
         if change:
             exchange(room / change[0], change[1])

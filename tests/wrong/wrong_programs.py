@@ -1,4 +1,5 @@
-"""Programs that do otherwise than framedbg: each runs the real one, and changes its words, its status or what it says."""
+"""Programs that do otherwise than framedbg: each runs the real one, and changes its words, its status or what it
+says."""
 import os
 
 SHELL = """#!/bin/sh

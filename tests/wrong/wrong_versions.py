@@ -1,6 +1,7 @@
 """Wrong versions of what a check looks at: a check that lets one pass checks nothing.
 
-A check tries its own by all_seen. Those of the tools stand in lists, such as tests/wrong/gate_mutations.py, which try_all goes through.
+A check tries its own by all_seen. Those of the tools stand in lists, such as tests/wrong/gate_mutations.py, which
+try_all goes through.
 """
 import argparse
 import collections
@@ -27,7 +28,8 @@ def exchanged(text, old, new):
 
 
 def all_seen(check, versions):
-    """Tries a check on wrong versions by name, each with a call that says whether it was seen. Ends the check where one wasn't."""
+    """Tries a check on wrong versions by name, each with a call that says whether it was seen. Ends the check where
+    one wasn't."""
     unseen = [name for name, is_seen in versions.items() if not is_seen()]
     if unseen:
         sys.exit(f"{check}: not seen: {'; '.join(unseen)}\n0 passed, {len(unseen)} failed")
@@ -36,13 +38,14 @@ def all_seen(check, versions):
 
 class Version(NamedTuple):
     """A line of a list."""
+
     name: str
-    file: str           # from the top of the repository
-    text: str           # which stands there once
+    file: str  # from the top of the repository
+    text: str  # which stands there once
     instead: str
-    tests: str          # a file of tests/
-    test: str           # of that file, which has to fail
-    missing: str = ""   # why it can't be tried here
+    tests: str  # a file of tests/
+    test: str  # of that file, which has to fail
+    missing: str = ""  # why it can't be tried here
 
     def fault(self):
         """What of it is stale, or nothing."""
@@ -50,19 +53,28 @@ class Version(NamedTuple):
         try:
             loader.loadTestsFromName(self.test, importlib.import_module(self.tests.removesuffix(".py")))
             is_there = not loader.errors
-        except TypeError:        # a name that is none of a test
+        except TypeError:  # a name that is none of a test
             is_there = False
-        return "; ".join([f"its text stands {count} times in {self.file}"] * (count != 1) + [f"there is no test {self.test}"] * (not is_there))
+        return "; ".join(
+            [f"its text stands {count} times in {self.file}"] * (count != 1)
+            + [f"there is no test {self.test}"] * (not is_there)
+        )
 
     def tried(self, more):
         """The verdict of its test, and what that said."""
         if self.missing:
             return "skipped", ""
-        return wrong_copies.tried(self.tests, [self.test], more, (self.file, exchanged((TOP / self.file).read_text(), self.text, self.instead)))
+        return wrong_copies.tried(
+            self.tests,
+            [self.test],
+            more,
+            (self.file, exchanged((TOP / self.file).read_text(), self.text, self.instead)),
+        )
 
 
 class List:
-    """Wrong versions that are tried, several at once. Their tests, and not those of what is there, meet more variables."""
+    """Wrong versions that are tried, several at once. Their tests, and not those of what is there, meet more
+    variables."""
 
     def __init__(self, tool, versions, more):
         self.tool, self.versions, self.more = tool, versions, more
@@ -85,13 +97,17 @@ class List:
         for version in self.versions:
             if not version.missing:
                 classes[version.tests, version.test.partition(".")[0]][version.test] = True
-        for (file, name), (found, said) in zip(classes, pool.map(lambda one: wrong_copies.tried(one[0][0], one[1], {}), classes.items())):
+        for (file, name), (found, said) in zip(
+            classes, pool.map(lambda one: wrong_copies.tried(one[0][0], one[1], {}), classes.items())
+        ):
             if found not in ("MISSED", "skipped"):
                 sys.exit(f"{said}{self.tool}: {name} of {file} fails on what is there as it is")
 
     def run(self, pool):
         """The verdicts in the order of the list, told one by one."""
-        for version, (found, said) in zip(self.versions, pool.map(lambda version: version.tried(self.more), self.versions)):
+        for version, (found, said) in zip(
+            self.versions, pool.map(lambda version: version.tried(self.more), self.versions)
+        ):
             print(f"{version.name}: {found}\n{said if found == 'BROKEN' else ''}", end="", flush=True)
             yield version, found
 
@@ -103,12 +119,18 @@ class List:
             try:
                 self.as_it_is(pool)
                 verdicts = list(self.run(pool))
-            except BaseException:       # nobody waits for those that have begun; the others don't begin
+            except BaseException:  # nobody waits for those that have begun; the others don't begin
                 wrong_copies.end_all()
                 raise
         seen = sum(found == "seen" for _, found in verdicts)
-        print(f"{self.tool}: {seen} of {len(verdicts)} wrong versions were seen, in {(time.monotonic() - began) / 60:.1f} minutes, {at_once} at once", flush=True)
-        self.pass_over("their tests were skipped" for version, found in verdicts if found == "skipped" and not version.missing)
+        print(
+            f"{self.tool}: {seen} of {len(verdicts)} wrong versions were seen, in "
+            f"{(time.monotonic() - began) / 60:.1f} minutes, {at_once} at once",
+            flush=True,
+        )
+        self.pass_over(
+            "their tests were skipped" for version, found in verdicts if found == "skipped" and not version.missing
+        )
         return [version.name for version, found in verdicts if found in ("MISSED", "BROKEN")]
 
 
@@ -120,12 +142,31 @@ def at_least_one(word):
 
 def try_all(about, versions, more=None):
     """What a list does, by the words of its command line."""
-    asked, tool = argparse.ArgumentParser(description=about, formatter_class=argparse.RawDescriptionHelpFormatter), pathlib.Path(sys.argv[0]).stem
-    asked.add_argument("words", metavar="WORD", nargs="*", help="tried is what has one of them in its name; without any, all")
-    asked.add_argument("--list", action="store_true", help="name them, and say which text doesn't stand once in its file, or which test there isn't")
-    asked.add_argument("--at-once", type=at_least_one, default=len(os.sched_getaffinity(0)), metavar="N", help="how many are tried at once [%(default)s]")
+    asked, tool = (
+        argparse.ArgumentParser(description=about, formatter_class=argparse.RawDescriptionHelpFormatter),
+        pathlib.Path(sys.argv[0]).stem,
+    )
+    asked.add_argument(
+        "words", metavar="WORD", nargs="*", help="tried is what has one of them in its name; without any, all"
+    )
+    asked.add_argument(
+        "--list",
+        action="store_true",
+        help="name them, and say which text doesn't stand once in its file, or which test there isn't",
+    )
+    asked.add_argument(
+        "--at-once",
+        type=at_least_one,
+        default=len(os.sched_getaffinity(0)),
+        metavar="N",
+        help="how many are tried at once [%(default)s]",
+    )
     given = asked.parse_args()
-    wanted = List(tool, [version for version in versions if not given.words or any(word in version.name for word in given.words)], more or {})
+    wanted = List(
+        tool,
+        [version for version in versions if not given.words or any(word in version.name for word in given.words)],
+        more or {},
+    )
     if not wanted.versions:
         sys.exit(f"{tool}: none has one of these words in its name")
     stale = wanted.stale(given.list)

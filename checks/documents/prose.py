@@ -1,4 +1,5 @@
-"""The sentences of a Markdown page: of its paragraphs, items, cells and headings, without blocks of code, comments and pictures."""
+"""The sentences of a Markdown page: of its paragraphs, items, cells and headings, without blocks of code, comments
+and pictures."""
 import re
 from dataclasses import dataclass
 
@@ -8,20 +9,20 @@ PICTURE = re.compile(r"!\[[^\]]*\]\([^)]*\)")
 LINK = re.compile(r"\[([^\]]*)\]\([^)]*\)")
 TAG = re.compile(r"</?[a-z]+[^>]*>")
 CODE = re.compile(r"(`+)(.+?)\1", re.S)
-OPENS = re.compile(r"^[ \t]*(?:[-*+]|\d+[.)]|#{1,6})[ \t]+")              # an item or a heading, which begins a text of its own
-RULE = re.compile(r"[ \t]*\|?[ \t]*:?-{3,}")                              # the line below a table's head, or a rule
+OPENS = re.compile(r"^[ \t]*(?:[-*+]|\d+[.)]|#{1,6})[ \t]+")  # an item or a heading, which begins a text of its own
+RULE = re.compile(r"[ \t]*\|?[ \t]*:?-{3,}")  # the line below a table's head, or a rule
 END = re.compile(r"[.!?]['\")*_]*\s+(?=['\"(*_\[†\\ ]*[A-Z0-9`])")
 STOP = re.compile(r"[.!?:]['\")*_]*$")
-SHORT = ("e.g.", "i.e.", "etc.", "..")                                    # after these a sentence goes on
-HIDDEN = "\x00"                                                           # in code, where nothing ends a sentence or a cell
-FEW = 8                                                                   # so many words without a stop are a name, and no sentence
+SHORT = ("e.g.", "i.e.", "etc.", "..")  # after these a sentence goes on
+HIDDEN = "\x00"  # in code, where nothing ends a sentence or a cell
+FEW = 8  # so many words without a stop are a name, and no sentence
 
 
 @dataclass
 class Sentence:
-    shown: str                  # in one line
+    shown: str  # in one line
     words: int
-    is_whole: bool              # it ends like a sentence, or is as long as one; else it is a heading's or a cell's few words
+    is_whole: bool  # it ends like a sentence, or is as long as one; else it is a heading's or a cell's few words
 
 
 def hidden(code):
@@ -54,8 +55,8 @@ def cut(text):
     """The sentences of a text."""
     text, start = OPENS.sub("", text), 0
     for end in END.finditer(text):
-        if not text[:end.end()].rstrip().endswith(SHORT):
-            yield text[start:end.end()].strip()
+        if not text[: end.end()].rstrip().endswith(SHORT):
+            yield text[start : end.end()].strip()
             start = end.end()
     yield text[start:].strip()
 
@@ -65,4 +66,6 @@ def sentences(page):
     for sentence in (sentence for text in texts(page) for sentence in cut(text)):
         count = len(words(sentence))
         if count:
-            yield Sentence(" ".join(sentence.replace(HIDDEN, ".").split()), count, count >= FEW or bool(STOP.search(sentence)))
+            yield Sentence(
+                " ".join(sentence.replace(HIDDEN, ".").split()), count, count >= FEW or bool(STOP.search(sentence))
+            )

@@ -7,15 +7,18 @@ CONSTRUCTOR = re.compile(r"^  (?:pub )?([A-Z]\w*) :")
 USE = re.compile(r"^(?:ghost |pub )*use Rattle\.(\S+?)\.\{([^}]*)\}", re.M)
 WORD = re.compile(r"[^\W\d][\w'-]*|◌[^\s◌]+◌")
 PASSED = re.compile(r"^(?:--|use |pub use |infix|module )")
-CONTRACT = re.compile(r"^ *pub (?:final )?fn (\w+)\b.*?^\s*\{\s*\}?$", re.M | re.S)         # from its name to where its body begins
+CONTRACT = re.compile(
+    r"^ *pub (?:final )?fn (\w+)\b.*?^\s*\{\s*\}?$", re.M | re.S
+)  # from its name to where its body begins
 
 
 @dataclass
 class Module:
     """A file of specs: its first line, the lines of each of its definitions, and what it takes from others."""
+
     first: str = ""
     definitions: dict = field(default_factory=dict)
-    imports: dict = field(default_factory=dict)         # a name here: its module, and its name there
+    imports: dict = field(default_factory=dict)  # a name here: its module, and its name there
 
 
 def imports_of(text):
@@ -43,7 +46,11 @@ def module_of(text):
 def modules(top):
     """Each module of the specs of a repository, by its name as fd_cli.specs.Serving."""
     files = sorted((top / "crates").glob("*/specs/**/*.antt"))
-    return {".".join(file.relative_to(top / "crates").with_suffix("").parts): module_of(file.read_text()) for file in files if file.stem != "Lib"}
+    return {
+        ".".join(file.relative_to(top / "crates").with_suffix("").parts): module_of(file.read_text())
+        for file in files
+        if file.stem != "Lib"
+    }
 
 
 def origin(known, module, name):
@@ -82,7 +89,8 @@ def spoken_of(known, start):
 
 
 def named_by_contracts(source):
-    """What the contracts of a source's public functions name, each as its module and its name there; and these functions."""
+    """What the contracts of a source's public functions name, each as its module and its name there; and these
+    functions."""
     taken, found, functions = imports_of(source), set(), []
     for contract in CONTRACT.finditer(source):
         functions.append(contract[1])

@@ -1,21 +1,18 @@
-#!/usr/bin/env python3
-"""check_lemmas: each lemma and definition of the crates is named somewhere: by another one, by a contract, by code, or by a must-fail edit.
+"""lemmas: each lemma and definition of the crates is named somewhere, by another one, by a contract, by code, or by
+a must-fail edit.
 
-    checks/check_lemmas
-
-A name counts where it stands beside its own block: its statement, its clauses, and what lies between them. To take it from its file isn't to name it.
-Looked at are the files of definitions and of lemmas, and not those below them: the prover asks for these by name. A field of a record may be there for a reader.
+A name counts where it stands beside its own block: its statement, its clauses, and what lies between them. To take
+it from its file isn't to name it. Looked at are the files of definitions and of lemmas, and not those below them:
+the prover asks for these by name. A field of a record may be there for a reader.
 """
-import argparse
 import collections
 import pathlib
 import re
-import sys
 
 from folders import TOP
 
-import definitions
-from wrong_versions import all_seen, exchanged
+from wrong_versions import exchanged
+from . import Found, specs
 
 BEGINS = re.compile(r"^(?:pub )?(?:abbrev (?:pub )?|data |record |ghost )?(?:pub )?([^\s:(){}]+) :(?: |$)")
 BETWEEN = re.compile(r"[\s(){}\[\],;.:]+")
@@ -24,14 +21,21 @@ ENDINGS = (".antt", ".rt", ".edit")
 
 
 def blocks(text):
-    """The name of each lemma and definition, or none, and its lines, which go on while they begin with its name or further right. Those of a module lie two to the right."""
+    """The name of each lemma and definition, or none, and its lines, which go on while they begin with its name or
+    further right. Those of a module lie two to the right."""
     name, own, margin = "", [], ""
     for line in text.splitlines():
         if line and not line.startswith(" "):
             margin = "  " if line.startswith("module ") else ""
         begun = BEGINS.match(line.removeprefix(margin)) if line.startswith(margin) else None
         first = line.removeprefix(margin).split(" ")[0]
-        if begun or (line and first and first != name and not line.startswith(margin + "--") and first not in ("unfolding", "where")):
+        if begun or (
+            line
+            and first
+            and first != name
+            and not line.startswith(margin + "--")
+            and first not in ("unfolding", "where")
+        ):
             yield name, own
             name, own = begun.group(1) if begun else "", []
         own.append(line)
@@ -45,11 +49,17 @@ def is_looked_at(path):
 
 def reached(text):
     """The names that a file takes from others. What it takes it need not name."""
-    return {there.strip() for _, names in definitions.USE.findall(text) for name in names.split(",") for there in name.split(" as ")}
+    return {
+        there.strip()
+        for _, names in specs.USE.findall(text)
+        for name in names.split(",")
+        for there in name.split(" as ")
+    }
 
 
 def named_in(path, text):
-    """The names that each block of a file names beside its own, where they are the file's or taken from others: a word may be a local name elsewhere."""
+    """The names that each block of a file names beside its own, where they are the file's or taken from others: a
+    word may be a local name elsewhere."""
     parts = list(blocks(text)) if path.suffix == ".antt" else [("", text.splitlines())]
     known = reached(text) | {name for name, _ in parts}
     for name, lines in parts:
@@ -69,14 +79,24 @@ def unnamed(files):
 
 
 def sources(top):
-    files = [path for path in (top / "crates").rglob("*") if path.suffix in ENDINGS and "out" not in path.relative_to(top).parts]
+    files = [
+        path
+        for path in (top / "crates").rglob("*")
+        if path.suffix in ENDINGS and "out" not in path.relative_to(top).parts
+    ]
     return {path.relative_to(top): path.read_text() for path in sorted(files)}
 
 
-MADE_UP = {     # files that aren't there, by their text
-    "specs/One.antt": "abbrev pub one : ℕ\none = 1\n\npub both : (n : ℕ) → n ≡ one\nboth n = both n\n\npub both_again : ℕ\nboth_again = 2\n",
-    "proofs/Two.antt": "use Rattle.fd_a.specs.One.{one, both_again as again}\nmodule _ (n : ℕ) where\n  pub inner : n ≡ n\n  inner = refl\n\n  outer : n ≡ n\n"
-                       "  outer =\n      inner\n\npub two : ℕ\ntwo = let both = 1 in outer both again\n",
+MADE_UP = {  # files that aren't there, by their text
+    "specs/One.antt": (
+        "abbrev pub one : ℕ\none = 1\n\npub both : (n : ℕ) → n ≡ one\nboth n = both n\n\npub both_again : "
+        "ℕ\nboth_again = 2\n"
+    ),
+    "proofs/Two.antt": (
+        "use Rattle.fd_a.specs.One.{one, both_again as again}\nmodule _ (n : ℕ) where\n  pub inner : n ≡ n\n  "
+        "inner = refl\n\n  outer : n ≡ n\n"
+        "  outer =\n      inner\n\npub two : ℕ\ntwo = let both = 1 in outer both again\n"
+    ),
     "proofs/three/three/Answers.antt": "use Rattle.fd_a.proofs.Two.{two}\npub returns : ℕ → ℕ\nreturns c = two\n",
     "src/four.rt": "ghost use Rattle.fd_a.specs.One.{one};\nfn four()\n    ensures { held by }\n{}\n",
 }
@@ -96,23 +116,21 @@ def check_made_up():
         "only taken": lambda: of_made_up("src/four.rt", "{one}", "{one, both}") == ["both"],
         "named by a contract": lambda: of_made_up("src/four.rt", "held by", "held by both") == [],
         "of a module": lambda: of_made_up("proofs/Two.antt", "      inner\n", "      refl\n") == ["both", "inner"],
-        "under another name": lambda: of_made_up("proofs/Two.antt", ", both_again as again", "") == ["both", "both_again"],
-        "by a proof alone": lambda: of_made_up("proofs/three/three/Answers.antt", "c = two", "c = 2") == ["both", "two"],
+        "under another name": lambda: of_made_up("proofs/Two.antt", ", both_again as again", "")
+        == ["both", "both_again"],
+        "by a proof alone": lambda: of_made_up("proofs/three/three/Answers.antt", "c = two", "c = 2")
+        == ["both", "two"],
     }
 
 
-def main():
-    argparse.ArgumentParser(description=__doc__, formatter_class=argparse.RawDescriptionHelpFormatter).parse_args()
+def wrong_versions():
     files = sources(TOP)
     path = next(path for path in files if is_looked_at(path) and path.name != "Lib.antt")
     more = files | {path: files[path] + "\npub nobody_names_this : ℕ\nnobody_names_this = 1\n"}
-    all_seen("check_lemmas", {**check_made_up(), "one more in the repository": lambda: f"{path}: nobody_names_this" in unnamed(more)})
-    found = unnamed(files)
-    for line in found:
-        print(f"nothing names {line}")
-    print(f"check_lemmas: {sum(1 for file, text in files.items() if is_looked_at(file) for name, _ in blocks(text) if name)} lemmas and definitions")
-    print(f"{int(not found)} passed, {len(found)} failed")
-    sys.exit(bool(found))
+    return {**check_made_up(), "one more in the repository": lambda: f"{path}: nobody_names_this" in unnamed(more)}
 
 
-main()
+def found():
+    files = sources(TOP)
+    count = sum(1 for file, text in files.items() if is_looked_at(file) for name, _ in blocks(text) if name)
+    return Found(f"{count} lemmas and definitions", [f"nothing names {line}" for line in unnamed(files)])

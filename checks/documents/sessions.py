@@ -6,7 +6,8 @@ def lines_of(path):
 
 
 def difference(shown, commands, replies):
-    """What the shown lines have otherwise than the commands and the replies, in words; nothing where they are the same."""
+    """What the shown lines have otherwise than the commands and the replies, in words; nothing where they are the
+    same."""
     commands, replies = list(commands), list(replies)
     for line in shown:
         if commands and line == commands[0]:

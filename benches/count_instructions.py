@@ -1,0 +1,121 @@
+#!/usr/bin/env python3
+"""count_instructions: how many instructions the program takes, counted by valgrind, which nothing else on the machine changes.
+
+    benches/count_instructions.py [--beside PROGRAM] [SCENE ..]
+
+Each scene is a capture and two runs by one worker: one without what is counted, as reading the capture, and one with
+it. The difference is printed, and how much of it falls on a pixel, a triangle or a draw. With --beside another program
+is counted too, and its count to this one's. FRAMEDBG names another program than the one that was built.
+"""
+import argparse
+import base64
+import os
+import pathlib
+import re
+import subprocess
+import tempfile
+from dataclasses import dataclass
+
+import folders
+
+import captures
+import scenes
+from framedbg_client.program import BUILT
+
+COLLECTED = re.compile(r"Collected : (\d+)")
+SECONDS = 600
+
+
+@dataclass(frozen=True)
+class Scene:
+    """A capture, the commands that are counted behind those that aren't, and how many of a unit they draw."""
+
+    capture: bytes
+    commands: str
+    unit: str
+    count: int
+    before: str = ""
+
+
+def to_the_end(capture, unit, count):
+    events = capture.count(b'"kind"')
+    return Scene(capture, f"goto {events}\n", unit, count)
+
+
+def pictures(side, count):
+    """Blended pictures over one another, each in two triangles."""
+    draws = []
+    for number in range(count):
+        texels = bytes([(40 * number) % 256, 128, (90 * number) % 256, 128]) * (side * side)
+        picture = {"left": 0, "top": 0, "width": side, "height": side, "texels": base64.b64encode(texels).decode()}
+        corners = [(0, 0), (side, 0), (0, side), (side, 0), (side, side), (0, side)]
+        vertices = [{"x": x * captures.PIXEL, "y": y * captures.PIXEL, "z": 0} for x, y in corners]
+        draws.append(captures.compact({"kind": "draw", "interp": "picture", "vertices": vertices, "picture": picture}))
+    return scenes.frame(side, side, [scenes.BLENDED, *draws], 3)
+
+
+def undrawn(side, count, states):
+    """Draws of a triangle over the whole target that the states before them let draw nothing."""
+    corners = [(0, 0), (2 * side, 0), (0, 2 * side)]
+    vertices = [captures.vertex(x * captures.PIXEL, y * captures.PIXEL, [9, 9, 9, 9]) for x, y in corners]
+    return scenes.frame(
+        side, side, [*map(captures.compact, states), *[captures.compact(captures.draw(vertices))] * count]
+    )
+
+
+def step_over_a_marker(side):
+    return Scene(scenes.markers(side, side, 9), "step\n", "step", 1, "goto 4\n")
+
+
+CULLED = [captures.raster("front")]
+SHUT = [captures.raster("none", scissor=True), captures.scissor(9, 9, 9, 9)]
+SCENES = {
+    "flat": lambda: to_the_end(scenes.large(512, 512, 10).capture(), "pixel", 10 * 512 * 512),
+    "linear": lambda: to_the_end(scenes.large(512, 512, 10, "linear").capture(), "pixel", 10 * 512 * 512),
+    "tested": lambda: to_the_end(
+        scenes.tested(512, 512, 10, "alternate", "linear").capture(), "pixel tested", 10 * 512 * 512
+    ),
+    "pictures": lambda: to_the_end(pictures(256, 8), "pixel", 8 * 256 * 256),
+    "small": lambda: to_the_end(scenes.small(512, 512, 4000, True).capture(25), "triangle", 4000),
+    "small_far_apart": lambda: to_the_end(scenes.small(2048, 2048, 32000, True).capture(8), "triangle", 32000),
+    "largest_target": lambda: to_the_end(scenes.small(16384, 16384, 16384, True).capture(), "draw", 16384),
+    "culled": lambda: to_the_end(undrawn(2048, 1000, CULLED), "draw", 1000),
+    "empty_scissor": lambda: to_the_end(undrawn(2048, 1000, SHUT), "draw", 1000),
+    "marker_on_64": lambda: step_over_a_marker(64),
+    "marker_on_2048": lambda: step_over_a_marker(2048),
+}
+
+
+def counted(program, path, commands):
+    """The instructions of a run."""
+    words = ["valgrind", "--tool=callgrind", "--callgrind-out-file=/dev/null", program, "run", "--workers", "1", path]
+    ran = subprocess.run(words, input=f"{commands}quit\n", capture_output=True, text=True, timeout=SECONDS, check=True)
+    return int(COLLECTED.search(ran.stderr)[1])
+
+
+def measured(program, scene, path):
+    """The instructions of what is counted, less those of what isn't."""
+    path.write_bytes(scene.capture)
+    return counted(program, path, scene.before + scene.commands) - counted(program, path, scene.before)
+
+
+def main():
+    parser = argparse.ArgumentParser(description=__doc__, formatter_class=argparse.RawDescriptionHelpFormatter)
+    parser.add_argument("--beside", metavar="PROGRAM", help="count this program too")
+    parser.add_argument("scenes", nargs="*", metavar="SCENE", choices=[*SCENES, []], help=f"of {' '.join(SCENES)}")
+    words = parser.parse_args()
+    program = os.environ.get("FRAMEDBG", BUILT)
+    with tempfile.TemporaryDirectory() as folder:
+        path = pathlib.Path(folder) / "scene.json"
+        for name in words.scenes or SCENES:
+            scene = SCENES[name]()
+            ours = measured(program, scene, path)
+            beside = ""
+            if words.beside:
+                theirs = measured(words.beside, scene, path)
+                beside = f"; the other {theirs:,}, {theirs / ours:.2f} times as many"
+            print(f"{name}: {ours:,} instructions, {ours / scene.count:,.1f} a {scene.unit}{beside}", flush=True)
+
+
+if __name__ == "__main__":
+    main()
