@@ -157,16 +157,31 @@ fn two_lanes_refuse_and_the_lower_counts(rt: HostRuntime) -> Result<(), Fail> {
     two_refuse(&rt, rt.alloc(), &table, 3)
 }
 
-#[test]
-fn refusals_at_their_greatest_number(rt: HostRuntime) -> Result<(), Fail> {
-    let table = markers(rt.alloc(), 9)?;
+/// A lane whose count of refusals can't grow, and so many workers for it.
+fn refuses_uncounted<R: Threads + Sync + Abort>(
+    rt: &R,
+    alloc: Global,
+    table: &EventTable,
+    workers: u32,
+) -> Result<(), Fail>
+    requires workers { (1 ≤ workers) × (workers ≤ 64) }
+    requires events { length table.now.events ≡ 9 }
+{
     let mut lanes = [Fake::new(Some(1))];
     lanes[0].refusals = u64::MAX;
-    let outcome = run_forward(&rt, rt.alloc(), &mut lanes, &table, 9, 1, &Free)?;
-    assert!(rt; outcome == Outcome::Stopped { at: 0 });
+    let outcome = run_forward(rt, alloc, &mut lanes, table, 9, workers, &Free)?;
+    assert!(rt; outcome == Outcome::Stopped { at: 0 }, "{workers} workers");
     assert!(rt; lanes[0].position == 0 && lanes[0].refusals == u64::MAX);
     assert!(rt; lanes[0].refused_at == Some(0));
     Ok(())
+}
+
+#[test]
+fn refusals_at_their_greatest_number(rt: HostRuntime) -> Result<(), Fail> {
+    let table = markers(rt.alloc(), 9)?;
+    refuses_uncounted(&rt, rt.alloc(), &table, 1)?;
+    refuses_uncounted(&rt, rt.alloc(), &table, 2)?;
+    refuses_uncounted(&rt, rt.alloc(), &table, 64)
 }
 
 /// Counts the calls of `pass`.

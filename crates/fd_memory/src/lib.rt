@@ -48,6 +48,7 @@ trait Growth {
 
     fn append<T: Copy>(list: &mut Vec<T>, items: &[T]) -> Result<(), AllocError>
         ensures items { OnOk result (list.new.items ≡ list.old.items ++ items.now) }
+        ensures same { OnErr result (list.new.items ≡ list.old.items) }
         ensures wanted { OnErr result why }
     {
         list.extend_from_slice(items)
@@ -55,6 +56,7 @@ trait Growth {
 
     fn push_str(text: &mut String, more: &str) -> Result<(), AllocError>
         ensures bytes { OnOk result (string_bytes text.new ≡ string_bytes text.old ++ more.now) }
+        ensures same { OnErr result (string_bytes text.new ≡ string_bytes text.old) }
         ensures wanted { OnErr result why }
     {
         text.push_str(more)
@@ -163,6 +165,7 @@ pub fn push<T: Drop>(list: &mut Vec<T>, item: T) -> Result<(), AllocError>
 /// These items more, at the end.
 pub fn append<T: Copy>(list: &mut Vec<T>, items: &[T]) -> Result<(), AllocError>
     ensures items { OnOk result (list.new.items ≡ list.old.items ++ items.now) }
+    ensures same { OnErr result (list.new.items ≡ list.old.items) }
     ensures wanted { OnErr result Wanted }
 {
     Heap::append(list, items)
@@ -170,13 +173,17 @@ pub fn append<T: Copy>(list: &mut Vec<T>, items: &[T]) -> Result<(), AllocError>
 
 /// Asks for so many bytes at once, and gives them back: so the heap of a thread grows in one step by what it is asked for soon, and not page by page.
 /// Where they are refused nothing is lost.
-pub fn prime(alloc: Global, bytes: usize) {
-    let _room: Result<Vec<u8>, AllocError> = Vec::with_capacity(alloc, bytes);
+pub fn prime(alloc: Global, bytes: usize) -> Result<(), AllocError>
+    ensures wanted { OnErr result Wanted }
+{
+    let _bytes: Vec<u8> = room(alloc, bytes)?;
+    Ok(())
 }
 
 /// A text more, at the end of another.
 pub fn push_str(text: &mut String, more: &str) -> Result<(), AllocError>
     ensures bytes { OnOk result (string_bytes text.new ≡ string_bytes text.old ++ more.now) }
+    ensures same { OnErr result (string_bytes text.new ≡ string_bytes text.old) }
     ensures wanted { OnErr result Wanted }
 {
     Heap::push_str(text, more)

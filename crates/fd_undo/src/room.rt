@@ -11,7 +11,7 @@ const GREATEST_ROOM: usize = 2048;
 pub(crate) const SPANS_INSIDE: usize = 8;
 
 /// How many frames, spans, colours and depths a block has room for.
-#[derive(Clone, Copy)]
+#[derive(Clone, Copy, PartialEq)]
 pub(crate) struct Room {
     pub(crate) frames: usize,
     pub(crate) spans: usize,
