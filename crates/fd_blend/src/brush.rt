@@ -57,7 +57,12 @@ impl Brush {
             dst.fill(self.source);
             return;
         }
-        draw_pairs(self.equation, self.settled, self.source, dst);
+        match (self.equation.adding(), self.settled) {
+            (Some(equation), Some(settled)) => {
+                draw_pairs(equation, Some(settled), self.source, dst)
+            }
+            (_, settled) => draw_pairs(self.equation, settled, self.source, dst),
+        }
     }
 }
 
@@ -80,7 +85,9 @@ fn pair(
     }
 }
 
-/// Draws a source over a row of destinations, two at a time. What is the same for all is handed over by value, so that no destination can lie in it.
+/// Draws a source over a row of destinations, two at a time. What is the same for all is handed over by value, so that no destination can lie in it;
+/// and it stands in its caller, where what is known of the equation makes the loop shorter.
+#[inline(always)]
 fn draw_pairs(equation: Equation, settled: Option<Settled>, source: Colour, dst: &mut [Colour])
     requires lanes { IsInLanes equation.rgb equation.alpha equation.mask equation.factor equation.positions equation.flips equation.written }
     requires settled { IfSome settled (λ s. IsSettled equation.rgb equation.alpha equation.factor source s.sources s.factors) }

@@ -219,6 +219,31 @@ impl Equation {
         self.pair(s, s, d, d).0
     }
 
+    /// The same equation, where both of its parts add and all channels are written: that is then known wherever it is used.
+    #[inline(always)]
+    pub(crate) fn adding(&self) -> Option<Equation>
+        ensures { IfSome result (λ equation. equation ≡ self.now) }
+    {
+        if self.written.to_array() != [1; 8] {
+            return None;
+        }
+        match (self.rgb.op, self.alpha.op) {
+            (BlendOp::Add, BlendOp::Add) => Some(Equation {
+                rgb: Part {
+                    op: BlendOp::Add,
+                    ..self.rgb
+                },
+                alpha: Part {
+                    op: BlendOp::Add,
+                    ..self.alpha
+                },
+                written: u8x8::splat(1),
+                ..*self
+            }),
+            _ => None,
+        }
+    }
+
     /// What is known of the equation for a source before any destination, unless it looks at destinations or does more than to add.
     pub(crate) fn settled(&self, source: Colour) -> Option<Settled>
         ensures { IfSome result (λ s. IsSettled self.now.rgb self.now.alpha self.now.factor source s.sources s.factors) }
