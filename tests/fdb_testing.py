@@ -2,6 +2,7 @@
 import codecs
 import fcntl
 import io
+import json
 import os
 import pathlib
 import pty
@@ -14,6 +15,7 @@ import sys
 import tempfile
 import termios
 import time
+import unittest
 from unittest import mock
 
 from folders import TOOLS, TOP as ROOT
@@ -24,12 +26,36 @@ from framedbg_client.program import tried_program
 
 EXAMPLES = ROOT / "examples"
 HUNTS = EXAMPLES / "hunts"
+HOUSE = EXAMPLES / "house.json"
 PROGRAM = tried_program()
 FDB = TOOLS / "fdb"
 PATIENCE = int(os.environ.get("FDB_PATIENCE", "60"))  # seconds for what must come
 ESCAPES = re.compile(r"\x1b\[[0-9;?]*[A-Za-z]|\x01|\x02")
 PROMPT_SHOWN = re.compile(r"(?:\x1b\[1m\(\d+/\d+\) \x1b\[0m|(?<!m)\(\d+/\d+\) )$")
 
+# Two clears of a target of 4 by 2, and between them a draw that colours two of its pixels; the third clear has the
+# second one's colour
+STEPS = {
+    "format": "framedbg",
+    "version": 1,
+    "width": 4,
+    "height": 2,
+    "events": [
+        {"kind": "clear", "color": [10, 20, 30, 40]},
+        {"kind": "raster", "cull": "none", "front_ccw": False, "scissor": False},
+        {
+            "kind": "draw",
+            "interp": "flat",
+            "vertices": [
+                {"x": x << 16, "y": y << 16, "color": [200, 100, 50, 255]}
+                for x, y in ((0, 0), (2, 0), (0, 1), (2, 0), (2, 1), (0, 1))
+            ],
+        },
+        {"kind": "clear", "color": [1, 2, 3, 4]},
+        {"kind": "marker", "name": "again"},
+        {"kind": "clear", "color": [1, 2, 3, 4]},
+    ],
+}
 
 # Answers as framedbg does over three clears of one pixel, by a rule of its own: in its words stand the command that it
 # never answers, as long as
@@ -211,3 +237,60 @@ def own_terminal():
 def plain(lines):
     """Without colours, and with one space for several."""
     return [re.sub(" +", " ", ESCAPES.sub("", line)).strip() for line in lines]
+
+
+class Folder(unittest.TestCase):
+    """Tests that want files."""
+
+    def setUp(self):
+        temporary = tempfile.TemporaryDirectory()
+        self.addCleanup(temporary.cleanup)
+        self.folder = pathlib.Path(temporary.name)
+
+    def written(self, name, text):
+        path = self.folder / name
+        path.write_text(text)
+        return path
+
+    def steps(self):
+        return self.written("steps.json", json.dumps(STEPS))
+
+    def told(self, lines, *words, capture=None, **how):
+        """The lines that a run which ends well tells."""
+        status, lines, errors = batch(capture or self.steps(), lines, *words, **how)
+        self.assertEqual((status, errors), (0, ""), lines)
+        return lines
+
+
+def cells(line):
+    """The two colours of each half block of a line."""
+    found, style = [], None
+    for escape, block in re.findall(r"\x1b\[([0-9;]*)m|(▀)", line):
+        if block:
+            found.append(style)
+        elif escape != "0":
+            numbers = list(map(int, escape.split(";")))
+            style = tuple(numbers[2:5]), tuple(numbers[7:10]) if numbers[5] == 48 else None
+    return found
+
+
+def unsixeled(text):
+    """The colours of a sixel picture in hundredths, by the protocol."""
+    head, wide, high, body = re.fullmatch(r'\x1bP(q)"1;1;(\d+);(\d+)(.*)\x1b\\', text, re.S).groups()
+    colours = {
+        int(number): tuple(map(int, rest.split(";"))) for number, rest in re.findall(r"#(\d+);2;(\d+;\d+;\d+)", body)
+    }
+    rows = [[None] * int(wide) for _ in range(int(high))]
+    x = top = 0
+    for number, new, count, letter, control in re.findall(r"#(\d+)(;[\d;]+)?|(?:!(\d+))?([?-~])|([$-])", body):
+        if number:
+            colour = colours[int(number)]
+        elif letter:
+            for _ in range(int(count or 1)):
+                for bit in range(6):
+                    if ord(letter) - 63 >> bit & 1:
+                        rows[top + bit][x] = colour
+                x += 1
+        else:
+            x, top = 0, top + 6 * (control == "-")
+    return rows

@@ -10,9 +10,12 @@ import unittest
 
 import folders
 
+from test_fdb_answers import *  # noqa: F401, F403
 from test_fdb_batch import *  # noqa: F401, F403
 from test_fdb_diff import *  # noqa: F401, F403
 from test_fdb_documents import *  # noqa: F401, F403
+from test_fdb_moves import *  # noqa: F401, F403
+from test_fdb_targets import *  # noqa: F401, F403
 from test_fdb_terminal import *  # noqa: F401, F403
 from test_fdb_what_if import *  # noqa: F401, F403
 

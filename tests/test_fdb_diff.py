@@ -7,8 +7,7 @@ import unittest
 
 import folders
 
-from fdb_testing import EXAMPLES, HUNTS, PROGRAM, launched
-from test_fdb_batch import STEPS, Folder
+from fdb_testing import EXAMPLES, HUNTS, PROGRAM, STEPS, Folder, launched
 
 from debugger import command_line, comparing_captures
 from debugger.aligning import aligned, common

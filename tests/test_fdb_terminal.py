@@ -9,8 +9,7 @@ import unittest
 
 import folders
 
-from fdb_testing import EXAMPLES, PATIENCE, Terminal, plain, stand_in
-from test_fdb_batch import Folder, cells, unsixeled
+from fdb_testing import EXAMPLES, PATIENCE, Folder, Terminal, cells, plain, stand_in, unsixeled
 from test_client import shown_house
 
 from debugger import drawing

@@ -5,8 +5,7 @@ import unittest
 
 import folders
 
-from fdb_testing import EXAMPLES, PROGRAM, Terminal, batch, launched
-from test_fdb_batch import STEPS, Folder
+from fdb_testing import EXAMPLES, PROGRAM, STEPS, Folder, Terminal, batch, launched
 from changes_testing import KINDS, LINES
 
 from debugger.changing import Wrong, read_change
