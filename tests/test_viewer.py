@@ -13,6 +13,7 @@ from test_viewer_answers import *  # noqa: F401, F403
 from test_viewer_beside import *  # noqa: F401, F403
 from test_viewer_blame import *  # noqa: F401, F403
 from test_viewer_card import *  # noqa: F401, F403
+from test_viewer_images import *  # noqa: F401, F403
 from test_viewer_looks import *  # noqa: F401, F403
 from test_viewer_maps import *  # noqa: F401, F403
 from test_viewer_page import *  # noqa: F401, F403
