@@ -4,7 +4,6 @@ import contextlib
 import io
 import itertools
 import json
-import pathlib
 import types
 import unittest
 import xml.etree.ElementTree

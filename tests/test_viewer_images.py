@@ -1,4 +1,4 @@
-"""The viewer without a browser: the images that its server sends, whole, in parts, as changed rows, and those nearby."""
+"""The viewer without a browser: the images that its server sends, whole, in parts, as changed rows, and those near."""
 import json
 import random
 import struct
