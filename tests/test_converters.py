@@ -345,6 +345,7 @@ class Prints(unittest.TestCase):
         """Of a file; a pipe, whose reader may wait for ever, is left."""
         script = f"""
 import os, signal, sys
+signal.signal(signal.SIGINT, signal.default_int_handler)  # what runs in the background may have it ignored
 sys.path.insert(0, {str(TOOLS)!r})
 from real_frames import telling
 class Output:
