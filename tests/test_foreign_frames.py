@@ -646,6 +646,26 @@ class Foreign(unittest.TestCase):
             )
             self.assertEqual((path, os.listdir(folder)), (taken[2].path, ["frame2.rdc"]))
 
+    def test_the_targets_with_their_draws(self):
+        replay = self.beside_a_stand_in("replay")
+        frame = replay.ReplayedFrame("frame.rdc")
+        kind = types.SimpleNamespace(Name=lambda: "R8")
+        frame.textures = {
+            number: types.SimpleNamespace(width=30, height=20, format=kind, msSamp=1) for number in (7, 8)
+        }
+        counts = {7: (1, 1, 1), 8: (3, 90, 40)}
+        with mock.patch.multiple(
+            frame, draws_of_targets=lambda: counts, shown_target=lambda: 8, is_turned=lambda target: False
+        ):
+            told = list(frame.list_targets())
+        self.assertEqual(
+            told,
+            [
+                "target 7: 30 by 20, R8, samples 1, 1 draw, events 1 to 1",
+                "target 8: 30 by 20, R8, samples 1, 40 draws, events 3 to 90, shown",
+            ],
+        )
+
     def test_a_shown_target_of_one_pixel(self):
         sizes, counts = {7: (1, 1), 8: (640, 480), 9: (64, 64)}, {7: (1, 2, 1), 8: (3, 90, 40), 9: (91, 99, 6)}
         frame = types.SimpleNamespace(shown_target=lambda: 7, size=sizes.get, draws_of_targets=lambda: counts)

@@ -81,6 +81,7 @@ MUTATIONS = [   # name, file, text, what stands there instead, test
     ("take: those that were there go", "../take_frame", "frames_at(out) - there - {path}", "frames_at(out) - {path}", "Foreign"),
     ("take: what isn't wanted stays", "../take_frame", "            os.unlink(path)\n", "", "Foreign"),
     ("foreign: any file is a frame", "replay.py", "        if result != rd.ResultCode.Succeeded:\n            raise Fault(f\"{self.path}: no frame", "        if False:\n            raise Fault(f\"{self.path}: no frame", "Foreign"),
+    ("targets: 1 draws", "replay.py", "counted(count, 'draw')", "f'{count} draws'", "Foreign"),
     ("foreign: any API", "replay.py", "if controller.GetAPIProperties().pipelineType not in pipelines.READERS:", "if False:", "Foreign"),
     ("rows: each corner in the middle of one is moved", "placing.py", "if snap(ay) == snap(by) and snap(ay) % WHOLE == CENTRE:", "if snap(ay) % WHOLE == CENTRE:", "Placing.test_only_edges_along_a_row_are_moved"),
     ("rows: in each triangle for itself", "placing.py", "y + STEP * ((x, y) in ends), z) for x, y, z in corners]", "y + STEP * ((x, y) in ends and sum((u, v) in ends for u, v, _ in corners) > 1), z) for x, y, z in corners]",

@@ -4,6 +4,8 @@ import os
 
 import renderdoc as rd
 
+from writing.counting import counted
+
 from . import clears, pipelines, vertices
 from .details import Details
 from .fault import Fault
@@ -185,7 +187,7 @@ class ReplayedFrame:
             )
             yield (
                 f"target {target}: {texture.width} by {texture.height}, {texture.format.Name()}, samples "
-                f"{texture.msSamp}, {count} draws, events {first} to {last}{shown}"
+                f"{texture.msSamp}, {counted(count, 'draw')}, events {first} to {last}{shown}"
             )
 
     # What is at an event.
