@@ -8,6 +8,7 @@ import os
 import pathlib
 import re
 import shutil
+import signal
 import subprocess
 import tempfile
 import unittest
@@ -52,6 +53,13 @@ class RunsTests(unittest.TestCase):
                 ],
             )
             self.assertIn(f"{wrong}: status 1", errors)
+
+    def test_an_interrupt_is_heard_in_the_background(self):
+        """There a shell has it ignored, and what a part starts would ignore it too."""
+        part = self.checks / "tells"
+        part.write_text("import signal\nprint(signal.getsignal(signal.SIGINT))\n")
+        self.addCleanup(signal.signal, signal.SIGINT, signal.signal(signal.SIGINT, signal.SIG_IGN))
+        self.assertIn("default_int_handler", self.ran(f"python3 {part}")[1][1])
 
     def test_what_was_passed_over_is_listed_last(self):
         for _ in range(2):  # what was passed over before is forgotten

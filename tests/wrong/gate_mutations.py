@@ -17,6 +17,7 @@ MUTATIONS = [   # name, tool, text, what stands there instead, test
     ("noted: nothing is kept", NOTE, '        file.write(f"{line}\\n")', "        pass", "PassedOver.test_it_is_said_and_listed"),
     ("noted: tests that were skipped aren't noted", NOTE, '        note(f"{what}, {count} tests", why)', "        pass", "PassedOver.test_tests_that_did_not_run_are_told"),
     ("noted: tests that fail are passed", NOTE, "sys.exit(not ran.wasSuccessful())", "sys.exit(0)", "PassedOver.test_tests_that_ran_are_counted"),
+    ("run: deaf in the background", RUN, "    signal.signal(signal.SIGINT, signal.default_int_handler)", "    str()", "RunsTests.test_an_interrupt_is_heard_in_the_background"),
     ("run: on behind a fault", RUN, "        if failed:\n            break", "        pass", "RunsTests.test_the_first_that_fails_is_the_last"),
     ("run: a fault is no fault", RUN, "for part, status in failed.items()) or 0)", "for part, status in failed.items()) and 0)", "RunsTests.test_the_first_that_fails_is_the_last"),
     ("run: what is run beside others can't fail", RUN, "for part, (status, _) in ended.items() if status}", "for part, (status, _) in ended.items() if status and len(step.parts) == 1}", "RunsTests.test_all_at_once_end_where_one_fails"),
