@@ -1,9 +1,12 @@
 """What blending makes of a source and of what is there."""
 import functools
+from collections.abc import Callable, Mapping, Sequence
+from typing import Any
 
 WHOLE = 255 * 255
 HALF = 127  # of a byte's step in 1/65025, rounded down: no two bytes tie
-WEIGHTS = {  # of a channel, by the source, what is there, and the factor
+Weight = Callable[[int, Sequence[int], Sequence[int], Sequence[int]], int]
+WEIGHTS: dict[str, Weight] = {  # of a channel, by the source, what is there, and the factor
     "ZERO": lambda channel, source, there, factor: 0,
     "ONE": lambda channel, source, there, factor: 255,
     "SRC_COLOR": lambda channel, source, there, factor: source[channel],
@@ -19,7 +22,7 @@ WEIGHTS = {  # of a channel, by the source, what is there, and the factor
 }
 
 
-def unorm(value):
+def unorm(value: int) -> int:
     """The byte nearest to a value in 1/65025."""
     return (min(max(value, 0), WHOLE) + HALF) // 255
 
@@ -27,14 +30,15 @@ def unorm(value):
 class Blending:
     """A blend state with its factor."""
 
-    def __init__(self, blend, factor):
+    def __init__(self, blend: Mapping[str, Any], factor: Sequence[int]) -> None:
         self.enable, self.mask, self.factor = blend["enable"], blend["mask"], factor
         self.parts = [
             (WEIGHTS[first], WEIGHTS[second], operation)
             for first, second, operation in (*[blend["rgb"]] * 3, blend["alpha"])
         ]
 
-    def channel(self, channel, source, there):
+    def channel(self, channel: int, source: Sequence[int], there: Sequence[int]) -> int:
+        """The byte that comes out in one of the four."""
         if not self.mask >> channel & 1:
             return there[channel]
         if not self.enable:
@@ -46,17 +50,20 @@ class Blending:
         was = there[channel] * second(channel, source, there, self.factor)
         return unorm(own + was if operation == "ADD" else own - was if operation == "SUBTRACT" else was - own)
 
-    def colour(self, source, there):
+    def colour(self, source: Sequence[int], there: Sequence[int]) -> tuple[int, ...]:
+        """The four bytes that come out."""
         return tuple(self.channel(channel, source, there) for channel in range(4))
 
 
 @functools.lru_cache(maxsize=4096)
-def known(enable, mask, *parts):
+def known(enable: bool, mask: int, *parts: Any) -> tuple[Blending, dict[Any, tuple[int, ...]]]:
     """The blending of a state with a factor, and what came out of it already by source and what is there."""
     return Blending({"enable": enable, "mask": mask, "rgb": parts[:3], "alpha": parts[3:6]}, parts[6:]), {}
 
 
-def blended(blend, factor, source, there):
+def blended(
+    blend: Mapping[str, Any], factor: Sequence[int], source: Sequence[int], there: Sequence[int]
+) -> tuple[int, ...]:
     """The colour that comes out; `blend` is an event, `factor` four bytes."""
     if not blend["enable"] and blend["mask"] == 15:
         return tuple(source)

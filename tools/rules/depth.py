@@ -1,7 +1,8 @@
 """The depth test: which depths pass, of a source and of what is stored."""
 import operator
+from collections.abc import Callable
 
-PASSES = {
+PASSES: dict[str, Callable[[int, int], bool]] = {
     "NEVER": lambda source, stored: False,
     "LESS": operator.lt,
     "EQUAL": operator.eq,

@@ -1,6 +1,7 @@
 """The state that draws are drawn with: its parts at the start, and which event set a part, the last one of its kind
 of those that are on."""
 import bisect
+from collections.abc import Callable, Sequence
 
 import captures
 
@@ -16,16 +17,17 @@ AT_START = {
 class Setters:
     """The events of each kind by their numbers, of a list of kinds. A kind is looked for once, when it is asked for."""
 
-    def __init__(self, kinds):
-        self.kinds, self.numbers = kinds, {}
+    def __init__(self, kinds: Sequence[str]) -> None:
+        self.kinds = kinds
+        self.numbers: dict[str, list[int]] = {}
 
-    def of(self, kind):
+    def of(self, kind: str) -> list[int]:
         """The numbers of a kind's events."""
         if kind not in self.numbers:
             self.numbers[kind] = [number for number, other in enumerate(self.kinds, 1) if other == kind]
         return self.numbers[kind]
 
-    def before(self, number, kind, is_on=None):
+    def before(self, number: int, kind: str, is_on: Callable[[int], bool] | None = None) -> int | None:
         """The last event of a kind before the event of a number, of those that are on; None where there is none.
         Without `is_on` all are."""
         numbers = self.of(kind)
