@@ -137,38 +137,16 @@ fn the_bounds_are_those_of_the_tile(rt: HostRuntime) -> Result<(), Fail> {
     Ok(())
 }
 
-/// Two equal triangles at a depth in one draw, each of which adds ten.
-fn added_twice(alloc: Global, version: u32, depth: u16) -> Result<EventTable, Fail> {
-    let triangle = (UPPER_LEFT, colour(10, 10, 10, 10), depth);
-    let mut events = Vec::new(alloc);
-    events.push(additive()?)?;
-    events.push(flat(alloc, &[triangle, triangle])?)?;
-    Ok(EventTable::start(alloc, version, 1, 1, events)?)
-}
-
-/// Not to the image between its two triangles.
-#[test]
-fn back_returns_to_the_image_before_a_draw_without_depth(rt: HostRuntime) -> Result<(), Fail> {
-    let alloc = rt.alloc();
-    let before = (colour(5, 6, 7, 8), 65535);
-    let table = added_twice(alloc, 1, 0)?;
-    let mut owner = Owner::of(alloc, one_pixel(alloc, before.0, before.1)?);
-    forward(&mut owner, &table)?;
-    forward(&mut owner, &table)?;
-    assert_eq!(rt; shown(&owner), (2, 2, (colour(25, 26, 27, 28), 65535)));
-    back(&mut owner)?;
-    assert_eq!(rt; shown(&owner), (1, 0, before));
-    back(&mut owner)?;
-    assert_eq!(rt; shown(&owner), (0, 0, before));
-    Ok(())
-}
-
 /// A tile of any colour and depth.
 #[test]
 fn back_returns_to_the_image_before_the_draw(rt: HostRuntime) -> Result<(), Fail> {
     let alloc = rt.alloc();
     let before = (colour(5, 6, 7, 8), 500);
-    let table = added_twice(alloc, 3, 400)?;
+    let triangle = (UPPER_LEFT, colour(10, 10, 10, 10), 400);
+    let mut events = Vec::new(alloc);
+    events.push(additive()?)?;
+    events.push(flat(alloc, &[triangle, triangle])?)?;
+    let table = EventTable::start(alloc, 3, 1, 1, events)?;
     let mut owner = Owner::of(alloc, one_pixel(alloc, before.0, before.1)?);
     forward(&mut owner, &table)?;
     forward(&mut owner, &table)?;
