@@ -16,7 +16,6 @@ use Rattle.fd_cover.specs.declared.triangle.Tri.{Tri}
 use Rattle.fd_cover.specs.Depth.{depth_at, passes}
 use Rattle.fd_events.specs.declared.pipeline.Pipeline.{Pipeline}
 use Rattle.fd_events.specs.Draw.{Triangle}
-use Rattle.fd_events.specs.Picture.{Painting}
 use Rattle.fd_events.specs.Image.{is_discarded, is_drawn, depth_of as source_depth, pixel_after_triangle}
 use Rattle.fd_tile.specs.Place.{Holds, HasRow}
 use Rattle.fd_tile.specs.Tile.{Pixel, TileImage, IsTileImage}
@@ -27,7 +26,7 @@ use Rattle.fd_tile.proofs.Pixels.{length-row_of, with_row_left_is, IsTileImage-w
 use borrow.Rule.Slice.PartMut.{put_mid}
 use Rattle.fd_undo.specs.Undo.{Undo}
 use Rattle.fd_tile.specs.declared.place.Place.{Place}
-use Rattle.fd_draw.specs.Demand.{is_reached, is_tested, pixels_in}
+use Rattle.fd_draw.specs.Demand.{is_reached, pixels_in}
 use Rattle.fd_draw.proofs.Counts.{pixels_in-row, written_in_row-span}
 use Rattle.fd_draw.specs.declared.clear.Clear.{Clear}
 use Rattle.fd_draw.specs.declared.clear.Clear.TheVariants.{Colours, Depths}
@@ -35,7 +34,7 @@ use Rattle.fd_draw.specs.Written.{as_it_is, cleared, with_cleared, kept_by_trian
 use Rattle.fd_tile.proofs.Cut.{FillsPlace-flat}
 use Rattle.fd_undo.proofs.Pixelwise.{value_in-flat}
 use Rattle.fd_draw.specs.declared.primitive.Primitive.{Primitive}
-use Rattle.fd_draw.specs.Primitive.{FindsDepths, kept_of, painted_by}
+use Rattle.fd_draw.specs.Primitive.{DrawsAll, FindsDepths, kept_of, painted_by, reached_by, triangle_of}
 use Rattle.fd_draw.specs.Mask.{has_bit}
 use Rattle.fd_draw.specs.Paints.{Paints}
 use Rattle.fd_draw.specs.Row.{changed_row}
@@ -45,7 +44,7 @@ use Rattle.fd_draw.proofs.Areas.{drawn_reached}
 use Rattle.fd_draw.proofs.Rows.{length-changed_row, get_or-changed_row, length-put_mid, before_part, in_part, past_part}
 use Rattle.fd_draw.proofs.Painting.{part, part_len, part_at, PaintsIn, Paints-same, Paints-nothing, Paints-both}
 
-cond_at : {X : Type 0} (b : Bool) (p q other : X) → (b ≡ true → p ≡ q) → cond b p other ≡ cond b q other
+pub cond_at : {X : Type 0} (b : Bool) (p q other : X) → (b ≡ true → p ≡ q) → cond b p other ≡ cond b q other
 cond_at true p q other same = same refl
 cond_at false p q other same = refl
 
@@ -192,29 +191,19 @@ module _ (written : ℕ → ℕ → Bool) {p : Place} {y first last : ℕ} (cros
 
 -- ---- with the depth test off
 
--- a triangle is drawn wherever it is reached, and leaves the depth
-pub Paints-untested : (tri : Triangle) (interp : Interp) (s : Pipeline) (y : ℕ) {first last : ℕ} {t t' : TileImage} {u u' : Undo}
-    → is_tested s tri.picture ≡ false
-    → ((c : ℕ) → first ≤ c → c < last → is_reached tri s c y ≡ true)
-    → PaintsIn (in_row (columns_between first last) y) (pixel_blended tri interp s) keep_each t u t' u'
-    → PaintsIn (in_row (columns_between first last) y) (pixel_after_triangle tri interp s) (kept_by_triangle tri s) t u t' u'
-Paints-untested tri interp s y {first} {last} {t} untested reached = Paints-same
-    (λ c r held. cond_at (in_row (columns_between first last) y c r) _ _ _ (λ here. rw (drawn c r here, off) refl))
+-- a triangle that isn't discarded is drawn wherever it is reached, and leaves the depth
+pub Paints-untested : (p : Primitive) (y : ℕ) {first last : ℕ} {t t' : TileImage} {u u' : Undo} → DrawsAll p first last y
+    → ((c : ℕ) → first ≤ c → c < last → reached_by p c y ≡ true)
+    → PaintsIn (in_row (columns_between first last) y) (pixel_blended (triangle_of p) p.interp p.state) keep_each t u t' u'
+    → PaintsIn (in_row (columns_between first last) y) (painted_by p) (kept_of p) t u t' u'
+Paints-untested p y {first} {last} {t} all reached = Paints-same
+    (λ c r held. cond_at (in_row (columns_between first last) y c r) _ _ _ (λ here. rw (drawn c r here, all.untested) refl))
     (λ c r held. cond_at (in_row (columns_between first last) y c r) _ _ _ (λ here. rw (drawn c r here) refl))
   where
-    parts : (picture : Option Painting) → is_tested s picture ≡ false → (picture ≡ None) × (s.depth.enable ≡ false)
-    parts None untested = (refl, untested)
-    parts (Some picture) untested = absurd (cc)
-
-    plain : tri.picture ≡ None
-    plain = (parts tri.picture untested).0
-
-    off : s.depth.enable ≡ false
-    off = (parts tri.picture untested).1
-
-    drawn : (c r : ℕ) → in_row (columns_between first last) y c r ≡ true → is_drawn tri s c r (depth_in t c r) ≡ true
+    drawn : (c r : ℕ) → in_row (columns_between first last) y c r ≡ true → is_drawn (triangle_of p) p.state c r (depth_in t c r) ≡ true
     drawn c r here = let at = run_columns first last y c r here in
-        drawn_reached tri s c r (depth_in t c r) ∙ rw (at.2, reached c at.0 at.1, off, plain) refl
+        drawn_reached (triangle_of p) p.state c r (depth_in t c r)
+        ∙ rw (at.2, reached c at.0 at.1, all.untested, all.filled c at.0 at.1) refl
 
 -- ---- a row that is kept
 

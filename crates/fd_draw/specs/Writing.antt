@@ -24,6 +24,10 @@ in_row region y x z = (z == y) && region x z
 abbrev pub columns_between : ℕ → ℕ → ℕ → ℕ → Bool
 columns_between first last x y = nat_le first x && nat_lt x last
 
+-- the rows from one up to another, in any column
+abbrev pub rows_between : ℕ → ℕ → ℕ → ℕ → Bool
+rows_between first last x y = nat_le first y && nat_lt y last
+
 -- a tile with its memory has the pixels of row y from one column up to another
 pub record HasSpan (left right y : ℕ) (t : TileImage) : Type 0 where
   pub made : t.made ≡ true
@@ -32,6 +36,14 @@ pub record HasSpan (left right y : ℕ) (t : TileImage) : Type 0 where
   pub from_left : t.place.left ≤ left
   pub some : left < right
   pub to_right : right ≤ t.place.left + t.place.width
+
+-- a tile with its memory has the rows from one up to another
+pub record HasRows (top bottom : ℕ) (t : TileImage) : Type 0 where
+  pub made : t.made ≡ true
+  pub filled : IsTileImage t
+  pub from_top : t.place.top ≤ top
+  pub some : top < bottom
+  pub to_bottom : bottom ≤ t.place.top + t.place.height
 
 -- a frame was begun, and has room for so many spans and pixels
 pub record HasRoom (span_count pixel_count : ℕ) (u : Undo) : Type 0 where
@@ -46,13 +58,16 @@ pub record WritesRegion (span_count pixel_count : ℕ) (region : ℕ → ℕ →
   pub spans : u.spans_left ≤ u'.spans_left + span_count
   pub pixels : u.pixels_left ≤ u'.pixels_left + pixel_count
 
--- the pixels of row y from one column up to another change, and no other
-pub record ChangesSpan (change : ℕ → ℕ → Pixel → Pixel) (left right y : ℕ) (t t' : TileImage) : Type 0 where
+-- the pixels of a region change, and no other
+pub record ChangesRegion (change : ℕ → ℕ → Pixel → Pixel) (region : ℕ → ℕ → Bool) (t t' : TileImage) : Type 0 where
   pub placed : t'.place ≡ t.place
   pub made : t'.made ≡ t.made
   pub filled : IsTileImage t'
-  pub pixels : (column row : ℕ) → Holds t.place column row
-      → pixel_of t' column row ≡ after_where (in_row (columns_between left right) y) change column row (pixel_of t column row)
+  pub pixels : (x y : ℕ) → Holds t.place x y → pixel_of t' x y ≡ after_where region change x y (pixel_of t x y)
+
+-- those of row y from one column up to another
+abbrev pub ChangesSpan : (ℕ → ℕ → Pixel → Pixel) → ℕ → ℕ → ℕ → TileImage → TileImage → Type 0
+ChangesSpan change left right y = ChangesRegion change (in_row (columns_between left right) y)
 
 -- a pixel gets its depth of some that begin in a column
 abbrev pub depth_stored : List ℕ → ℕ → ℕ → ℕ → Pixel → Pixel

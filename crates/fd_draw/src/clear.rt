@@ -1,20 +1,17 @@
-//! A clear: all pixels of a tile, row by row.
+//! A clear: all pixels of a tile.
 ghost use Rattle.std.specs.Prelude.{◌≡◌, ◌≤◌, ◌<◌, true, false, Ok, OnErr, length, [], ◌∷◌, ◌++◌};
 ghost use Rattle.fd_events.specs.Image.{pixel_after, kept_by};
-ghost use Rattle.fd_tile.specs.Place.{HasRow};
 ghost use Rattle.fd_tile.specs.Tile.{IsTileImage};
 ghost use Rattle.fd_undo.specs.Frame.{IsAlike, top};
 ghost use Rattle.fd_undo.specs.Undo.{without_room};
-ghost use Rattle.fd_draw.specs.Area.{LiesIn, IsWrittenIn};
 ghost use Rattle.fd_draw.specs.Demand.{pixels_in, spans_in};
-ghost use Rattle.fd_draw.specs.Written.{as_it_is, cleared, with_cleared};
+ghost use Rattle.fd_draw.specs.Written.{cleared, with_cleared};
 ghost use Rattle.fd_draw.specs.Paints.{Paints};
-ghost use Rattle.fd_draw.specs.Writing.{HasRoom, WritesRegion, in_row, keep_each};
+ghost use Rattle.fd_draw.specs.Writing.{HasRoom, keep_each};
 ghost use Rattle.fd_memory.specs.Wanting.{Wanted};
 
-use crate::write::keep_span;
+use crate::strip::keep_strip;
 use fd_blend::Colour;
-use fd_cover::Bounds;
 use fd_events::{Event, Pipeline};
 use fd_tile::Tile;
 use fd_undo::{Full, UndoStack};
@@ -24,22 +21,6 @@ use fd_undo::{Full, UndoStack};
 pub(crate) enum Clear {
     Colours(Colour),
     Depths(u16),
-}
-
-/// Keeps the pixels of a box, which has all of the tile.
-fn keep_rows(area: Bounds, tile: &Tile, undo: &mut UndoStack)
-    requires made { tile.now.made ≡ true }
-    requires filled { IsTileImage tile.now }
-    requires inside { LiesIn area tile.now.place }
-    requires whole { IsWrittenIn (λ _ _. true) (λ _ _. true) tile.now.place area }
-    requires room { HasRoom (spans_in (λ _ _. true) tile.now.place) (pixels_in (λ _ _. true) tile.now.place) undo.old }
-    ensures { WritesRegion (spans_in (λ _ _. true) tile.now.place) (pixels_in (λ _ _. true) tile.now.place)
-        (λ _ _. true) as_it_is keep_each tile.now undo.old tile.now undo.new }
-{
-    let place = tile.place();
-    for y in area.top..area.bottom {
-        keep_span(place.left, place.left + place.width, y, tile, undo);
-    }
 }
 
 /// Gives all pixels a clear's colour, or its depth.
@@ -52,16 +33,14 @@ fn fill(clear: Clear, tile: &mut Tile)
     }
 }
 
-/// Keeps and then clears the pixels of a box, which has all of the tile.
-pub(crate) fn clear_rows(clear: Clear, area: Bounds, tile: &mut Tile, undo: &mut UndoStack)
+/// Keeps and then clears the pixels of a tile.
+pub(crate) fn clear_tile(clear: Clear, tile: &mut Tile, undo: &mut UndoStack)
     requires made { tile.old.made ≡ true }
-    requires filled { IsTileImage tile.old }
-    requires inside { LiesIn area tile.old.place }
-    requires whole { IsWrittenIn (λ _ _. true) (λ _ _. true) tile.old.place area }
     requires room { HasRoom (spans_in (λ _ _. true) tile.old.place) (pixels_in (λ _ _. true) tile.old.place) undo.old }
     ensures { Paints (λ _ _. cleared clear) keep_each tile.old undo.old tile.new undo.new }
 {
-    keep_rows(area, tile, undo);
+    let place = tile.place();
+    keep_strip(place.top, place.top + place.height, tile, undo);
     fill(clear, tile);
 }
 

@@ -172,8 +172,8 @@ fn depths_on(depth_rows: &Option<DepthRows>, left: u32, y: u32, count: usize) ->
     depths
 }
 
-/// Keeps and then writes those of neighbouring pixels of row y at which the triangle is drawn: all of them, or where it is tested
-/// by runs.
+/// Keeps and then writes those of neighbouring pixels of row y at which the triangle is drawn: all of them, or those that pass by
+/// runs.
 pub(crate) fn draw_span(
     primitive: &Primitive<'_>,
     depth_rows: &Option<DepthRows>,
@@ -192,7 +192,7 @@ pub(crate) fn draw_span(
         (in_row (columns_between columns.0 columns.1) y) (painted_by primitive.now) (kept_of primitive.now) tile.old undo.old tile.new undo.new }
 {
     let (left, right) = columns;
-    if !primitive.is_tested() {
+    if primitive.draws_all(left, right, y) {
         write_span(primitive, left, right, y, tile, undo);
         return;
     }

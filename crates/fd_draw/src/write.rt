@@ -16,10 +16,11 @@ ghost use Rattle.fd_draw.specs.Plan.{ArePlanned, IsFoundOn, IsPlan};
 ghost use Rattle.fd_draw.specs.Triangles.{triangle_at};
 ghost use Rattle.fd_draw.specs.Writing.{ChangesSpan, HasRoom, HasSpan, WritesRegion, columns_between, in_row, keep_each};
 
-use crate::clear::{Clear, clear_rows};
+use crate::clear::{Clear, clear_tile};
 use crate::found::{Found, find};
-use crate::plan::{Plan, Planned, box_of, open_area};
+use crate::plan::{Plan, Planned, open_area};
 use crate::primitive::{Ink, Primitive, ink_of};
+use crate::strip::{draw_strip, strip_end};
 use crate::tested::draw_span;
 use fd_blend::Colour;
 use fd_cover::{DepthRows, shade_row};
@@ -98,7 +99,7 @@ pub(crate) fn keep_span(left: u32, right: u32, y: u32, tile: &Tile, undo: &mut U
 }
 
 /// Blends a triangle's sources with the pixels of row y from column `left` up to `right`, all of which it covers.
-fn blend_span(primitive: &Primitive<'_>, left: u32, right: u32, y: u32, tile: &mut Tile)
+pub(crate) fn blend_span(primitive: &Primitive<'_>, left: u32, right: u32, y: u32, tile: &mut Tile)
     requires span { HasSpan left right y tile.old }
     requires ready { IsReady primitive.now }
     requires covered { (column : ℕ) → left ≤ column → column < right → covers primitive.now.corners column y ≡ true }
@@ -158,7 +159,7 @@ fn draw_row(
     }
 }
 
-/// The same for all pixels at which it was found, row after row.
+/// The same for all pixels at which it was found, row after row, or at once where the triangle is drawn from side to side of the tile.
 fn draw_primitive(primitive: &Primitive<'_>, found: &Found, tile: &mut Tile, undo: &mut UndoStack)
     requires made { tile.old.made ≡ true }
     requires ready { IsReady primitive.now }
@@ -171,8 +172,16 @@ fn draw_primitive(primitive: &Primitive<'_>, found: &Found, tile: &mut Tile, und
         (painted_by primitive.now) (kept_of primitive.now) tile.old undo.old tile.new undo.new }
 {
     let depth_rows = primitive.depth_rows();
-    for y in found.area.top..found.area.bottom {
-        draw_row(primitive, &depth_rows, found, y, tile, undo);
+    let mut y = found.area.top;
+    while y < found.area.bottom {
+        let end = strip_end(primitive, found, y, tile.place());
+        if y < end {
+            draw_strip(primitive, y, end, tile, undo);
+            y = end;
+        } else {
+            draw_row(primitive, &depth_rows, found, y, tile, undo);
+            y += 1;
+        }
     }
 }
 
@@ -253,10 +262,11 @@ pub fn draw(event: &Event, state: &Pipeline, plan: &Plan, tile: &mut Tile, undo:
     requires pixels { event_pixels event.now state.now tile.old.place ≤ undo.old.pixels_left }
     ensures { Paints (pixel_after event.now state.now) (kept_by event.now state.now) tile.old undo.old tile.new undo.new }
 {
-    let place = tile.place();
+    // a tile has a colour and a depth for each of its pixels, also where nothing is drawn
+    let _place = tile.place();
     match event {
-        Event::Clear(colour) => clear_rows(Clear::Colours(*colour), box_of(place), tile, undo),
-        Event::DepthClear(depth) => clear_rows(Clear::Depths(*depth), box_of(place), tile, undo),
+        Event::Clear(colour) => clear_tile(Clear::Colours(*colour), tile, undo),
+        Event::DepthClear(depth) => clear_tile(Clear::Depths(*depth), tile, undo),
         Event::Draw(draw) => draw_triangles(draw, state, plan, tile, undo),
         // State events and markers draw nothing.
         _ => {}

@@ -5,7 +5,8 @@ use Rattle.std.specs.Prelude.{slice_set, slice_index_or, unwrap_or, All, if◌th
 use Rattle.std.proofs.Math.Nat.{zero-mul, suc-mul, add-mul, mul-le-mul_right}
 use Rattle.std.proofs.lemmas.Nat.{row_fits}
 use Rattle.std.proofs.lemmas.List.{take_at, drop_at, take-take, take-append-le, drop-append-le, drop-drop, drop-take, length-take-le}
-use Rattle.std.proofs.lemmas.List.{take-append-drop, take-replicate, drop-replicate, length-replicate, with_items_is}
+use Rattle.std.proofs.lemmas.List.{take-append-drop, take-replicate, drop-replicate, length-replicate, replicate-append-replicate}
+use Rattle.std.proofs.lemmas.List.{with_items_is}
 use Rattle.std.proofs.lemmas.List.Elements.{All-nil, All-cons, All-replicate}
 use Rattle.std.specs.List.{refill, length_refill}
 use Rattle.std.specs.Global.{Vec}
@@ -14,7 +15,7 @@ use Rattle.fd_tile.specs.declared.place.Place.{Place}
 use Rattle.fd_tile.specs.Place.{Holds, HasRow, IsTilePlace}
 use Rattle.fd_tile.specs.Part.{part_left}
 use Rattle.fd_blend.specs.declared.channel.Colour.{Colour}
-use Rattle.fd_tile.specs.Tile.{TileImage, FillsPlace, IsTileImage, IsTile, cut_rows, rows_over, row_in, with_row_in, with_row, with_rows_from, row_of}
+use Rattle.fd_tile.specs.Tile.{TileImage, FillsPlace, IsTileImage, IsTile, cut_rows, row_cut, rows_over, row_in, with_row_in, with_row, with_rows_from, row_of}
 use Rattle.fd_tile.specs.Tile.{depth_row_of, flat_over, rows_shown, depths_shown}
 use Rattle.fd_blend.specs.Channel.{fresh}
 use Rattle.fd_tile.proofs.Pixels.{HasRow-from_Holds, length-row_of, length-depth_row_of}
@@ -277,3 +278,50 @@ column_within t p x y same filled held =
       omega (arith, ap (λ q. q.left) same, held.from_left, held.to_right, length-row_of t y filled crossed),
       omega (arith, ap (λ q. q.left) same, held.from_left, held.to_right, length-depth_row_of t y filled crossed),
     )
+
+-- ---- several rows are read
+module _ {X : Type 0} (p : Place) (items : List X) (y start count end : ℕ) (counted : length items ≡ p.height * p.width) (low : p.top ≤ y)
+    (high : y + count ≤ p.top + p.height) (begins : start ≡ (y - p.top) * p.width) (ends : end ≡ (y + count - p.top) * p.width) where
+  pub strip_ends : end ≡ start + count * p.width
+  strip_ends =
+      ends ∙ ap (λ k. k * p.width) {x = y + count - p.top} {y = y - p.top + count} (omega arith) ∙ add-mul (y - p.top) count p.width
+      ∙ ap (λ k. k + count * p.width) (sym begins)
+
+  pub strip_within : end ≤ length items
+  strip_within = omega (arith, strip_ends, rows_within p (length items) y start count (count * p.width) counted low high begins refl)
+
+  abbrev strip : List X
+  strip = take (end - start) (drop start items)
+
+  pub length-strip : length strip ≡ count * p.width
+  length-strip = length-take-le (end - start) (drop start items) (omega (arith, strip_within, length-drop start items)) ∙ omega (arith, strip_ends)
+
+  pub strip_row : (n : ℕ) → n < count → row_cut p.width n strip ≡ row_in p (rows_over p items) (y + n)
+  strip_row n below =
+      let w : ℕ = p.width in
+      let fits : n * w + w ≤ count * w = row_fits n w count w below (omega arith) in
+      let more : ℕ = count * w - n * w in
+      let at : (y + n - p.top) * w ≡ start + n * w =
+      ap (λ k. k * w) {x = y + n - p.top} {y = y - p.top + n} (omega arith) ∙ add-mul (y - p.top) n w ∙ ap (λ k. k + n * w) (sym begins) in
+      ap (λ k. take w (drop (n * w) (take k (drop start items)))) {x = end - start} {y = n * w + more} (omega (arith, strip_ends, fits))
+      ∙ ap (λ l. take w l) (drop-take (n * w) more (drop start items))
+      ∙ take-take w more (drop (n * w) (drop start items)) (omega (arith, fits))
+      ∙ ap (λ l. take w l) (drop-drop (n * w) start items ∙ ap (λ k. drop k items) (sym at))
+      ∙ sym (cut_rows-at w p.height (y + n - p.top) items (omega arith))
+
+-- rows that are all of one value are so many of it
+pub rows_alike : {X : Type 0} (w n : ℕ) (xs : List X) (x : X) → length xs ≡ n * w → ((k : ℕ) → k < n → row_cut w k xs ≡ replicate w x)
+    → xs ≡ replicate (length xs) x
+rows_alike w zero [] x long same = refl
+rows_alike w zero (y ∷ xs) x long same = absurd (omega (arith, long, zero-mul w))
+rows_alike w (suc n) xs x long same =
+    let more : suc n * w ≡ n * w + w = suc-mul n w in
+    let rest : length (drop w xs) ≡ n * w = omega (arith, long, more, length-drop w xs) in
+    let later : (k : ℕ) → k < n → row_cut w k (drop w xs) ≡ replicate w x =
+    λ k below. ap (λ l. take w l) (drop-drop (k * w) w xs ∙ ap (λ m. drop m xs) {x = w + k * w} {y = suc k * w} (omega (arith, suc-mul k w)))
+    ∙ same (suc k) (omega arith) in
+    sym (take-append-drop w xs)
+    ∙ ap (λ l. l ++ drop w xs) (ap (λ k. take w (drop k xs)) (sym (zero-mul w)) ∙ same 0 (omega arith))
+    ∙ ap (λ l. replicate w x ++ l) (rows_alike w n (drop w xs) x rest later)
+    ∙ replicate-append-replicate w (length (drop w xs)) x
+    ∙ ap (λ k. replicate k x) {x = w + length (drop w xs)} {y = length xs} (omega (arith, rest, long, more))

@@ -1,10 +1,14 @@
 -- The newest of a list, the pixels of frames, and colours beside their depths.
-use Rattle.std.proofs.Common.{◌≡◌, ℕ, zero, suc, ◌+◌, ◌-◌, ◌*◌, ◌<◌, List, [], ◌∷◌, ◌++◌, length, get_or, refl, sym, ap, ◌∙◌, arith, length-append}
+use Rattle.std.proofs.Common.{◌≡◌, ℕ, zero, suc, ◌+◌, ◌-◌, ◌*◌, ◌<◌, List, [], ◌∷◌, ◌++◌, length, get_or, refl, sym, ap, ◌∙◌, arith, length-append, length-drop, drop, ◌≤◌}
 use Rattle.std.proofs.Math.Nat.{zero-mul, suc-mul}
 use Rattle.std.proofs.lemmas.List.{take_at, get_or_push, take_all, length_push, take_more}
 use Rattle.std.proofs.lemmas.List.Sums.{sum_by-cons}
-use Rattle.fd_tile.specs.Tile.{Pixel}
-use Rattle.fd_undo.specs.Frame.{KeptPixel, kept_row, kept_rows, top, older}
+use Rattle.std.proofs.lemmas.List.{length-take-le}
+use Rattle.std.proofs.lemmas.Nat.{row_fits}
+use Rattle.fd_blend.specs.declared.channel.Colour.{Colour}
+use Rattle.fd_tile.specs.declared.place.Place.{Place}
+use Rattle.fd_tile.specs.Tile.{Pixel, row_cut}
+use Rattle.fd_undo.specs.Frame.{KeptPixel, kept_row, kept_rows, kept_place, top, older}
 use Rattle.fd_undo.specs.Block.{others}
 use Rattle.fd_undo.specs.Undo.{recorded_in}
 use Rattle.std.specs.List.{zip}
@@ -54,3 +58,19 @@ kept_rows-one x y n pixels one = rw one (grind arith)
 
 pub length-zip_equal : {A B : Type 0} (xs : List A) (ys : List B) → length ys ≡ length xs → length (zip xs ys) ≡ length xs
 length-zip_equal xs ys e = omega (arith, length-zip xs ys)
+
+-- ---- all of a place
+module _ {X : Type 0} (p : Place) (xs : List X) (counted : length xs ≡ p.height * p.width) where
+  pub length-row_cut : (n : ℕ) → n < p.height → length (row_cut p.width n xs) ≡ p.width
+  length-row_cut n below =
+      let fits = row_fits n p.width p.height p.width below (omega arith) in
+      length-take-le p.width (drop (n * p.width) xs) (omega (arith, fits, length-drop (n * p.width) xs, counted))
+
+pub length-kept_place : (p : Place) (cs : List Colour) (ds : List ℕ) → length cs ≡ p.height * p.width → length ds ≡ length cs
+    → length (kept_place p cs ds) ≡ length cs
+length-kept_place p cs ds counted equal =
+    length-kept_rows p.left p.top p.height p.width (λ n. zip (row_cut p.width n cs) (row_cut p.width n ds))
+    (λ n below. let deep = length-row_cut p ds (equal ∙ counted) n below in
+    let wide = length-row_cut p cs counted n below in
+    length-zip_equal (row_cut p.width n cs) (row_cut p.width n ds) (deep ∙ sym wide) ∙ wide)
+    ∙ sym counted

@@ -9,7 +9,7 @@ use Rattle.fd_tile.specs.Place.{Holds, IsTilePlace}
 use Rattle.fd_tile.specs.Tile.{Pixel, TileImage, IsTileImage, FillsPlace, value_in, pixel_of, IsFlat, flat_over, with_colours, with_depths}
 use Rattle.fd_tile.proofs.Pixels.{length-row_in, row_in-same, row_in-other, rows_ext, row_in-flat}
 use Rattle.fd_undo.specs.Frame.{KeptPixel, restored, kept_at, kept_rows, alike, IsAlike, KeepsAll}
-use Rattle.fd_undo.proofs.Restored.{Inside, restored-place, kept_row-inside, restored-made}
+use Rattle.fd_undo.proofs.Restored.{Inside, restored-place, kept_rows-inside, restored-made}
 use Rattle.std.specs.List.{zip}
 use Rattle.fd_blend.specs.Channel.{fresh}
 use Rattle.fd_tile.proofs.Cut.{FillsPlace-flat}
@@ -54,14 +54,9 @@ module _ (p : Place) (q : Pixel) where
   pub length-alike : length (alike p q) ≡ p.height * p.width
   length-alike = length-kept_rows p.left p.top p.height p.width (λ _. replicate p.width q) (λ _ _. length-replicate p.width q)
 
-  Inside-rows : (n : ℕ) → n ≤ p.height → Inside p (kept_rows p.left p.top n (λ _. replicate p.width q))
-  Inside-rows zero fits = λ i d below. absurd (omega (arith, below))
-  Inside-rows (suc n) fits =
-      let row = kept_row-inside p p.left (p.top + n) (replicate p.width q) (grind arith) (omega arith) (omega (arith, length-replicate p.width q)) in
-      grind (arith, common_steps, Inside-rows n (omega arith))
-
   pub Inside-alike : Inside p (alike p q)
-  Inside-alike = Inside-rows p.height (omega arith)
+  Inside-alike = kept_rows-inside p p.left p.top p.height p.width (λ _. replicate p.width q) (omega arith) (omega arith) (omega arith) (omega arith)
+      (λ _ _. length-replicate p.width q)
 
   pub kept_at-alike : (x y : ℕ) → Holds p x y → kept_at (alike p q) x y ≡ q ∷ []
   kept_at-alike x y held = grind (arith, length-replicate, kept_at-rows_inside, kept_at-inside, get_or-replicate)

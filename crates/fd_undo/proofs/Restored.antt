@@ -6,6 +6,7 @@ use Rattle.std.specs.Prelude.{slice_set, All, IsSomeAnd}
 use Rattle.std.proofs.lemmas.List.{take_more, set_at, length-take, drop_all, drop-drop, append-nil, get_or_append_left, take-replicate, drop-replicate}
 use Rattle.std.proofs.lemmas.List.{replicate-append-replicate, get_or-set_same}
 use borrow.Rule.Slice.PartMut.{put_mid, same_len_mid}
+use Rattle.std.proofs.lemmas.List.Elements.{All-append}
 use Rattle.fd_blend.specs.declared.channel.Colour.{Colour}
 use Rattle.fd_tile.specs.declared.place.Place.{Place}
 use Rattle.fd_tile.specs.Place.{Holds, HasRow}
@@ -26,6 +27,15 @@ Inside p ks = All (λ k. Holds p k.x k.y) ks
 pub kept_row-inside : (p : Place) (x y : ℕ) (old : List Pixel) → HasRow p y → p.left ≤ x → x + length old ≤ p.left + p.width → Inside p (kept_row x y old)
 kept_row-inside p x y [] crossed low high = λ i d below. absurd (omega (arith, below))
 kept_row-inside p x y (c ∷ cs) crossed low high = grind (arith, common_steps, kept_row-inside p (x + 1) y cs crossed (omega arith) (omega arith))
+
+pub kept_rows-inside : (p : Place) (x y n w : ℕ) (pixels : ℕ → List Pixel) → p.left ≤ x → x + w ≤ p.left + p.width → p.top ≤ y → y + n ≤ p.top + p.height
+    → ((row : ℕ) → row < n → length (pixels row) ≡ w) → Inside p (kept_rows x y n pixels)
+kept_rows-inside p x y zero w pixels left right top bottom wide = λ i d below. absurd (omega (arith, below))
+kept_rows-inside p x y (suc n) w pixels left right top bottom wide =
+    let row = kept_row-inside p x (y + n) (pixels n) (record { from_top = omega (arith, top); to_bottom = omega (arith, bottom) }) left
+    (omega (arith, right, wide n (omega arith))) in
+    let above = kept_rows-inside p x y n w pixels left right top (omega (arith, bottom)) (λ row below. wide row (omega arith)) in
+    All-append (λ (k : KeptPixel). Holds p k.x k.y) (kept_rows x y n pixels) (kept_row x (y + n) (pixels n)) above row
 
 -- a pixel that is kept lies there
 pub held_at : (p : Place) (ks : List KeptPixel) (x y : ℕ) → Inside p ks → 0 < length (kept_at ks x y) → Holds p x y

@@ -1,16 +1,20 @@
 -- Spans, what one and what several of them keep, and spans that keep more.
 use Rattle.std.proofs.lemmas.Grind.{common_steps}
-use Rattle.std.proofs.Common.{true, ◌≡◌, ℕ, ◌+◌, ◌-◌, ◌*◌, ◌<◌, ◌≤◌, List, [], ◌∷◌, ◌++◌, length, get_or, take, drop, refl, arith, add-one, append_assoc}
+use Rattle.std.proofs.Common.{Bool, true, false, Option, Some, None, replicate, ap, ◌∙◌, ◌≡◌, ℕ, ◌+◌, ◌-◌, ◌*◌, ◌<◌, ◌≤◌, List, [], ◌∷◌, ◌++◌, length, get_or, take, drop, refl, arith, add-one, append_assoc}
 use Rattle.std.specs.Prelude.{if◌then◌else◌, zip, sum_by}
 use Rattle.std.proofs.Math.Nat.{zero-mul, one-mul, suc-mul, mul-le-mul_right}
 use Rattle.std.proofs.lemmas.List.{length-take, take-append-le, drop-append-le, get_or_append_left, take-take, drop-drop, drop_at}
+use Rattle.std.proofs.lemmas.List.{take_all, take-replicate, drop-replicate}
+use Rattle.std.proofs.lemmas.Nat.{row_fits}
 use Rattle.std.proofs.lemmas.List.{nil_from_length, take-append-drop, drop-take, append-nil, take_at, get_or-drop, take_rest, length-drop, length-append}
 use Rattle.std.proofs.lemmas.Slice.Zip.{get_or-zip}
 use Rattle.fd_blend.specs.declared.channel.Colour.{Colour}
 use Rattle.fd_blend.specs.Channel.{fresh}
-use Rattle.fd_undo.specs.Span.{Span, IsGrown, IsRowOf}
-use Rattle.fd_undo.specs.Frame.{kept_row, KeptPixel}
-use Rattle.fd_undo.specs.Rows.{row_colours, listed_colours, colours_in, depths_listed, row_depths, listed_depths, depths_in, pixels_of_row}
+use Rattle.fd_undo.specs.Span.{Span, IsGrown, IsRowOf, IsSpanOf}
+use Rattle.fd_tile.specs.declared.place.Place.{Place}
+use Rattle.fd_tile.specs.Tile.{row_cut}
+use Rattle.fd_undo.specs.Frame.{kept_row, kept_place, KeptPixel}
+use Rattle.fd_undo.specs.Rows.{row_colours, listed_colours, colours_in, colours_from, depths_from, depths_listed, row_depths, listed_depths, depths_in, pixels_of_row}
 use Rattle.fd_undo.specs.Rows.{span_pixels, IsHeld, colour_count, depth_count, pixel_count, rows_in, joined, Held, KeepsMore, GrowsBy, no_span}
 use Rattle.fd_undo.proofs.FrameLemmas.{length-zip_equal, length-kept_rows, kept_rows-one, kept_rows-same, others-newest}
 use Rattle.std.proofs.lemmas.List.Sums.{sum_by-cons, sum_by-take-drop, sum_by_push, sum_by-take-le}
@@ -54,6 +58,41 @@ module _ (s : Span) (cs : List Colour) (ds : List ℕ) (fits : listed_colours s 
 pub span_pixels-row : (s : Span) (cs : List Colour) (ds : List ℕ) → IsRowOf cs ds s
     → span_pixels s (take (listed_colours s) cs) (take (listed_depths s) ds) ≡ kept_row s.x s.y (zip cs ds)
 span_pixels-row s cs ds is = grind (arith, common_steps, kept_rows-one, zero-mul, one-mul)
+
+-- ---- what is listed of a place gives all of it
+module _ (p : Place) (s : Span) (cs : List Colour) (ds : List ℕ) (is : IsSpanOf p cs ds s) where
+  row_below : (n : ℕ) → n < p.height → n * p.width + p.width ≤ p.height * p.width
+  row_below n below = row_fits n p.width p.height p.width below (omega arith)
+
+  -- a row of what is one value everywhere
+  cut_alike : {X : Type 0} (x : X) (n : ℕ) → n < p.height → row_cut p.width n (replicate (p.height * p.width) x) ≡ replicate p.width x
+  cut_alike x n below =
+      let room = row_below n below in
+      ap (λ l. take p.width l) (drop-replicate (n * p.width) (p.height * p.width) x)
+      ∙ take-replicate p.width (p.height * p.width - n * p.width) x (omega (arith, room))
+
+  pub span_pixels-place : span_pixels s (take (listed_colours s) cs) (take (listed_depths s) ds) ≡ kept_place p cs ds
+  span_pixels-place =
+      kept_rows-same s.x s.y s.rows _ _ (λ n below. row_same n (omega (arith, below, is.rows)))
+      ∙ cc (is.x, is.y, is.rows)
+    where
+      colours_same : (n : ℕ) → n < p.height → colours_in s (colours_from s n (take (listed_colours s) cs)) ≡ row_cut p.width n cs
+      colours_same n below = by_colour s.one_colour refl
+        where
+          by_colour : (one : Bool) → s.one_colour ≡ one → colours_in s (colours_from s n (take (listed_colours s) cs)) ≡ row_cut p.width n cs
+          by_colour true same = grind (arith, cut_alike, common_steps)
+          by_colour false same = grind (arith, common_steps, take_all)
+
+      depths_same : (n : ℕ) → n < p.height → depths_in s (depths_from s n (take (listed_depths s) ds)) ≡ row_cut p.width n ds
+      depths_same n below = by_depth s.same_depth refl
+        where
+          by_depth : (depth : Option ℕ) → s.same_depth ≡ depth → depths_in s (depths_from s n (take (listed_depths s) ds)) ≡ row_cut p.width n ds
+          by_depth (Some depth) same = grind (arith, cut_alike, common_steps)
+          by_depth None same = grind (arith, common_steps, take_all)
+
+      row_same : (n : ℕ) → n < p.height → pixels_of_row s (take (listed_colours s) cs) (take (listed_depths s) ds) n
+          ≡ zip (row_cut p.width n cs) (row_cut p.width n ds)
+      row_same n below = cc (colours_same n below, depths_same n below)
 
 -- ---- one row more, whose values stand behind those of the span
 module _ (s row grown : Span) (old : List Colour) (deep : List ℕ) (is : IsGrown s row grown) (values : IsRowOf old deep row) where

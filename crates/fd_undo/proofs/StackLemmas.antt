@@ -11,7 +11,7 @@ use Rattle.fd_undo.specs.Undo.{recorded_in}
 use Rattle.fd_undo.specs.Block.{KeptFrame, Filled, no_frame, newest, others, keeping_row, found, first_number, Rise}
 use Rattle.fd_undo.specs.Stack.{frames_from, stored_in, pixels_stored, HaveFrames}
 use Rattle.fd_undo.proofs.FrameLemmas.{others-newest, older-push, top-push, older-top, recorded_in-cons, length-zip_equal, newest-push}
-use Rattle.fd_undo.proofs.FrameLemmas.{length-kept_row}
+use Rattle.fd_undo.proofs.FrameLemmas.{length-kept_row, length-kept_place}
 use Rattle.std.proofs.lemmas.List.Concat.{flat_map-append}
 use Rattle.std.specs.List.Sorted.{IsNonDecreasingBy}
 use Rattle.std.proofs.lemmas.List.Sorted.{IsNonDecreasingBy-from_all_adjacent}
@@ -272,6 +272,7 @@ pub ruleset stack_keep_known_steps = (
   length-zip_equal,
   newest-push,
   length-kept_row,
+  length-kept_place,
   more_stored,
   more_rises,
   more_pixels,

@@ -1,7 +1,8 @@
 -- Working. What a contract sees of a span.
-use Rattle.std.specs.Prelude.{◌≡◌, ℕ, ◌+◌, ◌<◌, Bool, true, List, length, replicate, slice_index_or, IfSome, Option, refl}
+use Rattle.std.specs.Prelude.{◌≡◌, ℕ, ◌+◌, ◌*◌, ◌<◌, Bool, true, List, length, replicate, slice_index_or, IfSome, Option, refl}
 use Rattle.fd_blend.specs.declared.channel.Colour.{Colour}
 use Rattle.fd_blend.specs.Channel.{fresh}
+use Rattle.fd_tile.specs.declared.place.Place.{Place}
 use Rattle.std.specs.Coded.{Coded, code_by, coded×, coded_ℕ, coded_bool, coded_option}
 
 -- so many rows from row y on, each with so many pixels from column x on; whether one colour in the stack's list is that of all of them, or there is one
@@ -37,4 +38,16 @@ pub record IsRowOf (colours : List Colour) (depths : List ℕ) (s : Span) : Type
   pub one : s.rows ≡ 1
   pub len : s.len ≡ length colours
   pub coloured : s.one_colour ≡ true → (0 < length colours) × (colours ≡ replicate (length colours) (slice_index_or colours 0 fresh))
+  pub deep : IfSome s.same_depth (λ depth. depths ≡ replicate (length depths) depth)
+
+-- the span of a place with these colours and depths, which stand row after row
+pub record IsSpanOf (p : Place) (colours : List Colour) (depths : List ℕ) (s : Span) : Type 0 where
+  pub x : s.x ≡ p.left
+  pub y : s.y ≡ p.top
+  pub len : s.len ≡ p.width
+  pub rows : s.rows ≡ p.height
+  pub some : 0 < length colours
+  pub counted : length colours ≡ p.height * p.width
+  pub equal : length depths ≡ length colours
+  pub coloured : s.one_colour ≡ true → colours ≡ replicate (length colours) (slice_index_or colours 0 fresh)
   pub deep : IfSome s.same_depth (λ depth. depths ≡ replicate (length depths) depth)

@@ -1,9 +1,9 @@
-ghost use Rattle.std.specs.Prelude.{◌≡◌, ◌≢◌, ℕ, ◌+◌, ◌-◌, ◌^◌, ◌<◌, ◌≤◌, [], ◌∷◌, ◌++◌, length, drop, replicate, slice_index_or};
+ghost use Rattle.std.specs.Prelude.{◌≡◌, ◌≢◌, ℕ, ◌+◌, ◌-◌, ◌*◌, ◌^◌, ◌<◌, ◌≤◌, [], ◌∷◌, ◌++◌, length, drop, replicate, slice_index_or};
 ghost use Rattle.std.specs.Prelude.{None, IfOk, OnErr, IfSome, true, false};
 ghost use Rattle.std.specs.List.{zip};
 ghost use Rattle.fd_snap.specs.Limits.{most_pixels};
 ghost use Rattle.fd_tile.specs.Place.{IsTilePlace};
-ghost use Rattle.fd_undo.specs.Frame.{kept_row, alike, KeepsAll};
+ghost use Rattle.fd_undo.specs.Frame.{kept_row, kept_place, alike, KeepsAll};
 ghost use Rattle.fd_undo.specs.Parts.{AreParts, IsCut, kept_in_parts};
 ghost use Rattle.fd_undo.specs.Block.{KeptFrame, Filled, no_frame, newest, others, keeping_row, found, first_number, Rise};
 ghost use Rattle.fd_undo.specs.Block.{NumbersRise, AreInOrder, no_mark, last_mark, next};
@@ -193,6 +193,31 @@ impl Block {
         let first = newest_mark(self.marks.as_slice()).span as usize;
         let row = Span::of(x, y, old, depths, known);
         self.rows.keep(first, row, old, depths);
+    }
+
+    /// The same of a place, whose colours and depths stand row after row.
+    #[tactic(auto, using(crate::proofs::BlockLemmas::block_keep_steps))]
+    pub(crate) fn keep_place(
+        &mut self,
+        place: Place,
+        old: &[Colour],
+        depths: &[u16],
+        known: Option<u16>,
+    )
+        requires placed { IsTilePlace place }
+        requires counted { length old.now ≡ place.height * place.width }
+        requires equal { length depths.now ≡ length old.now }
+        requires known { IfSome known (λ depth. depths.now ≡ replicate (length depths.now) depth) }
+        requires begun { 0 < length self.old.frames }
+        requires span { 0 < self.old.spans_left }
+        requires colours { length old.now ≤ self.old.colours_left }
+        requires depths { length depths.now ≤ self.old.depths_left }
+        ensures frames { self.new.frames ≡ keeping_row self.old.frames (kept_place place old.now depths.now) }
+        ensures spans_left { self.old.spans_left ≤ self.new.spans_left + 1 }
+        ensures colours_left { self.old.colours_left ≤ self.new.colours_left + length old.now }
+        ensures depths_left { self.old.depths_left ≤ self.new.depths_left + length depths.now }
+    {
+        self.rows.keep_place(place, old, depths, known);
     }
 
     /// Keeps a whole place in the newest frame, which is of one colour and one depth.

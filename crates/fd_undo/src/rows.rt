@@ -1,12 +1,12 @@
-ghost use Rattle.std.specs.Prelude.{◌≡◌, ℕ, ◌+◌, ◌-◌, ◌^◌, ◌<◌, ◌≤◌, [], ◌∷◌, ◌++◌, length, take, drop, IfOk, OnErr, IfSome, slice_index_or, true};
-ghost use Rattle.std.specs.Prelude.{vec_capacity};
+ghost use Rattle.std.specs.Prelude.{◌≡◌, ℕ, ◌+◌, ◌-◌, ◌*◌, ◌^◌, ◌<◌, ◌≤◌, [], ◌∷◌, ◌++◌, length, take, drop, IfOk, OnErr, IfSome, slice_index_or, true};
+ghost use Rattle.std.specs.Prelude.{replicate, vec_capacity};
 ghost use Rattle.std.specs.List.{zip};
 ghost use Rattle.fd_undo.specs.Span.{IsRowOf};
 ghost use Rattle.fd_blend.specs.Channel.{fresh};
 ghost use Rattle.fd_snap.specs.Limits.{most_pixels};
 ghost use Rattle.fd_tile.specs.Place.{IsTilePlace};
-ghost use Rattle.fd_undo.specs.Frame.{kept_row, alike};
-ghost use Rattle.fd_undo.specs.Rows.{colour_count, depth_count, pixel_count, rows_of, joined, no_span};
+ghost use Rattle.fd_undo.specs.Frame.{kept_row, kept_place, alike};
+ghost use Rattle.fd_undo.specs.Rows.{colour_count, depth_count, pixel_count, rows_of, joined, no_span, listed_colours, listed_depths, span_pixels};
 ghost use Rattle.fd_undo.specs.Rows.{KeepsMore, GrowsBy};
 ghost use Rattle.fd_undo.specs.Parts.{AreParts, IsCut, rows_in_parts};
 ghost use Rattle.fd_memory.specs.Wanting.{Wanted};
@@ -103,9 +103,48 @@ impl Rows {
             add(&mut self.depths, &depths[..deep]);
             return;
         }
-        self.spans.push_reserved(row);
-        add(&mut self.colours, &old[..row.listed_colours()]);
-        add(&mut self.depths, &depths[..deep]);
+        self.push(row, old, depths);
+    }
+
+    /// Keeps the colours and the depths of a place, which stand row after row, as one span, where it may be known that all depths are this one.
+    pub(crate) fn keep_place(
+        &mut self,
+        place: Place,
+        old: &[Colour],
+        depths: &[u16],
+        known: Option<u16>,
+    )
+        requires placed { IsTilePlace place }
+        requires counted { length old.now ≡ place.height * place.width }
+        requires equal { length depths.now ≡ length old.now }
+        requires known { IfSome known (λ depth. depths.now ≡ replicate (length depths.now) depth) }
+        requires span { 0 < self.old.spans_left }
+        requires colours { length old.now ≤ self.old.colours_left }
+        requires depths { length depths.now ≤ self.old.depths_left }
+        ensures more { (first : ℕ) → first ≤ length self.old.spans → KeepsMore first self.old self.new (kept_place place old.now depths.now) }
+        ensures spans_left { self.old.spans_left ≤ self.new.spans_left + 1 }
+        ensures colours_left { self.old.colours_left ≤ self.new.colours_left + length old.now }
+        ensures depths_left { self.old.depths_left ≤ self.new.depths_left + length depths.now }
+    {
+        self.push(Span::of_place(place, old, depths, known), old, depths);
+    }
+
+    /// Adds a span whose values stand first in these lists.
+    fn push(&mut self, span: Span, old: &[Colour], depths: &[u16])
+        requires coloured { listed_colours span ≤ length old.now }
+        requires deep { listed_depths span ≤ length depths.now }
+        requires span { 0 < self.old.spans_left }
+        requires colours { listed_colours span ≤ self.old.colours_left }
+        requires depths { listed_depths span ≤ self.old.depths_left }
+        ensures more { (first : ℕ) → first ≤ length self.old.spans → KeepsMore first self.old self.new
+            (span_pixels span (take (listed_colours span) old.now) (take (listed_depths span) depths.now)) }
+        ensures spans_left { self.old.spans_left ≤ self.new.spans_left + 1 }
+        ensures colours_left { self.old.colours_left ≤ self.new.colours_left + listed_colours span }
+        ensures depths_left { self.old.depths_left ≤ self.new.depths_left + listed_depths span }
+    {
+        self.spans.push_reserved(span);
+        add(&mut self.colours, &old[..span.listed_colours()]);
+        add(&mut self.depths, &depths[..span.listed_depths()]);
     }
 
     /// The last span with one row more, if it is one of those from `first` on, and the row of this span, which has these colours, lies right below its own
@@ -132,8 +171,7 @@ impl Rows {
         requires colours { 0 < self.old.colours_left }
         ensures { (first : ℕ) → first ≤ length self.old.spans → KeepsMore first self.old self.new (alike place (colour, depth)) }
     {
-        self.colours.push_reserved(colour);
-        self.spans.push_reserved(Span::whole(place, depth));
+        self.push(Span::whole(place, true, Some(depth)), &[colour], &[]);
     }
 
     /// The place behind all spans.

@@ -4,7 +4,7 @@ ghost use Rattle.fd_snap.specs.Limits.{most_pixels};
 ghost use Rattle.fd_blend.specs.Channel.{fresh};
 ghost use Rattle.fd_tile.specs.Place.{IsTilePlace};
 ghost use Rattle.fd_undo.specs.Packed.{unmarked, len_of, rows_of_len};
-ghost use Rattle.fd_undo.specs.Span.{IsGrown, IsRowOf};
+ghost use Rattle.fd_undo.specs.Span.{IsGrown, IsRowOf, IsSpanOf};
 ghost use Rattle.fd_undo.specs.Rows.{no_span, span_holds, row_colours, listed_colours, colours_in, depths_listed, row_depths, listed_depths, depths_in};
 
 use fd_blend::Colour;
@@ -59,12 +59,14 @@ impl Default for Span {
 }
 
 impl Span {
-    /// The span of row y from column x on. With one colour for all it has one in the stack's list, and else as many as it has pixels; without one depth for
-    /// all it has as many of them.
-    fn new(x: u32, y: u32, len: usize, one_colour: bool, same_depth: Option<u16>) -> Span
-        requires right { x + len ≤ most_pixels }
+    /// The span that begins at pixel (x, y), with a length without its mark. With one colour for all it has one in the stack's list, and else as many as it
+    /// has pixels; without one depth for all it has as many of them.
+    fn marked(x: u32, y: u32, len: u16, one_colour: bool, same_depth: Option<u16>) -> Span
+        requires right { x ≤ most_pixels }
         requires bottom { y ≤ most_pixels }
-        ensures { result ≡ record { x = x; y = y; len = len; rows = 1; one_colour = one_colour; same_depth = same_depth } }
+        requires unmarked { len < 2 ^ 15 }
+        requires several { 16384 < len → 16416 ≤ len }
+        ensures { result ≡ record { x = x; y = y; len = len_of len; rows = rows_of_len len; one_colour = one_colour; same_depth = same_depth } }
     {
         let colour_mark = if one_colour { 0 } else { LISTED };
         let (depth_mark, depth) = match same_depth {
@@ -74,9 +76,18 @@ impl Span {
         Span {
             x: x as u16,
             marked_y: y as u16 + colour_mark,
-            marked_len: len as u16 + depth_mark,
+            marked_len: len + depth_mark,
             depth,
         }
+    }
+
+    /// The span of row y from column x on.
+    fn new(x: u32, y: u32, len: usize, one_colour: bool, same_depth: Option<u16>) -> Span
+        requires right { x + len ≤ most_pixels }
+        requires bottom { y ≤ most_pixels }
+        ensures { result ≡ record { x = x; y = y; len = len; rows = 1; one_colour = one_colour; same_depth = same_depth } }
+    {
+        Span::marked(x, y, len as u16, one_colour, same_depth)
     }
 
     /// The span of row y from column x on with these colours and depths, where it may be known that all depths are this one.
@@ -93,23 +104,30 @@ impl Span {
         Span::new(x, y, old.len(), one_colour, same_depth)
     }
 
-    /// The span of a whole place, which is of one colour and this deep. It has one colour in the stack's list.
-    pub(crate) fn whole(place: Place, depth: u16) -> Span
+    /// The span of a whole place.
+    pub(crate) fn whole(place: Place, one_colour: bool, same_depth: Option<u16>) -> Span
         requires { IsTilePlace place }
-        ensures { result ≡ record { x = place.left; y = place.top; len = place.width; rows = place.height; one_colour = true; same_depth = Some depth } }
+        ensures { result ≡ record { x = place.left; y = place.top; len = place.width; rows = place.height; one_colour = one_colour; same_depth = same_depth } }
     {
         let (len, rows) = (place.width as u16, place.height as u16);
-        let marked_len = if rows == 1 {
+        let packed_len = if rows == 1 {
             len
         } else {
             LONGEST + 32 * (rows - 1) + (len - 1)
         };
-        Span {
-            x: place.left as u16,
-            marked_y: place.top as u16,
-            marked_len,
-            depth,
-        }
+        Span::marked(place.left, place.top, packed_len, one_colour, same_depth)
+    }
+
+    /// The span of a place with these colours and depths, which stand row after row, where it may be known that all depths are this one.
+    pub(crate) fn of_place(place: Place, old: &[Colour], depths: &[u16], known: Option<u16>) -> Span
+        requires placed { IsTilePlace place }
+        requires counted { length old.now ≡ place.height * place.width }
+        requires equal { length depths.now ≡ length old.now }
+        requires known { IfSome known (λ depth. depths.now ≡ replicate (length depths.now) depth) }
+        ensures { IsSpanOf place old.now depths.now result }
+    {
+        let (one_colour, same_depth) = (is_one_colour(old), known_depth(depths, known));
+        Span::whole(place, one_colour, same_depth)
     }
 
     /// The column of its first pixel.

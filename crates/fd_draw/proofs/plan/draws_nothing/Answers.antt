@@ -1,5 +1,4 @@
 use Rattle.std.proofs.Common.{◌∙◌, inl, inr, length, ap}
-use Rattle.std.specs.Prelude.{IsTrue}
 use Rattle.fd_events.specs.Draw.{triangles_of}
 use Rattle.fd_draw.specs.Demand.{event_pixels, event_spans}
 use Rattle.fd_draw.specs.Plan.{AreUnreached}

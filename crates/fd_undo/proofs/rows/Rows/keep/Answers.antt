@@ -1,5 +1,5 @@
 use Rattle.std.proofs.Common.{arith}
-use Rattle.fd_undo.proofs.RowLemmas.{span_pixels-row, keeps-pushed, keeps-grown, held-grown}
+use Rattle.fd_undo.proofs.RowLemmas.{span_pixels-row, keeps-grown, held-grown}
 use Rattle.fd_undo.proofs.rows.Rows.keep.Goals as goal
 
 pub invariant_of-self : goal.invariant_of-self
@@ -10,5 +10,4 @@ returns-in-Some-clause-more c = keeps-grown c.in-Some.ensures c.requires.row (gr
 
 pub returns-clause-more : goal.returns-clause-more
 returns-clause-more c =
-    rw (← span_pixels-row c.args.row c.args.old.now c.args.depths.now c.requires.row)
-    (keeps-pushed c.args.row _ _ (grind arith) (grind arith) (grind arith) (grind arith) c.requires.first)
+    rw (← span_pixels-row c.args.row c.args.old.now c.args.depths.now c.requires.row) (c.push.ensures.more c.args.first c.requires.first)

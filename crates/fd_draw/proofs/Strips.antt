@@ -1,0 +1,292 @@
+-- Whole rows of a tile: they are kept as one span, and change one after the other.
+use Rattle.std.proofs.Common.{◌≡◌, ℕ, ◌+◌, ◌-◌, ◌*◌, ◌<◌, ◌≤◌, ◌⊎◌, inl, inr, Bool, true, false, cond, List, [], ◌++◌, length, replicate, refl, sym, ap, ◌∙◌, subst, arith}
+use Rattle.std.specs.Prelude.{Option, Some, None, IfSome, ◌&&◌}
+use Rattle.std.proofs.Math.Nat.{mul_comm}
+use Rattle.std.proofs.lemmas.Bool.{cases_lt, cases_eq}
+use Rattle.std.proofs.lemmas.Bool.Decides.{nat_tests}
+use Rattle.std.proofs.lemmas.List.{length_push}
+use Rattle.std.proofs.lemmas.List.Elements.{All-append}
+use Rattle.std.proofs.lemmas.Slice.Zip.{get_or-zip}
+use Rattle.std.specs.List.{zip}
+use Rattle.fd_blend.specs.declared.channel.Colour.{Colour}
+use Rattle.fd_cover.specs.Covers.{covers}
+use Rattle.fd_events.specs.Image.{is_drawn}
+use Rattle.fd_tile.specs.declared.place.Place.{Place}
+use Rattle.fd_tile.specs.Place.{Holds}
+use Rattle.fd_tile.specs.Tile.{Pixel, TileImage, IsTileImage, IsFlat, row_cut, row_of, depth_row_of, depth_in, pixel_of}
+use Rattle.fd_tile.proofs.Cut.{rows_alike}
+use Rattle.fd_tile.proofs.Pixels.{row_in-flat}
+use Rattle.fd_undo.specs.Frame.{KeptPixel, kept_at, kept_place, top, older}
+use Rattle.fd_undo.specs.Undo.{Undo, with_kept}
+use Rattle.fd_undo.proofs.KeptAt.{kept_at-append, kept_at-rows_outside, kept_at-rows_inside, kept_at-inside}
+use Rattle.fd_undo.proofs.Restored.{kept_rows-inside}
+use Rattle.fd_undo.proofs.FrameLemmas.{top-push, older-push, length-zip_equal, length-row_cut}
+use Rattle.fd_draw.specs.declared.primitive.Primitive.{Primitive}
+use Rattle.fd_draw.specs.Demand.{total, written_in_row, pixels_in, spans_in, region_spans}
+use Rattle.fd_draw.specs.declared.found.Found.{Found}
+use Rattle.fd_draw.specs.Plan.{IsFoundOn}
+use Rattle.fd_draw.specs.Primitive.{DrawsAll, DrawsRows, kept_of, painted_by, reached_by, triangle_of}
+use Rattle.fd_draw.specs.Span.{IsRowSpan}
+use Rattle.fd_draw.specs.Written.{as_it_is, pixel_blended}
+use Rattle.fd_draw.specs.Writing.{ChangesRegion, ChangesSpan, HasRoom, HasRows, WritesRegion, kept_where, keep_each, rows_between}
+use Rattle.fd_draw.proofs.Areas.{drawn_reached}
+use Rattle.fd_draw.proofs.Counts.{pixels_in-all, spans_in-all, total_constant, total_more, total_same, total_split, written_in_row-span}
+use Rattle.fd_draw.proofs.Painting.{above, PaintsIn, Paints-both, Paints-same}
+use Rattle.fd_draw.proofs.PixelTests.{cond_at}
+use Rattle.fd_draw.proofs.RowByRow.{AreRowsDone, row_spans_of}
+
+-- ---- rows that are kept
+
+module _ {t : TileImage} {first last : ℕ} (is : HasRows first last t) where
+  abbrev height : ℕ
+  height = last - first
+
+  -- where all pixels are known to be equally deep, so are these
+  pub known_rows : (ds : List ℕ) (known : Option ℕ) → length ds ≡ height * t.place.width
+      → ((n : ℕ) → n < height → row_cut t.place.width n ds ≡ depth_row_of t (first + n))
+      → IfSome known (λ depth. IsFlat t.place t.depths depth) → IfSome known (λ depth. ds ≡ replicate (length ds) depth)
+  known_rows ds None long rows flat = tt
+  known_rows ds (Some depth) long rows flat = rows_alike t.place.width height ds depth long (λ n below. rows n below ∙ level n below)
+    where
+      level : (n : ℕ) → n < height → depth_row_of t (first + n) ≡ replicate t.place.width depth
+      level n below = row_in-flat t.place t.depths (first + n) is.filled.depths
+          (record { from_top = omega (arith, is.from_top); to_bottom = omega (arith, below, is.to_bottom) }) depth flat
+
+  module _ (cs : List Colour) (ds : List ℕ) (long : length cs ≡ height * t.place.width) (equal : length ds ≡ length cs)
+      (colours : (n : ℕ) → n < height → row_cut t.place.width n cs ≡ row_of t (first + n))
+      (depths : (n : ℕ) → n < height → row_cut t.place.width n ds ≡ depth_row_of t (first + n)) where
+    abbrev strip : Place
+    strip = record { left = t.place.left; top = first; width = t.place.width; height = height }
+
+    abbrev pixels : ℕ → List Pixel
+    pixels n = zip (row_cut t.place.width n cs) (row_cut t.place.width n ds)
+
+    wide : (n : ℕ) → n < height → length (pixels n) ≡ t.place.width
+    wide n below =
+        let deep = length-row_cut strip ds (equal ∙ long) n below in
+        let broad = length-row_cut strip cs long n below in
+        length-zip_equal (row_cut t.place.width n cs) (row_cut t.place.width n ds) (deep ∙ sym broad) ∙ broad
+
+    -- what is kept of a pixel
+    each : (x y : ℕ) → Holds t.place x y → (y < first) ⊎ (first ≤ y) → (y < last) ⊎ (last ≤ y)
+        → kept_at (kept_place strip cs ds) x y ≡ kept_where (rows_between first last) keep_each x y (pixel_of t x y)
+    each x y held (inl low) high = grind (arith, nat_tests, kept_at-rows_outside)
+    each x y held (inr low) (inr high) = grind (arith, nat_tests, kept_at-rows_outside)
+    each x y held (inr low) (inl high) =
+        let row : ℕ = y - first in
+        let here : first + (y - first) ≡ y = omega (arith, low) in
+        let within : y - first < height = omega (arith, low, high) in
+        grind (
+          arith,
+          nat_tests,
+          kept_at-rows_inside,
+          kept_at-inside,
+          get_or-zip,
+          wide (y - first) within,
+          length-row_cut strip cs long (y - first) within,
+          length-row_cut strip ds (equal ∙ long) (y - first) within,
+          colours (y - first) within,
+          depths (y - first) within,
+          here,
+          held,
+        )
+
+    pub Paints-strip : {u u' : Undo} → u.frame_left ≡ false → u' ≡ with_kept u (kept_place strip cs ds)
+        → PaintsIn (rows_between first last) as_it_is keep_each t u t u'
+    Paints-strip {u} begun kept = rw kept (record {
+      placed = refl;
+      made = refl;
+      filled = is.filled;
+      below = older-push (older u.frames) (top u.frames ++ kept_place strip cs ds);
+      begun = begun;
+      opening = refl;
+      some = λ _. omega (arith, length_push (older u.frames) (top u.frames ++ kept_place strip cs ds));
+      pixels = λ x y held. grind arith;
+      kept = λ x y held. rw (top-push (older u.frames) (top u.frames ++ kept_place strip cs ds))
+          (kept_at-append (top u.frames) (kept_place strip cs ds) x y
+          ∙ ap (λ ks. kept_at (top u.frames) x y ++ ks) (each x y held (cases_lt y first) (cases_lt y last)));
+      inside = λ before. rw (top-push (older u.frames) (top u.frames ++ kept_place strip cs ds))
+          (All-append (λ (k : KeptPixel). Holds t.place k.x k.y) (top u.frames) (kept_place strip cs ds) before
+          (kept_rows-inside t.place t.place.left first height t.place.width pixels (omega arith) (omega arith) is.from_top (omega (arith, is.to_bottom, is.some))
+          wide));
+    })
+
+-- ---- rows that change one after the other
+
+pub changes_none : (change : ℕ → ℕ → Pixel → Pixel) {t : TileImage} (first : ℕ) → IsTileImage t → ChangesRegion change (rows_between first first) t t
+changes_none change first filled = record { placed = refl; made = refl; filled = filled; pixels = λ x y held. grind (arith, nat_tests) }
+
+pub changes_next : (change : ℕ → ℕ → Pixel → Pixel) {t t' t'' : TileImage} {first row : ℕ} → first ≤ row
+    → ChangesRegion change (rows_between first row) t t' → ChangesSpan change t.place.left (t.place.left + t.place.width) row t' t''
+    → ChangesRegion change (rows_between first (row + 1)) t t''
+changes_next change {t} {t'} {t''} {first} {row} from before now = record {
+  placed = now.placed ∙ before.placed;
+  made = now.made ∙ before.made;
+  filled = now.filled;
+  pixels = λ x y held. by_row x y held (cases_eq y row);
+}
+  where
+    by_row : (x y : ℕ) → Holds t.place x y → (y ≡ row) ⊎ (y ≡ row → ⊥)
+        → pixel_of t'' x y ≡ cond (rows_between first (row + 1) x y) (change x y (pixel_of t x y)) (pixel_of t x y)
+    by_row x y held at =
+        let old = before.pixels x y held in
+        let new = now.pixels x y (subst (λ (p : Place). Holds p x y) (sym before.placed) held) in
+        grind (arith, nat_tests, old, new, held, at)
+
+-- ---- a triangle that is drawn at all of them
+
+-- rows that were kept, and then changed
+pub Paints-changed : {change : ℕ → ℕ → Pixel → Pixel} {region : ℕ → ℕ → Bool} {t t' : TileImage} {u u' : Undo}
+    → PaintsIn region as_it_is keep_each t u t u' → ChangesRegion change region t t' → PaintsIn region change keep_each t u t' u'
+Paints-changed kept changed = record {
+  placed = changed.placed;
+  made = changed.made;
+  filled = changed.filled;
+  below = kept.below;
+  begun = kept.begun;
+  opening = kept.opening;
+  some = kept.some;
+  pixels = changed.pixels;
+  kept = kept.kept;
+  inside = kept.inside;
+}
+
+pub Paints-all_drawn : (p : Primitive) {first last : ℕ} {t t' : TileImage} {u u' : Undo} → DrawsRows p t.place first last
+    → PaintsIn (rows_between first last) (pixel_blended (triangle_of p) p.interp p.state) keep_each t u t' u'
+    → PaintsIn (rows_between first last) (painted_by p) (kept_of p) t u t' u'
+Paints-all_drawn p {first} {last} {t} is = Paints-same
+    (λ x y held. cond_at (rows_between first last x y) (pixel_blended (triangle_of p) p.interp p.state x y (pixel_of t x y)) (painted_by p x y (pixel_of t x y))
+    (pixel_of t x y) (λ here. rw (drawn x y held here, (at_row x y here).untested) refl))
+    (λ x y held. cond_at (rows_between first last x y) (keep_each x y (pixel_of t x y)) (kept_of p x y (pixel_of t x y)) []
+    (λ here. rw (drawn x y held here) refl))
+  where
+    rows : (x y : ℕ) → rows_between first last x y ≡ true → (first ≤ y) × (y < last)
+    rows x y here = grind (arith, nat_tests)
+
+    at_row : (x y : ℕ) → rows_between first last x y ≡ true → DrawsAll p t.place.left (t.place.left + t.place.width) y
+    at_row x y here = is.all y (rows x y here).0 (rows x y here).1
+
+    drawn : (x y : ℕ) → Holds t.place x y → rows_between first last x y ≡ true → is_drawn (triangle_of p) p.state x y (depth_in t x y) ≡ true
+    drawn x y held here =
+        let within = rows x y here in
+        let all = at_row x y here in
+        drawn_reached (triangle_of p) p.state x y (depth_in t x y)
+        ∙ rw (is.reached x y held within.0 within.1, all.untested, all.filled x held.from_left held.to_right) refl
+
+-- ---- several rows of a box that are written from side to side
+
+module _ {tested : Bool} {written : ℕ → ℕ → Bool} {paint : ℕ → ℕ → Pixel → Pixel} {keep : ℕ → ℕ → Pixel → List Pixel}
+    {t : TileImage} {u : Undo} {bottom row end : ℕ} (some : row < end) (within : end ≤ bottom) (placed : 1 ≤ t.place.width)
+    (all : (x y : ℕ) → Holds t.place x y → row ≤ y → y < end → written x y ≡ true)
+    (from_top : t.place.top ≤ row) (to_bottom : bottom ≤ t.place.top + t.place.height)
+    {t' : TileImage} {u' : Undo} (done : AreRowsDone tested written paint keep bottom row t u t' u') where
+  full : (y : ℕ) → row ≤ y → y < end → written_in_row written t.place y ≡ t.place.width
+  full y low high =
+      written_in_row-span written t.place y t.place.left (t.place.left + t.place.width) (record {
+        bounds = (omega arith, omega (arith, placed), omega arith);
+        same = λ x from to.
+            let here = all x y (record { from_left = from; to_right = to; from_top = omega (arith, from_top, low); to_bottom = omega (arith, high, within, to_bottom) })
+            low high in grind (arith, nat_tests, here);
+      })
+      ∙ omega arith
+
+  parts : (f : ℕ → ℕ) → total f row (bottom - row) ≡ total f row (end - row) + total f end (bottom - end)
+  parts f =
+      ap (λ n. total f row n) {x = bottom - row} {y = end - row + (bottom - end)} (omega (arith, some, within))
+      ∙ total_split f row (end - row) (bottom - end)
+      ∙ ap (λ k. total f row (end - row) + total f k (bottom - end)) {x = row + (end - row)} {y = end} (omega (arith, some))
+
+  more_pixels : (end - row) * t.place.width + total (written_in_row written t.place) end (bottom - end)
+      ≡ total (written_in_row written t.place) row (bottom - row)
+  more_pixels =
+      let here = total_same (written_in_row written t.place) (λ _. t.place.width) row (end - row) (λ y low high. full y low (omega (arith, high, some)))
+      ∙ total_constant t.place.width row (end - row) in
+      omega (arith, here, parts (written_in_row written t.place))
+
+  one_span : 1 ≤ row_spans_of tested written t.place row
+  one_span = by_test tested
+    where
+      by_test : (b : Bool) → 1 ≤ row_spans_of b written t.place row
+      by_test true = omega (arith, full row (omega arith) some, placed)
+      by_test false = omega (arith, full row (omega arith) some, placed)
+
+  more_spans : 1 + total (row_spans_of tested written t.place) end (bottom - end) ≤ total (row_spans_of tested written t.place) row (bottom - row)
+  more_spans =
+      let first = total_more (row_spans_of tested written t.place) row end some in
+      omega (arith, parts (row_spans_of tested written t.place), first, one_span)
+
+  pub strip_room : HasRoom (region_spans tested written t.place) (pixels_in written t.place) u → HasRoom 1 ((end - row) * t'.place.width) u'
+  strip_room room =
+      subst (λ (q : Place). HasRoom 1 ((end - row) * q.width) u') (sym done.painted.placed) (record {
+        begun = done.painted.begun;
+        spans = omega (arith, more_spans, done.spans, room.spans);
+        pixels = omega (arith, more_pixels, done.pixels, room.pixels);
+      })
+
+  pub strip_next : {t'' : TileImage} {u'' : Undo} → WritesRegion 1 ((end - row) * t'.place.width) (rows_between row end) paint keep t' u' t'' u''
+      → AreRowsDone tested written paint keep bottom end t u t'' u''
+  strip_next writes = record {
+    painted = Paints-both paint keep (above written row) (λ x y. rows_between row end x y && written x y) (above written end)
+        (λ x y. grind (arith, nat_tests)) (λ x y. grind (arith, nat_tests, some)) done.painted
+        (Paints-same (λ x y held. ap (λ b. cond b (paint x y (pixel_of t' x y)) (pixel_of t' x y)) (same x y held))
+        (λ x y held. ap (λ b. cond b (keep x y (pixel_of t' x y)) []) (same x y held)) writes.painted);
+    spans = omega (arith, more_spans, done.spans, writes.spans);
+    pixels = omega (arith, more_pixels, ap (λ (q : Place). (end - row) * q.width) done.painted.placed, done.pixels, writes.pixels);
+  }
+    where
+      same : (x y : ℕ) → Holds t'.place x y → rows_between row end x y ≡ (rows_between row end x y && written x y)
+      same x y held = by_rows (rows_between row end x y) refl
+        where
+          by_rows : (b : Bool) → rows_between row end x y ≡ b → b ≡ (b && written x y)
+          by_rows false out = refl
+          by_rows true here =
+              let rows : (row ≤ y) × (y < end) = grind (arith, nat_tests, here) in
+              sym (all x y (subst (λ (p : Place). Holds p x y) done.painted.placed held) rows.0 rows.1)
+
+-- ---- the next row from side to side
+
+module _ (p : Primitive) (place : Place) {f : Found} {y row first past : ℕ} (is : IsFoundOn (triangle_of p) p.state place f)
+    (from_top : f.area.top ≤ y) (low : y ≤ row) (high : row < f.area.bottom)
+    (span : IsRowSpan (λ x. covers p.corners x row) f.area.left f.area.right (Some (first, past))) (left : first ≤ place.left)
+    (right : place.left + place.width ≤ past) where
+  row_covered : (x : ℕ) → Holds place x row → covers p.corners x row ≡ true
+  row_covered x held = grind (arith, nat_tests, span.bounds, span.same x (omega (arith, span.bounds.0, left, held.from_left)), left, right, held)
+
+  row_reached : (x : ℕ) → Holds place x row → reached_by p x row ≡ true
+  row_reached x held = grind (arith, nat_tests, span.bounds, is.reached x row held, row_covered x held, left, right, held, from_top, low, high)
+
+  pub drawn_next : DrawsRows p place y row → DrawsAll p place.left (place.left + place.width) row → DrawsRows p place y (row + 1)
+  drawn_next before all = record {
+    covered = λ x z held from to. by_row (λ k. covers p.corners x k ≡ true) z (λ same. row_covered x (subst (λ k. Holds place x k) same held))
+        (λ less. before.covered x z held from less) to;
+    reached = λ x z held from to. by_row (λ k. reached_by p x k ≡ true) z (λ same. row_reached x (subst (λ k. Holds place x k) same held))
+        (λ less. before.reached x z held from less) to;
+    all = λ z from to. by_row (λ k. DrawsAll p place.left (place.left + place.width) k) z (λ same. all) (λ less. before.all z from less) to;
+  }
+    where
+      by_row : (P : ℕ → Type 0) (z : ℕ) → (z ≡ row → P row) → (z < row → P z) → z < row + 1 → P z
+      by_row P z here above below = at (cases_eq z row)
+        where
+          at : (z ≡ row) ⊎ (z ≡ row → ⊥) → P z
+          at (inl same) = subst P (sym same) (here same)
+          at (inr other) = above (omega (arith, below, other))
+
+-- ---- all rows
+
+module _ (t : TileImage) (filled : IsTileImage t) where
+  all_rows : t.place.top + t.place.height - t.place.top ≡ t.place.height
+  all_rows = omega arith
+
+  pub tile_room : {u : Undo} → HasRoom (spans_in (λ _ _. true) t.place) (pixels_in (λ _ _. true) t.place) u
+      → HasRoom 1 ((t.place.top + t.place.height - t.place.top) * t.place.width) u
+  tile_room room =
+      let placed = filled.colours.placed in
+      record {
+        begun = room.begun;
+        spans = omega (arith, spans_in-all t.place placed.wide, placed.high, room.spans);
+        pixels = omega (arith, pixels_in-all t.place, mul_comm t.place.width t.place.height, ap (λ k. k * t.place.width) all_rows, room.pixels);
+      }
+
+  pub Paints-tile : {u u' : Undo} → PaintsIn (rows_between t.place.top (t.place.top + t.place.height)) as_it_is keep_each t u t u'
+      → PaintsIn (λ _ _. true) as_it_is keep_each t u t u'
+  Paints-tile = Paints-same (λ x y held. grind (arith, nat_tests, held)) (λ x y held. grind (arith, nat_tests, held))

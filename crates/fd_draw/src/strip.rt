@@ -1,0 +1,84 @@
+//! Whole rows of a tile, one right below the other: they are kept as one span.
+ghost use Rattle.std.specs.Prelude.{◌≡◌, ℕ, ◌-◌, ◌*◌, ◌<◌, ◌≤◌, true};
+ghost use Rattle.fd_cover.specs.Covers.{covers};
+ghost use Rattle.fd_tile.specs.Place.{Holds, IsTilePlace};
+ghost use Rattle.fd_draw.specs.Plan.{IsFoundOn};
+ghost use Rattle.fd_draw.specs.Primitive.{DrawsRows, IsReady, kept_of, painted_by, triangle_of};
+ghost use Rattle.fd_draw.specs.Written.{as_it_is, pixel_blended};
+ghost use Rattle.fd_draw.specs.Writing.{ChangesRegion, HasRoom, HasRows, WritesRegion, keep_each, rows_between};
+
+use crate::found::Found;
+use crate::primitive::Primitive;
+use crate::write::blend_span;
+use fd_tile::{Place, Tile};
+use fd_undo::UndoStack;
+
+/// Keeps the rows from `top` up to `bottom`.
+pub(crate) fn keep_strip(top: u32, bottom: u32, tile: &Tile, undo: &mut UndoStack)
+    requires rows { HasRows top bottom tile.now }
+    requires room { HasRoom 1 ((bottom - top) * tile.now.place.width) undo.old }
+    ensures { WritesRegion 1 ((bottom - top) * tile.now.place.width) (rows_between top bottom) as_it_is keep_each tile.now undo.old tile.now undo.new }
+{
+    let height = bottom - top;
+    let strip = Place {
+        top,
+        height,
+        ..tile.place()
+    };
+    let (colours, depths) = (tile.rows(top, height), tile.depth_rows(top, height));
+    undo.keep_place(strip, colours, depths, tile.flat_depth());
+}
+
+/// Blends a triangle's sources with the pixels of the rows from `top` up to `bottom`, all of which it covers.
+fn blend_strip(primitive: &Primitive<'_>, top: u32, bottom: u32, tile: &mut Tile)
+    requires rows { HasRows top bottom tile.old }
+    requires ready { IsReady primitive.now }
+    requires covered { (x y : ℕ) → Holds tile.old.place x y → top ≤ y → y < bottom → covers primitive.now.corners x y ≡ true }
+    ensures { ChangesRegion (pixel_blended (triangle_of primitive.now) primitive.now.interp primitive.now.state) (rows_between top bottom) tile.old tile.new }
+{
+    let place = tile.place();
+    for y in top..bottom {
+        blend_span(primitive, place.left, place.left + place.width, y, tile);
+    }
+}
+
+/// Keeps and then blends the rows from `top` up to `bottom`, at all of whose pixels a triangle is drawn.
+pub(crate) fn draw_strip(
+    primitive: &Primitive<'_>,
+    top: u32,
+    bottom: u32,
+    tile: &mut Tile,
+    undo: &mut UndoStack,
+)
+    requires rows { HasRows top bottom tile.old }
+    requires ready { IsReady primitive.now }
+    requires drawn { DrawsRows primitive.now tile.old.place top bottom }
+    requires room { HasRoom 1 ((bottom - top) * tile.old.place.width) undo.old }
+    ensures { WritesRegion 1 ((bottom - top) * tile.old.place.width) (rows_between top bottom) (painted_by primitive.now) (kept_of primitive.now)
+        tile.old undo.old tile.new undo.new }
+{
+    keep_strip(top, bottom, tile, undo);
+    blend_strip(primitive, top, bottom, tile);
+}
+
+/// Up to which row, from row y on, a triangle is seen to be drawn at all pixels of a place.
+pub(crate) fn strip_end(primitive: &Primitive<'_>, found: &Found, y: u32, place: Place) -> u32
+    requires placed { IsTilePlace place }
+    requires found { IsFoundOn (triangle_of primitive.now) primitive.now.state place found.now }
+    requires from_top { found.now.area.top ≤ y }
+    requires to_bottom { y ≤ found.now.area.bottom }
+    ensures from { y ≤ result }
+    ensures to { result ≤ found.now.area.bottom }
+    ensures drawn { DrawsRows primitive.now place y result }
+{
+    let (left, right) = (place.left, place.left + place.width);
+    for row in y..found.area.bottom {
+        let Some((first, past)) = found.span(&primitive.corners, row) else {
+            return row;
+        };
+        if first > left || past < right || !primitive.draws_all(left, right, row) {
+            return row;
+        }
+    }
+    found.area.bottom
+}
