@@ -1,3 +1,6 @@
+ghost use Rattle.std.specs.Prelude.{◌≡◌, false, IfOk};
+ghost use Rattle.fd_events.specs.Table.{is_of_depth};
+
 use super::*;
 use fd_blend::{BlendOp, BlendState, Factor, Mask, Part};
 use fd_cover::{Depth, Func, Interp};
@@ -20,7 +23,9 @@ const UPPER_LEFT: [(i8, i8); 3] = [(0, 0), (2, 0), (0, 2)];
 const LOWER_RIGHT: [(i8, i8); 3] = [(2, 0), (2, 2), (0, 2)];
 
 /// A draw of triangles, each of one colour.
-fn flat(alloc: Global, triangles: &[Triangle]) -> Result<Event, Fail> {
+fn flat(alloc: Global, triangles: &[Triangle]) -> Result<Event, Fail>
+    ensures { IfOk result (λ event. is_of_depth event ≡ false) }
+{
     let mut vertices = Vec::new(alloc);
     for (corners, colour, z) in triangles {
         for (x, y) in corners {
@@ -33,7 +38,9 @@ fn flat(alloc: Global, triangles: &[Triangle]) -> Result<Event, Fail> {
 }
 
 /// Sources are added to what is there, in all channels.
-fn additive() -> Result<Event, Fail> {
+fn additive() -> Result<Event, Fail>
+    ensures { IfOk result (λ event. is_of_depth event ≡ false) }
+{
     let part = Part {
         src: Factor::One,
         dst: Factor::One,
@@ -137,16 +144,21 @@ fn the_bounds_are_those_of_the_tile(rt: HostRuntime) -> Result<(), Fail> {
     Ok(())
 }
 
+/// Two equal triangles in one draw, each of which adds ten: in a table of version 1.
+fn added_twice(alloc: Global, depth: u16) -> Result<EventTable, Fail> {
+    let triangle = (UPPER_LEFT, colour(10, 10, 10, 10), depth);
+    let mut events = Vec::new(alloc);
+    events.push(additive()?)?;
+    events.push(flat(alloc, &[triangle, triangle])?)?;
+    Ok(EventTable::start(alloc, 1, 1, 1, events)?)
+}
+
 /// A tile of any colour and depth.
 #[test]
 fn back_returns_to_the_image_before_the_draw(rt: HostRuntime) -> Result<(), Fail> {
     let alloc = rt.alloc();
     let before = (colour(5, 6, 7, 8), 500);
-    let triangle = (UPPER_LEFT, colour(10, 10, 10, 10), 400);
-    let mut events = Vec::new(alloc);
-    events.push(additive()?)?;
-    events.push(flat(alloc, &[triangle, triangle])?)?;
-    let table = EventTable::start(alloc, 3, 1, 1, events)?;
+    let table = added_twice(alloc, 400)?;
     let mut owner = Owner::of(alloc, one_pixel(alloc, before.0, before.1)?);
     forward(&mut owner, &table)?;
     forward(&mut owner, &table)?;

@@ -1,7 +1,7 @@
 ghost use Rattle.std.specs.Prelude.{◌≡◌, ◌≤◌, length, IfOk};
 ghost use Rattle.fd_owner.specs.History.{position};
 
-use crate::tests::captures::{FRESH, MASKED, TWO_CELLS, TWO_TILES, colour, session};
+use crate::tests::captures::{FRESH, MASKED, PICTURE, TWO_CELLS, TWO_TILES, colour, session};
 use fd_capture::{CaptureFault, read};
 use fd_crew::{Free, Outcome, run_forward};
 use fd_events::{Event, EventTable, Label, TableFault};
@@ -75,6 +75,25 @@ fn capture_read_into_cells(rt: HostRuntime) -> Result<(), Fail> {
             assert_eq!(rt; fault, CaptureFault::Memory);
             let again = read(rt.alloc(), TWO_CELLS);
             assert!(rt; again.is_ok_and(|table| table.len() == 1));
+        }
+    }
+    Ok(())
+}
+
+/// A draw with a picture, some of whose texels are holes.
+#[test]
+fn capture_read_with_a_picture(rt: HostRuntime) -> Result<(), Fail> {
+    println!(rt; "ready")?;
+    match read(rt.alloc(), PICTURE) {
+        Ok(table) => {
+            println!(rt; "told Ok")?;
+            assert_eq!(rt; table.len(), 4);
+        }
+        Err(fault) => {
+            println!(rt; "told {fault:?}")?;
+            assert_eq!(rt; fault, CaptureFault::Memory);
+            let again = read(rt.alloc(), PICTURE);
+            assert!(rt; again.is_ok_and(|table| table.len() == 4));
         }
     }
     Ok(())
@@ -278,6 +297,13 @@ fn crew_run_forward(rt: HostRuntime) -> Result<(), Fail> {
     }
     expect_owner(&rt, &owners[0], 0, 0, 0);
     expect_owner(&rt, &owners[1], 0, 0, 0);
+    if owners[0].position() != owners[1].position() || owners[0].position() > 1 {
+        return Err(Fail::from("both at the start"));
+    }
+    let again = run_forward(&rt, rt.alloc(), &mut owners, &table, 1, 2, &Free);
+    assert!(rt; again.is_ok_and(|outcome| outcome == Outcome::Reached));
+    expect_owner(&rt, &owners[0], 1, 32, 1);
+    expect_owner(&rt, &owners[1], 1, 1, 1);
     Ok(())
 }
 

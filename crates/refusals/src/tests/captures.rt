@@ -62,6 +62,19 @@ pub(crate) const DEPTH_TEST: &[u8] =
 {"kind":"draw","interp":"flat","vertices":[{"x":0,"y":0,"z":2000,"color":[2,2,2,2]},
 {"x":131072,"y":0,"z":2000,"color":[2,2,2,2]},{"x":0,"y":131072,"z":2000,"color":[2,2,2,2]}]}]}"#;
 
+/// A near triangle on the left, a picture behind it whose lower texels are holes, and a farther triangle, on two by two pixels.
+pub(crate) const PICTURE: &[u8] =
+    br#"{"format":"framedbg","version":3,"width":2,"height":2,"events":[
+{"kind":"depth","enable":true,"write":true,"func":"LESS"},
+{"kind":"draw","interp":"flat","vertices":[{"x":0,"y":0,"z":1000,"color":[9,9,9,9]},
+{"x":65536,"y":0,"z":1000,"color":[9,9,9,9]},{"x":0,"y":131072,"z":1000,"color":[9,9,9,9]},
+{"x":65536,"y":0,"z":1000,"color":[9,9,9,9]},{"x":65536,"y":131072,"z":1000,"color":[9,9,9,9]},
+{"x":0,"y":131072,"z":1000,"color":[9,9,9,9]}]},
+{"kind":"draw","interp":"picture","vertices":[{"x":0,"y":0,"z":2000},{"x":262144,"y":0,"z":2000},{"x":0,"y":262144,"z":2000}],
+"picture":{"left":0,"top":0,"width":2,"height":2,"texels":"yGQA//8ACjMoUHgABwcH/w==","holes":"DA=="}},
+{"kind":"draw","interp":"flat","vertices":[{"x":0,"y":0,"z":3000,"color":[3,3,3,3]},
+{"x":262144,"y":0,"z":3000,"color":[3,3,3,3]},{"x":0,"y":262144,"z":3000,"color":[3,3,3,3]}]}]}"#;
+
 pub(crate) const fn colour(r: u8, g: u8, b: u8, a: u8) -> Colour {
     Colour { r, g, b, a }
 }

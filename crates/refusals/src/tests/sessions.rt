@@ -1,5 +1,5 @@
 use crate::tests::captures::{
-    BLENDED, DEPTH_TEST, FRESH, MASKED, THREE_VERDICTS, TWO_TILES, colour, session,
+    BLENDED, DEPTH_TEST, FRESH, MASKED, PICTURE, THREE_VERDICTS, TWO_TILES, colour, session,
 };
 use fd_blend::Colour;
 use fd_capture::read;
@@ -124,6 +124,40 @@ fn goto_with_depth(rt: HostRuntime) -> Result<(), Fail> {
     for _ in 0..5 {
         assert!(rt; session.back().is_ok());
         expect_depth(&rt, &session);
+    }
+    Ok(())
+}
+
+/// What the capture with a picture shows at each position: through a hole one sees what is behind.
+fn expect_picture(rt: &impl Abort, session: &Session) {
+    let fresh = (FRESH, 65535);
+    let near = (colour(9, 9, 9, 9), 1000);
+    let texel = (colour(255, 0, 10, 51), 2000);
+    let behind = (colour(3, 3, 3, 3), 3000);
+    let [left, upper, lower] = match session.position() {
+        0 | 1 => [fresh, fresh, fresh],
+        2 => [near, fresh, fresh],
+        3 => [near, texel, fresh],
+        _ => [near, texel, behind],
+    };
+    for (x, y, shown) in [(0, 0, left), (1, 0, upper), (0, 1, left), (1, 1, lower)] {
+        assert_eq!(rt; session.pixel(x, y), Ok(shown.0), "at {x} {y}");
+        assert_eq!(rt; session.depth(x, y), Ok(shown.1), "at {x} {y}");
+    }
+}
+
+#[test]
+fn goto_with_a_picture(rt: HostRuntime) -> Result<(), Fail> {
+    let mut session = session(rt.alloc(), PICTURE, 2)?;
+    println!(rt; "ready")?;
+    let answer = session.goto(&rt, 4);
+    println!(rt; "told {answer:?}")?;
+    expect_picture(&rt, &session);
+    assert_eq!(rt; session.goto(&rt, 4), Answer::Moved { at: 4 });
+    expect_picture(&rt, &session);
+    for _ in 0..4 {
+        assert!(rt; session.back().is_ok());
+        expect_picture(&rt, &session);
     }
     Ok(())
 }
