@@ -72,6 +72,10 @@ pub(crate) fn strip_end(primitive: &Primitive<'_>, found: &Found, y: u32, place:
     ensures drawn { DrawsRows primitive.now place y result }
 {
     let (left, right) = (place.left, place.left + place.width);
+    // mostly no row can be as wide as the place
+    if found.area.left > left || found.area.right < right {
+        return y;
+    }
     for row in y..found.area.bottom {
         let Some((first, past)) = found.span(&primitive.corners, row) else {
             return row;

@@ -129,7 +129,8 @@ impl Rows {
         self.push(Span::of_place(place, old, depths, known), old, depths);
     }
 
-    /// Adds a span whose values stand first in these lists.
+    /// Adds a span whose values stand first in these lists. It stands in its callers, as each row of a small triangle comes through it.
+    #[inline(always)]
     fn push(&mut self, span: Span, old: &[Colour], depths: &[u16])
         requires coloured { listed_colours span ≤ length old.now }
         requires deep { listed_depths span ≤ length depths.now }
