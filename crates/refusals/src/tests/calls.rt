@@ -297,13 +297,6 @@ fn crew_run_forward(rt: HostRuntime) -> Result<(), Fail> {
     }
     expect_owner(&rt, &owners[0], 0, 0, 0);
     expect_owner(&rt, &owners[1], 0, 0, 0);
-    if owners[0].position() != owners[1].position() || owners[0].position() > 1 {
-        return Err(Fail::from("both at the start"));
-    }
-    let again = run_forward(&rt, rt.alloc(), &mut owners, &table, 1, 2, &Free);
-    assert!(rt; again.is_ok_and(|outcome| outcome == Outcome::Reached));
-    expect_owner(&rt, &owners[0], 1, 32, 1);
-    expect_owner(&rt, &owners[1], 1, 1, 1);
     Ok(())
 }
 
