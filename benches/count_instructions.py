@@ -63,6 +63,13 @@ def undrawn(side, count, states):
     )
 
 
+def clear_of_what_was_drawn(side):
+    """A clear where all pixels differ from their neighbours."""
+    drawn = scenes.large(side, side, 1, "linear").draws(1)
+    events = [scenes.BLENDED, *drawn, captures.compact(captures.clear(1, 2, 3, 4))]
+    return Scene(scenes.frame(side, side, events), "step\n", "pixel", side * side, "goto 2\n")
+
+
 def step_over_a_marker(side):
     return Scene(scenes.markers(side, side, 9), "step\n", "step", 1, "goto 4\n")
 
@@ -76,6 +83,7 @@ SCENES = {
         scenes.tested(512, 512, 10, "alternate", "linear").capture(), "pixel tested", 10 * 512 * 512
     ),
     "pictures": lambda: to_the_end(pictures(256, 8), "pixel", 8 * 256 * 256),
+    "cleared": lambda: clear_of_what_was_drawn(512),
     "small": lambda: to_the_end(scenes.small(512, 512, 4000, True).capture(25), "triangle", 4000),
     "small_far_apart": lambda: to_the_end(scenes.small(2048, 2048, 32000, True).capture(8), "triangle", 32000),
     "largest_target": lambda: to_the_end(scenes.small(16384, 16384, 16384, True).capture(), "draw", 16384),

@@ -118,6 +118,13 @@ class CountedScenes(unittest.TestCase):
         self.assertIsNone(fault(capture))
         self.assertEqual([entry[2] for entry in entries(capture)], ["drawn", "drawn"])
 
+    def test_a_clear_is_counted_where_a_draw_left_no_two_pixels_alike(self):
+        scene = count_instructions.clear_of_what_was_drawn(8)
+        self.assertIsNone(fault(scene.capture))
+        row = [Frame(json.loads(scene.capture)).replay(2, x, 0)[0] for x in range(8)]
+        self.assertEqual(len(set(map(tuple, row))), 8)
+        self.assertEqual((scene.before, scene.commands), ("goto 2\n", "step\n"))
+
     def test_a_scene_ends_at_its_last_event(self):
         scene = count_instructions.SCENES["small"]()
         self.assertEqual(scene.commands, f"goto {len(json.loads(scene.capture)['events'])}\n")
