@@ -1,11 +1,11 @@
 -- Drawing, pixel by pixel.
-use Rattle.std.proofs.Common.{◌≡◌, ℕ, ◌+◌, ◌-◌, ◌<◌, ◌≤◌, Bool, false, ◌||◌, cond, List, [], ◌++◌, length, get_or, take, drop}
+use Rattle.std.proofs.Common.{◌≡◌, ℕ, ◌+◌, ◌-◌, ◌<◌, ◌≤◌, Bool, false, ◌||◌, cond, List, [], ◌++◌, length, get_or, take, drop, replicate}
 use Rattle.std.proofs.Common.{refl, sym, ap, ◌∙◌, subst, arith, append_assoc, length-drop, inl, inr, ◌⊎◌}
-use Rattle.std.specs.Prelude.{◌&&◌, All, Option, nat_lt}
+use Rattle.std.specs.Prelude.{◌&&◌, All, IfSome, Option, Some, None, nat_lt}
 use Rattle.std.specs.List.{zip}
 use Rattle.std.proofs.lemmas.Bool.{ne_eqb, cases_lt, cases_eq}
 use Rattle.std.proofs.lemmas.Bool.Decides.{nat_tests}
-use Rattle.std.proofs.lemmas.List.{append-nil, length_push, length-take, get_or-take, get_or-drop}
+use Rattle.std.proofs.lemmas.List.{append-nil, length_push, length-take, get_or-take, get_or-drop, take-replicate, drop-replicate, length-replicate}
 use Rattle.std.proofs.lemmas.List.Elements.{All-append}
 use Rattle.std.proofs.lemmas.Slice.Zip.{get_or-zip}
 use Rattle.fd_blend.specs.declared.channel.Colour.{Colour}
@@ -13,15 +13,17 @@ use Rattle.fd_cover.specs.declared.bounds.Bounds.{Bounds}
 use Rattle.fd_cover.specs.Bounds.{is_within}
 use Rattle.fd_tile.specs.declared.place.Place.{Place}
 use Rattle.fd_tile.specs.Place.{Holds}
-use Rattle.fd_tile.specs.Tile.{Pixel, fresh_pixel, TileImage, IsTileImage, row_of, depth_row_of, pixel_of}
-use Rattle.fd_tile.proofs.Pixels.{length-row_in}
+use Rattle.fd_tile.specs.Tile.{Pixel, fresh_pixel, TileImage, IsTileImage, IsFlat, row_of, depth_row_of, pixel_of}
+use Rattle.fd_tile.proofs.Pixels.{length-row_in, row_in-flat}
 use Rattle.fd_undo.specs.Frame.{KeptPixel, kept_at, kept_row, top, older}
 use Rattle.fd_undo.specs.Undo.{Undo, with_kept}
 use Rattle.fd_undo.proofs.KeptAt.{kept_at-append, kept_at-other_row, kept_at-before, kept_at-after, kept_at-inside}
 use Rattle.fd_undo.proofs.Restored.{kept_row-inside}
 use Rattle.fd_undo.proofs.FrameLemmas.{top-push, older-push, length-zip_equal}
 use Rattle.fd_draw.specs.Area.{LiesIn, IsWrittenIn}
-use Rattle.fd_draw.specs.Writing.{HasSpan, after_where, kept_where, keep_each, columns_between, in_row}
+use Rattle.fd_draw.specs.declared.run.Run.{Run}
+use Rattle.fd_draw.specs.Run.{EachColumn}
+use Rattle.fd_draw.specs.Writing.{HasRun, after_where, kept_where, keep_each, in_row, in_run}
 use Rattle.fd_draw.specs.Paints.{Paints}
 use Rattle.fd_draw.specs.Written.{as_it_is}
 use Rattle.fd_draw.specs.Span.{IsRowSpan}
@@ -120,32 +122,32 @@ module _ (written covered : ℕ → ℕ → Bool) (paint : ℕ → ℕ → Pixel
 
 -- ---- a span that is kept
 
-module _ {y first last : ℕ} {t : TileImage} (is : HasSpan first last y t) (old : List Pixel) (long : length old ≡ last - first)
-    (was : (x : ℕ) → first ≤ x → x < last → get_or old (x - first) fresh_pixel ≡ pixel_of t x y) where
+module _ {run : Run} {t : TileImage} (is : HasRun run t) (old : List Pixel) (long : length old ≡ run.right - run.left)
+    (was : EachColumn run (λ x. get_or old (x - run.left) fresh_pixel ≡ pixel_of t x run.y)) where
   -- what is kept of a pixel
-  each : (x z : ℕ) → (z ≡ y) ⊎ (z ≡ y → ⊥) → (x < first) ⊎ (first ≤ x) → (x < last) ⊎ (last ≤ x)
-      → kept_at (kept_row first y old) x z ≡ kept_where (in_row (columns_between first last) y) keep_each x z (pixel_of t x z)
-  each x z (inr other) low high = rw (ne_eqb z y other) (kept_at-other_row first y x z old (λ e. other (sym e)))
-  each x z (inl same) (inl low) high = let none = kept_at-before first y x y old low in rw same (grind (arith, nat_tests, none))
+  each : (x z : ℕ) → (z ≡ run.y) ⊎ (z ≡ run.y → ⊥) → (x < run.left) ⊎ (run.left ≤ x) → (x < run.right) ⊎ (run.right ≤ x)
+      → kept_at (kept_row run.left run.y old) x z ≡ kept_where (in_run run) keep_each x z (pixel_of t x z)
+  each x z (inr other) low high = rw (ne_eqb z run.y other) (kept_at-other_row run.left run.y x z old (λ e. other (sym e)))
+  each x z (inl same) (inl low) high = let none = kept_at-before run.left run.y x run.y old low in rw same (grind (arith, nat_tests, none))
   each x z (inl same) (inr low) (inr high) = grind (arith, kept_at-after)
   each x z (inl same) (inr low) (inl high) = grind (arith, kept_at-inside)
 
   Paints-span : {u : Undo} → u.frame_left ≡ false
-      → PaintsIn (in_row (columns_between first last) y) as_it_is keep_each t u t (with_kept u (kept_row first y old))
+      → PaintsIn (in_run run) as_it_is keep_each t u t (with_kept u (kept_row run.left run.y old))
   Paints-span {u} begun = record {
     placed = refl;
     made = refl;
     filled = is.filled;
-    below = older-push (older u.frames) (top u.frames ++ kept_row first y old);
+    below = older-push (older u.frames) (top u.frames ++ kept_row run.left run.y old);
     begun = begun;
     opening = refl;
-    some = λ _. omega (arith, length_push (older u.frames) (top u.frames ++ kept_row first y old));
+    some = λ _. omega (arith, length_push (older u.frames) (top u.frames ++ kept_row run.left run.y old));
     pixels = λ x z held. grind arith;
-    kept = λ x z held. rw (top-push (older u.frames) (top u.frames ++ kept_row first y old)) (kept_at-append (top u.frames) (kept_row first y old) x z
-        ∙ ap (λ ks. kept_at (top u.frames) x z ++ ks) (each x z (cases_eq z y) (cases_lt x first) (cases_lt x last)));
-    inside = λ before. rw (top-push (older u.frames) (top u.frames ++ kept_row first y old))
-        (All-append (λ (k : KeptPixel). Holds t.place k.x k.y) (top u.frames) (kept_row first y old) before
-        (kept_row-inside t.place first y old is.crossed is.from_left (omega (arith, long, is.some, is.to_right))));
+    kept = λ x z held. rw (top-push (older u.frames) (top u.frames ++ kept_row run.left run.y old)) (kept_at-append (top u.frames) (kept_row run.left run.y old) x z
+        ∙ ap (λ ks. kept_at (top u.frames) x z ++ ks) (each x z (cases_eq z run.y) (cases_lt x run.left) (cases_lt x run.right)));
+    inside = λ before. rw (top-push (older u.frames) (top u.frames ++ kept_row run.left run.y old))
+        (All-append (λ (k : KeptPixel). Holds t.place k.x k.y) (top u.frames) (kept_row run.left run.y old) before
+        (kept_row-inside t.place run.left run.y old is.crossed is.from_left (omega (arith, long, is.some, is.to_right))));
   }
 
 -- ---- the same, as the code goes
@@ -157,39 +159,47 @@ pub span_written : (written covered : ℕ → ℕ → Bool) {p : Place} {box : B
 span_written written covered {p} {box} {y} {span} inside is from to given = grind (arith, nat_tests)
 
 -- the part of a row that the code reads and writes
-abbrev pub part : {X : Type 0} → ℕ → ℕ → Place → List X → List X
-part first last p row = take (last - p.left - (first - p.left)) (drop (first - p.left) row)
+abbrev pub part : {X : Type 0} → Run → Place → List X → List X
+part run p row = take (run.right - p.left - (run.left - p.left)) (drop (run.left - p.left) row)
 
 -- p is the place as it was read, and the rows are those as they were read
-module _ {y first last : ℕ} {t : TileImage} {p : Place} (read : p ≡ t.place) (is : HasSpan first last y t) where
+module _ {run : Run} {t : TileImage} {p : Place} (read : p ≡ t.place) (is : HasRun run t) where
   read_left : p.left ≡ t.place.left
   read_left = ap (λ (q : Place). q.left) read
 
-  pub part_len : {X : Type 0} (row : List X) → length row ≡ t.place.width → length (part first last p row) ≡ last - first
+  pub part_len : {X : Type 0} (row : List X) → length row ≡ t.place.width → length (part run p row) ≡ run.right - run.left
   part_len row wide =
       let left = read_left in
       simp (length-take, length-drop) (omega arith)
 
-  pub part_at : {X : Type 0} (row : List X) (d : X) (x : ℕ) → first ≤ x → x < last
-      → get_or (part first last p row) (x - first) d ≡ get_or row (x - t.place.left) d
+  pub part_at : {X : Type 0} (row : List X) (d : X) (x : ℕ) → run.left ≤ x → x < run.right
+      → get_or (part run p row) (x - run.left) d ≡ get_or row (x - t.place.left) d
   part_at row d x low high = grind (arith, read_left, get_or-take, get_or-drop)
 
-  wide_row : length (row_of t y) ≡ t.place.width
-  wide_row = length-row_in t.place t.rows y is.filled.colours is.crossed
+  -- where all pixels are known to be equally deep, so are these
+  pub known_part : {row : List ℕ} (known : Option ℕ) → row ≡ depth_row_of t run.y → IfSome known (λ depth. IsFlat t.place t.depths depth)
+      → IfSome known (λ depth. part run p row ≡ replicate (length (part run p row)) depth)
+  known_part None same flat = tt
+  known_part (Some depth) same flat =
+      let level : depth_row_of t run.y ≡ replicate t.place.width depth = row_in-flat t.place t.depths run.y is.filled.depths is.crossed depth flat in
+      rw (same, level) (grind (arith, take-replicate, drop-replicate, length-replicate))
 
-  wide_depths : length (depth_row_of t y) ≡ t.place.width
-  wide_depths = length-row_in t.place t.depths y is.filled.depths is.crossed
+  wide_row : length (row_of t run.y) ≡ t.place.width
+  wide_row = length-row_in t.place t.rows run.y is.filled.colours is.crossed
+
+  wide_depths : length (depth_row_of t run.y) ≡ t.place.width
+  wide_depths = length-row_in t.place t.depths run.y is.filled.depths is.crossed
 
   abbrev old_pixels : List Pixel
-  old_pixels = zip (part first last p (row_of t y)) (part first last p (depth_row_of t y))
+  old_pixels = zip (part run p (row_of t run.y)) (part run p (depth_row_of t run.y))
 
-  old_long : length old_pixels ≡ last - first
+  old_long : length old_pixels ≡ run.right - run.left
   old_long = grind (arith, part_len, wide_row, wide_depths, length-zip_equal)
 
-  old_was : (x : ℕ) → first ≤ x → x < last → get_or old_pixels (x - first) fresh_pixel ≡ pixel_of t x y
+  old_was : EachColumn run (λ x. get_or old_pixels (x - run.left) fresh_pixel ≡ pixel_of t x run.y)
   old_was x low high = grind (arith, part_len, wide_row, wide_depths, get_or-zip, part_at)
 
-  pub Paints-kept : {u : Undo} {row : List Colour} {deep : List ℕ} {u'' : Undo} → u.frame_left ≡ false → row ≡ row_of t y → deep ≡ depth_row_of t y
-      → u'' ≡ with_kept u (kept_row first y (zip (part first last p row) (part first last p deep)))
-      → PaintsIn (in_row (columns_between first last) y) as_it_is keep_each t u t u''
+  pub Paints-kept : {u : Undo} {row : List Colour} {deep : List ℕ} {u'' : Undo} → u.frame_left ≡ false → row ≡ row_of t run.y → deep ≡ depth_row_of t run.y
+      → u'' ≡ with_kept u (kept_row run.left run.y (zip (part run p row) (part run p deep)))
+      → PaintsIn (in_run run) as_it_is keep_each t u t u''
   Paints-kept begun same same_deep is_kept = rw (is_kept, same, same_deep) (Paints-span is old_pixels old_long old_was begun)

@@ -25,10 +25,12 @@ use Rattle.fd_draw.specs.declared.primitive.Primitive.{Primitive}
 use Rattle.fd_draw.specs.Demand.{total, written_in_row, pixels_in, spans_in, region_spans}
 use Rattle.fd_draw.specs.declared.found.Found.{Found}
 use Rattle.fd_draw.specs.Plan.{IsFoundOn}
-use Rattle.fd_draw.specs.Primitive.{DrawsAll, DrawsRows, kept_of, painted_by, reached_by, triangle_of}
+use Rattle.fd_draw.specs.Primitive.{DrawsAll, DrawsRows, blended_by, kept_of, painted_by, reached_by, triangle_of}
+use Rattle.fd_draw.specs.declared.run.Run.{Run}
+use Rattle.fd_draw.specs.Run.{across, columns_of}
 use Rattle.fd_draw.specs.Span.{IsRowSpan}
-use Rattle.fd_draw.specs.Written.{as_it_is, pixel_blended}
-use Rattle.fd_draw.specs.Writing.{ChangesRegion, ChangesSpan, HasRoom, HasRows, WritesRegion, kept_where, keep_each, rows_between}
+use Rattle.fd_draw.specs.Written.{as_it_is}
+use Rattle.fd_draw.specs.Writing.{ChangesRegion, ChangesRun, HasRoom, HasRows, WritesRegion, kept_where, keep_each, rows_between}
 use Rattle.fd_draw.proofs.Areas.{drawn_reached}
 use Rattle.fd_draw.proofs.Counts.{pixels_in-all, spans_in-all, total_constant, total_more, total_same, total_split, written_in_row-span}
 use Rattle.fd_draw.proofs.Painting.{above, PaintsIn, Paints-both, Paints-same}
@@ -117,7 +119,7 @@ pub changes_none : (change : ℕ → ℕ → Pixel → Pixel) {t : TileImage} (f
 changes_none change first filled = record { placed = refl; made = refl; filled = filled; pixels = λ x y held. grind (arith, nat_tests) }
 
 pub changes_next : (change : ℕ → ℕ → Pixel → Pixel) {t t' t'' : TileImage} {first row : ℕ} → first ≤ row
-    → ChangesRegion change (rows_between first row) t t' → ChangesSpan change t.place.left (t.place.left + t.place.width) row t' t''
+    → ChangesRegion change (rows_between first row) t t' → ChangesRun change (across t.place row) t' t''
     → ChangesRegion change (rows_between first (row + 1)) t t''
 changes_next change {t} {t'} {t''} {first} {row} from before now = record {
   placed = now.placed ∙ before.placed;
@@ -152,18 +154,18 @@ Paints-changed kept changed = record {
 }
 
 pub Paints-all_drawn : (p : Primitive) {first last : ℕ} {t t' : TileImage} {u u' : Undo} → DrawsRows p t.place first last
-    → PaintsIn (rows_between first last) (pixel_blended (triangle_of p) p.interp p.state) keep_each t u t' u'
+    → PaintsIn (rows_between first last) (blended_by p) keep_each t u t' u'
     → PaintsIn (rows_between first last) (painted_by p) (kept_of p) t u t' u'
 Paints-all_drawn p {first} {last} {t} is = Paints-same
-    (λ x y held. cond_at (rows_between first last x y) (pixel_blended (triangle_of p) p.interp p.state x y (pixel_of t x y)) (painted_by p x y (pixel_of t x y))
-    (pixel_of t x y) (λ here. rw (drawn x y held here, (at_row x y here).untested) refl))
+    (λ x y held. cond_at (rows_between first last x y) (blended_by p x y (pixel_of t x y)) (painted_by p x y (pixel_of t x y)) (pixel_of t x y)
+    (λ here. rw (drawn x y held here, (at_row x y here).untested) refl))
     (λ x y held. cond_at (rows_between first last x y) (keep_each x y (pixel_of t x y)) (kept_of p x y (pixel_of t x y)) []
     (λ here. rw (drawn x y held here) refl))
   where
     rows : (x y : ℕ) → rows_between first last x y ≡ true → (first ≤ y) × (y < last)
     rows x y here = grind (arith, nat_tests)
 
-    at_row : (x y : ℕ) → rows_between first last x y ≡ true → DrawsAll p t.place.left (t.place.left + t.place.width) y
+    at_row : (x y : ℕ) → rows_between first last x y ≡ true → DrawsAll p (across t.place y)
     at_row x y here = is.all y (rows x y here).0 (rows x y here).1
 
     drawn : (x y : ℕ) → Holds t.place x y → rows_between first last x y ≡ true → is_drawn (triangle_of p) p.state x y (depth_in t x y) ≡ true
@@ -245,23 +247,23 @@ module _ {tested : Bool} {written : ℕ → ℕ → Bool} {paint : ℕ → ℕ �
 
 -- ---- the next row from side to side
 
-module _ (p : Primitive) (place : Place) {f : Found} {y row first past : ℕ} (is : IsFoundOn (triangle_of p) p.state place f)
+module _ (p : Primitive) (place : Place) {f : Found} {y row : ℕ} (run : Run) (is : IsFoundOn (triangle_of p) p.state place f)
     (from_top : f.area.top ≤ y) (low : y ≤ row) (high : row < f.area.bottom)
-    (span : IsRowSpan (λ x. covers p.corners x row) f.area.left f.area.right (Some (first, past))) (left : first ≤ place.left)
-    (right : place.left + place.width ≤ past) where
+    (span : IsRowSpan (λ x. covers p.corners x row) f.area.left f.area.right (Some (columns_of run)))
+    (left : run.left ≤ place.left) (right : place.left + place.width ≤ run.right) where
   row_covered : (x : ℕ) → Holds place x row → covers p.corners x row ≡ true
   row_covered x held = grind (arith, nat_tests, span.bounds, span.same x (omega (arith, span.bounds.0, left, held.from_left)), left, right, held)
 
   row_reached : (x : ℕ) → Holds place x row → reached_by p x row ≡ true
   row_reached x held = grind (arith, nat_tests, span.bounds, is.reached x row held, row_covered x held, left, right, held, from_top, low, high)
 
-  pub drawn_next : DrawsRows p place y row → DrawsAll p place.left (place.left + place.width) row → DrawsRows p place y (row + 1)
+  pub drawn_next : DrawsRows p place y row → DrawsAll p (across place row) → DrawsRows p place y (row + 1)
   drawn_next before all = record {
     covered = λ x z held from to. by_row (λ k. covers p.corners x k ≡ true) z (λ same. row_covered x (subst (λ k. Holds place x k) same held))
         (λ less. before.covered x z held from less) to;
     reached = λ x z held from to. by_row (λ k. reached_by p x k ≡ true) z (λ same. row_reached x (subst (λ k. Holds place x k) same held))
         (λ less. before.reached x z held from less) to;
-    all = λ z from to. by_row (λ k. DrawsAll p place.left (place.left + place.width) k) z (λ same. all) (λ less. before.all z from less) to;
+    all = λ z from to. by_row (λ k. DrawsAll p (across place k)) z (λ same. all) (λ less. before.all z from less) to;
   }
     where
       by_row : (P : ℕ → Type 0) (z : ℕ) → (z ≡ row → P row) → (z < row → P z) → z < row + 1 → P z

@@ -6,6 +6,7 @@ pub mod Paints
 pub mod Plan
 pub mod Primitive
 pub mod Row
+pub mod Run
 pub mod Span
 pub mod Tested
 pub mod Triangles

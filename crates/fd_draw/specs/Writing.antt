@@ -3,6 +3,7 @@ use Rattle.std.specs.Prelude.{◌≡◌, ◌≤◌, ◌<◌, ℕ, ◌+◌, ◌-�
 use Rattle.fd_tile.specs.Place.{Holds, HasRow}
 use Rattle.fd_tile.specs.Tile.{Pixel, TileImage, IsTileImage, pixel_of}
 use Rattle.fd_undo.specs.Undo.{Undo}
+use Rattle.fd_draw.specs.declared.run.Run.{Run}
 use Rattle.fd_draw.specs.Paints.{Paints}
 
 -- what becomes of pixel (x, y), and what is kept of it, where a region is written
@@ -28,14 +29,18 @@ columns_between first last x y = nat_le first x && nat_lt x last
 abbrev pub rows_between : ℕ → ℕ → ℕ → ℕ → Bool
 rows_between first last x y = nat_le first y && nat_lt y last
 
--- a tile with its memory has the pixels of row y from one column up to another
-pub record HasSpan (left right y : ℕ) (t : TileImage) : Type 0 where
+-- the pixels of a run
+abbrev pub in_run : Run → ℕ → ℕ → Bool
+in_run run = in_row (columns_between run.left run.right) run.y
+
+-- a tile with its memory has the pixels of a run
+pub record HasRun (run : Run) (t : TileImage) : Type 0 where
   pub made : t.made ≡ true
   pub filled : IsTileImage t
-  pub crossed : HasRow t.place y
-  pub from_left : t.place.left ≤ left
-  pub some : left < right
-  pub to_right : right ≤ t.place.left + t.place.width
+  pub crossed : HasRow t.place run.y
+  pub from_left : t.place.left ≤ run.left
+  pub some : run.left < run.right
+  pub to_right : run.right ≤ t.place.left + t.place.width
 
 -- a tile with its memory has the rows from one up to another
 pub record HasRows (top bottom : ℕ) (t : TileImage) : Type 0 where
@@ -58,6 +63,10 @@ pub record WritesRegion (span_count pixel_count : ℕ) (region : ℕ → ℕ →
   pub spans : u.spans_left ≤ u'.spans_left + span_count
   pub pixels : u.pixels_left ≤ u'.pixels_left + pixel_count
 
+-- those of a run, with so many spans
+abbrev pub WritesRun : ℕ → Run → (ℕ → ℕ → Pixel → Pixel) → (ℕ → ℕ → Pixel → List Pixel) → TileImage → Undo → TileImage → Undo → Type 0
+WritesRun span_count run = WritesRegion span_count (run.right - run.left) (in_run run)
+
 -- the pixels of a region change, and no other
 pub record ChangesRegion (change : ℕ → ℕ → Pixel → Pixel) (region : ℕ → ℕ → Bool) (t t' : TileImage) : Type 0 where
   pub placed : t'.place ≡ t.place
@@ -65,9 +74,9 @@ pub record ChangesRegion (change : ℕ → ℕ → Pixel → Pixel) (region : �
   pub filled : IsTileImage t'
   pub pixels : (x y : ℕ) → Holds t.place x y → pixel_of t' x y ≡ after_where region change x y (pixel_of t x y)
 
--- those of row y from one column up to another
-abbrev pub ChangesSpan : (ℕ → ℕ → Pixel → Pixel) → ℕ → ℕ → ℕ → TileImage → TileImage → Type 0
-ChangesSpan change left right y = ChangesRegion change (in_row (columns_between left right) y)
+-- those of a run
+abbrev pub ChangesRun : (ℕ → ℕ → Pixel → Pixel) → Run → TileImage → TileImage → Type 0
+ChangesRun change run = ChangesRegion change (in_run run)
 
 -- a pixel gets its depth of some that begin in a column
 abbrev pub depth_stored : List ℕ → ℕ → ℕ → ℕ → Pixel → Pixel

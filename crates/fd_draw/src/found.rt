@@ -1,13 +1,15 @@
-ghost use Rattle.std.specs.Prelude.{◌≡◌, ℕ, ◌+◌, ◌<◌, ◌≤◌, false, ◌&&◌, IfSome, IfNone};
+ghost use Rattle.std.specs.Prelude.{◌≡◌, ℕ, ◌+◌, ◌<◌, ◌≤◌, false, ◌&&◌, IfSome, IfNone, option_map};
 ghost use Rattle.fd_cover.specs.Bounds.{is_within};
 ghost use Rattle.fd_cover.specs.Covers.{covers};
 ghost use Rattle.fd_snap.specs.Limits.{most_pixels};
 ghost use Rattle.fd_tile.specs.declared.place.TheConstants.{TILE_SIDE};
 ghost use Rattle.fd_draw.specs.Area.{IsPartOfBox, IsSmall, is_drawn_in};
 ghost use Rattle.fd_draw.specs.Found.{IsFound, span_from};
+ghost use Rattle.fd_draw.specs.Run.{columns_of};
 ghost use Rattle.fd_draw.specs.Span.{IsRowSpan};
 
 use crate::room::{Demand, NOTHING};
+use crate::run::Run;
 use crate::write::WIDEST;
 use fd_cover::{Bounds, Raster, Rows, Tri};
 
@@ -82,17 +84,22 @@ impl Found {
         Found { area, demand, rows }
     }
 
-    /// The columns that the triangle covers in row y of the box, as the first and one past the last.
-    pub(crate) fn span(&self, triangle: &Tri, y: u32) -> Option<(u32, u32)>
+    /// What the triangle covers in row y of the box.
+    pub(crate) fn span(&self, triangle: &Tri, y: u32) -> Option<Run>
         requires found { IsFound triangle.now self.now }
         requires from_top { self.now.area.top ≤ y }
         requires to_bottom { y < self.now.area.bottom }
-        ensures { IsRowSpan (λ x. covers triangle.now x y) self.now.area.left self.now.area.right result }
+        ensures span { IsRowSpan (λ x. covers triangle.now x y) self.now.area.left self.now.area.right (option_map columns_of result) }
+        ensures row { IfSome result (λ run. run.y ≡ y) }
     {
         let row = self.rows[(y - self.area.top) as usize];
         if row.first < row.past {
             let left = self.area.left;
-            Some((left + u32::from(row.first), left + u32::from(row.past)))
+            Some(Run {
+                left: left + u32::from(row.first),
+                right: left + u32::from(row.past),
+                y,
+            })
         } else {
             None
         }

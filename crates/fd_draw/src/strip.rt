@@ -3,12 +3,13 @@ ghost use Rattle.std.specs.Prelude.{◌≡◌, ℕ, ◌-◌, ◌*◌, ◌<◌, �
 ghost use Rattle.fd_cover.specs.Covers.{covers};
 ghost use Rattle.fd_tile.specs.Place.{Holds, IsTilePlace};
 ghost use Rattle.fd_draw.specs.Plan.{IsFoundOn};
-ghost use Rattle.fd_draw.specs.Primitive.{DrawsRows, IsReady, kept_of, painted_by, triangle_of};
-ghost use Rattle.fd_draw.specs.Written.{as_it_is, pixel_blended};
+ghost use Rattle.fd_draw.specs.Primitive.{DrawsRows, IsReady, blended_by, kept_of, painted_by, triangle_of};
+ghost use Rattle.fd_draw.specs.Written.{as_it_is};
 ghost use Rattle.fd_draw.specs.Writing.{ChangesRegion, HasRoom, HasRows, WritesRegion, keep_each, rows_between};
 
 use crate::found::Found;
 use crate::primitive::Primitive;
+use crate::run::Run;
 use crate::write::blend_span;
 use fd_tile::{Place, Tile};
 use fd_undo::UndoStack;
@@ -34,11 +35,16 @@ fn blend_strip(primitive: &Primitive<'_>, top: u32, bottom: u32, tile: &mut Tile
     requires rows { HasRows top bottom tile.old }
     requires ready { IsReady primitive.now }
     requires covered { (x y : ℕ) → Holds tile.old.place x y → top ≤ y → y < bottom → covers primitive.now.corners x y ≡ true }
-    ensures { ChangesRegion (pixel_blended (triangle_of primitive.now) primitive.now.interp primitive.now.state) (rows_between top bottom) tile.old tile.new }
+    ensures { ChangesRegion (blended_by primitive.now) (rows_between top bottom) tile.old tile.new }
 {
     let place = tile.place();
     for y in top..bottom {
-        blend_span(primitive, place.left, place.left + place.width, y, tile);
+        let run = Run {
+            left: place.left,
+            right: place.left + place.width,
+            y,
+        };
+        blend_span(primitive, run, tile);
     }
 }
 
@@ -77,10 +83,15 @@ pub(crate) fn strip_end(primitive: &Primitive<'_>, found: &Found, y: u32, place:
         return y;
     }
     for row in y..found.area.bottom {
-        let Some((first, past)) = found.span(&primitive.corners, row) else {
+        let Some(run) = found.span(&primitive.corners, row) else {
             return row;
         };
-        if first > left || past < right || !primitive.draws_all(left, right, row) {
+        let whole = Run {
+            left,
+            right,
+            y: row,
+        };
+        if run.left > left || run.right < right || !primitive.draws_all(whole) {
             return row;
         }
     }

@@ -5,25 +5,27 @@ ghost use Rattle.fd_events.specs.Image.{source_of, pixel_after, pixel_after_tria
 ghost use Rattle.fd_tile.specs.Place.{HasRow};
 ghost use Rattle.fd_tile.specs.Tile.{IsTileImage};
 ghost use Rattle.fd_draw.specs.Demand.{is_reached, pixels_in, region_spans, triangle_pixels, triangle_spans, event_pixels, event_spans};
-ghost use Rattle.fd_draw.specs.Written.{as_it_is, colour_blended, pixel_blended, kept_by_triangle};
+ghost use Rattle.fd_draw.specs.Written.{as_it_is, colour_blended, kept_by_triangle};
 ghost use Rattle.fd_cover.specs.Covers.{covers};
 ghost use Rattle.fd_snap.specs.Limits.{most_pixels};
 ghost use Rattle.fd_tile.specs.declared.place.TheConstants.{TILE_SIDE};
 ghost use Rattle.fd_draw.specs.Row.{changed_row};
 ghost use Rattle.fd_draw.specs.Paints.{Paints};
-ghost use Rattle.fd_draw.specs.Primitive.{FindsDepths, IsReady, is_tested_by, kept_of, painted_by, reached_by, triangle_of};
+ghost use Rattle.fd_draw.specs.Primitive.{IsReady, blended_by, is_tested_by, kept_of, painted_by, reached_by, triangle_of};
 ghost use Rattle.fd_draw.specs.Plan.{ArePlanned, IsFoundOn, IsPlan};
 ghost use Rattle.fd_draw.specs.Triangles.{triangle_at};
-ghost use Rattle.fd_draw.specs.Writing.{ChangesSpan, HasRoom, HasSpan, WritesRegion, columns_between, in_row, keep_each};
+ghost use Rattle.fd_draw.specs.Run.{EachColumn};
+ghost use Rattle.fd_draw.specs.Writing.{ChangesRun, HasRoom, HasRun, WritesRegion, WritesRun, in_row, keep_each};
 
 use crate::clear::{Clear, clear_tile};
 use crate::found::{Found, find};
 use crate::plan::{Plan, Planned, open_area};
-use crate::primitive::{Ink, Primitive, ink_of};
+use crate::primitive::{Ink, Primitive, depth_rows_of, ink_of};
+use crate::run::Run;
 use crate::strip::{draw_strip, strip_end};
 use crate::tested::draw_span;
 use fd_blend::Colour;
-use fd_cover::{DepthRows, shade_row};
+use fd_cover::shade_row;
 use fd_events::{Draw, Event, Pipeline};
 use fd_tile::{TILE_SIDE, Tile};
 use fd_undo::UndoStack;
@@ -80,70 +82,54 @@ fn find_sources(primitive: &Primitive<'_>, x: u32, y: u32, out: &mut [Colour])
     }
 }
 
-/// Keeps the pixels of row y from column `left` up to `right`.
-pub(crate) fn keep_span(left: u32, right: u32, y: u32, tile: &Tile, undo: &mut UndoStack)
-    requires span { HasSpan left right y tile.now }
-    requires room { HasRoom 1 (right - left) undo.old }
-    ensures { WritesRegion 1 (right - left) (in_row (columns_between left right) y) as_it_is keep_each tile.now undo.old tile.now undo.new }
+/// Keeps the pixels of a run.
+pub(crate) fn keep_span(run: Run, tile: &Tile, undo: &mut UndoStack)
+    requires run { HasRun run tile.now }
+    requires room { HasRoom 1 (run.right - run.left) undo.old }
+    ensures { WritesRun 1 run as_it_is keep_each tile.now undo.old tile.now undo.new }
 {
     let place = tile.place();
-    let start = (left - place.left) as usize;
-    let end = (right - place.left) as usize;
+    let start = (run.left - place.left) as usize;
+    let end = (run.right - place.left) as usize;
     undo.keep_known(
-        left,
-        y,
-        &tile.row(y)[start..end],
-        &tile.depth_row(y)[start..end],
+        run.left,
+        run.y,
+        &tile.row(run.y)[start..end],
+        &tile.depth_row(run.y)[start..end],
         tile.flat_depth(),
     );
 }
 
-/// Blends a triangle's sources with the pixels of row y from column `left` up to `right`, all of which it covers.
-pub(crate) fn blend_span(primitive: &Primitive<'_>, left: u32, right: u32, y: u32, tile: &mut Tile)
-    requires span { HasSpan left right y tile.old }
+/// Blends a triangle's sources with the pixels of a run, all of which it covers.
+pub(crate) fn blend_span(primitive: &Primitive<'_>, run: Run, tile: &mut Tile)
+    requires run { HasRun run tile.old }
     requires ready { IsReady primitive.now }
-    requires covered { (column : ℕ) → left ≤ column → column < right → covers primitive.now.corners column y ≡ true }
-    ensures { ChangesSpan (pixel_blended (triangle_of primitive.now) primitive.now.interp primitive.now.state) left right y tile.old tile.new }
+    requires covered { EachColumn run (λ column. covers primitive.now.corners column run.y ≡ true) }
+    ensures { ChangesRun (blended_by primitive.now) run tile.old tile.new }
 {
     let place = tile.place();
-    let start = (left - place.left) as usize;
-    let end = (right - place.left) as usize;
-    let row = tile.row_mut(y);
-    blend_triangle(&mut row[start..end], left, y, primitive);
+    let start = (run.left - place.left) as usize;
+    let end = (run.right - place.left) as usize;
+    let row = tile.row_mut(run.y);
+    blend_triangle(&mut row[start..end], run.left, run.y, primitive);
 }
 
-/// Keeps and then blends the pixels of row y from column `left` up to `right`, all of which a triangle covers.
-pub(crate) fn write_span(
-    primitive: &Primitive<'_>,
-    left: u32,
-    right: u32,
-    y: u32,
-    tile: &mut Tile,
-    undo: &mut UndoStack,
-)
-    requires span { HasSpan left right y tile.old }
+/// Keeps and then blends the pixels of a run, all of which a triangle covers.
+pub(crate) fn write_span(primitive: &Primitive<'_>, run: Run, tile: &mut Tile, undo: &mut UndoStack)
+    requires run { HasRun run tile.old }
     requires ready { IsReady primitive.now }
-    requires covered { (column : ℕ) → left ≤ column → column < right → covers primitive.now.corners column y ≡ true }
-    requires room { HasRoom 1 (right - left) undo.old }
-    ensures { WritesRegion 1 (right - left) (in_row (columns_between left right) y)
-        (pixel_blended (triangle_of primitive.now) primitive.now.interp primitive.now.state) keep_each tile.old undo.old tile.new undo.new }
+    requires covered { EachColumn run (λ column. covers primitive.now.corners column run.y ≡ true) }
+    requires room { HasRoom 1 (run.right - run.left) undo.old }
+    ensures { WritesRun 1 run (blended_by primitive.now) keep_each tile.old undo.old tile.new undo.new }
 {
-    keep_span(left, right, y, tile, undo);
-    blend_span(primitive, left, right, y, tile);
+    keep_span(run, tile, undo);
+    blend_span(primitive, run, tile);
 }
 
 /// Keeps and then writes those of the pixels of row y at which a triangle was found at which it is drawn.
-fn draw_row(
-    primitive: &Primitive<'_>,
-    depth_rows: &Option<DepthRows>,
-    found: &Found,
-    y: u32,
-    tile: &mut Tile,
-    undo: &mut UndoStack,
-)
+fn draw_row(primitive: &Primitive<'_>, found: &Found, y: u32, tile: &mut Tile, undo: &mut UndoStack)
     requires made { tile.old.made ≡ true }
     requires ready { IsReady primitive.now }
-    requires depths { FindsDepths primitive.now depth_rows.now }
     requires filled { IsTileImage tile.old }
     requires found { IsFoundOn (triangle_of primitive.now) primitive.now.state tile.old.place found.now }
     requires from_top { found.now.area.top ≤ y }
@@ -154,8 +140,8 @@ fn draw_row(
         (pixels_in (in_row (reached_by primitive.now) y) tile.old.place) (in_row (reached_by primitive.now) y)
         (painted_by primitive.now) (kept_of primitive.now) tile.old undo.old tile.new undo.new }
 {
-    if let Some(columns) = found.span(&primitive.corners, y) {
-        draw_span(primitive, depth_rows, columns, y, tile, undo);
+    if let Some(run) = found.span(&primitive.corners, y) {
+        draw_span(primitive, run, tile, undo);
     }
 }
 
@@ -171,7 +157,6 @@ fn draw_primitive(primitive: &Primitive<'_>, found: &Found, tile: &mut Tile, und
         (triangle_pixels primitive.now.state tile.old.place (triangle_of primitive.now)) (reached_by primitive.now)
         (painted_by primitive.now) (kept_of primitive.now) tile.old undo.old tile.new undo.new }
 {
-    let depth_rows = primitive.depth_rows();
     let mut y = found.area.top;
     while y < found.area.bottom {
         let end = strip_end(primitive, found, y, tile.place());
@@ -179,7 +164,7 @@ fn draw_primitive(primitive: &Primitive<'_>, found: &Found, tile: &mut Tile, und
             draw_strip(primitive, y, end, tile, undo);
             y = end;
         } else {
-            draw_row(primitive, &depth_rows, found, y, tile, undo);
+            draw_row(primitive, found, y, tile, undo);
             y += 1;
         }
     }
@@ -216,6 +201,7 @@ fn draw_found(
         interp,
         picture,
         ink: ink_of(interp, picture, state, colours[0]),
+        depth_rows: depth_rows_of(&corners, &depths, state),
         state: *state,
     };
     draw_primitive(&primitive, found, tile, undo);

@@ -9,13 +9,13 @@ pub loop-x-preserved-then-is_some : goal.loop-x-preserved-then-is_some
 loop-x-preserved-then-is_some c =
     let inv = c.loop-x.invariant in
     let x = c.loop-x.x in
-    let there : is_some (texel c.args.picture.now (x - 1) c.args.y) ≡ true = grind arith in
+    let there : is_some (texel c.args.picture.now (x - 1) c.args.run.y) ≡ true = grind arith in
     record {
       from_left = omega (arith, c.loop-x-test.true);
       to_right = omega (arith, inv.to_right);
-      bits = bits_grown (λ column. is_some (texel c.args.picture.now column c.args.y)) c.loop-x.mask x c.args.right 1
+      bits = bits_grown (λ column. is_some (texel c.args.picture.now column c.args.run.y)) c.loop-x.mask x c.args.run.right 1
           (omega (arith, c.loop-x-test.true)) inv.to_right (omega arith) there inv.bits;
-      bound = bound_grown c.loop-x.mask x c.args.right 1 (omega (arith, c.loop-x-test.true)) inv.to_right (omega arith) inv.bound;
+      bound = bound_grown c.loop-x.mask x c.args.run.right 1 (omega (arith, c.loop-x-test.true)) inv.to_right (omega arith) inv.bound;
     }
 
 pub loop-x-preserved : goal.loop-x-preserved
@@ -23,16 +23,16 @@ loop-x-preserved c =
     let inv = c.loop-x.invariant in
     let x = c.loop-x.x in
     let same : c.loop-x.mask * 2 + 0 ≡ c.loop-x.mask * 2 = omega arith in
-    let there : is_some (texel c.args.picture.now (x - 1) c.args.y) ≡ false = grind arith in
+    let there : is_some (texel c.args.picture.now (x - 1) c.args.run.y) ≡ false = grind arith in
     record {
       from_left = omega (arith, c.loop-x-test.true);
       to_right = omega (arith, inv.to_right);
       bits = λ k low. ap (λ n. has_bit n k) (sym same)
-          ∙ bits_grown (λ column. is_some (texel c.args.picture.now column c.args.y)) c.loop-x.mask x c.args.right 0
+          ∙ bits_grown (λ column. is_some (texel c.args.picture.now column c.args.run.y)) c.loop-x.mask x c.args.run.right 0
           (omega (arith, c.loop-x-test.true)) inv.to_right (omega arith) there inv.bits k low;
-      bound = rw same at (bound_grown c.loop-x.mask x c.args.right 0 (omega (arith, c.loop-x-test.true)) inv.to_right (omega arith) inv.bound);
+      bound = rw same at (bound_grown c.loop-x.mask x c.args.run.right 0 (omega (arith, c.loop-x-test.true)) inv.to_right (omega arith) inv.bound);
     }
 
 pub returns-then-fills-clause-bits : goal.returns-then-fills-clause-bits
 returns-then-fills-clause-bits c = λ k low. ones_set k (omega (arith, low, c.requires.few))
-    ∙ sym (c.fills.ensures c.if-fills.true k low)
+    ∙ sym (c.fills.ensures c.if-fills.true k (omega (arith, low, c.count.ensures)))

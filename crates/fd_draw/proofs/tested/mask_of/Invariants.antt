@@ -7,10 +7,10 @@ use Rattle.fd_draw.proofs.tested.mask_of.Given as goal
 -- the mask has the bits of the columns from x on
 abbrev pub invariant-loop-x : goal.invariant-loop-x
 invariant-loop-x l = record {
-  from_left : l.left ≤ l.x;
-  to_right : l.x ≤ l.right;
-  bits : (k : ℕ) → k < l.right - l.x → has_bit l.mask k ≡ is_some (texel l.picture (l.x + k) l.y);
-  bound : l.mask < 2 ^ (l.right - l.x);
+  from_left : l.run.left ≤ l.x;
+  to_right : l.x ≤ l.run.right;
+  bits : (k : ℕ) → k < l.run.right - l.x → has_bit l.mask k ≡ is_some (texel l.picture (l.x + k) l.run.y);
+  bound : l.mask < 2 ^ (l.run.right - l.x);
 }
 
 abbrev pub decreases-loop-x : goal.decreases-loop-x

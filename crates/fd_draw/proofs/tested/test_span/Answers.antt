@@ -26,16 +26,16 @@ pub returns-in-None-clause-passed : goal.returns-in-None-clause-passed
 returns-in-None-clause-passed c = λ column low high.
     let p = c.args.primitive.now in
     let t = c.args.tile.now in
-    let y = c.args.y in
-    let is = c.requires.span in
+    let y = c.args.run.y in
+    let is = c.requires.run in
     let wide = length-depth_row_of t y is.filled is.crossed in
     let long = part_len c.place-place.ensures.value is c.depth_row.result.now (ap length c.depth_row.ensures ∙ wide) in
     let stored = part_at c.place-place.ensures.value is c.depth_row.result.now 0 column low high
     ∙ ap (λ r. get_or r (column - t.place.left) 0) c.depth_row.ensures
     ∙ get_or_default (depth_row_of t y) (column - t.place.left) 0 65535 (omega (arith, wide, low, high, is.from_left, is.to_right)) in
-    let depths = c.test_row-passed.ensures.bits (column - c.args.left) (omega (arith, low, high, long))
-    ∙ ap (λ d. passes p.state.depth (get_or c.args.depths.now (column - c.args.left) 0) d) stored in
-    let test = passes p.state.depth (get_or c.args.depths.now (column - c.args.left) 0) (depth_in t column y) in
+    let depths = c.test_row-passed.ensures.bits (column - c.args.run.left) (omega (arith, low, high, long))
+    ∙ ap (λ d. passes p.state.depth (get_or c.args.depths.now (column - c.args.run.left) 0) d) stored in
+    let test = passes p.state.depth (get_or c.args.depths.now (column - c.args.run.left) 0) (depth_in t column y) in
     let plain : picture_of p ≡ None = rw c.in-None.is refl in
     let tests = depths ∙ with_true test ∙ ap (λ (o : Option Painting). test && not (is_discarded o column y)) (sym plain) in
     drawn_as_tested (triangle_of p) p.state column y _ (depth_in t column y) _ tests (λ on. c.requires.depths on column low high)
@@ -45,22 +45,22 @@ pub returns-in-Some-clause-passed : goal.returns-in-Some-clause-passed
 returns-in-Some-clause-passed c = λ column low high.
     let p = c.args.primitive.now in
     let t = c.args.tile.now in
-    let y = c.args.y in
-    let is = c.requires.span in
+    let y = c.args.run.y in
+    let is = c.requires.run in
     let wide = length-depth_row_of t y is.filled is.crossed in
     let long = part_len c.place-place.ensures.value is c.depth_row.result.now (ap length c.depth_row.ensures ∙ wide) in
     let stored = part_at c.place-place.ensures.value is c.depth_row.result.now 0 column low high
     ∙ ap (λ r. get_or r (column - t.place.left) 0) c.depth_row.ensures
     ∙ get_or_default (depth_row_of t y) (column - t.place.left) 0 65535 (omega (arith, wide, low, high, is.from_left, is.to_right)) in
-    let depths = c.test_row-passed.ensures.bits (column - c.args.left) (omega (arith, low, high, long))
-    ∙ ap (λ d. passes p.state.depth (get_or c.args.depths.now (column - c.args.left) 0) d) stored in
-    let test = passes p.state.depth (get_or c.args.depths.now (column - c.args.left) 0) (depth_in t column y) in
+    let depths = c.test_row-passed.ensures.bits (column - c.args.run.left) (omega (arith, low, high, long))
+    ∙ ap (λ d. passes p.state.depth (get_or c.args.depths.now (column - c.args.run.left) 0) d) stored in
+    let test = passes p.state.depth (get_or c.args.depths.now (column - c.args.run.left) 0) (depth_in t column y) in
     let here : picture_of p ≡ Some c.in-Some.picture.now = rw c.in-Some.is refl in
-    let at : c.args.left + (column - c.args.left) ≡ column = omega (arith, low) in
-    let bit = c.mask_of.ensures.bits (column - c.args.left) (omega (arith, low, high))
+    let at : c.args.run.left + (column - c.args.run.left) ≡ column = omega (arith, low) in
+    let bit = c.mask_of.ensures.bits (column - c.args.run.left) (omega (arith, low, high))
     ∙ ap (λ x. is_some (texel c.in-Some.picture.now x y)) at ∙ some_texel (texel c.in-Some.picture.now column y) in
-    let tests = both_set c.test_row-passed.result c.mask_of.result (column - c.args.left)
-    ∙ ap (λ b. b && has_bit c.mask_of.result (column - c.args.left)) depths ∙ ap (λ b. test && b) bit
+    let tests = both_set c.test_row-passed.result c.mask_of.result (column - c.args.run.left)
+    ∙ ap (λ b. b && has_bit c.mask_of.result (column - c.args.run.left)) depths ∙ ap (λ b. test && b) bit
     ∙ ap (λ (o : Option Painting). test && not (is_discarded o column y)) (sym here) in
     drawn_as_tested (triangle_of p) p.state column y _ (depth_in t column y) _ tests (λ on. c.requires.depths on column low high)
     (c.requires.reached column low high)

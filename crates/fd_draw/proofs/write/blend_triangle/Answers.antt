@@ -17,7 +17,7 @@ returns-in-One c =
     let p = c.args.primitive.now in
     let t = triangle_of p in
     let row = c.args.row.now in
-    let ink = subst (λ (i : Ink). IsInk p.interp (picture_of p) p.state (colour_of p.colours 0) i) c.in-One.is c.requires.ready in
+    let ink = subst (λ (i : Ink). IsInk p.interp (picture_of p) p.state (colour_of p.colours 0) i) c.in-One.is c.requires.ready.ink in
     c.draw.ensures
     ∙ ap (λ (b : Stroke). drawn_row b.state b.factor b.source row) ink.1.1
     ∙ drawn_columns t p.state c.args.x c.args.y row ink.1.0
@@ -28,7 +28,7 @@ returns-in-Rows c =
     let p = c.args.primitive.now in
     let s = p.state in
     let row = c.args.row.now in
-    let ink = subst (λ (i : Ink). IsInk p.interp (picture_of p) p.state (colour_of p.colours 0) i) c.in-Rows.is c.requires.ready in
+    let ink = subst (λ (i : Ink). IsInk p.interp (picture_of p) p.state (colour_of p.colours 0) i) c.in-Rows.is c.requires.ready.ink in
     let source = λ (column : ℕ). source_of (triangle_of p) p.interp column c.args.y in
     c.draw-in-Rows.ensures
     ∙ ap (λ cs. blended_row c.in-Rows.blender.state c.in-Rows.blender.factor cs row) (search rules)

@@ -1,18 +1,21 @@
 use Rattle.std.proofs.Common.{◌∙◌, sym, ap, length, arith}
 use Rattle.fd_tile.proofs.Pixels.{length-row_of, length-depth_row_of}
 use Rattle.fd_undo.proofs.FrameLemmas.{length-kept_row, length-zip_equal}
-use Rattle.fd_draw.proofs.Painting.{part_len, Paints-kept}
+use Rattle.fd_draw.proofs.Painting.{known_part, part_len, Paints-kept}
 use Rattle.fd_draw.proofs.write.keep_span.Goals as goal
+
+pub keep_known-requires-clause-known : goal.keep_known-requires-clause-known
+keep_known-requires-clause-known c =
+    known_part c.place-place.ensures.value c.requires.run c.flat_depth.result c.depth_row.ensures c.flat_depth.ensures
 
 pub returns : goal.returns
 returns c =
-    let span = c.requires.span in
+    let run = c.requires.run in
     let read = c.place-place.ensures.value in
-    let y = c.args.y in
-    let long = part_len read span _ (ap length c.row.ensures ∙ length-row_of c.args.tile.now y span.filled span.crossed) in
-    let deep = part_len read span _ (ap length c.depth_row.ensures ∙ length-depth_row_of c.args.tile.now y span.filled span.crossed) in
+    let long = part_len read run _ (ap length c.row.ensures ∙ length-row_of c.args.tile.now c.args.run.y run.filled run.crossed) in
+    let deep = part_len read run _ (ap length c.depth_row.ensures ∙ length-depth_row_of c.args.tile.now c.args.run.y run.filled run.crossed) in
     record {
-      painted = Paints-kept read span c.requires.room.begun c.row.ensures c.depth_row.ensures c.keep_known.ensures;
+      painted = Paints-kept read run c.requires.room.begun c.row.ensures c.depth_row.ensures c.keep_known.ensures;
       spans = omega (arith, c.requires.room.spans, ap (λ u. u.spans_left) c.keep_known.ensures);
       pixels = omega (
         arith,

@@ -15,8 +15,8 @@ returns-in-Some-clause-all c filled =
     record {
       untested = c.if-self.false;
       filled = λ column low high.
-          let at : c.args.left + (column - c.args.left) ≡ column = omega (arith, low) in
-          ap (λ (o : Option Painting). is_discarded o column c.args.y) picture
-          ∙ not_none (texel c.in-Some.picture.now column c.args.y)
-          (ap (λ x. is_some (texel c.in-Some.picture.now x c.args.y)) (sym at) ∙ c.fills.ensures filled (column - c.args.left) (omega (arith, low, high)));
+          let at : c.args.run.left + (column - c.args.run.left) ≡ column = omega (arith, low) in
+          ap (λ (o : Option Painting). is_discarded o column c.args.run.y) picture
+          ∙ not_none (texel c.in-Some.picture.now column c.args.run.y)
+          (ap (λ x. is_some (texel c.in-Some.picture.now x c.args.run.y)) (sym at) ∙ c.fills.ensures filled (column - c.args.run.left) (omega (arith, low, high)));
     }
