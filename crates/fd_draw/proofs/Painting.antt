@@ -1,11 +1,11 @@
 -- Drawing, pixel by pixel.
-use Rattle.std.proofs.Common.{◌≡◌, ℕ, ◌+◌, ◌-◌, ◌<◌, ◌≤◌, Bool, false, ◌||◌, cond, List, [], ◌++◌, length, get_or, take, drop, replicate}
+use Rattle.std.proofs.Common.{◌≡◌, ℕ, ◌+◌, ◌-◌, ◌<◌, ◌≤◌, Bool, false, ◌||◌, cond, List, [], ◌++◌, length, get_or, take, drop}
 use Rattle.std.proofs.Common.{refl, sym, ap, ◌∙◌, subst, arith, append_assoc, length-drop, inl, inr, ◌⊎◌}
-use Rattle.std.specs.Prelude.{◌&&◌, All, IfSome, Option, Some, None, nat_lt}
+use Rattle.std.specs.Prelude.{◌&&◌, All, Option, nat_lt}
 use Rattle.std.specs.List.{zip}
 use Rattle.std.proofs.lemmas.Bool.{ne_eqb, cases_lt, cases_eq}
 use Rattle.std.proofs.lemmas.Bool.Decides.{nat_tests}
-use Rattle.std.proofs.lemmas.List.{append-nil, length_push, length-take, get_or-take, get_or-drop, take-replicate, drop-replicate, length-replicate}
+use Rattle.std.proofs.lemmas.List.{append-nil, length_push, length-take, get_or-take, get_or-drop}
 use Rattle.std.proofs.lemmas.List.Elements.{All-append}
 use Rattle.std.proofs.lemmas.Slice.Zip.{get_or-zip}
 use Rattle.fd_blend.specs.declared.channel.Colour.{Colour}
@@ -13,8 +13,8 @@ use Rattle.fd_cover.specs.declared.bounds.Bounds.{Bounds}
 use Rattle.fd_cover.specs.Bounds.{is_within}
 use Rattle.fd_tile.specs.declared.place.Place.{Place}
 use Rattle.fd_tile.specs.Place.{Holds}
-use Rattle.fd_tile.specs.Tile.{Pixel, fresh_pixel, TileImage, IsTileImage, IsFlat, row_of, depth_row_of, pixel_of}
-use Rattle.fd_tile.proofs.Pixels.{length-row_in, row_in-flat}
+use Rattle.fd_tile.specs.Tile.{Pixel, fresh_pixel, TileImage, IsTileImage, row_of, depth_row_of, pixel_of}
+use Rattle.fd_tile.proofs.Pixels.{length-row_in}
 use Rattle.fd_undo.specs.Frame.{KeptPixel, kept_at, kept_row, top, older}
 use Rattle.fd_undo.specs.Undo.{Undo, with_kept}
 use Rattle.fd_undo.proofs.KeptAt.{kept_at-append, kept_at-other_row, kept_at-before, kept_at-after, kept_at-inside}
@@ -124,29 +124,33 @@ module _ (written covered : ℕ → ℕ → Bool) (paint : ℕ → ℕ → Pixel
 
 module _ {run : Run} {t : TileImage} (is : HasRun run t) (old : List Pixel) (long : length old ≡ run.right - run.left)
     (was : EachColumn run (λ x. get_or old (x - run.left) fresh_pixel ≡ pixel_of t x run.y)) where
-  -- what is kept of a pixel
+  -- what is kept of it
+  abbrev kept : List KeptPixel
+  kept = kept_row run.left run.y old
+
+  -- and so of a pixel
   each : (x z : ℕ) → (z ≡ run.y) ⊎ (z ≡ run.y → ⊥) → (x < run.left) ⊎ (run.left ≤ x) → (x < run.right) ⊎ (run.right ≤ x)
-      → kept_at (kept_row run.left run.y old) x z ≡ kept_where (in_run run) keep_each x z (pixel_of t x z)
+      → kept_at kept x z ≡ kept_where (in_run run) keep_each x z (pixel_of t x z)
   each x z (inr other) low high = rw (ne_eqb z run.y other) (kept_at-other_row run.left run.y x z old (λ e. other (sym e)))
   each x z (inl same) (inl low) high = let none = kept_at-before run.left run.y x run.y old low in rw same (grind (arith, nat_tests, none))
   each x z (inl same) (inr low) (inr high) = grind (arith, kept_at-after)
   each x z (inl same) (inr low) (inl high) = grind (arith, kept_at-inside)
 
   Paints-span : {u : Undo} → u.frame_left ≡ false
-      → PaintsIn (in_run run) as_it_is keep_each t u t (with_kept u (kept_row run.left run.y old))
+      → PaintsIn (in_run run) as_it_is keep_each t u t (with_kept u kept)
   Paints-span {u} begun = record {
     placed = refl;
     made = refl;
     filled = is.filled;
-    below = older-push (older u.frames) (top u.frames ++ kept_row run.left run.y old);
+    below = older-push (older u.frames) (top u.frames ++ kept);
     begun = begun;
     opening = refl;
-    some = λ _. omega (arith, length_push (older u.frames) (top u.frames ++ kept_row run.left run.y old));
+    some = λ _. omega (arith, length_push (older u.frames) (top u.frames ++ kept));
     pixels = λ x z held. grind arith;
-    kept = λ x z held. rw (top-push (older u.frames) (top u.frames ++ kept_row run.left run.y old)) (kept_at-append (top u.frames) (kept_row run.left run.y old) x z
+    kept = λ x z held. rw (top-push (older u.frames) (top u.frames ++ kept)) (kept_at-append (top u.frames) kept x z
         ∙ ap (λ ks. kept_at (top u.frames) x z ++ ks) (each x z (cases_eq z run.y) (cases_lt x run.left) (cases_lt x run.right)));
-    inside = λ before. rw (top-push (older u.frames) (top u.frames ++ kept_row run.left run.y old))
-        (All-append (λ (k : KeptPixel). Holds t.place k.x k.y) (top u.frames) (kept_row run.left run.y old) before
+    inside = λ before. rw (top-push (older u.frames) (top u.frames ++ kept))
+        (All-append (λ (k : KeptPixel). Holds t.place k.x k.y) (top u.frames) kept before
         (kept_row-inside t.place run.left run.y old is.crossed is.from_left (omega (arith, long, is.some, is.to_right))));
   }
 
@@ -175,14 +179,6 @@ module _ {run : Run} {t : TileImage} {p : Place} (read : p ≡ t.place) (is : Ha
   pub part_at : {X : Type 0} (row : List X) (d : X) (x : ℕ) → run.left ≤ x → x < run.right
       → get_or (part run p row) (x - run.left) d ≡ get_or row (x - t.place.left) d
   part_at row d x low high = grind (arith, read_left, get_or-take, get_or-drop)
-
-  -- where all pixels are known to be equally deep, so are these
-  pub known_part : {row : List ℕ} (known : Option ℕ) → row ≡ depth_row_of t run.y → IfSome known (λ depth. IsFlat t.place t.depths depth)
-      → IfSome known (λ depth. part run p row ≡ replicate (length (part run p row)) depth)
-  known_part None same flat = tt
-  known_part (Some depth) same flat =
-      let level : depth_row_of t run.y ≡ replicate t.place.width depth = row_in-flat t.place t.depths run.y is.filled.depths is.crossed depth flat in
-      rw (same, level) (grind (arith, take-replicate, drop-replicate, length-replicate))
 
   wide_row : length (row_of t run.y) ≡ t.place.width
   wide_row = length-row_in t.place t.rows run.y is.filled.colours is.crossed

@@ -36,7 +36,7 @@ use Rattle.fd_draw.specs.declared.primitive.Primitive.{Primitive}
 use Rattle.fd_draw.specs.Primitive.{DrawsAll, blended_by, kept_of, painted_by, reached_by, triangle_of}
 use Rattle.fd_draw.specs.Mask.{has_bit}
 use Rattle.fd_draw.specs.declared.run.Run.{Run}
-use Rattle.fd_draw.specs.Run.{EachColumn, columns_of}
+use Rattle.fd_draw.specs.Run.{EachColumn, ends_of}
 use Rattle.fd_draw.specs.Paints.{Paints}
 use Rattle.fd_draw.specs.Row.{changed_row}
 use Rattle.fd_draw.specs.Span.{IsRowSpan}
@@ -178,7 +178,7 @@ module _ (p : Primitive) (run : Run) (done count : ℕ) {t t' : TileImage} {u u'
 -- ---- the pixels of a row's span
 
 module _ (written : ℕ → ℕ → Bool) {p : Place} {y : ℕ} (run : Run) (crossed : HasRow p y)
-    (span : IsRowSpan (λ x. written x y) p.left (p.left + p.width) (Some (columns_of run))) where
+    (span : IsRowSpan (λ x. written x y) p.left (p.left + p.width) (Some (ends_of run))) where
   pub row_count : pixels_in (in_row written y) p ≡ run.right - run.left
   row_count = pixels_in-row written p y crossed ∙ written_in_row-span written p y run.left run.right span
 

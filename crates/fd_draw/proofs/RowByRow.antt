@@ -9,7 +9,7 @@ use Rattle.fd_draw.specs.Area.{LiesIn, IsWrittenIn}
 use Rattle.fd_draw.specs.Demand.{total, written_in_row, row_spans, pixels_in, region_spans}
 use Rattle.fd_draw.specs.Span.{IsRowSpan}
 use Rattle.fd_draw.specs.declared.run.Run.{Run}
-use Rattle.fd_draw.specs.Run.{columns_of, run_spans}
+use Rattle.fd_draw.specs.Run.{ends_of, run_spans}
 use Rattle.fd_draw.specs.Writing.{HasRoom, WritesRegion, WritesRun, in_row}
 use Rattle.fd_draw.proofs.Counts.{total_more, pixels_in-rows, spans_in-rows, pixels_in-row, spans_in-row, written_in_row-span}
 use Rattle.fd_draw.proofs.Painting.{above, PaintsIn, Paints-first, Paints-row}
@@ -82,21 +82,14 @@ module _ {tested : Bool} {written : ℕ → ℕ → Bool} (covered : ℕ → ℕ
 
 -- a row in which one span is written
 module _ (tested : Bool) (written : ℕ → ℕ → Bool) {p : Place} {y : ℕ} (run : Run) (crossed : HasRow p y)
-    (span : IsRowSpan (λ x. written x y) p.left (p.left + p.width) (Some (columns_of run))) where
-  span_pixels : pixels_in (in_row written y) p ≡ run.right - run.left
-  span_pixels = row_count written run crossed span
-
+    (span : IsRowSpan (λ x. written x y) p.left (p.left + p.width) (Some (ends_of run))) where
   span_spans : (b : Bool) → region_spans b (in_row written y) p ≡ run_spans b run
-  span_spans true = span_pixels
+  span_spans true = row_count written run crossed span
   span_spans false = spans_in-row written p y crossed ∙ omega (arith, written_in_row-span written p y run.left run.right span, span.bounds.1)
 
   pub span_room : {u : Undo} → HasRoom (region_spans tested (in_row written y) p) (pixels_in (in_row written y) p) u
       → HasRoom (run_spans tested run) (run.right - run.left) u
-  span_room room = record {
-    begun = room.begun;
-    spans = omega (arith, span_spans tested, room.spans);
-    pixels = omega (arith, span_pixels, room.pixels);
-  }
+  span_room room = grind (arith, span_spans tested, row_count written run crossed span, room)
 
   pub span_done : {paint : ℕ → ℕ → Pixel → Pixel} {keep : ℕ → ℕ → Pixel → List Pixel} {t t' : TileImage} {u u' : Undo}
       → run.y ≡ y → t.place ≡ p → WritesRun (run_spans tested run) run paint keep t u t' u'
@@ -104,5 +97,5 @@ module _ (tested : Bool) (written : ℕ → ℕ → Bool) {p : Place} {y : ℕ} 
   span_done same placed writes = record {
     painted = Paints-row_done written run crossed span _ _ same placed writes.painted;
     spans = omega (arith, span_spans tested, writes.spans);
-    pixels = omega (arith, span_pixels, writes.pixels);
+    pixels = omega (arith, row_count written run crossed span, writes.pixels);
   }

@@ -1,5 +1,6 @@
 -- Whole rows of a tile: they are kept as one span, and change one after the other.
-use Rattle.std.proofs.Common.{◌≡◌, ℕ, ◌+◌, ◌-◌, ◌*◌, ◌<◌, ◌≤◌, ◌⊎◌, inl, inr, Bool, true, false, cond, List, [], ◌++◌, length, replicate, refl, sym, ap, ◌∙◌, subst, arith}
+use Rattle.std.proofs.Common.{◌≡◌, ℕ, ◌+◌, ◌-◌, ◌*◌, ◌<◌, ◌≤◌, ◌⊎◌, inl, inr, Bool, true, false, cond, List, [], ◌++◌, length}
+use Rattle.std.proofs.Common.{replicate, refl, sym, ap, ◌∙◌, subst, arith}
 use Rattle.std.specs.Prelude.{Option, Some, None, IfSome, ◌&&◌}
 use Rattle.std.proofs.Math.Nat.{mul_comm}
 use Rattle.std.proofs.lemmas.Bool.{cases_lt, cases_eq}
@@ -27,10 +28,10 @@ use Rattle.fd_draw.specs.declared.found.Found.{Found}
 use Rattle.fd_draw.specs.Plan.{IsFoundOn}
 use Rattle.fd_draw.specs.Primitive.{DrawsAll, DrawsRows, blended_by, kept_of, painted_by, reached_by, triangle_of}
 use Rattle.fd_draw.specs.declared.run.Run.{Run}
-use Rattle.fd_draw.specs.Run.{across, columns_of}
+use Rattle.fd_draw.specs.Run.{across, ends_of}
 use Rattle.fd_draw.specs.Span.{IsRowSpan}
 use Rattle.fd_draw.specs.Written.{as_it_is}
-use Rattle.fd_draw.specs.Writing.{ChangesRegion, ChangesRun, HasRoom, HasRows, WritesRegion, kept_where, keep_each, rows_between}
+use Rattle.fd_draw.specs.Writing.{ChangesRegion, HasRoom, HasRows, WritesRegion, kept_where, keep_each, rows_between}
 use Rattle.fd_draw.proofs.Areas.{drawn_reached}
 use Rattle.fd_draw.proofs.Counts.{pixels_in-all, spans_in-all, total_constant, total_more, total_same, total_split, written_in_row-span}
 use Rattle.fd_draw.proofs.Painting.{above, PaintsIn, Paints-both, Paints-same}
@@ -109,31 +110,9 @@ module _ {t : TileImage} {first last : ℕ} (is : HasRows first last t) where
           ∙ ap (λ ks. kept_at (top u.frames) x y ++ ks) (each x y held (cases_lt y first) (cases_lt y last)));
       inside = λ before. rw (top-push (older u.frames) (top u.frames ++ kept_place strip cs ds))
           (All-append (λ (k : KeptPixel). Holds t.place k.x k.y) (top u.frames) (kept_place strip cs ds) before
-          (kept_rows-inside t.place t.place.left first height t.place.width pixels (omega arith) (omega arith) is.from_top (omega (arith, is.to_bottom, is.some))
-          wide));
+          (kept_rows-inside t.place t.place.left first height t.place.width pixels (omega arith) (omega arith) is.from_top
+          (omega (arith, is.to_bottom, is.some)) wide));
     })
-
--- ---- rows that change one after the other
-
-pub changes_none : (change : ℕ → ℕ → Pixel → Pixel) {t : TileImage} (first : ℕ) → IsTileImage t → ChangesRegion change (rows_between first first) t t
-changes_none change first filled = record { placed = refl; made = refl; filled = filled; pixels = λ x y held. grind (arith, nat_tests) }
-
-pub changes_next : (change : ℕ → ℕ → Pixel → Pixel) {t t' t'' : TileImage} {first row : ℕ} → first ≤ row
-    → ChangesRegion change (rows_between first row) t t' → ChangesRun change (across t.place row) t' t''
-    → ChangesRegion change (rows_between first (row + 1)) t t''
-changes_next change {t} {t'} {t''} {first} {row} from before now = record {
-  placed = now.placed ∙ before.placed;
-  made = now.made ∙ before.made;
-  filled = now.filled;
-  pixels = λ x y held. by_row x y held (cases_eq y row);
-}
-  where
-    by_row : (x y : ℕ) → Holds t.place x y → (y ≡ row) ⊎ (y ≡ row → ⊥)
-        → pixel_of t'' x y ≡ cond (rows_between first (row + 1) x y) (change x y (pixel_of t x y)) (pixel_of t x y)
-    by_row x y held at =
-        let old = before.pixels x y held in
-        let new = now.pixels x y (subst (λ (p : Place). Holds p x y) (sym before.placed) held) in
-        grind (arith, nat_tests, old, new, held, at)
 
 -- ---- a triangle that is drawn at all of them
 
@@ -187,8 +166,12 @@ module _ {tested : Bool} {written : ℕ → ℕ → Bool} {paint : ℕ → ℕ �
       written_in_row-span written t.place y t.place.left (t.place.left + t.place.width) (record {
         bounds = (omega arith, omega (arith, placed), omega arith);
         same = λ x from to.
-            let here = all x y (record { from_left = from; to_right = to; from_top = omega (arith, from_top, low); to_bottom = omega (arith, high, within, to_bottom) })
-            low high in grind (arith, nat_tests, here);
+            let here = all x y (record {
+              from_left = from;
+              to_right = to;
+              from_top = omega (arith, from_top, low);
+              to_bottom = omega (arith, high, within, to_bottom);
+            }) low high in grind (arith, nat_tests, here);
       })
       ∙ omega arith
 
@@ -249,7 +232,7 @@ module _ {tested : Bool} {written : ℕ → ℕ → Bool} {paint : ℕ → ℕ �
 
 module _ (p : Primitive) (place : Place) {f : Found} {y row : ℕ} (run : Run) (is : IsFoundOn (triangle_of p) p.state place f)
     (from_top : f.area.top ≤ y) (low : y ≤ row) (high : row < f.area.bottom)
-    (span : IsRowSpan (λ x. covers p.corners x row) f.area.left f.area.right (Some (columns_of run)))
+    (span : IsRowSpan (λ x. covers p.corners x row) f.area.left f.area.right (Some (ends_of run)))
     (left : run.left ≤ place.left) (right : place.left + place.width ≤ run.right) where
   row_covered : (x : ℕ) → Holds place x row → covers p.corners x row ≡ true
   row_covered x held = grind (arith, nat_tests, span.bounds, span.same x (omega (arith, span.bounds.0, left, held.from_left)), left, right, held)

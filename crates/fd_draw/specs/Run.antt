@@ -4,8 +4,8 @@ use Rattle.fd_tile.specs.declared.place.Place.{Place}
 use Rattle.fd_draw.specs.declared.run.Run.{Run}
 
 -- its first column, and one past its last
-abbrev pub columns_of : Run → ℕ × ℕ
-columns_of run = (run.left, run.right)
+abbrev pub ends_of : Run → ℕ × ℕ
+ends_of run = (run.left, run.right)
 
 -- a fact of each of its columns
 abbrev pub EachColumn : Run → (ℕ → Type 0) → Type 0

@@ -1,13 +1,12 @@
 -- Working. Neighbouring pixels of a row that were tested.
 use Rattle.std.specs.Prelude.{◌≡◌, ℕ, ◌+◌, ◌-◌, ◌<◌, ◌≤◌, ◌^◌, true, List, length, slice_index_or}
-use Rattle.fd_cover.specs.Covers.{covers}
 use Rattle.fd_events.specs.Image.{depth_of as source_depth, is_drawn}
 use Rattle.fd_tile.specs.Tile.{TileImage, depth_in}
 use Rattle.fd_draw.specs.declared.primitive.Primitive.{Primitive}
 use Rattle.fd_draw.specs.declared.run.Run.{Run}
 use Rattle.fd_draw.specs.declared.tested.Tested.{Tested}
 use Rattle.fd_draw.specs.Mask.{has_bit}
-use Rattle.fd_draw.specs.Primitive.{triangle_of}
+use Rattle.fd_draw.specs.Primitive.{CoversRun, triangle_of}
 use Rattle.fd_draw.specs.Run.{EachColumn}
 
 -- a triangle has these depths at the pixels of a run, where the depth test is on
@@ -20,7 +19,7 @@ pub record AreTested (p : Primitive) (run : Run) (t : TileImage) (tested : Teste
   pub size : length tested.depths.now ≡ run.right - run.left
   pub few : run.right ≤ run.left + 32
   pub bound : tested.passed < 2 ^ 32
-  pub covered : EachColumn run (λ column. covers p.corners column run.y ≡ true)
+  pub covered : CoversRun p run
   pub depths : AreDepths p run tested.depths.now
   pub passed : EachColumn run
       (λ column. has_bit tested.passed (column - run.left) ≡ is_drawn (triangle_of p) p.state column run.y (depth_in t column run.y))

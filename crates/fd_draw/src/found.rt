@@ -5,7 +5,7 @@ ghost use Rattle.fd_snap.specs.Limits.{most_pixels};
 ghost use Rattle.fd_tile.specs.declared.place.TheConstants.{TILE_SIDE};
 ghost use Rattle.fd_draw.specs.Area.{IsPartOfBox, IsSmall, is_drawn_in};
 ghost use Rattle.fd_draw.specs.Found.{IsFound, span_from};
-ghost use Rattle.fd_draw.specs.Run.{columns_of};
+ghost use Rattle.fd_draw.specs.Run.{ends_of};
 ghost use Rattle.fd_draw.specs.Span.{IsRowSpan};
 
 use crate::room::{Demand, NOTHING};
@@ -89,7 +89,7 @@ impl Found {
         requires found { IsFound triangle.now self.now }
         requires from_top { self.now.area.top ≤ y }
         requires to_bottom { y < self.now.area.bottom }
-        ensures span { IsRowSpan (λ x. covers triangle.now x y) self.now.area.left self.now.area.right (option_map columns_of result) }
+        ensures span { IsRowSpan (λ x. covers triangle.now x y) self.now.area.left self.now.area.right (option_map ends_of result) }
         ensures row { IfSome result (λ run. run.y ≡ y) }
     {
         let row = self.rows[(y - self.area.top) as usize];
@@ -112,7 +112,8 @@ pub(crate) fn find(triangle: &Tri, raster: &Raster, window: Bounds) -> Option<Fo
     requires { IsSmall window }
     ensures found { IfSome result (λ found. IsFound triangle.now found) }
     ensures part { IfSome result (λ found. IsPartOfBox found.area window) }
-    ensures drawn { IfSome result (λ found. (x y : ℕ) → is_drawn_in window raster.now triangle.now x y ≡ (is_within found.area x y && covers triangle.now x y)) }
+    ensures drawn { IfSome result
+        (λ found. (x y : ℕ) → is_drawn_in window raster.now triangle.now x y ≡ (is_within found.area x y && covers triangle.now x y)) }
     ensures none { IfNone result ((x y : ℕ) → is_drawn_in window raster.now triangle.now x y ≡ false) }
 {
     let area = drawn_area(triangle, raster, window)?;

@@ -91,7 +91,7 @@ pub(crate) fn strip_end(primitive: &Primitive<'_>, found: &Found, y: u32, place:
             right,
             y: row,
         };
-        if run.left > left || run.right < right || !primitive.draws_all(whole) {
+        if run.left > whole.left || run.right < whole.right || !primitive.draws_all(whole) {
             return row;
         }
     }

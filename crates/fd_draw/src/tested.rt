@@ -1,12 +1,11 @@
 //! A triangle with the depth test on: of each row the pixels that pass, in runs.
 ghost use Rattle.std.specs.Prelude.{◌≡◌, ℕ, ◌+◌, ◌-◌, ◌<◌, ◌≤◌, ◌^◌, true, length, slice_index, is_some};
-ghost use Rattle.fd_cover.specs.Covers.{covers};
 ghost use Rattle.fd_snap.specs.Limits.{most_pixels};
 ghost use Rattle.fd_events.specs.Image.{depth_of as source_depth, is_drawn};
 ghost use Rattle.fd_events.specs.Picture.{texel};
 ghost use Rattle.fd_tile.specs.Tile.{depth_in};
 ghost use Rattle.fd_draw.specs.Mask.{has_bit};
-ghost use Rattle.fd_draw.specs.Primitive.{IsReady, is_tested_by, kept_of, painted_by, reached_by, triangle_of};
+ghost use Rattle.fd_draw.specs.Primitive.{CoversRun, IsReady, ReachesRun, is_tested_by, kept_of, painted_by, triangle_of};
 ghost use Rattle.fd_draw.specs.Run.{EachColumn, run_spans};
 ghost use Rattle.fd_draw.specs.Tested.{AreDepths, AreTested};
 ghost use Rattle.fd_draw.specs.Writing.{ChangesRun, HasRoom, HasRun, WritesRun, depth_stored};
@@ -15,7 +14,7 @@ use crate::lanes::{alike, test_row};
 use crate::primitive::Primitive;
 use crate::run::Run;
 use crate::write::{WIDEST, write_span};
-use fd_events::{Picture, Pipeline};
+use fd_events::Picture;
 use fd_tile::Tile;
 use fd_undo::UndoStack;
 
@@ -42,7 +41,7 @@ fn draw_run(
     requires run { HasRun run tile.old }
     requires ready { IsReady primitive.now }
     requires size { length depths.now ≡ run.right - run.left }
-    requires covered { EachColumn run (λ column. covers primitive.now.corners column run.y ≡ true) }
+    requires covered { CoversRun primitive.now run }
     requires depths { AreDepths primitive.now run depths.now }
     requires drawn { EachColumn run
         (λ column. is_drawn (triangle_of primitive.now) primitive.now.state column run.y (depth_in tile.old column run.y) ≡ true) }
@@ -67,7 +66,7 @@ fn test_span(primitive: &Primitive<'_>, depths: &[u16; WIDEST], run: Run, tile: 
     requires run { HasRun run tile.now }
     requires depths { primitive.now.state.depth.enable ≡ true
         → EachColumn run (λ column. slice_index depths.now (column - run.left) ≡ source_depth (triangle_of primitive.now) column run.y) }
-    requires reached { EachColumn run (λ column. reached_by primitive.now column run.y ≡ true) }
+    requires reached { ReachesRun primitive.now run }
     ensures bound { result < 2 ^ 32 }
     ensures passed { EachColumn run (λ column. has_bit result (column - run.left)
         ≡ is_drawn (triangle_of primitive.now) primitive.now.state column run.y (depth_in tile.now column run.y)) }
@@ -152,7 +151,7 @@ fn depths_on(primitive: &Primitive<'_>, run: Run) -> [u16; WIDEST]
     requires few { run.right ≤ run.left + 32 }
     requires row { run.y < most_pixels }
     requires columns { run.right ≤ most_pixels }
-    requires covered { EachColumn run (λ column. covers primitive.now.corners column run.y ≡ true) }
+    requires covered { CoversRun primitive.now run }
     ensures { primitive.now.state.depth.enable ≡ true
         → EachColumn run (λ column. slice_index result (column - run.left) ≡ source_depth (triangle_of primitive.now) column run.y) }
 {
@@ -167,8 +166,8 @@ fn depths_on(primitive: &Primitive<'_>, run: Run) -> [u16; WIDEST]
 pub(crate) fn draw_span(primitive: &Primitive<'_>, run: Run, tile: &mut Tile, undo: &mut UndoStack)
     requires run { HasRun run tile.old }
     requires ready { IsReady primitive.now }
-    requires covered { EachColumn run (λ column. covers primitive.now.corners column run.y ≡ true) }
-    requires reached { EachColumn run (λ column. reached_by primitive.now column run.y ≡ true) }
+    requires covered { CoversRun primitive.now run }
+    requires reached { ReachesRun primitive.now run }
     requires room { HasRoom (run_spans (is_tested_by primitive.now) run) (run.right - run.left) undo.old }
     ensures { WritesRun (run_spans (is_tested_by primitive.now) run) run (painted_by primitive.now) (kept_of primitive.now)
         tile.old undo.old tile.new undo.new }

@@ -1,26 +1,23 @@
 ghost use Rattle.std.specs.Prelude.{◌≡◌, ℕ, ◌+◌, ◌-◌, ◌<◌, ◌≤◌, false, true, IsTrue, Some, None, map, length};
 ghost use Rattle.std.specs.List.{range_with_len, sum_by};
 ghost use Rattle.fd_events.specs.Draw.{triangles_of};
-ghost use Rattle.fd_events.specs.Image.{source_of, pixel_after, pixel_after_triangle, pixel_after_triangles, kept_by, kept_by_triangles};
-ghost use Rattle.fd_tile.specs.Place.{HasRow};
+ghost use Rattle.fd_events.specs.Image.{source_of, pixel_after, pixel_after_triangles, kept_by, kept_by_triangles};
 ghost use Rattle.fd_tile.specs.Tile.{IsTileImage};
-ghost use Rattle.fd_draw.specs.Demand.{is_reached, pixels_in, region_spans, triangle_pixels, triangle_spans, event_pixels, event_spans};
-ghost use Rattle.fd_draw.specs.Written.{as_it_is, colour_blended, kept_by_triangle};
+ghost use Rattle.fd_draw.specs.Demand.{pixels_in, region_spans, triangle_pixels, triangle_spans, event_pixels, event_spans};
+ghost use Rattle.fd_draw.specs.Written.{as_it_is, colour_blended};
 ghost use Rattle.fd_cover.specs.Covers.{covers};
 ghost use Rattle.fd_snap.specs.Limits.{most_pixels};
 ghost use Rattle.fd_tile.specs.declared.place.TheConstants.{TILE_SIDE};
 ghost use Rattle.fd_draw.specs.Row.{changed_row};
 ghost use Rattle.fd_draw.specs.Paints.{Paints};
-ghost use Rattle.fd_draw.specs.Primitive.{IsReady, blended_by, is_tested_by, kept_of, painted_by, reached_by, triangle_of};
+ghost use Rattle.fd_draw.specs.Primitive.{CoversRun, IsReady, blended_by, is_tested_by, kept_of, painted_by, reached_by, triangle_of};
 ghost use Rattle.fd_draw.specs.Plan.{ArePlanned, IsFoundOn, IsPlan};
-ghost use Rattle.fd_draw.specs.Triangles.{triangle_at};
-ghost use Rattle.fd_draw.specs.Run.{EachColumn};
 ghost use Rattle.fd_draw.specs.Writing.{ChangesRun, HasRoom, HasRun, WritesRegion, WritesRun, in_row, keep_each};
 
 use crate::clear::{Clear, clear_tile};
 use crate::found::{Found, find};
 use crate::plan::{Plan, Planned, open_area};
-use crate::primitive::{Ink, Primitive, depth_rows_of, ink_of};
+use crate::primitive::{Ink, Primitive};
 use crate::run::Run;
 use crate::strip::{draw_strip, strip_end};
 use crate::tested::draw_span;
@@ -104,7 +101,7 @@ pub(crate) fn keep_span(run: Run, tile: &Tile, undo: &mut UndoStack)
 pub(crate) fn blend_span(primitive: &Primitive<'_>, run: Run, tile: &mut Tile)
     requires run { HasRun run tile.old }
     requires ready { IsReady primitive.now }
-    requires covered { EachColumn run (λ column. covers primitive.now.corners column run.y ≡ true) }
+    requires covered { CoversRun primitive.now run }
     ensures { ChangesRun (blended_by primitive.now) run tile.old tile.new }
 {
     let place = tile.place();
@@ -118,7 +115,7 @@ pub(crate) fn blend_span(primitive: &Primitive<'_>, run: Run, tile: &mut Tile)
 pub(crate) fn write_span(primitive: &Primitive<'_>, run: Run, tile: &mut Tile, undo: &mut UndoStack)
     requires run { HasRun run tile.old }
     requires ready { IsReady primitive.now }
-    requires covered { EachColumn run (λ column. covers primitive.now.corners column run.y ≡ true) }
+    requires covered { CoversRun primitive.now run }
     requires room { HasRoom 1 (run.right - run.left) undo.old }
     ensures { WritesRun 1 run (blended_by primitive.now) keep_each tile.old undo.old tile.new undo.new }
 {
@@ -170,43 +167,6 @@ fn draw_primitive(primitive: &Primitive<'_>, found: &Found, tile: &mut Tile, und
     }
 }
 
-/// The same for a triangle of a draw.
-fn draw_found(
-    draw: &Draw,
-    triangle: u32,
-    found: &Found,
-    state: &Pipeline,
-    tile: &mut Tile,
-    undo: &mut UndoStack,
-)
-    requires made { tile.old.made ≡ true }
-    requires triangle { triangle < length (triangles_of draw.now) }
-    requires filled { IsTileImage tile.old }
-    requires found { IsFoundOn (triangle_at draw.now triangle) state.now tile.old.place found.now }
-    requires room { HasRoom (triangle_spans state.now tile.old.place (triangle_at draw.now triangle))
-        (triangle_pixels state.now tile.old.place (triangle_at draw.now triangle)) undo.old }
-    ensures { WritesRegion (triangle_spans state.now tile.old.place (triangle_at draw.now triangle))
-        (triangle_pixels state.now tile.old.place (triangle_at draw.now triangle)) (is_reached (triangle_at draw.now triangle) state.now)
-        (pixel_after_triangle (triangle_at draw.now triangle) draw.now.interp state.now)
-        (kept_by_triangle (triangle_at draw.now triangle) state.now) tile.old undo.old tile.new undo.new }
-{
-    let corners = draw.tri(triangle);
-    let colours = draw.colours(triangle);
-    let depths = draw.depths(triangle);
-    let (interp, picture) = (draw.interp(), draw.picture());
-    let primitive = Primitive {
-        corners,
-        colours,
-        depths,
-        interp,
-        picture,
-        ink: ink_of(interp, picture, state, colours[0]),
-        depth_rows: depth_rows_of(&corners, &depths, state),
-        state: *state,
-    };
-    draw_primitive(&primitive, found, tile, undo);
-}
-
 /// Keeps and then writes the pixels at which the triangles of a draw are drawn, one triangle after the other: those that are planned, and
 /// then the rest.
 fn draw_triangles(draw: &Draw, state: &Pipeline, plan: &Plan, tile: &mut Tile, undo: &mut UndoStack)
@@ -222,7 +182,8 @@ fn draw_triangles(draw: &Draw, state: &Pipeline, plan: &Plan, tile: &mut Tile, u
     let planned = plan.planned.as_slice();
     for i in 0..planned.len() {
         let Planned { triangle, found } = &planned[i];
-        draw_found(draw, *triangle, found, state, tile, undo);
+        let primitive = Primitive::of(draw, *triangle, state);
+        draw_primitive(&primitive, found, tile, undo);
     }
     let count = draw.triangles();
     if plan.rest == count {
@@ -232,7 +193,8 @@ fn draw_triangles(draw: &Draw, state: &Pipeline, plan: &Plan, tile: &mut Tile, u
     let mut triangle = draw.next_listed(plan.rest, window);
     while triangle < count {
         if let Some(found) = find(&draw.tri(triangle), &state.raster, window) {
-            draw_found(draw, triangle, &found, state, tile, undo);
+            let primitive = Primitive::of(draw, triangle, state);
+            draw_primitive(&primitive, &found, tile, undo);
         }
         triangle = draw.next_listed(triangle + 1, window);
     }

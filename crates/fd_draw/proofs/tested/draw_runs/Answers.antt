@@ -11,7 +11,8 @@ draw_run-requires-clause-drawn c = λ column low high.
     let tested = c.requires.tested in
     let inv = c.loop-done.invariant in
     let passed = c.args.tested.now.passed in
-    let most : c.loop-done.done + c.alike-count.result ≤ c.args.run.right - c.args.run.left = omega (arith, c.alike-count.ensures.most, inv.within, tested.size) in
+    let most : c.loop-done.done + c.alike-count.result ≤ c.args.run.right - c.args.run.left =
+    omega (arith, c.alike-count.ensures.most, inv.within, tested.size) in
     drawn_alike c.args.primitive.now c.args.run c.loop-done.done c.alike-count.result inv.painted passed c.requires.run most tested.passed
     c.alike-count.ensures.same column low high ∙ lowest_set (passed / 2 ^ c.loop-done.done) ∙ eq-eqb _ 1 c.if-passed-eq1.true
 

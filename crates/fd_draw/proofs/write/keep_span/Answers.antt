@@ -1,12 +1,12 @@
 use Rattle.std.proofs.Common.{◌∙◌, sym, ap, length, arith}
-use Rattle.fd_tile.proofs.Pixels.{length-row_of, length-depth_row_of}
+use Rattle.fd_tile.proofs.Pixels.{length-row_of, length-depth_row_of, row_in-flat}
+use Rattle.std.proofs.lemmas.List.{take-replicate, drop-replicate, length-replicate}
 use Rattle.fd_undo.proofs.FrameLemmas.{length-kept_row, length-zip_equal}
-use Rattle.fd_draw.proofs.Painting.{known_part, part_len, Paints-kept}
+use Rattle.fd_draw.proofs.Painting.{part_len, Paints-kept}
 use Rattle.fd_draw.proofs.write.keep_span.Goals as goal
 
 pub keep_known-requires-clause-known : goal.keep_known-requires-clause-known
-keep_known-requires-clause-known c =
-    known_part c.place-place.ensures.value c.requires.run c.flat_depth.result c.depth_row.ensures c.flat_depth.ensures
+keep_known-requires-clause-known c = grind (arith, row_in-flat, take-replicate, drop-replicate, length-replicate)
 
 pub returns : goal.returns
 returns c =

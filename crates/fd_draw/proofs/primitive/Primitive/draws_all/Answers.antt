@@ -18,5 +18,6 @@ returns-in-Some-clause-all c filled =
           let at : c.args.run.left + (column - c.args.run.left) ≡ column = omega (arith, low) in
           ap (λ (o : Option Painting). is_discarded o column c.args.run.y) picture
           ∙ not_none (texel c.in-Some.picture.now column c.args.run.y)
-          (ap (λ x. is_some (texel c.in-Some.picture.now x c.args.run.y)) (sym at) ∙ c.fills.ensures filled (column - c.args.run.left) (omega (arith, low, high)));
+          (ap (λ x. is_some (texel c.in-Some.picture.now x c.args.run.y)) (sym at)
+          ∙ c.fills.ensures filled (column - c.args.run.left) (omega (arith, low, high)));
     }
