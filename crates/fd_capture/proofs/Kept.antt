@@ -1,5 +1,5 @@
 -- What an event stands for is the same from the members that are kept and from all that were found.
-use Rattle.std.proofs.Common.{arith, ◌≡◌, ℕ, ◌-◌, ◌^◌, List, Option, Some, None, Bool, true, false, ◌==◌, ◌&&◌, cond, codes, option_map, option_and_then, refl}
+use Rattle.std.proofs.Common.{arith, ◌≡◌, ℕ, List, Option, Some, None, Bool, true, false, ◌==◌, ◌&&◌, cond, codes, option_map, option_and_then, refl}
 use Rattle.std.proofs.Common.{ap, ◌∙◌, eqb-true}
 use Rattle.std.specs.Prelude.{ok_or}
 use Rattle.serde_json.specs.Data.{Data, object, Members}
@@ -90,19 +90,12 @@ picture_from_member None = refl
 picture_from_member (Some d) = refl
 
 -- a picture
-pub picture-kept : (kept found : Members) → Clips kept found
-    → picture_from (object kept) (option_and_then bytes_of_data (get_member (codes "texels") found))
+pub picture-found : (found : Members) → picture_from (option_and_then unsigned_32 (get_member (codes "left") found))
+    (option_and_then unsigned_32 (get_member (codes "top") found)) (option_and_then unsigned_32 (get_member (codes "width") found))
+    (option_and_then unsigned_32 (get_member (codes "height") found)) (option_and_then bytes_of_data (get_member (codes "texels") found))
     (option_map bytes_of_data (get_member (codes "holes") found))
     ≡ picture_of_data (object found)
-picture-kept kept found clips =
-    let same = number_between-clipped 0 (2 ^ 32 - 1) in
-    rw (
-      member-kept kept found clips unsigned_32 same (codes "left") refl,
-      member-kept kept found clips unsigned_32 same (codes "top") refl,
-      member-kept kept found clips unsigned_32 same (codes "width") refl,
-      member-kept kept found clips unsigned_32 same (codes "height") refl,
-      holes_from (get_member (codes "holes") found),
-    ) refl
+picture-found found = rw (holes_from (get_member (codes "holes") found)) refl
 
 painted-kept : (found : Members) → painted_draw_from (large_in 3 found) ≡ painted_draw 3 (object found)
 painted-kept found =

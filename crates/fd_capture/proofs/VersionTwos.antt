@@ -1,6 +1,6 @@
 -- A capture that version 2 accepts is read as version 2 reads it.
-use Rattle.std.proofs.Common.{◌≡◌, ℕ, ◌+◌, List, [], ◌∷◌, length, Bool, false, cond, Option, Some, None, Result, Ok, Err, ◌⊎◌, inl, inr, refl, ap}
-use Rattle.std.proofs.Common.{◌∙◌, arith, nat_lt}
+use Rattle.std.proofs.Common.{◌≡◌, ℕ, ◌+◌, List, [], ◌∷◌, length, false, cond, Option, Some, None, Result, Ok, Err, ◌⊎◌, inl, inr, refl, ap}
+use Rattle.std.proofs.Common.{arith, nat_lt}
 use Rattle.std.specs.Prelude.{ok_or, All, IfOk}
 use Rattle.serde_json.specs.Data.{Data}
 use Rattle.fd_events.specs.declared.event.Event.{Event}
@@ -11,9 +11,8 @@ use Rattle.fd_capture.specs.Limits.{most_bytes}
 use Rattle.fd_capture.specs.declared.fault.CaptureFault.{CaptureFault}
 use Rattle.fd_capture.specs.declared.fault.CaptureFault.TheVariants.{TooLong, NotJson, NotCapture, Version, Size, TooMany}
 use Rattle.fd_capture.specs.Fault.{◌>>=◌}
-use Rattle.fd_capture.specs.Field.{number_member, vertex_of, all_of}
-use Rattle.fd_capture.specs.Kind.{draw_event}
-use Rattle.fd_capture.specs.Capture.{event_numbered, events_from, listed_events, json_of, table_of_value, capture_of}
+use Rattle.fd_capture.specs.Field.{number_member}
+use Rattle.fd_capture.specs.Capture.{events_from, listed_events, json_of, table_of_value, capture_of}
 use Rattle.fd_capture.specs.VersionTwo as two
 use Rattle.fd_capture.proofs.Versions.{Fits, fits_events}
 

@@ -18,7 +18,7 @@ use Rattle.fd_capture.specs.Capture.{event_of_depth}
 use Rattle.fd_capture.specs.Spelling.{spelled_interp}
 use Rattle.std.specs.Str.{bytes_eq}
 use Rattle.serde_json.specs.Data.{Data, Members}
-use Rattle.serde_json.specs.Find.{get, get_member}
+use Rattle.serde_json.specs.Find.{get_member}
 use Rattle.fd_json.specs.Clipped.{clipped}
 use Rattle.fd_blend.specs.declared.channel.Colour.{Colour}
 use Rattle.fd_events.specs.declared.draw.Vertex.{Vertex}
@@ -62,7 +62,7 @@ indices_of_array d = array_of d >>= all_of unsigned_32
 
 -- ---- members
 
--- a capture, a kind of event or a picture has a member of this name that is no long list or text
+-- a capture or a kind of event has a member of this name that is no long list or text
 abbrev pub is_small : List ℕ → Bool
 is_small name =
     bytes_eq name (codes "format") || bytes_eq name (codes "version") || bytes_eq name (codes "width") || bytes_eq name (codes "height")
@@ -71,7 +71,6 @@ is_small name =
     || bytes_eq name (codes "enable") || bytes_eq name (codes "rgb") || bytes_eq name (codes "alpha") || bytes_eq name (codes "mask")
     || bytes_eq name (codes "interp") || bytes_eq name (codes "name")
     || bytes_eq name (codes "write") || bytes_eq name (codes "func") || bytes_eq name (codes "depth")
-    || bytes_eq name (codes "left") || bytes_eq name (codes "top")
 
 -- of the small members, the outermost part
 abbrev pub Clips : Members → Members → Type 0
@@ -93,13 +92,13 @@ well_formed (Some o) = o
 abbrev pub picture_read : ℕ → Data → Option Painting
 picture_read version d = if version == 3 then picture_of_data d else None
 
--- of its small members, and of what the large ones stand for
-abbrev pub picture_from : Data → Option (List ℕ) → Option (Option (List ℕ)) → Option Painting
-picture_from d some_texels some_holes = do
-  left ← get (codes "left") d >>= unsigned_32
-  top ← get (codes "top") d >>= unsigned_32
-  width ← get (codes "width") d >>= unsigned_32
-  height ← get (codes "height") d >>= unsigned_32
+-- of what its members stand for
+abbrev pub picture_from : Option ℕ → Option ℕ → Option ℕ → Option ℕ → Option (List ℕ) → Option (Option (List ℕ)) → Option Painting
+picture_from some_left some_top some_width some_height some_texels some_holes = do
+  left ← some_left
+  top ← some_top
+  width ← some_width
+  height ← some_height
   texels ← some_texels
   holes ← if_any some_holes
   result_ok (made_painting left top width height texels holes)

@@ -5,11 +5,10 @@ ghost use Rattle.serde_json.specs.Read.{read};
 ghost use Rattle.fd_json.specs.Taken.{taken, members_taken};
 ghost use Rattle.fd_capture.specs.Head.{HasHead, IsHead};
 
-use crate::events::events;
-use crate::fault::CaptureFault;
-use crate::members::{is_small, put};
-use fd_events::Event;
-use fd_json::{Stop, open_object, pass};
+use crate::events::{ReadEvents, events};
+use crate::members::small_member;
+use crate::scope::Scope;
+use fd_json::{Stop, open_object};
 use json::{Reader, Scratch};
 use serde_json::{Map, Value};
 use std::alloc::Global;
@@ -21,29 +20,23 @@ const MAX_DEPTH: usize = 127;
 #[derive(Drop)]
 pub(crate) struct Head {
     pub(crate) members: Value,
-    pub(crate) events: Option<Result<Vec<Event>, CaptureFault>>,
+    pub(crate) events: Option<ReadEvents>,
 }
 
 /// The members of a capture whose brace was taken, up to the brace that closes it.
-fn head_members(
-    alloc: Global,
-    version: u32,
-    reader: &mut Reader<'_>,
-    depth: usize,
-) -> Result<Head, Stop>
-    ensures ok { IfOk result (λ head. (found : Members) × (members_taken depth reader.old ≡ Some (found, reader.new)) × HasHead version head found) }
-    ensures refused { result ≡ Err Stop.NotJson → members_taken depth reader.old ≡ None }
+fn head_members(reader: &mut Reader<'_>, scope: Scope) -> Result<Head, Stop>
+    ensures ok { IfOk result (λ head. (found : Members) × (members_taken scope.depth reader.old ≡ Some (found, reader.new))
+        × HasHead scope.version head found) }
+    ensures refused { result ≡ Err Stop.NotJson → members_taken scope.depth reader.old ≡ None }
     ensures shorter { OnOk result (length reader.new < length reader.old) }
 {
-    let mut members = Map::new(alloc);
+    let mut members = Map::new(scope.alloc);
     let mut listed = None;
     'members: while let Some(name) = reader.next_key()? {
         if name == "events" {
-            listed = events(alloc, version, reader, depth)?;
-        } else if is_small(name) {
-            put(alloc, name, reader, depth, &mut members)?;
+            listed = events(reader, scope)?;
         } else {
-            pass(reader, depth)?;
+            small_member(reader, scope, name, &mut members)?;
         }
     }
     Ok(Head {
@@ -53,19 +46,14 @@ fn head_members(
 }
 
 /// The next value as a capture, if it is an object.
-fn capture(
-    alloc: Global,
-    version: u32,
-    reader: &mut Reader<'_>,
-    depth: usize,
-) -> Result<Option<Head>, Stop>
-    ensures ok { IfOk result (λ head. (d : Data) × (taken depth reader.old ≡ Some (d, reader.new)) × IsHead version head d) }
-    ensures refused { result ≡ Err Stop.NotJson → taken depth reader.old ≡ None }
+fn capture(reader: &mut Reader<'_>, scope: Scope) -> Result<Option<Head>, Stop>
+    ensures ok { IfOk result (λ head. (d : Data) × (taken scope.depth reader.old ≡ Some (d, reader.new)) × IsHead scope.version head d) }
+    ensures refused { result ≡ Err Stop.NotJson → taken scope.depth reader.old ≡ None }
 {
-    if !open_object(reader, depth)? {
+    if !open_object(reader, scope.depth)? {
         return Ok(None);
     }
-    let head = head_members(alloc, version, reader, depth - 1)?;
+    let head = head_members(reader, scope.inner())?;
     Ok(Some(head))
 }
 
@@ -76,7 +64,12 @@ pub(crate) fn read_head(alloc: Global, version: u32, text: &str) -> Result<Optio
 {
     let mut scratch = Scratch::new(alloc);
     let mut reader = Reader::new(text, &mut scratch)?;
-    let head = capture(alloc, version, &mut reader, MAX_DEPTH)?;
+    let scope = Scope {
+        alloc,
+        version,
+        depth: MAX_DEPTH,
+    };
+    let head = capture(&mut reader, scope)?;
     if reader.next().is_some() {
         return Err(Stop::NotJson);
     }

@@ -6,7 +6,8 @@ ghost use Rattle.fd_capture.specs.Kind.{clear_event, raster_event, scissor_event
 
 use crate::fault::EventFault;
 use crate::field::{colour, mask, part, rect};
-use crate::{field, spelling};
+use crate::number::short;
+use crate::spelling;
 use fd_blend::BlendState;
 use fd_cover::{Depth, Raster};
 use fd_events::{Event, Label};
@@ -85,5 +86,5 @@ pub(crate) fn depth(event: &Value) -> Option<Event>
 pub(crate) fn depth_clear(event: &Value) -> Option<Event>
     ensures { result ≡ depth_clear_event (view event.now) }
 {
-    Some(Event::DepthClear(field::depth(event.get("depth")?)?))
+    Some(Event::DepthClear(short(event.get("depth")?.as_i64())?))
 }

@@ -8,16 +8,19 @@ use crate::vertices::VertexList;
 use fd_events::{Draw, Event, Picture, Vertex};
 use serde_json::Value;
 
-/// What the large members of an event stand for: none if there is no such member, and none within if it isn't well formed.
-#[derive(Drop)]
+/// What a member stands for: none if there is no such member, and none within if it isn't well formed.
+pub(crate) type Member<T> = Option<Option<T>>;
+
+/// What the large members of an event stand for.
+#[derive(Default, Drop)]
 pub(crate) struct Parts {
-    pub(crate) vertices: Option<Option<VertexList>>,
-    pub(crate) indices: Option<Option<Vec<u32>>>,
-    pub(crate) picture: Option<Option<Box<Picture>>>,
+    pub(crate) vertices: Member<VertexList>,
+    pub(crate) indices: Member<Vec<u32>>,
+    pub(crate) picture: Member<Box<Picture>>,
 }
 
 /// A member that may be missing, but not malformed.
-pub(crate) fn if_any<T: Drop>(member: Option<Option<T>>) -> Option<Option<T>>
+pub(crate) fn if_any<T: Drop>(member: Member<T>) -> Option<Option<T>>
     ensures { result ≡ if_any member }
 {
     match member {

@@ -1,22 +1,20 @@
 //! The picture of a draw, taken from the tokens of its text.
-ghost use Rattle.std.specs.Prelude.{◌≡◌, ◌<◌, codes, length, Some, None, Err, IfOk, OnOk, option_map, option_and_then};
+ghost use Rattle.std.specs.Prelude.{◌≡◌, ◌<◌, codes, cond, length, Some, None, Err, IfOk, OnOk, option_map};
+ghost use Rattle.std.specs.Str.{bytes_eq};
 ghost use Rattle.serde_json.specs.Data.{Data, Members, object};
-ghost use Rattle.serde_json.specs.Find.{get, get_member};
-ghost use Rattle.serde_json.specs.View.{members_view, view};
 ghost use Rattle.fd_json.specs.Taken.{taken, members_taken};
 ghost use Rattle.fd_capture.specs.Field.{unsigned_32};
 ghost use Rattle.fd_capture.specs.Picture.{bytes_of_data, decoded, picture_of_data};
-ghost use Rattle.fd_capture.specs.Streamed.{Clips, picture_from, picture_read};
+ghost use Rattle.fd_capture.specs.Streamed.{picture_from, picture_read};
 
-use crate::field::number;
-use crate::members::{is_small, put};
-use crate::parts::if_any;
+use crate::number::next_unsigned;
+use crate::parts::{Member, if_any};
+use crate::scope::Scope;
 use base64::DecodeAllocError;
 use base64::engine::general_purpose::STANDARD;
 use fd_events::Picture;
 use fd_json::{Stop, open_object, pass, text};
 use json::Reader;
-use serde_json::{Map, Value};
 use std::alloc::Global;
 
 /// The bytes that a text in base64 stands for, if it is one.
@@ -33,37 +31,47 @@ fn decoded(alloc: Global, text: &str) -> Result<Option<Vec<u8>>, Stop>
 }
 
 /// The next value as the bytes that it stands for in base64.
-fn bytes(alloc: Global, reader: &mut Reader<'_>, depth: usize) -> Result<Option<Vec<u8>>, Stop>
-    ensures ok { IfOk result (λ bytes. (d : Data) × (taken depth reader.old ≡ Some (d, reader.new)) × (option_map (λ v. v.items) bytes ≡ bytes_of_data d)) }
-    ensures refused { result ≡ Err Stop.NotJson → taken depth reader.old ≡ None }
+fn bytes(reader: &mut Reader<'_>, scope: Scope) -> Result<Option<Vec<u8>>, Stop>
+    ensures ok { IfOk result (λ bytes. (d : Data) × (taken scope.depth reader.old ≡ Some (d, reader.new))
+        × (option_map (λ v. v.items) bytes ≡ bytes_of_data d)) }
+    ensures refused { result ≡ Err Stop.NotJson → taken scope.depth reader.old ≡ None }
     ensures shorter { OnOk result (length reader.new < length reader.old) }
 {
-    let found = text(reader, depth)?;
+    let found = text(reader, scope.depth)?;
     match found {
-        Some(text) => decoded(alloc, text),
+        Some(text) => decoded(scope.alloc, text),
         None => Ok(None),
     }
 }
 
-/// A whole number of 32 bits without a sign.
-fn unsigned(picture: &Value, name: &str) -> Option<u32>
-    ensures { result ≡ option_and_then unsigned_32 (get name.now (view picture.now)) }
-{
-    number(picture.get(name)?, 0, u32::MAX)
+/// What the members of a picture stand for, each if it is there and well formed; holes may be missing.
+#[derive(Default, Drop)]
+struct PictureParts {
+    left: Option<u32>,
+    top: Option<u32>,
+    width: Option<u32>,
+    height: Option<u32>,
+    texels: Option<Vec<u8>>,
+    holes: Member<Vec<u8>>,
 }
 
-/// The picture of its small members, its texels and its holes.
-fn picture_from(
-    picture: &Value,
-    texels: Option<Vec<u8>>,
-    holes: Option<Option<Vec<u8>>>,
-) -> Option<Picture>
-    ensures { result ≡ picture_from (view picture.now) (option_map (λ v. v.items) texels) (option_map (option_map (λ v. v.items)) holes) }
+/// The picture of these parts.
+fn picture_from(parts: PictureParts) -> Option<Picture>
+    ensures { result ≡ picture_from parts.left parts.top parts.width parts.height (option_map (λ v. v.items) parts.texels)
+        (option_map (option_map (λ v. v.items)) parts.holes) }
 {
-    let left = unsigned(picture, "left")?;
-    let top = unsigned(picture, "top")?;
-    let width = unsigned(picture, "width")?;
-    let height = unsigned(picture, "height")?;
+    let PictureParts {
+        left,
+        top,
+        width,
+        height,
+        texels,
+        holes,
+    } = parts;
+    let left = left?;
+    let top = top?;
+    let width = width?;
+    let height = height?;
     let texels = texels?;
     let holes = if_any(holes)?;
     Picture::new(left, top, width, height, texels, holes).ok()
@@ -80,52 +88,64 @@ fn boxed(alloc: Global, picture: Option<Picture>) -> Result<Option<Box<Picture>>
     }
 }
 
-/// The members of a picture whose brace was taken, up to the brace that closes it.
-fn picture_members(
-    alloc: Global,
+/// The next value is the member of this name, and goes in among the parts if a picture has one.
+fn picture_member(
     reader: &mut Reader<'_>,
-    depth: usize,
-) -> Result<Option<Box<Picture>>, Stop>
-    ensures ok { IfOk result (λ picture. (found : Members) × (members_taken depth reader.old ≡ Some (found, reader.new))
-        × (option_map (λ p. p.value) picture ≡ picture_of_data (object found))) }
-    ensures refused { result ≡ Err Stop.NotJson → members_taken depth reader.old ≡ None }
+    scope: Scope,
+    name: &str,
+    parts: &mut PictureParts,
+) -> Result<(), Stop>
+    ensures ok { OnOk result ((d : Data) × (taken scope.depth reader.old ≡ Some (d, reader.new))
+        × (parts.new.left ≡ cond (bytes_eq name.now (codes "left")) (unsigned_32 d) parts.old.left)
+        × (parts.new.top ≡ cond (bytes_eq name.now (codes "top")) (unsigned_32 d) parts.old.top)
+        × (parts.new.width ≡ cond (bytes_eq name.now (codes "width")) (unsigned_32 d) parts.old.width)
+        × (parts.new.height ≡ cond (bytes_eq name.now (codes "height")) (unsigned_32 d) parts.old.height)
+        × (option_map (λ v. v.items) parts.new.texels
+        ≡ cond (bytes_eq name.now (codes "texels")) (bytes_of_data d) (option_map (λ v. v.items) parts.old.texels))
+        × (option_map (option_map (λ v. v.items)) parts.new.holes
+        ≡ cond (bytes_eq name.now (codes "holes")) (Some (bytes_of_data d)) (option_map (option_map (λ v. v.items)) parts.old.holes))) }
+    ensures refused { result ≡ Err Stop.NotJson → taken scope.depth reader.old ≡ None }
     ensures shorter { OnOk result (length reader.new < length reader.old) }
 {
-    let mut members = Map::new(alloc);
-    let mut texels = None;
-    let mut holes = None;
-    'members: while let Some(name) = reader.next_key()? {
-        if name == "texels" {
-            texels = bytes(alloc, reader, depth)?;
-        } else if name == "holes" {
-            holes = Some(bytes(alloc, reader, depth)?);
-        } else if is_small(name) {
-            put(alloc, name, reader, depth, &mut members)?;
-        } else {
-            pass(reader, depth)?;
-        }
+    match name {
+        "left" => parts.left = next_unsigned(reader, scope)?,
+        "top" => parts.top = next_unsigned(reader, scope)?,
+        "width" => parts.width = next_unsigned(reader, scope)?,
+        "height" => parts.height = next_unsigned(reader, scope)?,
+        "texels" => parts.texels = bytes(reader, scope)?,
+        "holes" => parts.holes = Some(bytes(reader, scope)?),
+        _ => pass(reader, scope.depth)?,
     }
-    boxed(alloc, picture_from(&Value::Object(members), texels, holes))
+    Ok(())
+}
+
+/// The members of a picture whose brace was taken, up to the brace that closes it.
+fn picture_members(reader: &mut Reader<'_>, scope: Scope) -> Result<Option<Box<Picture>>, Stop>
+    ensures ok { IfOk result (λ picture. (found : Members) × (members_taken scope.depth reader.old ≡ Some (found, reader.new))
+        × (option_map (λ p. p.value) picture ≡ picture_of_data (object found))) }
+    ensures refused { result ≡ Err Stop.NotJson → members_taken scope.depth reader.old ≡ None }
+    ensures shorter { OnOk result (length reader.new < length reader.old) }
+{
+    let mut parts = PictureParts::default();
+    'members: while let Some(name) = reader.next_key()? {
+        picture_member(reader, scope, name, &mut parts)?;
+    }
+    boxed(scope.alloc, picture_from(parts))
 }
 
 /// The next value as a picture, which versions before 3 don't look at.
-pub(crate) fn picture(
-    alloc: Global,
-    version: u32,
-    reader: &mut Reader<'_>,
-    depth: usize,
-) -> Result<Option<Box<Picture>>, Stop>
-    ensures ok { IfOk result (λ picture. (d : Data) × (taken depth reader.old ≡ Some (d, reader.new))
-        × (option_map (λ p. p.value) picture ≡ picture_read version d)) }
-    ensures refused { result ≡ Err Stop.NotJson → taken depth reader.old ≡ None }
+pub(crate) fn picture(reader: &mut Reader<'_>, scope: Scope) -> Result<Option<Box<Picture>>, Stop>
+    ensures ok { IfOk result (λ picture. (d : Data) × (taken scope.depth reader.old ≡ Some (d, reader.new))
+        × (option_map (λ p. p.value) picture ≡ picture_read scope.version d)) }
+    ensures refused { result ≡ Err Stop.NotJson → taken scope.depth reader.old ≡ None }
     ensures shorter { OnOk result (length reader.new < length reader.old) }
 {
-    if version != 3 {
-        pass(reader, depth)?;
+    if scope.version != 3 {
+        pass(reader, scope.depth)?;
         return Ok(None);
     }
-    if !open_object(reader, depth)? {
+    if !open_object(reader, scope.depth)? {
         return Ok(None);
     }
-    picture_members(alloc, reader, depth - 1)
+    picture_members(reader, scope.inner())
 }

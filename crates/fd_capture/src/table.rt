@@ -10,19 +10,17 @@ ghost use Rattle.fd_capture.specs.Field.{number_between, number_member};
 ghost use Rattle.fd_capture.specs.Capture.{table_of_value};
 ghost use Rattle.fd_capture.specs.Head.{listed_from, table_from, AreOf, IsReadIn, HasHead};
 
+use crate::events::ReadEvents;
 use crate::fault::CaptureFault;
-use crate::field::number;
 use crate::head::Head;
-use fd_events::{Event, EventTable};
+use crate::number::ranged;
+use fd_events::EventTable;
 use fd_snap::MAX_SIDE;
 use serde_json::Value;
 use std::alloc::Global;
 
 /// What was read of the events, if this is a capture.
-fn listed(
-    capture: &Value,
-    events: Option<Result<Vec<Event>, CaptureFault>>,
-) -> Option<Result<Vec<Event>, CaptureFault>>
+fn listed(capture: &Value, events: Option<ReadEvents>) -> Option<ReadEvents>
     ensures { result ≡ listed_from (view capture.now) events }
 {
     if capture.get("format")?.as_str()? != "framedbg" {
@@ -36,7 +34,7 @@ pub(crate) fn version(capture: &Value) -> Option<u32>
     ensures value { result ≡ number_member "version" 1 3 (view capture.now) }
     ensures within { IfSome result (λ version. (1 ≤ version) × (version ≤ 3)) }
 {
-    number(capture.get("version")?, 1, 3)
+    ranged(capture.get("version")?.as_i64(), 1, 3)
 }
 
 /// A width or a height.
@@ -44,14 +42,14 @@ fn side(capture: &Value, name: &str) -> Option<u32>
     ensures value { result ≡ option_and_then (number_between 1 most_pixels) (get name.now (view capture.now)) }
     ensures side { IfSome result (λ n. is_side n ≡ true) }
 {
-    number(capture.get(name)?, 1, MAX_SIDE)
+    ranged(capture.get(name)?.as_i64(), 1, MAX_SIDE)
 }
 
 /// The table of a capture's small members, and of what was read of its events.
 fn table_from(
     alloc: Global,
     capture: &Value,
-    events: Option<Result<Vec<Event>, CaptureFault>>,
+    events: Option<ReadEvents>,
 ) -> Result<EventTable, CaptureFault>
     requires { IfSome events (λ read. IfSome (number_member "version" 1 3 (view capture.now)) (λ version. AreOf version read)) }
     ensures { Gives (λ table. table) result (table_from (view capture.now) events) }

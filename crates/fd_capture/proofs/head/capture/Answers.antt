@@ -1,4 +1,4 @@
-use Rattle.std.proofs.Common.{◌≡◌, ◌-◌, ap, refl, ◌∙◌, rules}
+use Rattle.std.proofs.Common.{◌≡◌, ap, refl, ◌∙◌, rules}
 use Rattle.json.specs.Json.{parse_map}
 use Rattle.serde_json.specs.Data.{object}
 use Rattle.fd_json.specs.Taken.{taken, members_taken}
@@ -6,6 +6,7 @@ use Rattle.fd_capture.proofs.head.capture.Goals as goal
 
 pub returns-clause-ok : goal.returns-clause-ok
 returns-clause-ok c =
-    let opened : taken c.args.depth c.args.reader.now ≡ parse_map object (members_taken (c.args.depth - 1) c.open_object.new.reader) = search rules in
+    let opened : taken c.args.scope.depth c.args.reader.now ≡ parse_map object (members_taken c.inner.result.depth c.open_object.new.reader) =
+    rw c.inner.ensures.depth (search rules) in
     let read = c.in_ok-head.ensures.ok in
-    (object read.0, opened ∙ ap (parse_map object) read.1, (read.0, refl, read.2))
+    (object read.0, opened ∙ ap (parse_map object) read.1, (read.0, refl, rw c.inner.ensures.version at read.2))

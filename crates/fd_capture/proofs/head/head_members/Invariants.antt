@@ -10,8 +10,8 @@ use Rattle.fd_capture.proofs.head.head_members.Given as goal
 
 abbrev pub invariant-members : goal.invariant-members
 invariant-members l =
-    (found : Members) × InObject l.depth l.initial.reader found l.reader × Clips (members_view l.members.entries) found
-    × GivesListed l.version l.listed (option_and_then array_of (get_member (codes "events") found))
+    (found : Members) × InObject l.scope.depth l.initial.reader found l.reader × Clips (members_view l.members.entries) found
+    × GivesListed l.scope.version l.listed (option_and_then array_of (get_member (codes "events") found))
 
 abbrev pub decreases-members : goal.decreases-members
 decreases-members l = length l.reader

@@ -1,4 +1,4 @@
-use Rattle.std.proofs.Common.{◌≡◌, ◌-◌, subst, ap, ◌∙◌, rules}
+use Rattle.std.proofs.Common.{◌≡◌, subst, ap, ◌∙◌, rules}
 use Rattle.json.specs.Json.{parse_map}
 use Rattle.serde_json.specs.Data.{object}
 use Rattle.serde_json.specs.View.{view, members_view}
@@ -13,13 +13,14 @@ use Rattle.fd_capture.proofs.members.event.Goals as goal
 
 pub returns-clause-ok : goal.returns-clause-ok
 returns-clause-ok c =
-    let opened : taken c.args.depth c.args.reader.now ≡ parse_map object (members_taken (c.args.depth - 1) c.open_object.new.reader) = search rules in
+    let opened : taken c.args.scope.depth c.args.reader.now ≡ parse_map object (members_taken c.inner.result.depth c.open_object.new.reader) =
+    rw c.inner.ensures.depth (search rules) in
     let draft = c.in_ok-draft.draft in
     let read = c.in_ok-draft.ensures.ok in
-    let same : event_from c.args.version (view (Object draft.members)) (large_of draft.parts) ≡ event_of c.args.version (object read.0) =
-    ap (λ d. event_from c.args.version d (large_of draft.parts)) (view-Object draft.members)
-    ∙ ap (λ large. event_from c.args.version (object (members_view draft.members.entries)) large) read.3
-    ∙ (event-kept c.args.version (members_view draft.members.entries) read.0 read.2) in (
+    let same : event_from c.args.scope.version (view (Object draft.members)) (large_of draft.parts) ≡ event_of c.args.scope.version (object read.0) =
+    ap (λ d. event_from c.args.scope.version d (large_of draft.parts)) (view-Object draft.members)
+    ∙ ap (λ large. event_from c.args.scope.version (object (members_view draft.members.entries)) large) (rw c.inner.ensures.version at read.3)
+    ∙ (event-kept c.args.scope.version (members_view draft.members.entries) read.0 read.2) in (
       object read.0,
       opened ∙ ap (parse_map object) read.1,
       subst (GivesEvent (λ event. event) c.event_from.result) same c.event_from.ensures,

@@ -1,4 +1,4 @@
-use Rattle.std.proofs.Common.{◌≡◌, ◌-◌, take, Some, option_map, option_and_then, sym, ap, ◌∙◌, rules}
+use Rattle.std.proofs.Common.{◌≡◌, take, Some, option_map, option_and_then, sym, ap, ◌∙◌, rules}
 use Rattle.json.specs.Json.{parse_map}
 use Rattle.serde_json.specs.Data.{array}
 use Rattle.fd_json.specs.Taken.{taken, items_taken}
@@ -9,7 +9,8 @@ use Rattle.fd_capture.proofs.vertices.colour.Goals as goal
 
 pub returns-clause-ok : goal.returns-clause-ok
 returns-clause-ok c =
-    let opened : taken c.args.depth c.args.reader.now ≡ parse_map array (items_taken (c.args.depth - 1) c.open_array.new.reader) = search rules in
+    let opened : taken c.args.scope.depth c.args.reader.now ≡ parse_map array (items_taken c.inner.result.depth c.open_array.new.reader) =
+    rw c.inner.ensures.depth (search rules) in
     let read = c.in_ok-channels.ensures.ok in
     let kept : option_map (take 5) (all_of (number_between 0 255) (list_of read.0)) ≡ Some c.in-Some.channels.items = sym read.2
     ∙ ap (option_map (λ v. v.items)) c.in-Some.is in (

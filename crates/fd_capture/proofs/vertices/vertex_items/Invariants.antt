@@ -8,8 +8,8 @@ use Rattle.fd_capture.proofs.vertices.vertex_items.Given as goal
 
 abbrev pub invariant-items : goal.invariant-items
 invariant-items l =
-    (front : List Data) × (read : List (Vertex × Bool)) × InArray l.depth l.initial.reader front l.reader
-    × AllSoFar (vertex_read l.version) l.well_formed front read × (together read ≡ vertices_seen l.vertices)
+    (front : List Data) × (read : List (Vertex × Bool)) × InArray l.scope.depth l.initial.reader front l.reader
+    × AllSoFar (vertex_read l.scope.version) l.well_formed front read × (together read ≡ vertices_seen l.vertices)
 
 abbrev pub decreases-items : goal.decreases-items
 decreases-items l = length l.reader

@@ -7,10 +7,10 @@ use Rattle.fd_capture.proofs.vertices.vertex_members.Given as goal
 
 abbrev pub invariant-members : goal.invariant-members
 invariant-members l =
-    (found : Members) × InObject l.depth l.initial.reader found l.reader
-    × (l.x ≡ option_and_then signed_32 (get_member (codes "x") found)) × (l.y ≡ option_and_then signed_32 (get_member (codes "y") found))
-    × (l.color ≡ option_and_then colour_of_data (get_member (codes "color") found))
-    × (l.z ≡ option_and_then (number_between 0 65535) (get_member (codes "z") found))
+    (found : Members) × InObject l.scope.depth l.initial.reader found l.reader
+    × (l.parts.x ≡ option_and_then signed_32 (get_member (codes "x") found)) × (l.parts.y ≡ option_and_then signed_32 (get_member (codes "y") found))
+    × (l.parts.z ≡ option_and_then (number_between 0 65535) (get_member (codes "z") found))
+    × (l.parts.colour ≡ option_and_then colour_of_data (get_member (codes "color") found))
 
 abbrev pub decreases-members : goal.decreases-members
 decreases-members l = length l.reader
