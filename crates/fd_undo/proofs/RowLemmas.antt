@@ -1,6 +1,7 @@
 -- Spans, what one and what several of them keep, and spans that keep more.
 use Rattle.std.proofs.lemmas.Grind.{common_steps}
-use Rattle.std.proofs.Common.{Bool, true, false, Option, Some, None, replicate, ap, ◌∙◌, ◌≡◌, ℕ, ◌+◌, ◌-◌, ◌*◌, ◌<◌, ◌≤◌, List, [], ◌∷◌, ◌++◌, length, get_or, take, drop, refl, arith, add-one, append_assoc}
+use Rattle.std.proofs.Common.{Bool, true, false, Option, Some, None, replicate, ap, ◌∙◌}
+use Rattle.std.proofs.Common.{◌≡◌, ℕ, ◌+◌, ◌-◌, ◌*◌, ◌<◌, ◌≤◌, List, [], ◌∷◌, ◌++◌, length, get_or, take, drop, refl, arith, add-one, append_assoc}
 use Rattle.std.specs.Prelude.{if◌then◌else◌, zip, sum_by}
 use Rattle.std.proofs.Math.Nat.{zero-mul, one-mul, suc-mul, mul-le-mul_right}
 use Rattle.std.proofs.lemmas.List.{length-take, take-append-le, drop-append-le, get_or_append_left, take-take, drop-drop, drop_at}
@@ -14,7 +15,8 @@ use Rattle.fd_undo.specs.Span.{Span, IsGrown, IsRowOf, IsSpanOf}
 use Rattle.fd_tile.specs.declared.place.Place.{Place}
 use Rattle.fd_tile.specs.Tile.{row_cut}
 use Rattle.fd_undo.specs.Frame.{kept_row, kept_place, KeptPixel}
-use Rattle.fd_undo.specs.Rows.{row_colours, listed_colours, colours_in, colours_from, depths_from, depths_listed, row_depths, listed_depths, depths_in, pixels_of_row}
+use Rattle.fd_undo.specs.Rows.{row_colours, listed_colours, colours_in, colours_from, depths_from, depths_listed, row_depths, listed_depths}
+use Rattle.fd_undo.specs.Rows.{depths_in, pixels_of_row}
 use Rattle.fd_undo.specs.Rows.{span_pixels, IsHeld, colour_count, depth_count, pixel_count, rows_in, joined, Held, KeepsMore, GrowsBy, no_span}
 use Rattle.fd_undo.proofs.FrameLemmas.{length-zip_equal, length-kept_rows, kept_rows-one, kept_rows-same, others-newest}
 use Rattle.std.proofs.lemmas.List.Sums.{sum_by-cons, sum_by-take-drop, sum_by_push, sum_by-take-le}
