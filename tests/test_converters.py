@@ -182,8 +182,9 @@ class ReplayedFrame(StandIn):
     textures = {{TARGET: types.SimpleNamespace(resourceId=TARGET)}}
 
     def __init__(self, path):
-        super().__init__(*self.actions)
+        super().__init__(*([clear(2, (9, 9, 9, 255))] if str(path) == "cleared.rdc" else self.actions))
         self.controller = self
+        self.details = types.SimpleNamespace(names={{TARGET: "lit"}})
 
     def __enter__(self):
         return self
@@ -196,6 +197,9 @@ class ReplayedFrame(StandIn):
 
     def list_targets(self):
         yield "target 7"
+
+    def draws_of_targets(self):
+        return {{TARGET: (2, 5, 1)}}
 
     def go(self, event):
         os.write(1, b"NOISE ")
@@ -247,6 +251,16 @@ class Prints(unittest.TestCase):
                 status, lines, told = self.run_loud(CHECKS / name, "--program", tried_program(), "frame.rdc", path)
                 self.assertNotIn("NOISE", lines)
                 self.assertTrue(lines if pathlib.Path(tried_program()).exists() else "No such file" in told, told)
+
+    def test_the_captures_of_all_targets_are_told(self):
+        """The events of one are two clears, a marker, three parts of the state and the draw."""
+        for frame, events in (("frame.rdc", "7 events"), ("cleared.rdc", "1 event")):
+            with tempfile.TemporaryDirectory() as folder:
+                words = ["--quiet", "--all", "--out", folder, frame]
+                status, made, told = self.run_loud(TOOLS / "renderdoc_to_capture", *words)
+                self.assertEqual((status, made), (0, ""), told)
+                self.assertIn(f"target_7.json: lit, 24 by 16, {events}\n", told)
+                self.assertTrue(pathlib.Path(folder, "target_7.json").exists())
 
     def test_pictures_are_compared_pixel_by_pixel(self):
         """Of 384 pixels one is changed in each of two texels, by 3 and by 250; of planes with another colour the 120

@@ -378,6 +378,9 @@ class Explained(unittest.TestCase):
                 text,
             )
         self.assertEqual(
+            change("texels", "A"), "texels: the text's 1 character isn't padded by = to whole fours, as base64 is"
+        )
+        self.assertEqual(
             change("holes", "JB=="),
             "holes: behind the last byte of the text stand bits that aren't zero: base64 spells these bytes "
             "with another last letter before =",

@@ -9,7 +9,7 @@ import folders
 
 from fdb_testing import EXAMPLES, HUNTS, PROGRAM, STEPS, Folder, launched
 
-from debugger import command_line, comparing_captures
+from debugger import command_line, comparing_captures, contents
 from debugger.aligning import aligned, common
 
 DRAW = STEPS["events"][2]
@@ -58,6 +58,17 @@ class Captures(Folder):
                 "images: the same",
             ],
         )
+
+    def test_vertices_that_differ_are_counted(self):
+        of = lambda *vertices: {"kind": "draw", "interp": "flat", "vertices": list(vertices)}
+        a, b = DRAW["vertices"][:2]
+        for one, other, wanted in (
+            (of(a), of(b), "1 of 1 vertex"),
+            (of(a, b), of(a, a), "1 of 2 vertices"),
+            (of(a), of(a, a, b), "1 vertex, and then 3"),
+            (of(a, b), of(a), "2 vertices, and then 1"),
+        ):
+            self.assertEqual(contents.unlike(one, other), wanted)
 
     def test_went_and_came(self):
         """The draw is away, and behind the clear another one comes."""

@@ -184,6 +184,8 @@ class Meshes(unittest.TestCase):
             "b.obj": ("v 0 0 0\nf 1 2 3\n", "line 2: a face names point 2 of 1"),
             "c.obj": ("v 0 0 x\n", "line 1: 'x' is no number"),
             "d.obj": ("v 0 0 0\n", "it has no faces"),
+            "d1.obj": ("v 0 0 0\nf 1\n", "line 2: a face has 1 corner\n"),
+            "d2.obj": ("v 0 0 0\nf 1 1\n", "line 2: a face has 2 corners\n"),
             "e.ply": ("solid\n", "a PLY begins with ply and has an end_header"),
             "f.ply": (
                 "ply\nformat ascii 1.0\nelement vertex 2\nproperty float x\nproperty float y\nproperty float "

@@ -50,6 +50,7 @@ export function unlike(one, other) {
 }
 
 function verticesUnlike(one, other) {
-  if (one.length !== other.length) return `${one.length} vertices, and then ${other.length}`;
-  return `${one.filter((vertex, i) => !isSame(vertex, other[i])).length} of ${one.length} vertices`;
+  const vertices = `${one.length} ${one.length === 1 ? "vertex" : "vertices"}`;
+  if (one.length !== other.length) return `${vertices}, and then ${other.length}`;
+  return `${one.filter((vertex, i) => !isSame(vertex, other[i])).length} of ${vertices}`;
 }

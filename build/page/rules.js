@@ -153,7 +153,10 @@ function inBase64(owner, path, name, length, why) {
   const strange = text.match(/[^A-Za-z0-9+/](?!=*\n?$)|[^A-Za-z0-9+/=]/u);
   if (strange) throw wrong(`character ${strange.index} of the text is ${quoted(strange[0])}, which is none of base64's (A to Z, a to z, 0 to 9, + and /)`);
   const letters = [...text.slice(-8)], padding = text.length - text.replace(/=+$/, "").length;
-  if (text.length % 4 || padding > 2) throw wrong(`the text's ${text.length} characters aren't padded by = to whole fours, as base64 is`);
+  if (text.length % 4 || padding > 2) {
+    const characters = text.length === 1 ? "1 character isn't" : `${text.length} characters aren't`;
+    throw wrong(`the text's ${characters} padded by = to whole fours, as base64 is`);
+  }
   if (padding && btoa(atob(letters.slice(-4).join(""))) !== letters.slice(-4).join("")) {
     throw wrong(`behind the last byte of the text stand bits that aren't zero: base64 spells these bytes with another last letter before ${letters.at(-1)}`);
   }

@@ -48,7 +48,7 @@ def named(frame, outcome, is_driver):
             f"in the end, and should be {colour(sample.wanted)}"
         )
     for number, (text, count, asked) in enumerate(reasons(suspect, len(outcome.samples))):
-        yield f"{'why' if not number else '':<8}it {text} ({count} of {asked} pixels asked)"
+        yield f"{'why' if not number else '':<8}it {text} ({count} of {counted(asked)} asked)"
     if found:
         for number, (kind, said, by) in enumerate(state_lines(frame, outcome.events, found[1].event)):
             yield (

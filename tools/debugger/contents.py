@@ -53,6 +53,7 @@ def unlike(one, other):
 
 
 def vertices_unlike(one, other):
+    vertices = f"{len(one)} {'vertex' if len(one) == 1 else 'vertices'}"
     if len(one) != len(other):
-        return f"{len(one)} vertices, and then {len(other)}"
-    return f"{sum(a != b for a, b in zip(one, other))} of {len(one)} vertices"
+        return f"{vertices}, and then {len(other)}"
+    return f"{sum(a != b for a, b in zip(one, other))} of {vertices}"

@@ -131,12 +131,10 @@ def run(given):
 
 def closing(capture, small, reducer, seconds):
     triangles = sum(len(smaller.triangles_of(event)) for event in small["events"] if event["kind"] == "draw")
+    events, tried = counted_as(len(capture["events"]), "event"), counted_as(reducer.tried, "capture")
     yield (
-        (
-            f"{counted_as(len(capture['events']), 'event')} became {len(small['events'])}, with "
-            f"{counted_as(triangles, 'triangle')} "
-            f"on {small['width']} x {small['height']} pixels; {reducer.tried} captures tried in {seconds:.1f} s"
-        )
+        f"{events} became {len(small['events'])}, with {counted_as(triangles, 'triangle')} "
+        f"on {small['width']} x {small['height']} pixels; {tried} tried in {seconds:.1f} s"
     )
     yield pixel_of(reducer.differs(small))
 

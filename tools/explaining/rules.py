@@ -264,9 +264,8 @@ def in_base64(owner, path, name, length, why):
             f"to z, 0 to 9, + and /)",
         )
     if len(text) % 4 or text.count("=") > 2:
-        raise Wrong(
-            8, (*path, name), f"the text's {len(text)} characters aren't padded by = to whole fours, as base64 is"
-        )
+        has = "1 character isn't" if len(text) == 1 else f"{len(text)} characters aren't"
+        raise Wrong(8, (*path, name), f"the text's {has} padded by = to whole fours, as base64 is")
     data = unspelled(text)
     if data is None:
         why = (

@@ -2,6 +2,8 @@
 import math
 from dataclasses import dataclass, field
 
+from writing.counting import counted
+
 GREY = (0.75, 0.74, 0.72, 1.0)
 MOST_FILE = 1 << 28  # bytes of a model that are read
 MOST_FACES = 700_000  # triangles: a capture's 67,108,864 bytes have room for fewer
@@ -29,7 +31,7 @@ class Model:
     def add_polygon(self, corners, name, colour):
         """As triangles round its first corner."""
         if len(corners) < 3:
-            raise Fault(f"a face has {len(corners)} corners")
+            raise Fault(f"a face has {counted(len(corners), 'corner')}")
         for corner in corners:
             if not 0 <= corner < len(self.points):
                 raise Fault(f"a face names point {corner} of {len(self.points)}, counted from 0")

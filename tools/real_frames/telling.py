@@ -8,6 +8,7 @@ import tempfile
 
 from captures import MOST_BYTES, compact, joined
 from framedbg_client import find_program
+from writing.counting import counted
 
 from .fault import Fault
 from .names import MOST_LINE, printable
@@ -132,7 +133,7 @@ def tell(quiet, writer, losses, seconds):
     """How near each draw's colours are, what was lost, and how long it took."""
     if not quiet:
         for event, name, pixels, fault in writer.painter.faults:
-            print(f"  colours of {event} {name}: off by {fault:.1f} of 255 over {pixels} pixels", file=sys.stderr)
+            print(f"  colours of {event} {name}: off by {fault:.1f} of 255 over {counted(pixels)}", file=sys.stderr)
     for line in losses.lines():
         print(line, file=sys.stderr)
     if not quiet:
