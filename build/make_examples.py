@@ -69,7 +69,8 @@ def capture(name, width, height, events, version=1):
 
 
 def session(name, of, *lines):
-    (EXAMPLES / f"{name}.session").write_text("".join(line + "\n" for line in lines))
+    """The lines of a session over a capture, each by itself or several in a text, with `; ` between them."""
+    (EXAMPLES / f"{name}.session").write_text("; ".join(lines).replace("; ", "\n") + "\n")
     sessions[name] = of
 
 
@@ -83,6 +84,17 @@ def small_captures():
         2,
         [draw([[(0, 0, red), (2, 0, red), (0, 2, red)], [(2, 0, green), (2, 2, green), (0, 2, green)]])],
     )
+    capture("across_two_tiles", 33, 1, [clear(1, 2, 3, 4)])
+    black = (0, 0, 0, 255)
+    capture("linear_red", 1, 1, [draw([[(0, 0, black), (2, 0, black), (0, 2, red)]], interp="linear")])
+    indexed = draw([[(0, 0, red), (2, 0, green), (0, 2, red)]])
+    indexed["vertices"].append(vertex(2, 2, red))
+    indexed["indices"] = [0, 1, 2, 1, 3, 2]
+    capture("indexed", 2, 2, [indexed])
+    capture("widest_target", 16384, 1, [draw([[(0, 0), (16384, 0), (0, 16384)]], (7, 7, 7, 7))])
+
+
+def state_captures():
     capture(
         "masked_and_scissored",
         2,
@@ -102,7 +114,6 @@ def small_captures():
         [blend(1, ["SRC_ALPHA", "ZERO", "ADD"], REPLACE, 15), draw([TRIANGLE], (200, 100, 50, 128))],
     )
     capture("added_twice", 1, 1, [blend(1, SUM, SUM, 15), draw([TRIANGLE, TRIANGLE], (10, 10, 10, 10))])
-    capture("across_two_tiles", 33, 1, [clear(1, 2, 3, 4)])
     capture(
         "culled_then_scissored",
         1,
@@ -115,13 +126,6 @@ def small_captures():
             draw([TRIANGLE], (3, 4, 5, 6)),
         ],
     )
-    black = (0, 0, 0, 255)
-    capture("linear_red", 1, 1, [draw([[(0, 0, black), (2, 0, black), (0, 2, red)]], interp="linear")])
-    indexed = draw([[(0, 0, red), (2, 0, green), (0, 2, red)]])
-    indexed["vertices"].append(vertex(2, 2, red))
-    indexed["indices"] = [0, 1, 2, 1, 3, 2]
-    capture("indexed", 2, 2, [indexed])
-    capture("widest_target", 16384, 1, [draw([[(0, 0), (16384, 0), (0, 16384)]], (7, 7, 7, 7))])
 
 
 def small_sessions():
@@ -129,32 +133,12 @@ def small_sessions():
     session("no_events", "no_events", "step", "back", "goto 0", "goto 1", "on 1", "show")
     session("there_and_back", "row01", "step", "back", "show")
     session(
-        "two_triangles",
-        "two_triangles",
-        "goto 1",
-        "pixel 0 0",
-        "pixel 1 0",
-        "pixel 0 1",
-        "pixel 1 1",
-        "pixel 2 0",
-        "history 1 0",
+        "two_triangles", "two_triangles", "goto 1; pixel 0 0; pixel 1 0; pixel 0 1; pixel 1 1; pixel 2 0; history 1 0"
     )
     session(
         "masked_and_scissored",
         "masked_and_scissored",
-        "goto 5",
-        "show",
-        "goto 4",
-        "pixel 0 0",
-        "pixel 1 1",
-        "goto 5",
-        "pixel 0 0",
-        "pixel 1 1",
-        "state",
-        "goto 0",
-        "goto 5",
-        "show",
-        "off 3",
+        "goto 5; show; goto 4; pixel 0 0; pixel 1 1; goto 5; pixel 0 0; pixel 1 1; state; goto 0; goto 5; show; off 3",
         "events",
     )
     session("alpha_scaled", "alpha_scaled", "goto 2", "pixel 0 0", "off 1", "pixel 0 0", "on 1", "pixel 0 0", "on 1")
@@ -165,12 +149,7 @@ def small_sessions():
     session(
         "widest_target",
         "widest_target",
-        "goto 1",
-        "pixel 16382 0",
-        "pixel 16383 0",
-        "history 16382 0",
-        "history 16383 0",
-        "pixel 16384 0",
+        "goto 1; pixel 16382 0; pixel 16383 0; history 16382 0; history 16383 0; pixel 16384 0",
     )
     session("indexed", "indexed", "goto 1", "pixel 0 0", "pixel 1 0", "pixel 0 1", "pixel 1 1", "events")
 
@@ -187,22 +166,7 @@ def depth_captures():
         [depth(1, 1, "LESS"), draw([TRIANGLE], (1, 1, 1, 1), z=1000), farther, depth_clear(65535), farther],
         version=2,
     )
-    hill = fan(11, 13, 11, 7, (250, 230, 90, 255), [(120, 60, 10, 255), (160, 90, 20, 255)], z=42000, z_rim=50000)
-    tower = fan(20, 11, 9, 5, (240, 240, 255, 255), [(20, 60, 160, 255)], z=9000, z_rim=30000)
-    capture(
-        "hidden_in_any_order",
-        32,
-        24,
-        [
-            clear(20, 30, 40, 255),
-            depth(1, 1, "LESS"),
-            hill,
-            tower,
-            hill,
-            marker("the hill is drawn before and after the tower"),
-        ],
-        version=2,
-    )
+    capture("hidden_in_any_order", 32, 24, hill_and_tower(), version=2)
     red, blue = (220, 30, 20, 255), (30, 60, 230, 255)
     capture(
         "crossing",
@@ -223,53 +187,70 @@ def depth_captures():
         [depth(1, 1, "ALWAYS"), draw([[(0, 0, black, 0), (2, 0, black, 0), (0, 2, black, 65535)]])],
         version=2,
     )
+    capture("each_depth_function", 3, 9, each_function(), version=2)
+    capture("writes_off", 4, 4, not_written(), version=2)
+    capture("depth_left_alone", 2, 2, left_alone(), version=2)
+
+
+def hill_and_tower():
+    """The hill is drawn before and after the tower: where one is off the other hides as much."""
+    hill = fan(11, 13, 11, 7, (250, 230, 90, 255), [(120, 60, 10, 255), (160, 90, 20, 255)], z=42000, z_rim=50000)
+    tower = fan(20, 11, 9, 5, (240, 240, 255, 255), [(20, 60, 160, 255)], z=9000, z_rim=30000)
+    return [
+        clear(20, 30, 40, 255),
+        depth(1, 1, "LESS"),
+        hill,
+        tower,
+        hill,
+        marker("the hill is drawn before and after the tower"),
+    ]
+
+
+def each_function():
+    """A row for each function, with depths before, at and behind the one that is there; then one without the test."""
     rows = [depth_clear(1000)]
     for row, func in enumerate(FUNCTIONS):
         rows += [depth(1, 1, func)] + [
             quad(column, row, column + 1, row + 1, (10 * row, column, 7, 255), z=999 + column) for column in range(3)
         ]
     rows += [depth(0, 1, "NEVER"), quad(0, 8, 3, 9, (80, 9, 9, 255), z=999)]
-    capture("each_depth_function", 3, 9, rows, version=2)
+    return rows
+
+
+def not_written():
+    """Two panes of glass, which let each other's colours through, and one behind the wall."""
     glass = (200, 200, 255, 128)
-    capture(
-        "writes_off",
-        4,
-        4,
-        [
-            depth(1, 1, "LESS"),
-            quad(0, 0, 4, 4, (90, 60, 30, 255), z=30000),
-            blend(1, ["SRC_ALPHA", "INV_SRC_ALPHA", "ADD"], REPLACE, 15),
-            depth(1, 0, "LESS"),
-            quad(0, 0, 2, 4, glass, z=10000),
-            quad(0, 0, 4, 2, glass, z=20000),
-            quad(0, 0, 4, 4, glass, z=40000),
-        ],
-        version=2,
-    )
-    capture(
-        "depth_left_alone",
-        2,
-        2,
-        [
-            depth(1, 1, "LESS_EQUAL"),
-            quad(0, 0, 2, 2, (1, 1, 1, 1), z=500),
-            clear(5, 6, 7, 8),
-            blend(0, REPLACE, REPLACE, 0),
-            quad(0, 0, 2, 2, (2, 2, 2, 2), z=400),
-            blend(0, REPLACE, REPLACE, 15),
-            raster("back", 0, 1),
-            scissor(0, 0, 1, 2),
-            quad(0, 0, 2, 2, (3, 3, 3, 3), z=300),
-            raster("front", 0, 0),
-            quad(0, 0, 2, 2, (4, 4, 4, 4), z=200),
-            depth(0, 1, "LESS"),
-            raster("none", 0, 0),
-            quad(0, 0, 2, 1, (6, 6, 6, 6), z=100),
-            depth_clear(600),
-            depth_clear(0),
-        ],
-        version=2,
-    )
+    return [
+        depth(1, 1, "LESS"),
+        quad(0, 0, 4, 4, (90, 60, 30, 255), z=30000),
+        blend(1, ["SRC_ALPHA", "INV_SRC_ALPHA", "ADD"], REPLACE, 15),
+        depth(1, 0, "LESS"),
+        quad(0, 0, 2, 4, glass, z=10000),
+        quad(0, 0, 4, 2, glass, z=20000),
+        quad(0, 0, 4, 4, glass, z=40000),
+    ]
+
+
+def left_alone():
+    """Draws that are masked, culled, scissored or not tested, and clears: some of them leave the depths alone."""
+    return [
+        depth(1, 1, "LESS_EQUAL"),
+        quad(0, 0, 2, 2, (1, 1, 1, 1), z=500),
+        clear(5, 6, 7, 8),
+        blend(0, REPLACE, REPLACE, 0),
+        quad(0, 0, 2, 2, (2, 2, 2, 2), z=400),
+        blend(0, REPLACE, REPLACE, 15),
+        raster("back", 0, 1),
+        scissor(0, 0, 1, 2),
+        quad(0, 0, 2, 2, (3, 3, 3, 3), z=300),
+        raster("front", 0, 0),
+        quad(0, 0, 2, 2, (4, 4, 4, 4), z=200),
+        depth(0, 1, "LESS"),
+        raster("none", 0, 0),
+        quad(0, 0, 2, 1, (6, 6, 6, 6), z=100),
+        depth_clear(600),
+        depth_clear(0),
+    ]
 
 
 def depth_sessions():
@@ -277,111 +258,49 @@ def depth_sessions():
     session(
         "depth_test",
         "depth_test",
-        "goto 3",
-        "pixel 0 0",
-        "goto 5",
-        "pixel 0 0",
-        "goto 3",
-        "pixel 0 0",
-        "off 2",
-        "pixel 0 0",
-        "on 2",
-        "goto 5",
-        "history 0 0",
-        "state",
+        "goto 3; pixel 0 0; goto 5; pixel 0 0; goto 3; pixel 0 0; off 2; pixel 0 0; on 2; goto 5; history 0 0; state",
         "events",
     )
     session(
         "depth_clear_switched_off",
         "depth_test",
-        "goto 5",
-        "off 4",
-        "pixel 0 0",
-        "history 0 0",
-        "back",
-        "pixel 0 0",
-        "back",
-        "back",
-        "back",
-        "pixel 0 0",
-        "on 4",
-        "goto 4",
-        "pixel 0 0",
-        "step",
-        "pixel 0 0",
-        "events",
+        "goto 5; off 4; pixel 0 0; history 0 0; back; pixel 0 0; back; back; back; pixel 0 0; on 4; goto 4; pixel 0 0",
+        "step; pixel 0 0; events",
     )
     session(
         "hidden_in_any_order",
         "hidden_in_any_order",
-        "goto 6",
-        "off 5",
-        "show",
-        "on 5",
-        "off 3",
-        "show",
-        "history 16 12",
-        "on 3",
-        "history 16 12",
-        "quit",
+        "goto 6; off 5; show; on 5; off 3; show; history 16 12; on 3; history 16 12; quit",
     )
     session(
         "crossing",
         "crossing",
-        "goto 3",
-        "show",
-        "pixel 2 2",
-        "pixel 10 2",
-        "history 2 5",
-        "history 3 5",
-        "history 4 5",
-        "history 5 5",
-        "back",
-        "pixel 4 5",
+        "goto 3; show; pixel 2 2; pixel 10 2; history 2 5; history 3 5; history 4 5; history 5 5; back; pixel 4 5",
         "pixel 5 5",
     )
     session("depth_rounded", "depth_rounded", "goto 2", "pixel 0 0")
+
+
+def depth_state_sessions():
     everywhere = [f"pixel {column} {row}" for row in range(9) for column in range(3)]
     session(
         "each_depth_function",
         "each_depth_function",
-        "goto 100",
-        "goto 35",
+        "goto 100; goto 35",
         *everywhere,
-        "show",
-        "history 1 4",
-        "events",
-        "goto 30",
-        "state",
-        "back",
-        "pixel 0 7",
+        "show; history 1 4; events; goto 30; state; back; pixel 0 7",
     )
     session(
         "writes_off",
         "writes_off",
-        "goto 7",
-        "show",
-        "history 0 0",
-        "history 3 0",
-        "history 3 3",
-        "off 4",
-        "history 0 0",
-        "show",
-        "state",
+        "goto 7; show; history 0 0; history 3 0; history 3 3; off 4; history 0 0; show; state",
     )
     session(
         "depth_left_alone",
         "depth_left_alone",
         "goto 15",
         *[f"history {x} {y}" for y in (0, 1) for x in (0, 1)],
-        "off 1",
-        "history 0 0",
-        "goto 14",
-        "pixel 1 1",
-        "on 1",
-        "pixel 1 1",
-        "off 14",
-        "pixel 1 0",
+        "off 1; history 0 0; goto 14; pixel 1 1; on 1; pixel 1 1; off 14; pixel 1 0",
     )
 
 
@@ -421,28 +340,27 @@ def picture_captures():
     capture(
         "picture_beyond", 4, 4, [painted(everywhere, (2, 3, 3, 2), [(n, n, n, 255) for n in range(10, 16)])], version=3
     )
+    capture("picture_passed_over", 2, 1, passed_over(whole), version=3)
+    capture("pictures", 72, 48, large_pictures(), version=3)
+
+
+def passed_over(whole):
+    """Pictures that are culled, scissored and drawn twice, and members that are passed over."""
     two, turned = [(5, 6, 7, 8), (250, 0, 0, 9)], [[(0, 0), (0, 4), (4, 0)]]
     twice = painted(whole, (0, 0, 2, 1), two)
     twice["indices"] = [0, 1, 2, 2, 0, 1]
     twice["vertices"][1]["color"] = "none"  # a colour is passed over in a draw with a picture
     plain = draw([[(0, 0), (2, 0), (0, 2)]], (1, 1, 1, 1), z=0)
     plain["picture"] = "none"  # and a picture in any other
-    capture(
-        "picture_passed_over",
-        2,
-        1,
-        [
-            painted(turned, (0, 0, 2, 1), two, [(1, 0)]),
-            raster("none", 0, 1),
-            painted(turned, (0, 0, 2, 1), two, [(1, 0)]),
-            raster("none", 0, 0),
-            blend(1, SUM, SUM, 7),
-            twice,
-            plain,
-        ],
-        version=3,
-    )
-    capture("pictures", 72, 48, large_pictures(), version=3)
+    return [
+        painted(turned, (0, 0, 2, 1), two, [(1, 0)]),
+        raster("none", 0, 1),
+        painted(turned, (0, 0, 2, 1), two, [(1, 0)]),
+        raster("none", 0, 0),
+        blend(1, SUM, SUM, 7),
+        twice,
+        plain,
+    ]
 
 
 def large_pictures():
@@ -484,16 +402,7 @@ def picture_sessions():
         "picture_blended",
         "goto 3",
         *all_four,
-        "show",
-        "events",
-        "off 3",
-        "pixel 0 0",
-        "on 3",
-        "back",
-        "pixel 1 0",
-        "step",
-        "pixel 1 0",
-        "pixel 1 1",
+        "show; events; off 3; pixel 0 0; on 3; back; pixel 1 0; step; pixel 1 0; pixel 1 1",
     )
     session(
         "picture_tested",
@@ -504,64 +413,30 @@ def picture_sessions():
         *all_four[:4],
         "off 2",
         *all_four,
-        "step",
-        "pixel 0 0",
-        "pixel 0 1",
-        "back",
-        "back",
-        "pixel 1 0",
+        "step; pixel 0 0; pixel 0 1; back; back; pixel 1 0",
     )
     session(
         "picture_smaller",
         "picture_smaller",
-        "goto 2",
-        "show",
-        "history 0 0",
-        "history 1 1",
-        "history 2 2",
-        "history 3 2",
-        "back",
-        "pixel 1 1",
+        "goto 2; show; history 0 0; history 1 1; history 2 2; history 3 2; back; pixel 1 1",
     )
-    session(
-        "picture_beyond", "picture_beyond", "goto 1", "show", "history 2 3", "history 3 3", "history 2 2", "history 1 3"
-    )
+    session("picture_beyond", "picture_beyond", "goto 1; show; history 2 3; history 3 3; history 2 2; history 1 3")
     session(
         "picture_passed_over",
         "picture_passed_over",
-        "goto 7",
-        "history 0 0",
-        "history 1 0",
-        "events",
-        "off 1",
-        "off 3",
-        "history 1 0",
+        "goto 7; history 0 0; history 1 0; events; off 1; off 3; history 1 0",
     )
+
+
+def large_pictures_session():
     asked = [f"history {x} {y}" for x, y in ((0, 0), (16, 4), (36, 24), (30, 16), (44, 20), (60, 30), (36, 34))]
     session(
         "pictures",
         "pictures",
-        "goto 12",
-        "show",
-        "events",
+        "goto 12; show; events",
         *asked,
-        "off 5",
-        "show",
-        "goto 6",
-        "show",
-        "back",
-        "pixel 36 24",
-        "step",
-        "pixel 50 30",
-        "on 5",
-        "pixel 36 24",
-        "goto 11",
-        "back",
-        "back",
-        "pixel 50 30",
-        "show",
-        "goto 2",
-        "pixel 71 47",
+        "off 5; show; goto 6; show; back; pixel 36 24; step; pixel 50 30; on 5; pixel 36 24; goto 11; back; back",
+        "pixel 50 30; show; goto 2; pixel 71 47",
     )
 
 
@@ -588,32 +463,9 @@ def crowd():
     session(
         "crowd",
         "crowd",
-        f"goto {last}",
-        "pixel 128 128",
-        "pixel 40 200",
-        "history 100 140",
-        "show",
-        "back",
-        "step",
-        f"goto {last - 20}",
-        "pixel 128 128",
-        "pixel 255 255",
-        f"goto {last}",
-        f"off {last - 5}",
-        "pixel 3 3",
-        "pixel 128 128",
-        f"on {last - 5}",
-        "pixel 3 3",
-        "goto 0",
-        "goto 20",
-        "off 3",
-        "pixel 128 128",
-        "on 3",
-        "pixel 40 200",
-        "off 2",
-        "goto 4",
-        "pixel 200 20",
-        f"goto {last - 1}",
+        f"goto {last}; pixel 128 128; pixel 40 200; history 100 140; show; back; step; goto {last - 20}; pixel 128 128",
+        f"pixel 255 255; goto {last}; off {last - 5}; pixel 3 3; pixel 128 128; on {last - 5}; pixel 3 3; goto 0",
+        f"goto 20; off 3; pixel 128 128; on 3; pixel 40 200; off 2; goto 4; pixel 200 20; goto {last - 1}",
         "history 30 128",
     )
 
@@ -649,17 +501,7 @@ def house():
     session(
         "house_find",
         "house",
-        "events",
-        "goto 13",
-        "pixel 50 50",
-        "history 50 50",
-        "goto 10",
-        "state",
-        "goto 13",
-        "off 8",
-        "pixel 50 50",
-        "on 8",
-        "quit",
+        "events; goto 13; pixel 50 50; history 50 50; goto 10; state; goto 13; off 8; pixel 50 50; on 8; quit",
     )
     session("house_show", "house", "goto 13", "show", "off 8", "show", "quit")
 
@@ -694,11 +536,14 @@ def gallery():
 def main():
     argparse.ArgumentParser(description=__doc__).parse_args()
     small_captures()
+    state_captures()
     small_sessions()
     depth_captures()
     depth_sessions()
+    depth_state_sessions()
     picture_captures()
     picture_sessions()
+    large_pictures_session()
     crowd()
     house()
     gallery()

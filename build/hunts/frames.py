@@ -43,43 +43,13 @@ def lantern(planted):
     )
     frame.add(marker("lantern"))
     frame.add(blend(True, OVER), disc(44, 44, 34, 24, (255, 190, 90, 230), (255, 150, 70, 0)), blend(False))
-    frame.add(
-        shape(
-            [(44, 32), (48, 44), (44, 52), (40, 44)],
-            [(255, 246, 190, 255), (255, 200, 90, 255), (250, 160, 60, 255), (255, 200, 90, 255)],
-            "linear",
-        )
-    )
+    frame.add(flame())
     frame.add(blend(True, OVER), label="glass state")
-    frame.add(
-        smooth_body(
-            shapes.moved(
-                shapes.turned([(0.34, 0.55), (0.42, 0.1), (0.34, -0.5)], 12, lambda r, i: (150, 200, 226)), -0.62, 0, 0
-            ),
-            alpha=70,
-        )
-    )
+    frame.add(smooth_body(lantern_part([(0.34, 0.55), (0.42, 0.1), (0.34, -0.5)], (150, 200, 226)), alpha=70))
     if not planted:
         frame.add(blend(False))
-    frame.add(
-        flat_body(
-            shapes.moved(
-                shapes.turned([(0.05, 0.92), (0.48, 0.6), (0.48, 0.54), (0.3, 0.5)], 12, lambda r, i: (92, 84, 78)),
-                -0.62,
-                0,
-                0,
-            ),
-            200,
-        )
-    )
-    frame.add(
-        flat_body(
-            shapes.moved(
-                shapes.turned([(0.36, -0.5), (0.5, -0.6), (0.5, -0.72)], 12, lambda r, i: (92, 84, 78)), -0.62, 0, 0
-            ),
-            200,
-        )
-    )
+    for profile in ([(0.05, 0.92), (0.48, 0.6), (0.48, 0.54), (0.3, 0.5)], [(0.36, -0.5), (0.5, -0.6), (0.5, -0.72)]):
+        frame.add(flat_body(lantern_part(profile, (92, 84, 78)), 200))
     frame.add(marker("books"))
     frame.add(
         flat_body(shapes.leant(shapes.box(0.15, -0.86, -0.4, 1.55, -0.5, 0.4, (176, 44, 52)), 12, 1), 120), label="book"
@@ -98,6 +68,18 @@ def lantern(planted):
         "on {glass state}",
     ]
     return frame
+
+
+def flame():
+    return shape(
+        [(44, 32), (48, 44), (44, 52), (40, 44)],
+        [(255, 246, 190, 255), (255, 200, 90, 255), (250, 160, 60, 255), (255, 200, 90, 255)],
+        "linear",
+    )
+
+
+def lantern_part(profile, colour):
+    return shapes.moved(shapes.turned(profile, 12, lambda r, i: colour), -0.62, 0, 0)
 
 
 def balloons(planted):
@@ -168,11 +150,7 @@ def island(planted):
         frame.add(raster("none", False))
     frame.add(marker("boat"))
     frame.add(shape([(20, 66), (62, 66), (54, 76), (27, 76)], (112, 58, 40, 255)), label="hull")
-    frame.add(
-        shape([(40, 22), (42, 22), (42, 66), (40, 66)], (80, 50, 34, 255)),
-        shape([(43, 24), (62, 60), (43, 62)], (250, 246, 236, 255)),
-        shape([(39, 28), (39, 62), (22, 60)], (238, 226, 204, 255)),
-    )
+    frame.add(*mast_and_sails())
     frame.session = [
         "goto {end}",
         "pixel 40 70",
@@ -185,6 +163,12 @@ def island(planted):
         "on {map state}",
     ]
     return frame
+
+
+def mast_and_sails():
+    yield shape([(40, 22), (42, 22), (42, 66), (40, 66)], (80, 50, 34, 255))
+    yield shape([(43, 24), (62, 60), (43, 62)], (250, 246, 236, 255))
+    yield shape([(39, 28), (39, 62), (22, 60)], (238, 226, 204, 255))
 
 
 def fish(planted):
@@ -284,35 +268,8 @@ def lighthouse(planted):
         band(62, HEIGHT, (70, 66, 100), (22, 30, 58)),
     )
     frame.add(shape([(66, HEIGHT), (76, 66), (96, 60), (120, 72), (120, HEIGHT)], (38, 34, 44, 255)))
-    frame.add(
-        marker("tower"),
-        flat_body(
-            shapes.moved(
-                shapes.turned(
-                    [(0.16, 0.62), (0.19, 0.3), (0.22, 0.0), (0.25, -0.35), (0.29, -0.75)],
-                    10,
-                    lambda row, i: (206, 60, 52) if row % 2 else (240, 236, 226),
-                ),
-                1.1,
-                0.1,
-                0,
-            )
-        ),
-    )
-    frame.add(
-        flat_body(
-            shapes.moved(
-                shapes.turned(
-                    [(0.02, 0.95), (0.2, 0.78), (0.13, 0.76), (0.13, 0.62), (0.2, 0.6)],
-                    10,
-                    lambda row, i: (255, 236, 150) if row == 2 else (70, 60, 60),
-                ),
-                1.1,
-                0.1,
-                0,
-            )
-        )
-    )
+    frame.add(marker("tower"), tower())
+    frame.add(lamp())
     wrong = ["ONE", "INV_SRC_ALPHA", "ADD"]
     frame.add(marker("beam"), blend(True, wrong if planted else OVER), label="beam state")
     frame.add(
@@ -336,6 +293,18 @@ def lighthouse(planted):
         "on {beam state}",
     ]
     return frame
+
+
+def tower():
+    profile = [(0.16, 0.62), (0.19, 0.3), (0.22, 0.0), (0.25, -0.35), (0.29, -0.75)]
+    body = shapes.turned(profile, 10, lambda row, i: (206, 60, 52) if row % 2 else (240, 236, 226))
+    return flat_body(shapes.moved(body, 1.1, 0.1, 0))
+
+
+def lamp():
+    profile = [(0.02, 0.95), (0.2, 0.78), (0.13, 0.76), (0.13, 0.62), (0.2, 0.6)]
+    body = shapes.turned(profile, 10, lambda row, i: (255, 236, 150) if row == 2 else (70, 60, 60))
+    return flat_body(shapes.moved(body, 1.1, 0.1, 0))
 
 
 def vase(planted):
