@@ -501,6 +501,25 @@ def switch(frame, number, on):
     return moved(frame, frame.position)
 
 
+def of_a_pixel(frame, name, place):
+    (colour, depth), history = frame.replay(frame.position, *place)
+    if name == "pixel":
+        return (words("pixel", colour, depth if frame.version > 1 else ()) + "\n").encode()
+    if frame.version == 1:
+        history = [entry[:6] for entry in history]
+    return "".join(words(*line) + "\n" for line in [("history", len(history))] + history).encode()
+
+
+def state_line(frame):
+    s = frame.state()
+    cull, ccw, scissor = s["raster"]
+    enable, rgb, alpha, mask = s["blend"]
+    told = ["state cull", cull, "ccw", ccw, "scissor", scissor, "rect", s["scissor"]]
+    told += ["blend", enable, rgb, alpha, "mask", mask, "factor", s["factor"]]
+    told += [("depth",) + s["depth"] if frame.version > 1 else ()]
+    return (words(*told) + "\n").encode()
+
+
 def answer(frame, name, arguments):
     k, n = frame.position, len(frame.events)
     if name == "step":
@@ -512,40 +531,9 @@ def answer(frame, name, arguments):
     if name in ("on", "off"):
         return switch(frame, arguments[0], name == "on")
     if name in ("pixel", "history"):
-        if not frame.inside(*arguments):
-            return refused(6)
-        (colour, depth), history = frame.replay(k, *arguments)
-        if name == "pixel":
-            return (words("pixel", colour, depth if frame.version > 1 else ()) + "\n").encode()
-        if frame.version == 1:
-            history = [entry[:6] for entry in history]
-        return "".join(words(*line) + "\n" for line in [("history", len(history))] + history).encode()
+        return of_a_pixel(frame, name, arguments) if frame.inside(*arguments) else refused(6)
     if name == "state":
-        s = frame.state()
-        cull, ccw, scissor = s["raster"]
-        enable, rgb, alpha, mask = s["blend"]
-        return (
-            words(
-                "state cull",
-                cull,
-                "ccw",
-                ccw,
-                "scissor",
-                scissor,
-                "rect",
-                s["scissor"],
-                "blend",
-                enable,
-                rgb,
-                alpha,
-                "mask",
-                mask,
-                "factor",
-                s["factor"],
-                ("depth",) + s["depth"] if frame.version > 1 else (),
-            )
-            + "\n"
-        ).encode()
+        return state_line(frame)
     if name == "events":
         lines = [event_line(i, on, *e) for i, (e, on) in enumerate(zip(frame.events, frame.on), 1)]
         return "".join(line + "\n" for line in [f"events {n} at {k}"] + lines).encode()

@@ -185,18 +185,9 @@ def opaque(pen):
         gl.glCullFace(face)
         gl.glFrontFace(front)
         left = -0.9 + 0.45 * number
-        pen.draw(
-            TRIANGLES,
-            corners(
-                (left, -0.1),
-                (left + 0.3, -0.13),
-                (left + 0.11, 0.13),
-                (left, -0.2),
-                (left + 0.13, -0.43),
-                (left + 0.31, -0.21),
-            ),
-            (0.3, 0.4, 0.9, 1),
-        )
+        upper = corners((left, -0.1), (left + 0.3, -0.13), (left + 0.11, 0.13))
+        lower = corners((left, -0.2), (left + 0.13, -0.43), (left + 0.31, -0.21))
+        pen.draw(TRIANGLES, upper + lower, (0.3, 0.4, 0.9, 1))
     pen.turn(False, CULL_FACE)
     pen.draw(TRIANGLES, corners((-0.9, -0.9), (-0.61, -0.87), (-0.77, -0.53)), (0.8, 0.8, 0.2, 1), instances=3)
     gl.glViewport(170, 20, 90, 70)

@@ -62,6 +62,15 @@ def words(given=None):
         action="store_true",
         help="the picture is what a driver drew: says what it ignored or mixed up, in one event or in all of a kind",
     )
+    add_search(parser)
+    parser.add_argument("--write", metavar="FILE", help="keeps the capture after the best change")
+    parser.add_argument(
+        "--program", help="framedbg [the one that was built or installed here, else the one on the path]"
+    )
+    return parser.parse_args(given)
+
+
+def add_search(parser):
     parser.add_argument(
         "--tolerance",
         type=tolerance,
@@ -83,8 +92,3 @@ def words(given=None):
         metavar="N",
         help="runs of framedbg at a time [one a core]",
     )
-    parser.add_argument("--write", metavar="FILE", help="keeps the capture after the best change")
-    parser.add_argument(
-        "--program", help="framedbg [the one that was built or installed here, else the one on the path]"
-    )
-    return parser.parse_args(given)

@@ -42,6 +42,24 @@ def words(given=None):
         metavar=("A", "B"),
         help="compares two captures, and ends; with --workers and --program alone",
     )
+    add_scripts(parser)
+    parser.add_argument("--at", type=position, metavar="K", help="the position at the start [the last]")
+    parser.add_argument(
+        "--workers", type=workers, metavar="N", help="the number of threads that draw, from 1 to 64 [4]"
+    )
+    parser.add_argument(
+        "--program", help="framedbg [the one that was built or installed here, else the one on the path]"
+    )
+    parser.trouble = 2 if any(word.startswith("--d") for word in (sys.argv[1:] if given is None else given)) else 1
+    parsed = parser.parse_args(given)
+    if parsed.diff and (parsed.capture or parsed.scripts or parsed.start or parsed.at is not None):
+        parser.error("--diff takes two captures, --workers and --program alone")
+    if not parsed.diff and not parsed.capture:
+        parser.error("the following arguments are required: CAPTURE")
+    return parsed
+
+
+def add_scripts(parser):
     parser.add_argument(
         "-x",
         dest="scripts",
@@ -60,17 +78,3 @@ def words(given=None):
         action="store_true",
         help="no prompt: plain text, one fact a line; without -x the lines come from standard input",
     )
-    parser.add_argument("--at", type=position, metavar="K", help="the position at the start [the last]")
-    parser.add_argument(
-        "--workers", type=workers, metavar="N", help="the number of threads that draw, from 1 to 64 [4]"
-    )
-    parser.add_argument(
-        "--program", help="framedbg [the one that was built or installed here, else the one on the path]"
-    )
-    parser.trouble = 2 if any(word.startswith("--d") for word in (sys.argv[1:] if given is None else given)) else 1
-    parsed = parser.parse_args(given)
-    if parsed.diff and (parsed.capture or parsed.scripts or parsed.start or parsed.at is not None):
-        parser.error("--diff takes two captures, --workers and --program alone")
-    if not parsed.diff and not parsed.capture:
-        parser.error("the following arguments are required: CAPTURE")
-    return parsed

@@ -79,6 +79,11 @@ def ways():
         help="EGL's device of this number, counted from 0 [the one without a window]",
     )
     group.add_argument("--list", action="store_true", help="names EGL's devices, and does nothing else")
+    add_drawing(group)
+    return parser
+
+
+def add_drawing(group):
     group.add_argument(
         "--viewport",
         type=viewport,
@@ -107,7 +112,6 @@ def ways():
         metavar="FAULT",
         help="draws as a driver with this fault would: for tests",
     )
-    return parser
 
 
 def judging():

@@ -39,31 +39,8 @@ def words(given=None):
     parser.add_argument(
         "--results", metavar="FOLDER", type=pathlib.Path, help="where results and reports are kept [FOLDER/night]"
     )
-    parser.add_argument(
-        "--tolerance",
-        type=tolerance,
-        default=(0, 0, 0, 0),
-        metavar="R,G,B,A",
-        help="how far a channel may be off, in all or in each [0]",
-    )
-    parser.add_argument(
-        "--seconds", type=seconds, default=60.0, metavar="S", help="the time for the search of one capture [60]"
-    )
-    parser.add_argument(
-        "--processes",
-        type=processes,
-        default=os.cpu_count() or 1,
-        metavar="N",
-        help="jobs at a time on this machine [one a core]",
-    )
-    parser.add_argument("--slurm", action="store_true", help="runs the jobs as an array of Slurm")
-    parser.add_argument(
-        "--sbatch",
-        type=shlex.split,
-        default=[],
-        metavar="WORDS",
-        help="further words for sbatch, as in --sbatch='--partition=night --time=60'",
-    )
+    add_comparing(parser)
+    add_jobs(parser)
     parser.add_argument(
         "--driver",
         nargs="?",
@@ -84,7 +61,43 @@ def words(given=None):
     parser.add_argument(
         "--program", help="framedbg [the one that was built or installed here, else the one on the path]"
     )
+    add_task(parser)
+    return parser.parse_args(given)
+
+
+def add_comparing(parser):
+    parser.add_argument(
+        "--tolerance",
+        type=tolerance,
+        default=(0, 0, 0, 0),
+        metavar="R,G,B,A",
+        help="how far a channel may be off, in all or in each [0]",
+    )
+    parser.add_argument(
+        "--seconds", type=seconds, default=60.0, metavar="S", help="the time for the search of one capture [60]"
+    )
+
+
+def add_jobs(parser):
+    parser.add_argument(
+        "--processes",
+        type=processes,
+        default=os.cpu_count() or 1,
+        metavar="N",
+        help="jobs at a time on this machine [one a core]",
+    )
+    parser.add_argument("--slurm", action="store_true", help="runs the jobs as an array of Slurm")
+    parser.add_argument(
+        "--sbatch",
+        type=shlex.split,
+        default=[],
+        metavar="WORDS",
+        help="further words for sbatch, as in --sbatch='--partition=night --time=60'",
+    )
+
+
+def add_task(parser):
+    """What the command of a job of an array has beside."""
     parser.add_argument("--names", type=pathlib.Path, help=argparse.SUPPRESS)
     parser.add_argument("--task", type=int, help=argparse.SUPPRESS)
     parser.add_argument("--job", help=argparse.SUPPRESS)
-    return parser.parse_args(given)
