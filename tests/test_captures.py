@@ -88,6 +88,37 @@ def lacking(program):
     return True
 
 
+def wrong_calls(capture):
+    """What the fault of a call says, and the call."""
+    red = (255, 0, 0, 255)
+    painted = lambda box, rgba, holes=None: capture.draw_picture([(0, 0, 0)] * 3, box, rgba, holes)
+    return {
+        "a target of 0 by 4": lambda: Capture(0, 4),
+        "a target of 4 by 16385": lambda: Capture(4, 16385),
+        "sideways is no cull mode": lambda: capture.raster("sideways", 0, 0),
+        "LES is no comparison": lambda: capture.depth(1, 1, "LES"),
+        "blend part 'ONE ZERO'": lambda: capture.blend(1, "ONE ZERO"),
+        "SRC_COLOR is no factor of alpha": lambda: capture.blend(1, alpha="SRC_COLOR ZERO ADD"),
+        "PLUS is no operation": lambda: capture.blend(1, "ONE ZERO PLUS"),
+        "mask 16": lambda: capture.blend(0, mask=16),
+        "index 3 of 3": lambda: capture.draw([(0, 0, 0, red)] * 3, indices=[0, 1, 3]),
+        "position 16385": lambda: capture.draw([(16385, 0, 0, red)] * 3),
+        "position nan": lambda: capture.draw([(float("nan"), 0, 0, red)] * 3),
+        "colour": lambda: capture.clear(256, 0, 0, 0),
+        "a draw of 196609 corners": lambda: capture.draw([(0, 0, 0, red)] * 196609),
+        "w is 0": lambda: place((0, 0, 0, 0), (0, 0, 4, 4)),
+        "a picture of 1 by 1 at 16384, 0": lambda: painted((16384, 0, 1, 1), bytes(4)),
+        "a picture of 1 by 1 at 0, -1": lambda: painted((0, -1, 1, 1), bytes(4)),
+        "a picture of 0 by 1": lambda: painted((0, 0, 0, 1), b""),
+        "a picture of 1 by 16385": lambda: painted((0, 0, 1, 16385), bytes(4 * 16385)),
+        "with 8 bytes: 4 are wanted": lambda: painted((0, 0, 1, 1), bytes(8)),
+        "with 2 holes: 1 truths": lambda: painted((0, 0, 1, 1), bytes(4), [1, 0]),
+        "index 3 of 3 corners": lambda: capture.draw_picture(
+            [(0, 0, 0)] * 3, (0, 0, 1, 1), bytes(4), indices=[0, 1, 3]
+        ),
+    }
+
+
 class Emitters(unittest.TestCase):
     def setUp(self):
         folder = tempfile.TemporaryDirectory()
@@ -216,33 +247,7 @@ class Emitters(unittest.TestCase):
     def test_hostile_words_in_python(self):
         capture = Capture(4, 4)
         red = (255, 0, 0, 255)
-        painted = lambda box, rgba, holes=None: capture.draw_picture([(0, 0, 0)] * 3, box, rgba, holes)
-        wrong = {
-            "a target of 0 by 4": lambda: Capture(0, 4),
-            "a target of 4 by 16385": lambda: Capture(4, 16385),
-            "sideways is no cull mode": lambda: capture.raster("sideways", 0, 0),
-            "LES is no comparison": lambda: capture.depth(1, 1, "LES"),
-            "blend part 'ONE ZERO'": lambda: capture.blend(1, "ONE ZERO"),
-            "SRC_COLOR is no factor of alpha": lambda: capture.blend(1, alpha="SRC_COLOR ZERO ADD"),
-            "PLUS is no operation": lambda: capture.blend(1, "ONE ZERO PLUS"),
-            "mask 16": lambda: capture.blend(0, mask=16),
-            "index 3 of 3": lambda: capture.draw([(0, 0, 0, red)] * 3, indices=[0, 1, 3]),
-            "position 16385": lambda: capture.draw([(16385, 0, 0, red)] * 3),
-            "position nan": lambda: capture.draw([(float("nan"), 0, 0, red)] * 3),
-            "colour": lambda: capture.clear(256, 0, 0, 0),
-            "a draw of 196609 corners": lambda: capture.draw([(0, 0, 0, red)] * 196609),
-            "w is 0": lambda: place((0, 0, 0, 0), (0, 0, 4, 4)),
-            "a picture of 1 by 1 at 16384, 0": lambda: painted((16384, 0, 1, 1), bytes(4)),
-            "a picture of 1 by 1 at 0, -1": lambda: painted((0, -1, 1, 1), bytes(4)),
-            "a picture of 0 by 1": lambda: painted((0, 0, 0, 1), b""),
-            "a picture of 1 by 16385": lambda: painted((0, 0, 1, 16385), bytes(4 * 16385)),
-            "with 8 bytes: 4 are wanted": lambda: painted((0, 0, 1, 1), bytes(8)),
-            "with 2 holes: 1 truths": lambda: painted((0, 0, 1, 1), bytes(4), [1, 0]),
-            "index 3 of 3 corners": lambda: capture.draw_picture(
-                [(0, 0, 0)] * 3, (0, 0, 1, 1), bytes(4), indices=[0, 1, 3]
-            ),
-        }
-        for why, call in wrong.items():
+        for why, call in wrong_calls(capture).items():
             with self.assertRaisesRegex(Fault, why):
                 call()
         capture.marker("tab \t é" * 20, source={"event": 7})
@@ -253,7 +258,7 @@ class Emitters(unittest.TestCase):
         self.assertEqual([event.get("depth") for event in capture.events[1:3]], [0, 32768])
         self.assertEqual(capture.events[-1]["source"], {"event": 8})
         self.assertEqual(json.loads(capture.text())["version"], 2)
-        painted((16383, 16383, 1, 1), bytes(4), [True])
+        capture.draw_picture([(0, 0, 0)] * 3, (16383, 16383, 1, 1), bytes(4), [True])
         self.assertIsNone(reference.fault(capture.text().encode()))
         self.assertEqual(json.loads(capture.text())["version"], 3)
 

@@ -347,12 +347,14 @@ class Explained(unittest.TestCase):
             )
         )
 
-    def test_it_points_into_a_picture(self):
-        def change(name, value, of=BOX):
-            event = WITH_PICTURES["events"][0] | {"picture": of | {name: value}}
-            text = explained(json.dumps({**WITH_PICTURES, "events": [event]}).encode())[2]
-            return text.partition("event 1 (draw), picture, ")[2]
+    def of_a_picture(self, name, value):
+        """What is said of a picture with another member."""
+        event = WITH_PICTURES["events"][0] | {"picture": BOX | {name: value}}
+        text = explained(json.dumps({**WITH_PICTURES, "events": [event]}).encode())[2]
+        return text.partition("event 1 (draw), picture, ")[2]
 
+    def test_it_points_into_a_picture(self):
+        change = self.of_a_picture
         self.assertEqual(change("left", 16384), "left: a whole number from 0 to 16383 of pixels is wanted, not 16384")
         self.assertEqual(change("height", 0), "height: a whole number from 1 to 16384 is wanted, not 0")
         self.assertEqual(change("texels", None), "texels: a text in base64 is wanted, of 24 bytes, not null")
@@ -365,6 +367,10 @@ class Explained(unittest.TestCase):
             change("holes", "AAA="),
             "holes: 1 byte in base64 is wanted, a bit for each of 3 by 2 texels; the text has 2",
         )
+        self.assertEqual(change("more", 1), "")
+
+    def test_it_says_why_a_text_is_no_base64(self):
+        change = self.of_a_picture
         none_of = "which is none of base64's (A to Z, a to z, 0 to 9, + and /)"
         self.assertEqual(
             change("texels", "A" * 9 + "\n" + "A" * 22), f"texels: character 9 of the text is '\\n', {none_of}"
@@ -385,7 +391,8 @@ class Explained(unittest.TestCase):
             "holes: behind the last byte of the text stand bits that aren't zero: base64 spells these bytes "
             "with another last letter before =",
         )
-        self.assertEqual(change("more", 1), "")
+
+    def test_it_says_what_is_wrong_with_a_draw_of_a_picture(self):
         told = lambda **members: explained(json.dumps({**WITH_PICTURES, **members}).encode())[2].partition(": ")[2]
         draw = WITH_PICTURES["events"][0]
         self.assertEqual(
@@ -536,22 +543,17 @@ class InThePage(unittest.TestCase):
         draw, source = FRAME["events"][5], {"event": 363, "name": "glDrawArrays()"}
         half = draw | {"source": source, "vertices": [CORNER | {"x": 150.5}]}
         whole = "a whole number from -1073741824 to 1073741824 of 1/65536 pixel is wanted, not 150.5"
-        long = WITH_PICTURES["events"][0] | {"picture": BOX | {"texels": "A" * 36}}
+        long, short = (WITH_PICTURES["events"][0] | {"picture": BOX | {"texels": text}} for text in ("A" * 36, "A"))
+        bytes_wanted = "24 bytes in base64 are wanted, four for each of 3 by 2 texels; the text has 27"
+        unpadded = "the text's 1 character isn't padded by = to whole fours, as base64 is"
+        drawn, bad = "event 1 (draw)", "8 bad field 1"
         some = [
-            (
-                {**WITH_PICTURES, "events": [long]},
-                "8 bad field 1",
-                "event 1 (draw), picture, texels: 24 bytes in base64 are wanted, four for each of 3 by 2 "
-                "texels; the text has 27",
-            ),
-            (
-                {**FRAME, "events": [half]},
-                "8 bad field 1",
-                f"event 1 (draw) of call 363 glDrawArrays(), vertex 0, x: {whole}",
-            ),
+            ({**WITH_PICTURES, "events": [long]}, bad, f"{drawn}, picture, texels: {bytes_wanted}"),
+            ({**WITH_PICTURES, "events": [short]}, bad, f"{drawn}, picture, texels: {unpadded}"),
+            ({**FRAME, "events": [half]}, bad, f"{drawn} of call 363 glDrawArrays(), vertex 0, x: {whole}"),
             (
                 {**FRAME, "events": [{"kind": "clear", "source": READ}]},
-                "8 bad field 1",
+                bad,
                 f"event 1 (clear) of call 40 glDraw() ({'; '.join(READ_TOLD[1:])[:160]}): the member color is "
                 f"missing: an array of 4 is wanted",
             ),
@@ -562,7 +564,7 @@ class InThePage(unittest.TestCase):
             ),
             (
                 {**FRAME, "events": [{"kind": "clear", "colour": [1, 2, 3, 4]}]},
-                "8 bad field 1",
+                bad,
                 "event 1 (clear): the member color is missing: an array of 4 is wanted (did you mean colour?)",
             ),
             ({**FRAME, "height": 0}, "5 size", "height: a whole number from 1 to 16384 is wanted, not 0"),
@@ -571,6 +573,8 @@ class InThePage(unittest.TestCase):
             some, self.told(*(json.dumps(frame).encode() for frame, _, _ in some)), strict=True
         ):
             self.assertEqual((told, because.partition(": ")[2]), (verdict, why))
+
+    def test_columns_are_of_characters(self):
         in_lines = json.dumps(FRAME, indent=1, ensure_ascii=False).replace(
             '"a name"', '"\U0001f600\U0001f600", "name": 7'
         )
@@ -578,7 +582,7 @@ class InThePage(unittest.TestCase):
         self.assertEqual(
             self.told(in_lines.encode())[0][1],
             f'line {line}, column 26: event 8 (marker), name: a text is wanted, not 7',
-        )  # columns are of characters
+        )
 
 
 if __name__ == "__main__":

@@ -121,6 +121,25 @@ def stand_in():
     return types.SimpleNamespace(GraphicsAPI=Api, OpenCaptureFile=File, **{name: Names() for name in names}, **calls)
 
 
+def call_of(kind, flags, outputs=(), source=0, onto=0, chunk=0):
+    name = {"Copy": "glBlitFramebuffer(..)"}.get(kind, "call()")
+    return types.SimpleNamespace(
+        flags=flags,
+        outputs=list(outputs),
+        copySource=source,
+        copyDestination=onto,
+        events=[types.SimpleNamespace(chunkIndex=chunk)],
+        GetName=lambda _: name,
+    )
+
+
+def copy_of_rows(first, last):
+    """What RenderDoc keeps of a call that copies rows 0 to 480 onto others."""
+    rows = {"srcY0": 0, "srcY1": 480, "dstY0": first, "dstY1": last}
+    number = lambda value: types.SimpleNamespace(data=types.SimpleNamespace(basic=types.SimpleNamespace(i=value)))
+    return types.SimpleNamespace(FindChild=lambda name: number(rows[name]))
+
+
 class Foreign(unittest.TestCase):
     def asked(
         self, content=b"RDOC", api="OpenGL", support="Supported", replay="Succeeded", display=":none", name="frame.rdc"
@@ -333,32 +352,14 @@ class Foreign(unittest.TestCase):
             for kind in ("Drawcall", "Copy", "Present", "PushMarker", "SetMarker", "Clear", "Dispatch", "Resolve")
         }
         kinds.update({name: 1 << number for number, name in enumerate(kinds)})
-        number = lambda value: types.SimpleNamespace(data=types.SimpleNamespace(basic=types.SimpleNamespace(i=value)))
-        chunks = [
-            types.SimpleNamespace(FindChild=lambda name, rows=rows: number(rows[name]))
-            for rows in (
-                {"srcY0": 0, "srcY1": 480, "dstY0": 480, "dstY1": 0},
-                {"srcY0": 0, "srcY1": 480, "dstY0": 0, "dstY1": 480},
-            )
-        ]
-
-        def action(kind, outputs=(), source=0, onto=0, chunk=0):
-            name = {"Copy": "glBlitFramebuffer(..)"}.get(kind, "call()")
-            return types.SimpleNamespace(
-                flags=kinds[kind],
-                outputs=list(outputs),
-                copySource=source,
-                copyDestination=onto,
-                events=[types.SimpleNamespace(chunkIndex=chunk)],
-                GetName=lambda _: name,
-            )
-
+        action = lambda kind, *words, **more: call_of(kind, kinds[kind], *words, **more)
         for kind, flag in kinds.items():
             setattr(flags, kind, flag)
         replay.KINDS[:] = [("draw", flags.Drawcall), ("copy", flags.Copy)]
         replay.rd.ResourceId = types.SimpleNamespace(Null=lambda: 0)
         frame = replay.ReplayedFrame("frame.rdc")
-        frame.is_gl, frame.names = lambda: True, types.SimpleNamespace(chunks=chunks)
+        frame.is_gl = lambda: True
+        frame.names = types.SimpleNamespace(chunks=[copy_of_rows(480, 0), copy_of_rows(0, 480)])
         frame.textures = {one: types.SimpleNamespace(width=640, height=480) for one in (5, 7, 9)}
         frame.pictures = types.SimpleNamespace(lowest_row_first=True)
         for chunk, is_turned in ((0, True), (1, False)):

@@ -135,29 +135,28 @@ class Calls(unittest.TestCase):
             self.assertEqual((calls.set_by(chunk) or ("", ()))[1], kinds, chunk.name)
 
 
+def two_targets():
+    """The captures of two targets: draws of the second read the first, one that is unknown, and the second itself."""
+    event = lambda kind, call, **more: {"kind": kind, "source": {"event": call, **more}}
+    kinds = [("clear", 2), ("blend", 5), ("draw", 5), ("draw", 5), ("draw", 30)]
+    reads = [{"target": 3, "event": 5, "laid": "straight"}]
+    events = [
+        event("draw", 4, reads=[{"target": 3, "event": 2}, {"target": 9, "event": 1}, {"target": 7, "event": 2}]),
+        event("marker", 6, reads=reads),
+        event("draw", 6, reads=reads),
+        event("draw", 7, reads=[{"target": 3, "event": 1}, {"target": 7, "event": 4}]),
+    ]
+    return (
+        {"width": 8, "height": 4, "events": [event(*kind) for kind in kinds]},
+        {"width": 6, "height": 2, "events": events},
+    )
+
+
 class Targets(unittest.TestCase):
     def test_which_draw_reads_which(self):
         """A target as it was made: at the last event of its capture that comes from a call up to the one that wrote
         it last."""
-        event = lambda kind, call, **more: {"kind": kind, "source": {"event": call, **more}}
-        lit = {
-            "width": 8,
-            "height": 4,
-            "events": [event("clear", 2), event("blend", 5), event("draw", 5), event("draw", 5), event("draw", 30)],
-        }
-        reads = [{"target": 3, "event": 5, "laid": "straight"}]
-        shown = {
-            "width": 6,
-            "height": 2,
-            "events": [
-                event(
-                    "draw", 4, reads=[{"target": 3, "event": 2}, {"target": 9, "event": 1}, {"target": 7, "event": 2}]
-                ),
-                event("marker", 6, reads=reads),
-                event("draw", 6, reads=reads),
-                event("draw", 7, reads=[{"target": 3, "event": 1}, {"target": 7, "event": 4}]),
-            ],
-        }
+        lit, shown = two_targets()
         found = targets.made(7, [(3, "lit", lit), (7, "", shown)])
         self.assertEqual(
             found["targets"],

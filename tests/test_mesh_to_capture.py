@@ -104,6 +104,30 @@ READERS = {".obj": obj.read, ".ply": ply.read, ".glb": gltf.read}
 read = lambda path: READERS[path.suffix](path)
 
 
+PLY_OF_A_POINT = "ply\nformat {} 1.0\nelement vertex 1\n{}end_header\n{}"
+THREE_NUMBERS = "property float x\nproperty float y\nproperty float z\n"
+WRONG_PROPERTIES = (  # the file's name, its properties, what stands behind its head, and what is said of it
+    (
+        "x",
+        "property list uchar float x\nproperty float y\nproperty float z\n",
+        "1 0 0 0\n",
+        "the property x of a vertex is a list",
+    ),
+    (
+        "red",
+        THREE_NUMBERS + "property list uchar uchar red\n",
+        "0 0 0 1 1\n",
+        "the property red of a vertex is a list",
+    ),
+    (
+        "face",
+        THREE_NUMBERS + "element face 1\nproperty int vertex_indices\n",
+        "0 0 0 0\n",
+        "the property vertex_indices of a face is one number",
+    ),
+)
+
+
 class Meshes(unittest.TestCase):
     def setUp(self):
         self.folder = tempfile.TemporaryDirectory()
@@ -310,34 +334,15 @@ class Meshes(unittest.TestCase):
                 self.refused(path, why)
             else:
                 self.assertTrue(explained(self.converted(path).stdout)[0], name)
-        head = "ply\nformat {} 1.0\nelement vertex 1\n{}end_header\n{}"
-        plain = "property float x\nproperty float y\nproperty float z\n"
-        for name, properties, rest, why in (
-            (
-                "x",
-                "property list uchar float x\nproperty float y\nproperty float z\n",
-                "1 0 0 0\n",
-                "the property x of a vertex is a list",
-            ),
-            ("red", plain + "property list uchar uchar red\n", "0 0 0 1 1\n", "the property red of a vertex is a list"),
-            (
-                "face",
-                plain + "element face 1\nproperty int vertex_indices\n",
-                "0 0 0 0\n",
-                "the property vertex_indices of a face is one number",
-            ),
-        ):
+        for name, properties, rest, why in WRONG_PROPERTIES:
             path = folder / f"{name}.ply"
-            path.write_text(head.format("ascii", properties, rest))
+            path.write_text(PLY_OF_A_POINT.format("ascii", properties, rest))
             self.refused(path, why)
+        counted = THREE_NUMBERS + "element face 1\nproperty list float int vertex_indices\n"
         for value in (float("inf"), float("nan"), -1.0, 0.5):
             path = folder / "counted.ply"
-            path.write_bytes(
-                head.format(
-                    "binary_little_endian", plain + "element face 1\nproperty list float int vertex_indices\n", ""
-                ).encode()
-                + struct.pack("<ffff", 0, 0, 0, value)
-            )
+            head = PLY_OF_A_POINT.format("binary_little_endian", counted, "")
+            path.write_bytes(head.encode() + struct.pack("<ffff", 0, 0, 0, value))
             self.refused(path, "is no count and no point's number")
 
     def test_more_than_a_capture_holds(self):

@@ -223,34 +223,37 @@ class Clears(unittest.TestCase):
             self.assertEqual(TracedFrame.depth_value(action, 0, 0), 1.0)
 
 
+WORDS_THAT_ARE_NOT = (
+    ("glTranslatef", {"x": 1}),
+    ("glTranslatef", {"x": "a", "y": 1, "z": 2}),
+    ("glMatrixMode", {}),
+    ("glBegin", {"way": 4}),
+    ("glDrawArrays", {"mode": 4, "first": None, "count": 3}),
+    ("glBufferData", {"target": 1, "size": 1 << 60, "data": None}),
+    ("glCallList", {"x": 1}),
+    ("glPolygonMode", {"face": 1}),
+    ("glViewport", {"x": 1}),
+    ("glScissor", {"x": "0", "y": 0, "width": 1, "height": 1}),
+    ("glClearDepth", {"depth": "far"}),
+    ("glColorMask", {"red": 1}),
+    ("glLoadMatrixf", {"m": [1, 2]}),
+    ("glClipPlane", {"plane": 0x3000, "equation": [1]}),
+    ("glVertexPointer", {"size": "4"}),
+    ("glBlendFunc", {"sfactor": [], "dfactor": {}}),
+    ("glPushAttrib", {}),
+    ("glDepthRange", {"zNear": "a", "zFar": "b"}),
+    ("glEnable", {"cap": []}),
+    ("glVertex2f", {"x": None, "y": 1}),
+    ("glShaderSource", {}),
+    ("glBindFramebuffer", {}),
+)
+
+
 class Strangers(unittest.TestCase):
     def test_words_that_are_not_openGL_s(self):
         """They give a Fault that names the call, whatever stands where a number should, or nothing."""
         faults = 0
-        for name, given in (
-            ("glTranslatef", {"x": 1}),
-            ("glTranslatef", {"x": "a", "y": 1, "z": 2}),
-            ("glMatrixMode", {}),
-            ("glBegin", {"way": 4}),
-            ("glDrawArrays", {"mode": 4, "first": None, "count": 3}),
-            ("glBufferData", {"target": 1, "size": 1 << 60, "data": None}),
-            ("glCallList", {"x": 1}),
-            ("glPolygonMode", {"face": 1}),
-            ("glViewport", {"x": 1}),
-            ("glScissor", {"x": "0", "y": 0, "width": 1, "height": 1}),
-            ("glClearDepth", {"depth": "far"}),
-            ("glColorMask", {"red": 1}),
-            ("glLoadMatrixf", {"m": [1, 2]}),
-            ("glClipPlane", {"plane": 0x3000, "equation": [1]}),
-            ("glVertexPointer", {"size": "4"}),
-            ("glBlendFunc", {"sfactor": [], "dfactor": {}}),
-            ("glPushAttrib", {}),
-            ("glDepthRange", {"zNear": "a", "zFar": "b"}),
-            ("glEnable", {"cap": []}),
-            ("glVertex2f", {"x": None, "y": 1}),
-            ("glShaderSource", {}),
-            ("glBindFramebuffer", {}),
-        ):
+        for name, given in WORDS_THAT_ARE_NOT:
             trace = Trace()("glViewport", 0, 0, WIDTH, HEIGHT)("glEnable", cap=gl.SCISSOR_TEST)(
                 "glEnable", cap=gl.BLEND
             )("glBegin", mode=0)

@@ -88,6 +88,21 @@ class State(unittest.TestCase):
     def set(self, own, name, *values):
         settings.set_by(own, Call(0, name, dict(enumerate(values))))
 
+    def set_all(self, own):
+        for name, *values in (
+            ("glEnable", gl.BLEND),
+            ("glEnable", gl.CULL_FACE),
+            ("glEnable", gl.DEPTH_TEST),
+            ("glEnable", gl.SCISSOR_TEST),
+            ("glBlendFunc", 1, 1),
+            ("glColorMask", 1, 0, 1, 0),
+            ("glCullFace", gl.FRONT),
+            ("glDepthFunc", 0x207),
+            ("glViewport", 1, 2, 3, 4),
+            ("glScissor", 5, 6, 7, 8),
+        ):
+            self.set(own, name, *values)
+
     def test_what_is_pushed_comes_back_and_no_more(self):
         for mask, kept in (
             (0x2000, {"enabled"}),
@@ -101,29 +116,10 @@ class State(unittest.TestCase):
         ):
             own = Settings()
             then = own.copy()
-            self.set(own, "glEnable", gl.BLEND)
-            for name, values in (
-                ("glEnable", [gl.CULL_FACE]),
-                ("glEnable", [gl.DEPTH_TEST]),
-                ("glEnable", [gl.SCISSOR_TEST]),
-                ("glBlendFunc", [1, 1]),
-                ("glColorMask", [1, 0, 1, 0]),
-                ("glCullFace", [gl.FRONT]),
-                ("glDepthFunc", [0x207]),
-                ("glViewport", [1, 2, 3, 4]),
-                ("glScissor", [5, 6, 7, 8]),
-            ):
-                self.set(own, name, *values)
+            self.set_all(own)
             now = settings.restored(own, then, mask)
-            told = {
-                "enabled": now.enabled == then.enabled,
-                "blend": now.blend == then.blend,
-                "mask": now.mask == then.mask,
-                "cull": now.cull == then.cull,
-                "depth_function": now.depth_function == then.depth_function,
-                "viewport": now.viewport == then.viewport,
-                "scissor": now.scissor == then.scissor,
-            }
+            parts = ("enabled", "blend", "mask", "cull", "depth_function", "viewport", "scissor")
+            told = {name: getattr(now, name) == getattr(then, name) for name in parts}
             switches = {
                 "blend is on": gl.BLEND,
                 "cull face is on": gl.CULL_FACE,

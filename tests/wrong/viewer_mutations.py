@@ -279,7 +279,7 @@ MUTATIONS = [   # name, file, text, what stands there instead, test
     ("explain: a kind of any length", "explaining/printable.py", "len(text) <= MOST_SHOWN", "True", "Explained.test_nothing_steers_the_terminal"),
     ("explain: read to its end", "explain", "file.read(MOST_BYTES + 1)", "file.read()", "Explained.test_a_file_without_end"),
     ("explain: a byte too few is read", "explain", "file.read(MOST_BYTES + 1)", "file.read(MOST_BYTES)", "Explained.test_a_file_without_end"),
-    ("explained page: columns of half characters", "json_text.js", "if ((text.charCodeAt(i) & 0xfc00) !== 0xdc00) column++", "column++", "InThePage.test_some_by_hand"),
+    ("explained page: columns of half characters", "json_text.js", "if ((text.charCodeAt(i) & 0xfc00) !== 0xdc00) column++", "column++", "InThePage.test_columns_are_of_characters"),
     ("explained page: the name that is least like it", "near.js", "like > best.like", "like < best.like", "InThePage.test_it_says_what_explain_says"),
     ("explained page: pictures of any length", "rules.js", "if (has !== length) throw", "if (has < length) throw", "InThePage.test_some_by_hand"),
     ("page: a frame of RenderDoc is a picture", "page/files.js", "  rdc: converted(", "  picture: converted(", "Page.test_compared_with_another_picture"),
