@@ -2,19 +2,25 @@
 import collections
 import json
 import math
+import pathlib
 import struct
+from collections.abc import Iterable, Iterator, Sequence
+from typing import Any
 
-from .model import GREY, MOST_POINTS, Fault, Model, number, read_bytes
+from .model import GREY, MOST_POINTS, Colour, Fault, Model, Point, number, read_bytes
+
+Json = dict[str, Any]
+Matrix = tuple[float, ...]  # columns one after another, as glTF has them
 
 MAGIC, JSON_CHUNK, BINARY_CHUNK = 0x46546C67, 0x4E4F534A, 0x004E4942
 COMPONENTS = {5120: "b", 5121: "B", 5122: "h", 5123: "H", 5125: "I", 5126: "f"}
 WIDE = {"SCALAR": 1, "VEC2": 2, "VEC3": 3, "VEC4": 4, "MAT4": 16}
 TRIANGLES, STRIP, FAN = 4, 5, 6
 MOST_PLACED = 200_000  # primitives, counted at each node that has them
-ONE = (1, 0, 0, 0, 0, 1, 0, 0, 0, 0, 1, 0, 0, 0, 0, 1)  # columns one after another, as glTF has them
+ONE: Matrix = (1, 0, 0, 0, 0, 1, 0, 0, 0, 0, 1, 0, 0, 0, 0, 1)
 
 
-def read(path):
+def read(path: pathlib.Path) -> Model:
     tree, binary = chunks(read_bytes(path))
     try:
         file = File(tree, binary)
@@ -26,7 +32,7 @@ def read(path):
         raise Fault(f"the JSON doesn't fit the buffer: {type(fault).__name__} {fault}") from None
 
 
-def chunks(data):
+def chunks(data: bytes) -> tuple[Json, bytes]:
     """The JSON and the binary chunk."""
     if len(data) < 20 or struct.unpack_from("<I", data)[0] != MAGIC:
         raise Fault("a .glb begins with glTF")
@@ -35,7 +41,8 @@ def chunks(data):
         raise Fault(f"version {version}: only glTF 2.0 is read")
     if length != len(data):
         raise Fault(f"the file has {len(data)} bytes, and says {length}: it is cut short or grown")
-    found, at = {}, 12
+    found: dict[int, bytes] = {}
+    at = 12
     while at + 8 <= length:
         size, kind = struct.unpack_from("<II", data, at)
         if at + 8 + size > length:
@@ -52,22 +59,21 @@ def chunks(data):
 
 
 class File:
-    def __init__(self, tree, binary):
+    def __init__(self, tree: Json, binary: bytes) -> None:
         self.tree, self.binary, self.placed_primitives = tree, binary, 0
         needed = tree.get("extensionsRequired", [])
         if needed:
             raise Fault(f"it needs the extension {needed[0]}")
 
-    def placed(self):
+    def placed(self) -> Iterator[tuple[int, Matrix]]:
         """The meshes of the scene with their matrices; of a file without scenes, the meshes as they are."""
         scenes = self.tree.get("scenes")
         if not scenes:
             yield from ((mesh, ONE) for mesh in range(len(self.tree.get("meshes", []))))
             return
-        waiting, seen = (
-            collections.deque((node, ONE) for node in item(scenes, self.tree.get("scene", 0)).get("nodes", [])),
-            set(),
-        )
+        nodes = item(scenes, self.tree.get("scene", 0)).get("nodes", [])
+        waiting = collections.deque((node, ONE) for node in nodes)
+        seen: set[int] = set()
         while waiting:
             index, above = waiting.popleft()
             node = item(self.tree["nodes"], index)
@@ -79,7 +85,7 @@ class File:
                 yield node["mesh"], matrix
             waiting += [(child, matrix) for child in node.get("children", [])]
 
-    def add_mesh(self, model, index, matrix):
+    def add_mesh(self, model: Model, index: int, matrix: Matrix) -> None:
         mesh = item(self.tree["meshes"], index)
         for primitive in mesh["primitives"]:
             self.placed_primitives += 1
@@ -88,10 +94,10 @@ class File:
             if primitive.get("mode", TRIANGLES) in (TRIANGLES, STRIP, FAN):  # points and lines aren't drawn
                 self.add_primitive(model, primitive, text_or(mesh.get("name"), f"mesh {index}"), matrix)
 
-    def add_primitive(self, model, primitive, name, matrix):
+    def add_primitive(self, model: Model, primitive: Json, name: str, matrix: Matrix) -> None:
         first, positions = len(model.points), self.values(primitive["attributes"]["POSITION"], "VEC3")
-        for point in positions:
-            model.add_point(applied(matrix, point))
+        for x, y, z in positions:
+            model.add_point(applied(matrix, (x, y, z)))
         count = len(positions)
         order = (
             [whole(i) for i, in self.values(primitive["indices"], "SCALAR")]
@@ -107,19 +113,17 @@ class File:
                 [first + a, first + c, first + b] if turned else [first + a, first + b, first + c], name, colour
             )
 
-    def material(self, primitive, name):
+    def material(self, primitive: Json, name: str) -> tuple[str, Colour]:
         if "material" not in primitive:
             return name, GREY
         material = item(self.tree["materials"], primitive["material"])
         base = material.get("pbrMetallicRoughness", {}).get("baseColorFactor", [1, 1, 1, 1])
         red, green, blue, alpha = (number(channel) for channel in base)
         opaque = material.get("alphaMode", "OPAQUE") == "OPAQUE"
-        return text_or(material.get("name"), name), (
-            *(encoded(c) for c in (red, green, blue)),
-            1.0 if opaque else alpha,
-        )
+        colour = encoded(red), encoded(green), encoded(blue), 1.0 if opaque else alpha
+        return text_or(material.get("name"), name), colour
 
-    def values(self, index, kind):
+    def values(self, index: int, kind: str) -> list[tuple[float, ...]]:
         """The rows of an accessor."""
         accessor = item(self.tree["accessors"], index)
         if accessor["type"] != kind or "sparse" in accessor:
@@ -144,24 +148,24 @@ class File:
         return [tuple(map(number, some)) for some in rows] if kind != "SCALAR" else rows
 
 
-def item(some, index):
+def item(some: Any, index: Any) -> Any:
     if not 0 <= whole(index) < len(some):
         raise Fault(f"number {index} of {len(some)} is named, counted from 0")
     return some[index]
 
 
-def whole(value):
+def whole(value: Any) -> int:
     if type(value) is not int or value < 0:
         raise Fault(f"{str(value)[:20]!r} is no count and no place")
     return value
 
 
-def text_or(value, other):
+def text_or(value: Any, other: str) -> str:
     """A name, or another one where it is none."""
     return value if isinstance(value, str) else other
 
 
-def triangles(order, mode):
+def triangles(order: Sequence[int], mode: int) -> Iterable[Sequence[int]]:
     if mode == TRIANGLES:
         return (order[i : i + 3] for i in range(0, len(order) - 2, 3))
     if mode == FAN:
@@ -169,13 +173,13 @@ def triangles(order, mode):
     return ((order[i], order[i + 1 + i % 2], order[i + 2 - i % 2]) for i in range(len(order) - 2))
 
 
-def encoded(channel):
+def encoded(channel: float) -> float:
     """A linear channel as sRGB has it: base colours are linear."""
     channel = min(1.0, max(0.0, channel))
     return 12.92 * channel if channel <= 0.0031308 else 1.055 * channel ** (1 / 2.4) - 0.055
 
 
-def matrix_of(node):
+def matrix_of(node: Json) -> Matrix:
     if "matrix" in node:
         if len(node["matrix"]) != 16:
             raise Fault("a matrix has 16 numbers")
@@ -203,16 +207,17 @@ def matrix_of(node):
     )
 
 
-def times(m, n):
+def times(m: Matrix, n: Matrix) -> Matrix:
     return tuple(sum(m[row + 4 * k] * n[k + 4 * column] for k in range(4)) for column in range(4) for row in range(4))
 
 
-def applied(m, point):
+def applied(m: Matrix, point: Point) -> Point:
     x, y, z = point
-    return tuple(m[row] * x + m[row + 4] * y + m[row + 8] * z + m[row + 12] for row in range(3))
+    across, down, deep = (m[row] * x + m[row + 4] * y + m[row + 8] * z + m[row + 12] for row in range(3))
+    return across, down, deep
 
 
-def determinant(m):
+def determinant(m: Matrix) -> float:
     return (
         m[0] * (m[5] * m[10] - m[6] * m[9]) - m[4] * (m[1] * m[10] - m[2] * m[9]) + m[8] * (m[1] * m[6] - m[2] * m[5])
     )

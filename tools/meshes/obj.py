@@ -1,9 +1,14 @@
 """Wavefront OBJ, with the colours of its MTL."""
-from .model import GREY, Fault, Model, number, read_bytes
+import pathlib
+from collections.abc import Iterator
+
+from .model import GREY, Colour, Fault, Model, Point, number, read_bytes
 
 
-def read(path):
-    model, colours, name, libraries = Model(), {}, path.stem, set()
+def read(path: pathlib.Path) -> Model:
+    model, name = Model(), path.stem
+    colours: dict[str, Colour] = {}
+    libraries: set[str] = set()
     for at, line in lines_of(path):
         word, _, rest = line.partition(" ")
         try:
@@ -22,9 +27,10 @@ def read(path):
     return model
 
 
-def read_materials(path):
+def read_materials(path: pathlib.Path) -> dict[str, Colour]:
     """The colours of an MTL; one that isn't there has none."""
-    colours, name = {}, None
+    colours: dict[str, Colour] = {}
+    name = None
     for at, line in lines_of(path) if path.is_file() else []:
         word, _, rest = line.partition(" ")
         try:
@@ -40,19 +46,20 @@ def read_materials(path):
     return colours
 
 
-def lines_of(path):
+def lines_of(path: pathlib.Path) -> Iterator[tuple[int, str]]:
     text = read_bytes(path).decode(errors="replace").replace("\\\r\n", " ").replace("\\\n", " ")
     return ((at, line.strip()) for at, line in enumerate(text.splitlines(), 1))
 
 
-def three(text):
+def three(text: str) -> Point:
     words = text.split()
     if len(words) < 3:
         raise Fault(f"three numbers are wanted, not {len(words)}")
-    return tuple(number(word) for word in words[:3])
+    x, y, z = map(number, words[:3])
+    return x, y, z
 
 
-def corner_of(text, count):
+def corner_of(text: str, count: int) -> int:
     first = text.split("/")[0]
     try:
         index = int(first)

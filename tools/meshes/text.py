@@ -1,4 +1,6 @@
 """A capture's text, an event a line. What framedbg would refuse for its length isn't written."""
+from typing import Any
+
 from captures import MOST_BYTES, MOST_EVENTS, compact, joined
 
 from .model import Fault
@@ -6,9 +8,10 @@ from .model import Fault
 MOST_HEAD = 100  # bytes before and after the events
 
 
-def text_of(made, triangles):
+def text_of(made: dict[str, Any], triangles: int) -> str:
     """The capture's text, unless framedbg would refuse it for its length."""
-    lines, length = [], 0
+    lines: list[str] = []
+    length = 0
     for event in made["events"]:
         lines.append(compact(event))
         length += len(lines[-1].encode()) + 2
