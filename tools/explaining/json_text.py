@@ -3,6 +3,10 @@
 Values are Python's, but a number that is no whole one of 64 bits with a sign is an `Other`, which keeps its text.
 """
 import re
+from collections.abc import Iterable
+from typing import Any
+
+Places = dict[str | int, int]  # where members and items begin
 
 MOST_NESTING = 127
 SPACE = re.compile(r"[ \t\n\r]*")
@@ -16,7 +20,7 @@ WORDS = {"true": True, "false": False, "null": None}
 class Malformed(Exception):
     """The text is no JSON value; `at` is where, in characters."""
 
-    def __init__(self, at, why):
+    def __init__(self, at: int, why: str) -> None:
         super().__init__(why)
         self.at = at
 
@@ -24,21 +28,21 @@ class Malformed(Exception):
 class Other:
     """A number that isn't a whole one of 64 bits."""
 
-    def __init__(self, text):
+    def __init__(self, text: str) -> None:
         self.text = text
 
-    def __repr__(self):
+    def __repr__(self) -> str:
         return self.text if len(self.text) <= 24 else self.text[:20] + " .."
 
 
-def decoded(data):
+def decoded(data: bytes) -> str:
     try:
         return data.decode("utf-8")
     except UnicodeDecodeError as fault:
         raise Malformed(len(data[: fault.start].decode("utf-8")), "these bytes are no UTF-8") from None
 
 
-def read(text):
+def read(text: str) -> Any:
     """The one value of a text."""
     value, at = read_value(text, space(text, 0), MOST_NESTING)
     if at < len(text):
@@ -46,27 +50,27 @@ def read(text):
     return value
 
 
-def locate(text, path):
+def locate(text: str, path: Iterable[str | int]) -> int:
     """Where the value stands that a path of names and numbers leads to, in characters; of equal names the last
     counts."""
     at = space(text, 0)
     for depth, step in enumerate(path):
-        places = {}
+        places: Places = {}
         read_value(text, at, MOST_NESTING - depth, places)
         at = places[step]
     return at
 
 
-def line_and_column(text, at):
+def line_and_column(text: str, at: int) -> tuple[int, int]:
     """Both from 1, the column in characters."""
     return text.count("\n", 0, at) + 1, at - text.rfind("\n", 0, at)
 
 
-def space(text, at):
-    return SPACE.match(text, at).end()
+def space(text: str, at: int) -> int:
+    return SPACE.match(text, at).end()  # type: ignore[union-attr]  # no space is a match, too
 
 
-def read_value(text, at, depth, places=None):
+def read_value(text: str, at: int, depth: int, places: Places | None = None) -> tuple[Any, int]:
     """The value that begins here, and where the next token does. The places of its own members or items are written
     down where asked for."""
     first = text[at : at + 1]
@@ -85,8 +89,8 @@ def read_value(text, at, depth, places=None):
     raise Malformed(at, "a value is wanted here" if first else "the text ends too early")
 
 
-def read_object(text, at, depth, places):
-    made = {}
+def read_object(text: str, at: int, depth: int, places: Places | None) -> tuple[dict[str, Any], int]:
+    made: dict[str, Any] = {}
     if text[at : at + 1] == "}":
         return made, space(text, at + 1)
     while True:
@@ -102,8 +106,8 @@ def read_object(text, at, depth, places):
         at = space(text, expect(text, at, ",", "}"))
 
 
-def read_array(text, at, depth, places):
-    made = []
+def read_array(text: str, at: int, depth: int, places: Places | None) -> tuple[list[Any], int]:
+    made: list[Any] = []
     if text[at : at + 1] == "]":
         return made, space(text, at + 1)
     while True:
@@ -116,13 +120,13 @@ def read_array(text, at, depth, places):
         at = space(text, expect(text, at, ",", "]"))
 
 
-def expect(text, at, *wanted):
+def expect(text: str, at: int, *wanted: str) -> int:
     if text[at : at + 1] != wanted[0]:
         raise Malformed(at, f"{' or '.join(wanted)} is wanted here" if at < len(text) else "the text ends too early")
     return at + 1
 
 
-def read_string(text, at):
+def read_string(text: str, at: int) -> tuple[str, int]:
     found = STRING.match(text, at)
     if not found:
         raise Malformed(at, "this text has no end, or a character that must be escaped")
@@ -130,8 +134,9 @@ def read_string(text, at):
     return (unescaped(inside, at + 1) if "\\" in inside else inside), space(text, found.end())
 
 
-def unescaped(inside, at):
-    made, end = [], 0
+def unescaped(inside: str, at: int) -> str:
+    made: list[str] = []
+    end = 0
     for found in ESCAPE.finditer(inside):
         made.append(inside[end : found.start()])
         made.append(LETTERS[found.group(2)] if found.group(2) else chr(int(found.group(1), 16)))
@@ -143,7 +148,7 @@ def unescaped(inside, at):
         raise Malformed(at, "half of a surrogate pair") from None
 
 
-def number(text, at):
+def number(text: str, at: int) -> int | Other:
     if "." not in text and "e" not in text and "E" not in text and len(text) <= 20 and text != "-0":
         value = int(text)
         if -1 << 63 <= value < 1 << 63:

@@ -3,7 +3,7 @@ direction) is written out."""
 MOST_SHOWN = 300  # characters
 
 
-def printable(text):
+def printable(text: str) -> str:
     """The text on one line, with what can't be seen as \\x1b and the like, and cut where it is long."""
     shown = text if len(text) <= MOST_SHOWN else text[:MOST_SHOWN] + " .."
     return "".join(

@@ -2,6 +2,8 @@
 import difflib
 import itertools
 import re
+from collections.abc import Callable, Iterable, Sequence
+from typing import Any
 
 from captures import (
     ALPHA_FACTORS,
@@ -21,10 +23,14 @@ from captures import (
     OPERATIONS,
     PICTURE,
     SINCE_TWO,
+    Event,
     unspelled,
 )
 
 from .json_text import Other
+
+Path = tuple[str | int, ...]  # names of members and numbers of items, from the capture down
+Owner = dict[str, Any]  # whose member is looked at
 
 MOST_COMPARED = 1000  # names that a misspelt one is compared with
 FAULTS = {
@@ -42,17 +48,18 @@ FAULTS = {
 class Wrong(Exception):
     """A fault of framedbg's list, at a path, and why."""
 
-    def __init__(self, fault, path, why):
+    def __init__(self, fault: int, path: Path, why: str) -> None:
         super().__init__(why)
         self.fault, self.path = fault, path
 
     @property
-    def event(self):
+    def event(self) -> int | None:
         """The number of the event, from 1, or None."""
-        return self.path[1] + 1 if self.fault >= 7 else None
+        number = self.path[1] if self.fault >= 7 else None
+        return number + 1 if isinstance(number, int) else None
 
 
-def check(capture):
+def check(capture: Any) -> None:
     """Raises Wrong where the capture is refused."""
     if not isinstance(capture, dict):
         raise Wrong(3, (), f"a capture is an object; this is {told(capture)}")
@@ -72,7 +79,7 @@ def check(capture):
         check_event(event, capture["version"], ("events", number))
 
 
-def check_event(event, version, path):
+def check_event(event: Any, version: int, path: Path) -> None:
     if not isinstance(event, dict):
         raise Wrong(8, path, f"an event is an object; this is {told(event)}")
     kind = event.get("kind")
@@ -88,21 +95,21 @@ def check_event(event, version, path):
 # ---- The kinds of events ------------------------------------------------------------------------------------
 
 
-def clear(event, _, path):
+def clear(event: Event, _: int, path: Path) -> None:
     colour(event, path)
 
 
-def raster(event, _, path):
+def raster(event: Event, _: int, path: Path) -> None:
     one_of(event, path, "cull", CULLS)
     flag(event, path, "front_ccw")
     flag(event, path, "scissor")
 
 
-def scissor(event, _, path):
+def scissor(event: Event, _: int, path: Path) -> None:
     whole_numbers(event, path, "rect", 4, LEAST_EDGE, MOST_EDGE)
 
 
-def blend(event, _, path):
+def blend(event: Event, _: int, path: Path) -> None:
     flag(event, path, "enable")
     for name in ("rgb", "alpha"):
         blend_part(array(event, path, name, 3), (*path, name))
@@ -112,7 +119,7 @@ def blend(event, _, path):
             raise Wrong(8, (*path, "alpha", i), f"{event['alpha'][i]} is a colour, and the alpha part has none")
 
 
-def blend_part(part, path):
+def blend_part(part: list[Any], path: Path) -> None:
     for i, allowed in enumerate((FACTORS, FACTORS, OPERATIONS)):
         if not isinstance(part[i], str) or part[i] not in allowed:
             raise Wrong(
@@ -122,7 +129,7 @@ def blend_part(part, path):
             )
 
 
-def draw(event, version, path):
+def draw(event: Event, version: int, path: Path) -> None:
     has_picture = event.get("interp") == PICTURE
     if has_picture and version < 3:
         raise Wrong(
@@ -151,7 +158,7 @@ def draw(event, version, path):
             )
 
 
-def vertex(corner, version, path):
+def vertex(corner: Any, version: int, path: Path) -> None:
     if not isinstance(corner, dict):
         raise Wrong(8, path, f"a vertex is an object; this is {told(corner)}")
     for name in ("x", "y"):
@@ -160,7 +167,7 @@ def vertex(corner, version, path):
         whole(corner, path, "z", 0, FARTHEST)
 
 
-def picture(event, path):
+def picture(event: Event, path: Path) -> None:
     box = event.get("picture")
     if not isinstance(box, dict):
         raise missing_or(8, event, path, "picture", "an object is wanted")
@@ -175,7 +182,7 @@ def picture(event, path):
         in_base64(box, path, "holes", -(-box["width"] * box["height"] // 8), f"a bit for each of {size}")
 
 
-def marker(event, _, path):
+def marker(event: Event, _: int, path: Path) -> None:
     name = event.get("name")
     if not isinstance(name, str):
         raise missing_or(8, event, path, "name", "a text is wanted")
@@ -185,17 +192,17 @@ def marker(event, _, path):
         raise Wrong(8, (*path, "name"), "the name has a control character")
 
 
-def depth(event, _, path):
+def depth(event: Event, _: int, path: Path) -> None:
     flag(event, path, "enable")
     flag(event, path, "write")
     one_of(event, path, "func", FUNCTIONS)
 
 
-def depth_clear(event, _, path):
+def depth_clear(event: Event, _: int, path: Path) -> None:
     whole(event, path, "depth", 0, FARTHEST)
 
 
-KINDS = {
+KINDS: dict[str, Callable[[Event, int, Path], None]] = {
     "clear": clear,
     "raster": raster,
     "scissor": scissor,
@@ -211,27 +218,27 @@ KINDS = {
 # ---- Members ------------------------------------------------------------------------------------------------
 
 
-def is_whole(value, low, high):
+def is_whole(value: Any, low: int, high: int) -> bool:
     return type(value) is int and low <= value <= high
 
 
-def whole(owner, path, name, low, high, unit=""):
+def whole(owner: Owner, path: Path, name: str, low: int, high: int, unit: str = "") -> None:
     if not is_whole(owner.get(name), low, high):
         raise missing_or(8, owner, path, name, f"a whole number from {low} to {high}{unit} is wanted")
 
 
-def flag(owner, path, name):
+def flag(owner: Owner, path: Path, name: str) -> None:
     if not isinstance(owner.get(name), bool):
         raise missing_or(8, owner, path, name, "true or false is wanted")
 
 
-def one_of(owner, path, name, allowed):
+def one_of(owner: Owner, path: Path, name: str, allowed: Sequence[str]) -> None:
     value = owner.get(name)
     if not isinstance(value, str) or value not in allowed:
         raise missing_or(8, owner, path, name, f"one of {', '.join(allowed)} is wanted{near(value, allowed)}")
 
 
-def array(owner, path, name, length=None):
+def array(owner: Owner, path: Path, name: str, length: int | None = None) -> list[Any]:
     value = owner.get(name)
     if not isinstance(value, list) or length not in (None, len(value)):
         raise missing_or(
@@ -240,17 +247,17 @@ def array(owner, path, name, length=None):
     return value
 
 
-def whole_numbers(owner, path, name, length, low, high):
+def whole_numbers(owner: Owner, path: Path, name: str, length: int, low: int, high: int) -> None:
     for i, value in enumerate(array(owner, path, name, length)):
         if not is_whole(value, low, high):
             raise Wrong(8, (*path, name, i), f"a whole number from {low} to {high} is wanted, not {told(value)}")
 
 
-def colour(owner, path):
+def colour(owner: Owner, path: Path) -> None:
     whole_numbers(owner, path, "color", 4, 0, 255)
 
 
-def in_base64(owner, path, name, length, why):
+def in_base64(owner: Owner, path: Path, name: str, length: int, why: str) -> None:
     """Bytes as a text, in its one spelling; the reason why it isn't names the first character that is at fault."""
     text = owner.get(name)
     if not isinstance(text, str):
@@ -281,21 +288,21 @@ def in_base64(owner, path, name, length, why):
         )
 
 
-def counted(bytes_):
+def counted(bytes_: int) -> str:
     return "1 byte" if bytes_ == 1 else f"{bytes_} bytes"
 
 
 # ---- Words --------------------------------------------------------------------------------------------------
 
 
-def missing_or(fault, owner, path, name, wanted):
+def missing_or(fault: int, owner: Owner, path: Path, name: str, wanted: str) -> Wrong:
     """A member that isn't there, or isn't as it should be."""
     if name in owner:
         return Wrong(fault, (*path, name), f"{wanted}, not {told(owner[name])}")
     return Wrong(fault, path, f"the member {name} is missing: {wanted}{near(name, owner)}")
 
 
-def near(value, allowed):
+def near(value: Any, allowed: Iterable[str]) -> str:
     """The name that was meant perhaps, looked for among the first of them."""
     if not isinstance(value, str) or len(value) > MOST_NAME:
         return ""
@@ -304,7 +311,7 @@ def near(value, allowed):
     return f" (did you mean {names[found[0]]}?)" if found else ""
 
 
-def told(value):
+def told(value: Any) -> str:
     if value is None:
         return "null"
     if isinstance(value, bool):

@@ -1,4 +1,6 @@
 """Whether framedbg accepts a capture, and why not, in words."""
+from typing import Any
+
 import origins
 from captures import MOST_BYTES
 from writing.counting import counted
@@ -9,7 +11,7 @@ MOST_NUMBER, MOST_NAME = 1 << 64, 60  # of a call that is shown: its number is b
 MOST_ORIGIN = 160  # characters of what else is told of where an event comes from
 
 
-def explained(data):
+def explained(data: bytes) -> tuple[bool, str, str]:
     """Whether a capture of these bytes is accepted, framedbg's own word for it, and the explanation."""
     if len(data) > MOST_BYTES:
         return False, "1 too long", f"it has more than {MOST_BYTES} bytes"
@@ -31,11 +33,11 @@ def explained(data):
     return True, "accepted", f"version {capture['version']}, {size}, {counted(len(capture['events']), 'event')}"
 
 
-def place(text, at):
+def place(text: str, at: int) -> str:
     return "line {}, column {}".format(*json_text.line_and_column(text, at))
 
 
-def call(event):
+def call(event: Any) -> str:
     """The call that an event comes from, where it says one, and what else it tells of that: of call 363
     glDrawElements() (reads texture 35 lit)"""
     source = event.get("source") if isinstance(event, dict) else None
@@ -46,10 +48,10 @@ def call(event):
     return (f" of call {' '.join(words)}" if words else "") + (f" ({'; '.join(more)[:MOST_ORIGIN]})" if more else "")
 
 
-def named(capture, fault):
+def named(capture: Any, fault: rules.Wrong) -> str:
     """The way to the member in words: event 5 (draw) of call 363 glDrawElements(), vertex 3, color 0"""
     words = []
-    path = list(fault.path)
+    path: list[Any] = list(fault.path)
     if path[:1] == ["events"] and len(path) > 1:
         event = capture["events"][path[1]]
         kind = event.get("kind") if isinstance(event, dict) else None
