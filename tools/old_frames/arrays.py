@@ -1,35 +1,41 @@
 """Vertices from arrays of the program's own or in buffers."""
 import struct
+from collections.abc import Iterable
 from dataclasses import dataclass
 
 from . import numbers as gl
+from .calls import Call
+from .matrices import Vertex
+
+Place = bytes | int | None  # bytes of the program's own, or a place in a buffer
 
 
 @dataclass(frozen=True)
 class Pointer:
-    """Where glVertexPointer says that vertices are: bytes of the program's own, or a place in a buffer."""
+    """Where glVertexPointer says that vertices are."""
 
     size: int = 4
     kind: int = 0x1406
     stride: int = 0
-    place: object = 0
+    place: Place = 0
     buffer: int = 0
 
 
 class Buffers:
     """Contents by name; contexts share them."""
 
-    def __init__(self):
-        self.contents, self.mapped = {}, {}  # mapped: name: (address, offset)
+    def __init__(self) -> None:
+        self.contents: dict[int, bytes] = {}
+        self.mapped: dict[int, tuple[int, int]] = {}  # (address, offset)
 
-    def data(self, name, size, content):
+    def data(self, name: int, size: int, content: bytes | None) -> None:
         self.contents[name] = (bytes(content) if content else b"").ljust(size, b"\0")[:size]
 
-    def write(self, name, offset, content):
+    def write(self, name: int, offset: int, content: bytes) -> None:
         old = self.contents.get(name, b"")
         self.contents[name] = old[:offset] + content + old[offset + len(content) :]
 
-    def copied(self, address, content):
+    def copied(self, address: int, content: bytes) -> None:
         """The program wrote to an address: it is a buffer's where one is mapped there."""
         for name, (start, offset) in self.mapped.items():
             within = address - start + offset
@@ -41,13 +47,13 @@ class Buffers:
 class Arrays:
     """The arrays of one context."""
 
-    def __init__(self, buffers):
+    def __init__(self, buffers: Buffers) -> None:
         self.buffers = buffers
-        self.bound = {}
+        self.bound: dict[int | None, int] = {}
         self.pointer, self.is_on = Pointer(), False
-        self.kept = []  # of glPushClientAttrib
+        self.kept: list[tuple[int, dict[int | None, int], Pointer, bool]] = []  # of glPushClientAttrib
 
-    def do(self, call):
+    def do(self, call: Call) -> bool:
         """Does a call on arrays or buffers; whether it was one."""
         words = call.words
         target = words.get("target")
@@ -79,12 +85,14 @@ class Arrays:
             return False
         return True
 
-    def pop(self):
-        mask, bound, pointer, is_on = self.kept.pop() if self.kept else (0, None, None, None)
+    def pop(self) -> None:
+        if not self.kept:
+            return
+        mask, bound, pointer, is_on = self.kept.pop()
         if mask & 2:
             self.bound, self.pointer, self.is_on = bound, pointer, is_on
 
-    def vertices(self, numbers):
+    def vertices(self, numbers: Iterable[int]) -> list[Vertex] | None:
         """The vertices of these numbers as (x, y, z, w), or None where the arrays have no such."""
         pointer = self.pointer
         letter = gl.TYPES.get(pointer.kind)
@@ -103,7 +111,7 @@ class Arrays:
         except struct.error:
             return None
 
-    def indices(self, count, kind, place):
+    def indices(self, count: int, kind: int, place: Place) -> list[int] | None:
         """The numbers of a draw, or None."""
         content, start = (
             (place, 0)

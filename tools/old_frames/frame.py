@@ -1,18 +1,24 @@
 """One frame of a trace, for real_frames.gather: what replay.ReplayedFrame is for RenderDoc's."""
+import pathlib
 import struct
+from collections.abc import Iterable, Iterator
 from contextlib import contextmanager
 from types import SimpleNamespace
+from typing import Any
 
 from real_frames.fault import Fault
+from real_frames.losses import Losses
 from real_frames.names import printable
 from real_frames.records import DrawRecord
+from real_frames.states import State
 from real_frames.viewport import meet
 
 from . import numbers as gl
-from .calls import ENDS_FRAME, calls, described
+from .calls import ENDS_FRAME, Call, calls, described
+from .draws import Done, Primitive
 from .machine import Machine, Shared
-from .retrace import Snapshots, otherwise, state_at
-from .unblending import is_blended, noted, without_blending
+from .retrace import Say, Snapshots, otherwise, state_at
+from .unblending import Changes, is_blended, noted, without_blending
 from .words import mask, scissor, state_of
 
 WINDOW = 0  # the target of a window's own
@@ -26,7 +32,7 @@ MAKES_CURRENT = {
 
 
 @contextmanager
-def understood(call):
+def understood(call: Call | Done) -> Iterator[None]:
     """A call whose words aren't those that OpenGL's has is a fault of the trace."""
     try:
         yield
@@ -46,11 +52,12 @@ def understood(call):
         ) from None
 
 
-def done_in(some, frame):
-    """What the calls of a frame do, given all calls of a trace from its beginning: [Done]."""
-    shared, machines, at = Shared(), {}, 0
+def done_in(some: Iterable[Call], frame: int) -> list[Done]:
+    """What the calls of a frame do, given all calls of a trace from its beginning."""
+    shared, at = Shared(), 0
+    machines: dict[Any, Machine] = {}
     machine = Machine(shared)
-    done = []
+    done: list[Done] = []
     for call in some:
         if call.name in MAKES_CURRENT:
             machine = machines.setdefault(
@@ -66,7 +73,7 @@ def done_in(some, frame):
     return done if at == frame else []
 
 
-def leave_alpha(records, losses):
+def leave_alpha(records: Iterable[object], losses: Losses) -> None:
     """Of records whose pictures have an alpha of 255 everywhere, as glretrace tells none: no draw writes it."""
     for record in records:
         if isinstance(record, DrawRecord) and record.state.blend["mask"] & 8:
@@ -74,7 +81,7 @@ def leave_alpha(records, losses):
             losses.add("draws that write alpha", "the target's own isn't told, so their mask leaves it out")
 
 
-def list_frames(path):
+def list_frames(path: str | pathlib.Path) -> Iterator[str]:
     """A line for each frame of a trace that draws."""
     first, draws, at = 0, 0, 0
     for call in calls(path):
@@ -88,7 +95,7 @@ def list_frames(path):
             first, draws, at = call.number + 1, 0, at + 1
 
 
-def chosen(path, frame):
+def chosen(path: str | pathlib.Path, frame: int | None) -> tuple[int, str]:
     """The number of the frame that is wanted, else of the last that is whole; and the program that replays it."""
     count, retracer = described(path)
     if not count:
@@ -100,7 +107,7 @@ def chosen(path, frame):
     return frame, retracer
 
 
-def wanted_in(numbers, span):
+def wanted_in(numbers: list[int], span: tuple[int, int]) -> list[int]:
     """The calls after which a picture is wanted: those of the span, and the one before."""
     first, last = span
     before = max((number for number in numbers if number < first), default=min(numbers) - 1)
@@ -110,16 +117,23 @@ def wanted_in(numbers, span):
 class TracedFrame:
     """Actions have the number of their call. One call may do several: a list of draws in several states."""
 
-    def __init__(self, path, frame=None, span=(0, 1 << 62), with_own=True, say=lambda line: None):
+    def __init__(
+        self,
+        path: pathlib.Path,
+        frame: int | None = None,
+        span: tuple[int, int] = (0, 1 << 62),
+        with_own: bool = True,
+        say: Say = lambda line: None,
+    ) -> None:
         number, retracer = chosen(path, frame)
         say(f"reading frame {number}")
-        changes = {}
+        changes: Changes = {}
         done = done_in(noted(calls(path), changes), number)
         self.actions = [SimpleNamespace(eventId=one.number, done=one) for one in done]
         if not any(one.kind == "draw" and one.target == WINDOW for one in done):
             raise Fault(f"{path}: frame {number} draws nothing on its window")
         self.snapshots = Snapshots(retracer, path, wanted_in([one.number for one in done], span), say)
-        self.own = None  # pictures with draws' own colours in the place of blended ones
+        self.own: Snapshots | None = None  # pictures with draws' own colours in the place of blended ones
         blended = [
             one.number
             for one in done
@@ -135,51 +149,53 @@ class TracedFrame:
     # What gather asks of a frame.
 
     @staticmethod
-    def kind(action):
+    def kind(action: SimpleNamespace) -> str:
         return action.done.kind
 
     @staticmethod
-    def name(action):
+    def name(action: SimpleNamespace) -> str:
         return printable(action.done.name)
 
     @staticmethod
-    def targets(action):
+    def targets(action: SimpleNamespace) -> list[int]:
         return [action.done.target]
 
     @staticmethod
-    def copied_onto(action):
+    def copied_onto(action: SimpleNamespace) -> int:
         return action.done.target
 
     @staticmethod
-    def until(_):
+    def until(_: SimpleNamespace) -> None:
         return None
 
-    def size(self, _):
+    def size(self, _: int) -> tuple[int, int] | None:
         return self.snapshots.size
 
-    def notes(self, _):
+    def notes(self, _: int) -> dict[str, int]:
         return {f"states of the last draw that glretrace has otherwise: {name}": 1 for name in self.otherwise}
 
-    def go(self, event):
+    def go(self, event: int) -> None:
         self.here = event
 
-    def picture(self, _):
+    def picture(self, _: int) -> bytes:
         known = [number for number in self.snapshots.kept if number <= self.here]
         return self.snapshots.picture(max(known, default=min(self.snapshots.kept)))
 
-    def unblended(self, _):
+    def unblended(self, _: int) -> bytes | None:
         """The picture with the draw that was gone to as it is without blending, or None."""
         return self.own.picture(self.here) if self.own and self.here in self.own.kept else None
 
     @staticmethod
-    def can_draw_alone():
+    def can_draw_alone() -> bool:
         return False
 
     @staticmethod
-    def can_ask():
+    def can_ask() -> bool:
         return False
 
-    def clears(self, action, width, height):
+    def clears(
+        self, action: SimpleNamespace, width: int, height: int
+    ) -> tuple[bool, bool, list[list[int] | None], int]:
         """(whether it clears colour, whether depth, its rectangles, None for all, the mask)"""
         own, buffers, whole = action.done.settings, action.done.buffers, [0, 0, width, height]
         with understood(action.done):
@@ -192,23 +208,23 @@ class TracedFrame:
             )
 
     @staticmethod
-    def depth_value(action, *_):
+    def depth_value(action: SimpleNamespace, *_: object) -> float:
         with understood(action.done):
             return min(max(float(action.done.settings.clear_depth), 0.0), 1.0)
 
     @staticmethod
-    def primitives(action):
+    def primitives(action: SimpleNamespace) -> tuple[list[Primitive], str]:
         return action.done.primitives, action.done.trouble
 
     @staticmethod
-    def state(action, width, height, losses):
+    def state(action: SimpleNamespace, width: int, height: int, losses: Losses) -> State:
         with understood(action.done):
             return state_of(action.done, width, height, losses)
 
     @staticmethod
-    def told(*_):
+    def told(*_: object) -> tuple[dict[str, Any], dict[str, Any]]:
         return {}, {}
 
     @staticmethod
-    def reads_textures(action):
+    def reads_textures(action: SimpleNamespace) -> bool:
         return bool(action.done.settings.enabled & gl.TEXTURES)

@@ -1,33 +1,40 @@
 """OpenGL's matrices: sixteen numbers, column by column."""
 import math
+from collections.abc import Sequence
 
-IDENTITY = (1.0, 0.0, 0.0, 0.0, 0.0, 1.0, 0.0, 0.0, 0.0, 0.0, 1.0, 0.0, 0.0, 0.0, 0.0, 1.0)
+Matrix = tuple[float, ...]
+Vertex = tuple[float, ...]  # x, y, z and w
+
+IDENTITY: Matrix = (1.0, 0.0, 0.0, 0.0, 0.0, 1.0, 0.0, 0.0, 0.0, 0.0, 1.0, 0.0, 0.0, 0.0, 0.0, 1.0)
 
 
-def multiplied(first, second):
+def multiplied(first: Matrix, second: Matrix) -> Matrix:
     return tuple(
         sum(first[4 * k + row] * second[4 * column + k] for k in range(4)) for column in range(4) for row in range(4)
     )
 
 
-def applied(matrix, vertex):
+def applied(matrix: Matrix, vertex: Sequence[float]) -> Vertex:
     x, y, z, w = vertex
-    return tuple(matrix[row] * x + matrix[4 + row] * y + matrix[8 + row] * z + matrix[12 + row] * w for row in range(4))
+    across, down, deep, scale = (
+        matrix[row] * x + matrix[4 + row] * y + matrix[8 + row] * z + matrix[12 + row] * w for row in range(4)
+    )
+    return across, down, deep, scale
 
 
-def transposed(matrix):
+def transposed(matrix: Sequence[float]) -> Matrix:
     return tuple(matrix[4 * row + column] for column in range(4) for row in range(4))
 
 
-def translation(x, y, z):
+def translation(x: float, y: float, z: float) -> Matrix:
     return IDENTITY[:12] + (x, y, z, 1.0)
 
 
-def scaling(x, y, z):
+def scaling(x: float, y: float, z: float) -> Matrix:
     return (x, 0.0, 0.0, 0.0, 0.0, y, 0.0, 0.0, 0.0, 0.0, z, 0.0, 0.0, 0.0, 0.0, 1.0)
 
 
-def rotation(angle, x, y, z):
+def rotation(angle: float, x: float, y: float, z: float) -> Matrix:
     length = math.sqrt(x * x + y * y + z * z)
     if not length:
         return IDENTITY
@@ -54,7 +61,7 @@ def rotation(angle, x, y, z):
     )
 
 
-def frustum(left, right, bottom, top, near, far):
+def frustum(left: float, right: float, bottom: float, top: float, near: float, far: float) -> Matrix:
     if left == right or bottom == top or near == far or near <= 0 or far <= 0:
         return IDENTITY  # OpenGL passes over such a call
     return (
@@ -77,7 +84,7 @@ def frustum(left, right, bottom, top, near, far):
     )
 
 
-def ortho(left, right, bottom, top, near, far):
+def ortho(left: float, right: float, bottom: float, top: float, near: float, far: float) -> Matrix:
     if left == right or bottom == top or near == far:
         return IDENTITY
     return (
@@ -100,7 +107,7 @@ def ortho(left, right, bottom, top, near, far):
     )
 
 
-def inverse(matrix):
+def inverse(matrix: Matrix) -> Matrix:
     """By Gauss and Jordan, or the identity where there is none."""
     rows = [
         [matrix[4 * column + row] for column in range(4)] + [float(row == column) for column in range(4)]

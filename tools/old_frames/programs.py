@@ -2,16 +2,18 @@
 import re
 
 from . import numbers as gl
+from .calls import Call
 
 AS_FIXED = re.compile(r"gl_Position\s*=\s*(ftransform\s*\(\s*\)|gl_ModelViewProjectionMatrix\s*\*\s*gl_Vertex)\s*;")
 
 
 class Programs:
-    def __init__(self):
-        self.own = {}  # shader: whether it is one of vertices that has its own way
-        self.kinds, self.attached = {}, {}
+    def __init__(self) -> None:
+        self.own: dict[int, bool] = {}  # of a shader whether it is one of vertices that has its own way
+        self.kinds: dict[int, int] = {}
+        self.attached: dict[int, set[int]] = {}
 
-    def do(self, call):
+    def do(self, call: Call) -> bool:
         """Does a call on shaders or programs; whether it was one."""
         words = list(call.words.values())
         if call.name in ("glCreateShader", "glCreateShaderObject"):
@@ -27,7 +29,7 @@ class Programs:
             return False
         return True
 
-    def has_own_vertices(self, program):
+    def has_own_vertices(self, program: int) -> bool:
         return any(
             self.kinds.get(shader) == gl.VERTEX_SHADER and self.own.get(shader, True)
             for shader in self.attached.get(program, ())

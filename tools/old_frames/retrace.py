@@ -1,13 +1,19 @@
 """glretrace: pictures after calls of a trace, and the state at a call."""
 import json
+import pathlib
 import re
 import tempfile
+from collections.abc import Callable, Iterable, Sequence
+from typing import IO, Any
 
 from real_frames.fault import Fault
-from real_frames.reel import Reel
+from real_frames.reel import Kept, Reel
 
 from . import numbers as gl
 from .calls import said, started
+from .draws import Done
+
+Say = Callable[[str], None]
 
 TRY = "; try LIBGL_ALWAYS_SOFTWARE=1, another --frame, or take_frame --zink"  # a driver may end what it replays
 HEAD = re.compile(rb"P6\n(?:#([^\n]*)\n)?(\d+) (\d+)\n255\n")
@@ -16,9 +22,11 @@ HEAD = re.compile(rb"P6\n(?:#([^\n]*)\n)?(\d+) (\d+)\n255\n")
 class Snapshots:
     """The picture of the window after each of some calls."""
 
-    def __init__(self, retracer, path, numbers, say=lambda line: None):
-        self.size = None
-        self.kept = {}
+    def __init__(
+        self, retracer: str, path: str | pathlib.Path, numbers: Iterable[int], say: Say = lambda line: None
+    ) -> None:
+        self.size: tuple[int, int] | None = None
+        self.kept: dict[int, Kept] = {}
         wanted = sorted(set(numbers))
         with tempfile.NamedTemporaryFile("w", suffix=".txt") as list_of_calls:
             list_of_calls.write("".join(f"{number}\n" for number in wanted))
@@ -31,7 +39,7 @@ class Snapshots:
                 if len(self.kept) < len(wanted):
                     raise Fault(f"{retracer} gave {len(self.kept)} of {len(wanted)} pictures: {said(process)}{TRY}")
 
-    def read(self, stream, wanted, say):
+    def read(self, stream: IO[bytes], wanted: list[int], say: Say) -> None:
         reel = Reel()
         for done, number in enumerate(wanted, 1):
             head = b"".join(stream.readline() for _ in range(4))
@@ -48,7 +56,7 @@ class Snapshots:
             self.kept[number] = reel.put(content)
             say(f"picture {done} of {len(wanted)}: after call {number}")
 
-    def picture(self, number):
+    def picture(self, number: int) -> bytes:
         """The bytes of a picture: RGBA, rows from the top; its alpha isn't told, and taken as 255."""
         content = self.kept[number].picture()
         made = bytearray(b"\xff" * (len(content) // 3 * 4))
@@ -57,7 +65,7 @@ class Snapshots:
         return bytes(made)
 
 
-def state_at(retracer, path, number):
+def state_at(retracer: str, path: str | pathlib.Path, number: int) -> dict[str, Any]:
     """{GL_NAME: value} of the state at a call; empty where glretrace can't tell it."""
     with started([retracer, "-D", str(number), path]) as process:
         told = process.stdout.read().decode(errors="replace")
@@ -68,7 +76,7 @@ def state_at(retracer, path, number):
         return {}
 
 
-def otherwise(done, told):
+def otherwise(done: Done, told: dict[str, Any]) -> list[str]:
     """The names of what glretrace's state of a draw has otherwise than it was worked out; none where it tells
     nothing."""
     own = done.settings
@@ -87,7 +95,7 @@ def otherwise(done, told):
     return [name for name, values in here.items() if name in told and not is_alike(values, told[name])]
 
 
-def is_alike(values, told):
+def is_alike(values: Sequence[float], told: Any) -> bool:
     told = told if isinstance(told, list) else [told]
     theirs = [float(value == "GL_TRUE") if isinstance(value, str) else float(value) for value in told]
     return len(theirs) == len(values) and all(abs(a - b) <= 1e-4 * max(1.0, abs(b)) for a, b in zip(values, theirs))

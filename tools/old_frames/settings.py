@@ -1,41 +1,46 @@
 """The state of a context that a draw or a clear takes, and the calls that set it. Values are OpenGL's own numbers."""
 from dataclasses import dataclass, fields, replace
+from typing import Any
 
 from . import numbers as gl
+from .calls import Call
+from .matrices import Vertex
+
+Four = tuple[int, int, int, int]
 
 
 @dataclass
 class Settings:
     """As a context has it at its beginning, but for viewport and scissor, which its first window gives it."""
 
-    viewport: tuple = (0, 0, 0, 0)
-    depth_range: tuple = (0.0, 1.0)
-    scissor: tuple = (0, 0, 0, 0)
-    mask: tuple = (1, 1, 1, 1)
-    clear_colour: tuple = (0.0, 0.0, 0.0, 0.0)
+    viewport: Four = (0, 0, 0, 0)
+    depth_range: tuple[float, float] = (0.0, 1.0)
+    scissor: Four = (0, 0, 0, 0)
+    mask: Four = (1, 1, 1, 1)
+    clear_colour: Vertex = (0.0, 0.0, 0.0, 0.0)
     clear_depth: float = 1.0
     depth_function: int = 0x201
     depth_mask: int = 1
-    blend: tuple = (1, 0, 1, 0)  # source and destination of colour, then of alpha
-    equation: tuple = (0x8006, 0x8006)
-    constant: tuple = (0.0, 0.0, 0.0, 0.0)
+    blend: tuple[int, ...] = (1, 0, 1, 0)  # source and destination of colour, then of alpha
+    equation: tuple[int, int] = (0x8006, 0x8006)
+    constant: Vertex = (0.0, 0.0, 0.0, 0.0)
     cull: int = gl.BACK
     front: int = gl.CCW
-    fill: tuple = (gl.FILL, gl.FILL)  # of front and back
-    offset: tuple = (0.0, 0.0)  # factor and units
+    fill: tuple[int, int] = (gl.FILL, gl.FILL)  # of front and back
+    offset: tuple[float, float] = (0.0, 0.0)  # factor and units
     line_width: float = 1.0
     point_size: float = 1.0
     list_base: int = 0
-    planes: tuple = ()  # (number, four numbers in eye coordinates)
-    enabled: frozenset = frozenset({gl.DITHER})
+    planes: tuple[tuple[int, Vertex], ...] = ()  # (number, four numbers in eye coordinates)
+    enabled: frozenset[int] = frozenset({gl.DITHER})
 
-    def is_on(self, what):
+    def is_on(self, what: int) -> bool:
         return what in self.enabled
 
-    def copy(self):
+    def copy(self) -> "Settings":
         return replace(self)
 
-    def clip_planes(self):
+    def clip_planes(self) -> list[Vertex]:
         return [plane for number, plane in self.planes if number in self.enabled]
 
 
@@ -62,7 +67,8 @@ SETTERS = {
     "glListBase": "list_base",
 }
 
-GROUPS = {  # glPushAttrib's bits: what stands under each, and what glEnable takes of it
+# glPushAttrib's bits: what stands under each, and what glEnable takes of it
+GROUPS: dict[int, tuple[set[str], set[int]]] = {
     0x2: ({"point_size"}, {gl.POINT_SMOOTH}),
     0x4: ({"line_width"}, {gl.LINE_SMOOTH, gl.LINE_STIPPLE}),
     0x8: (
@@ -86,15 +92,15 @@ GROUPS = {  # glPushAttrib's bits: what stands under each, and what glEnable tak
 ENABLE_BIT = 0x2000
 
 
-def one_or_all(values):
+def one_or_all(values: list[Any]) -> Any:
     return values[0] if len(values) == 1 else tuple(values)
 
 
-def is_setter(name):
+def is_setter(name: str) -> bool:
     return name in SETTERS or name in ("glEnable", "glDisable", "glBlendFunc", "glBlendEquation", "glPolygonMode")
 
 
-def set_by(settings, call):
+def set_by(settings: Settings, call: Call) -> None:
     """Does what one of these calls does."""
     values = call.values()
     if call.name == "glEnable":
@@ -112,9 +118,10 @@ def set_by(settings, call):
         setattr(settings, SETTERS[call.name], one_or_all(values))
 
 
-def restored(now, then, mask):
+def restored(now: Settings, then: Settings, mask: int) -> Settings:
     """The state after glPopAttrib: what the bits of glPushAttrib name is as it was then, the rest as it is now."""
-    changes, switches = {}, set()
+    changes: dict[str, Any] = {}
+    switches: set[int] = set()
     for bit, (names, those) in GROUPS.items():
         if mask & bit:
             changes.update({name: getattr(then, name) for name in names})

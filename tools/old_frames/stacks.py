@@ -1,8 +1,12 @@
 """The stacks of matrices of a context."""
+from collections.abc import Callable, Sequence
+from typing import Any
+
 from . import matrices
 from . import numbers as gl
+from .matrices import Matrix
 
-MAKERS = {
+MAKERS: dict[str, Callable[..., Matrix]] = {
     "glTranslate": matrices.translation,
     "glScale": matrices.scaling,
     "glRotate": matrices.rotation,
@@ -22,23 +26,23 @@ CALLS = {
 }
 
 
-def plain(name):
+def plain(name: str) -> str:
     """Without the letter of its numbers' type: glTranslatef and glTranslated are glTranslate."""
     return name[:-1] if name[-1:] in "fd" and name[:-1] in CALLS else name
 
 
 class Stacks:
-    def __init__(self):
+    def __init__(self) -> None:
         self.mode = gl.MODELVIEW
-        self.stacks = {}
+        self.stacks: dict[int, list[Matrix]] = {}
 
-    def stack(self, mode):
+    def stack(self, mode: int) -> list[Matrix]:
         return self.stacks.setdefault(mode, [matrices.IDENTITY])
 
-    def top(self, mode):
+    def top(self, mode: int) -> Matrix:
         return self.stack(mode)[-1]
 
-    def do(self, name, values):
+    def do(self, name: str, values: Sequence[Any]) -> None:
         """One of CALLS."""
         stack = self.stack(self.mode)
         if name == "glMatrixMode":
@@ -58,5 +62,5 @@ class Stacks:
             stack[-1] = matrices.multiplied(stack[-1], MAKERS[name](*values))
 
     @staticmethod
-    def given(name, values):
+    def given(name: str, values: Sequence[float]) -> Matrix:
         return matrices.transposed(values) if "Transpose" in name else tuple(values)

@@ -1,10 +1,14 @@
 """A context's state in the words of real_frames.states."""
+from captures import Event
 from real_frames import states
 from real_frames.discards import LEFT_OUT
+from real_frames.losses import Losses
 from real_frames.placing import Bias
 from real_frames.viewport import Viewport, meet, rectangle
 
 from . import numbers as gl
+from .draws import Done
+from .settings import Settings
 
 DEPTH_STEP = 1 / 0xFFFFFF  # of depths of 24 bits, as Mesa gives a window
 SMOOTH = {
@@ -17,16 +21,16 @@ SMOOTH = {
 LINES, TRIANGLES = {1, 2, 3}, set(range(4, 10))
 
 
-def scissor(own, height):
+def scissor(own: Settings, height: int) -> list[int]:
     left, bottom, wide, high = own.scissor
     return rectangle(left, height - bottom - high, wide, high)
 
 
-def mask(own):
+def mask(own: Settings) -> int:
     return sum(bool(on) << channel for channel, on in enumerate(own.mask))
 
 
-def blending(own, losses):
+def blending(own: Settings, losses: Losses) -> tuple[Event, Event]:
     """(blend event, factor event)"""
     if not own.is_on(gl.BLEND):
         return states.plain(mask(own)), states.factor(own.constant, (), losses)
@@ -36,7 +40,7 @@ def blending(own, losses):
     return states.blend(colour, alpha, mask(own), losses), states.factor(own.constant, colour, losses)
 
 
-def count(done, losses):
+def count(done: Done, losses: Losses) -> None:
     """What of a draw's state isn't carried over."""
     own = done.settings
     if own.is_on(gl.STENCIL_TEST):
@@ -60,7 +64,7 @@ def count(done, losses):
         losses.add("draws with depth bias", "added to the depths, and rounded with them")
 
 
-def state_of(done, width, height, losses):
+def state_of(done: Done, width: int, height: int, losses: Losses) -> states.State:
     """The state of a draw on a target of this size."""
     own, whole = done.settings, [0, 0, width, height]
     count(done, losses)
@@ -83,7 +87,7 @@ def state_of(done, width, height, losses):
         blend,
         factor,
         states.depth(
-            own.is_on(gl.DEPTH_TEST), own.depth_mask, states.COMPARES[gl.COMPARES.get(own.depth_function, "Less")]
+            own.is_on(gl.DEPTH_TEST), bool(own.depth_mask), states.COMPARES[gl.COMPARES.get(own.depth_function, "Less")]
         ),
         bias=Bias(units, factor_of, step=DEPTH_STEP),
         width=own.point_size if done.mode == gl.POINTS else own.line_width,

@@ -1,12 +1,14 @@
 """What is kept of a frame's actions, between the reading by RenderDoc and the writing of events."""
 from dataclasses import dataclass, field
 
+from .states import State
+
 
 @dataclass
 class DrawRecord:
     event: int
     name: str
-    state: object
+    state: State
     shapes: list = field(
         default_factory=list
     )  # ((instance, primitive), three (x, y, depth 0 to 1) with x, y in 1/65536 pixel)
