@@ -352,6 +352,37 @@ class Tables(Driven):
         self.assertEqual(len(launched("try", "--features").stdout.splitlines()), 68)
 
 
+def blamed_plants():
+    """A plant, events, the numbers of those that may be named, and what the change says."""
+    whole = lambda color, **more: square(0, 0, 8, 8, color=color, **more)
+    inner = lambda color: square(1, 1, 7, 7, color=color)
+    corner = lambda z: square(1, 1, 4, 4, color=GREEN, z=z)
+    glass = [whole(GREY), captures.blend(True, OVER, ("ONE", "INV_SRC_ALPHA", "ADD")), inner(GLASS)]
+    alpha = [whole(RED), captures.blend(True, OVER, ("ONE", "ZERO", "ADD")), inner(GLASS)]
+    masked = [whole(RED), captures.blend(False, mask=5), inner(GREEN)]
+    cut = [captures.scissor(2, 2, 6, 6), captures.raster("none", scissor=True), square(0, 0, 8, 8)]
+    hidden = [captures.depth(), whole(RED, z=100), corner(100)]
+    behind = [whole(RED, z=100), captures.depth(True, True, "GREATER"), corner(9000)]
+    factor = [captures.factor(255, 100, 10, 128), captures.blend(True, ("BLEND_FACTOR", "ZERO", "ADD")), whole(GREY)]
+    flat = captures.draw([vertex(0, 0, RED), vertex(8, 0, GREEN), vertex(0, 8, GLASS)])
+    return (
+        ("alpha blended like colour", alpha, {2}, "the alpha part like the colour part"),
+        ("blending ignored", glass, {2}, "blending off"),
+        ("destination factor", glass, {2}, "the destination factor of colour ONE in place of"),
+        ("mask ignored", masked, {2}, "mask 15 in place of 5"),
+        ("scissor ignored", cut, {2}, "scissor off"),
+        ("scissor one wider", cut, {1}, "right 7 in place of 6"),
+        ("front face ignored", [captures.raster("back", True), square(0, 0, 8, 8)], {1}, ""),
+        ("cull exchanged", [captures.raster("front"), square(0, 0, 8, 8)], {1}, "cull "),
+        ("depth function", hidden, {1}, "depth"),
+        ("depth test ignored", behind, {2}, "depth test off"),
+        ("linear drawn flat", [flat | {"interp": "linear"}], {1}, "flat in place of linear"),
+        ("flat by last corner", [flat], {1}, "the last corner's colour in flat triangles"),
+        ("factor ignored", factor, {1, 2}, ""),
+        ("four subpixel bits", [triangle((0.53, 0), (8, 0), (0.53, 8))], {1}, ""),
+    )
+
+
 class Planted(Driven):
     """Faults that are planted in a driver without any."""
 
@@ -392,50 +423,7 @@ class Planted(Driven):
 
     def test_blame(self):
         """What a driver ignored or mixed up is named, by a change after which no pixel differs."""
-        glass = [
-            square(0, 0, 8, 8, color=GREY),
-            captures.blend(True, OVER, ("ONE", "INV_SRC_ALPHA", "ADD")),
-            square(1, 1, 7, 7, color=GLASS),
-        ]
-        cut = [captures.scissor(2, 2, 6, 6), captures.raster("none", scissor=True), square(0, 0, 8, 8)]
-        hidden = [captures.depth(), square(0, 0, 8, 8, color=RED, z=100), square(1, 1, 4, 4, color=GREEN, z=100)]
-        behind = [
-            square(0, 0, 8, 8, color=RED, z=100),
-            captures.depth(True, True, "GREATER"),
-            square(1, 1, 4, 4, color=GREEN, z=9000),
-        ]
-        factor = [
-            captures.factor(255, 100, 10, 128),
-            captures.blend(True, ("BLEND_FACTOR", "ZERO", "ADD")),
-            square(0, 0, 8, 8, color=GREY),
-        ]
-        corners = captures.draw([vertex(0, 0, RED), vertex(8, 0, GREEN), vertex(0, 8, GLASS)])
-        alpha = [
-            square(0, 0, 8, 8, color=RED),
-            captures.blend(True, OVER, ("ONE", "ZERO", "ADD")),
-            square(1, 1, 7, 7, color=GLASS),
-        ]
-        cases = (
-            ("alpha blended like colour", alpha, {2}, "the alpha part like the colour part"),
-            ("blending ignored", glass, {2}, "blending off"),
-            ("destination factor", glass, {2}, "the destination factor of colour ONE in place of"),
-            (
-                "mask ignored",
-                [square(0, 0, 8, 8, color=RED), captures.blend(False, mask=5), square(1, 1, 7, 7, color=GREEN)],
-                {2},
-                "mask 15 in place of 5",
-            ),
-            ("scissor ignored", cut, {2}, "scissor off"),
-            ("scissor one wider", cut, {1}, "right 7 in place of 6"),
-            ("front face ignored", [captures.raster("back", True), square(0, 0, 8, 8)], {1}, ""),
-            ("cull exchanged", [captures.raster("front"), square(0, 0, 8, 8)], {1}, "cull "),
-            ("depth function", hidden, {1}, "depth"),
-            ("depth test ignored", behind, {2}, "depth test off"),
-            ("linear drawn flat", [corners | {"interp": "linear"}], {1}, "flat in place of linear"),
-            ("flat by last corner", [corners], {1}, "the last corner's colour in flat triangles"),
-            ("factor ignored", factor, {1, 2}, ""),
-            ("four subpixel bits", [triangle((0.53, 0), (8, 0), (0.53, 8))], {1}, ""),
-        )
+        cases = blamed_plants()
         self.assertEqual({plant for plant, *_ in cases}, set(plants.PLANTS) - {"depth writes always"})
         for plant, events, named, says in cases:
             with self.subTest(plant):

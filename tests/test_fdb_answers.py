@@ -180,44 +180,9 @@ class Answers(Folder):
             self.assertTrue(told[0].startswith(word.usage) and word.short in told[1], told)
         for name in ("step", "back", "goto", "pixel", "history", "state", "events", "show", "quit"):
             self.assertIn("framedbg's own", self.told([f"help {name}"])[0])
-        for name in (
-            "s",
-            "rs",
-            "n",
-            "rn",
-            "c",
-            "rc",
-            "b",
-            "watch",
-            "g",
-            "tbreak",
-            "disable",
-            "enable",
-            "undo",
-            "finish",
-            "reverse-finish",
-            "mark",
-            "marks",
-            "who",
-            "last",
-            "first",
-            "p",
-            "i",
-            "l",
-            "off",
-            "on",
-            "d",
-            "look",
-            "save",
-            "set",
-            "move",
-            "there",
-            "keep",
-            "drop",
-            "source",
-            "expect",
-            "help",
-        ):
+        names = "s rs n rn c rc b watch g tbreak disable enable undo finish reverse-finish mark marks who last first "
+        names += "p i l off on d look save set move there keep drop source expect help"
+        for name in names.split():
             self.assertIn(name, WORDS.named)
 
     def test_slips(self):

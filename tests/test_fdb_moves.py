@@ -467,23 +467,8 @@ class Calls(Folder):
 
 class Bookmarks(Folder):
     def test_marks(self):
-        told = self.told(
-            [
-                "mark roof",
-                "g 1",
-                "mark door",
-                "goto roof",
-                "g door",
-                "marks",
-                "mark roof",
-                "marks",
-                "goto 2",
-                "goto nowhere",
-                "goto",
-            ],
-            "--at",
-            "3",
-        )
+        lines = ["mark roof", "g 1", "mark door", "goto roof", "g door", "marks", "mark roof", "marks"]
+        told = self.told([*lines, "goto 2", "goto nowhere", "goto"], "--at", "3")
         self.assertEqual(
             told,
             [

@@ -43,28 +43,10 @@ class Targets(Folder):
         self.written("frame.json", json.dumps({**frame, **more}))
 
     def test_into_and_out(self):
-        told = self.told(
-            [
-                "off 1",
-                "into",
-                "p 0 0",
-                "off 2",
-                "out",
-                "p 0 0",
-                "events",
-                "into 3",
-                "mark here",
-                "events",
-                "out",
-                "marks",
-            ],
-            capture=self.shown,
-        )
-        there, back = ["target_3.json", "at 3", "3 on clear 22 0 0 255"], [
-            "target_7.json",
-            "at 2",
-            "2 on clear 11 0 0 255",
-        ]
+        lines = ["off 1", "into", "p 0 0", "off 2", "out", "p 0 0", "events"]
+        told = self.told([*lines, "into 3", "mark here", "events", "out", "marks"], capture=self.shown)
+        there = ["target_3.json", "at 3", "3 on clear 22 0 0 255"]
+        back = ["target_7.json", "at 2", "2 on clear 11 0 0 255"]
         self.assertEqual(
             told,
             [

@@ -25,6 +25,26 @@ new MutationObserver((_, watch) => {
   document.body.dispatchEvent(new KeyboardEvent("keydown", { key: "f", bubbles: true }));
 }).observe(document.getElementById("position"), { childList: true });
 """
+# Drags the slider over some positions; gives the image's width and what is told on the way and at rest, and whether the
+# pixels on the way are those of the whole image
+DRAG = (
+    "const [way, done] = arguments, slider = document.getElementById('slider'), image = "
+    "document.getElementById('image');"
+    "const pixels = () => new Uint32Array(image.getContext('2d').getImageData(0, 0, image.width, "
+    "image.height).data.buffer);"
+    "const here = () => +document.querySelector('#position b').innerText === way[0], told = () => "
+    "document.getElementById('difference').innerText;"
+    "const until = (holds, go) => holds() ? go() : setTimeout(() => until(holds, go), 5);"
+    # which trembles until it lets go
+    "const drag = () => { slider.value = way[0]; slider.dispatchEvent(new Event('input')); }, hand = "
+    "setInterval(drag, 20);"
+    "const go = () => until(here, () => { if (way.length === 1) return letGo(); way.shift(); drag(); go(); });"
+    "const letGo = () => { clearInterval(hand); const few = [image.width, pixels(), told()];"
+    "  until(() => image.width === 1900, () => { const all = pixels(), every = Math.round(1900 / few[0]);"
+    "    done([few[0], image.width, few[2], told(), few[1].every((word, i) => word === all[Math.floor(i "
+    "/ few[0]) * every * 1900 + i % few[0] * every])]); }); };"
+    "drag(); go();"
+)
 # The texts in sight whose contrast with what is behind them is too small
 CONTRAST = """
 const parts = text => text.match(/[\\d.]+/g).map(Number), light = ([r, g, b]) => [r, g, b].map(v => v / 255).map(v => v <= 0.04045 ? v / 12.92 : ((v + 0.055) / 1.055) ** 2.4)
@@ -36,6 +56,43 @@ return [...document.querySelectorAll("body *")].filter(e => e.checkVisibility() 
   return [(Math.max(a, b) + 0.05) / (Math.min(a, b) + 0.05), e.className || e.id || e.tagName, e.innerText.slice(0, 20)];
 }).filter(([ratio]) => ratio < 4.5);
 """
+
+
+def events_of_calls():
+    """Two groups, one in the other, that end with calls 40 and 20; the last clear comes from a call behind both."""
+    mark = lambda name, event, until: {
+        "kind": "marker",
+        "name": name,
+        "source": {"event": event, "name": "push", "until": until},
+    }
+    clear = lambda event, name: {
+        "kind": "clear",
+        "color": [event, 0, 0, 255],
+        "source": {"event": event, "name": name},
+    }
+    events = [
+        mark("frame", 10, 40),
+        mark("shadows", 11, 20),
+        clear(15, "glClear 50"),
+        clear(20, "vkCmdDraw"),
+        clear(30, "glFinish"),
+        clear(50, "after it"),
+    ]
+    events[5]["source"] |= {
+        "set_by": [[48, "glClearColor(1)"]],
+        "textures": [{"id": 9, "name": "lit"}],
+        "reads": [{"target": 9, "event": 20}],
+    }
+    return events
+
+
+def rows_of(event):
+    """The table of a draw's corners: two triangles of one area."""
+    for k, number in enumerate(event.get("indices", range(len(event["vertices"])))):
+        vertex = event["vertices"][number]
+        if k % 3 == 0:
+            yield f"{k // 3} clockwise: front, area 384"
+        yield f"{number} {vertex['x'] // 65536} {vertex['y'] // 65536} {' '.join(map(str, vertex['color']))}"
 
 
 class Answers(viewer_sums.Sums):
@@ -285,29 +342,11 @@ class Answers(viewer_sums.Sums):
             {"kind": "draw", "interp": "linear", "vertices": corners(333 * i, 111 * i, [9, 200, 90, 255], 1)}
             for i in range(2)
         ]  # small ones, whose pixels alone are asked for
-        drag = (
-            "const [way, done] = arguments, slider = document.getElementById('slider'), image = "
-            "document.getElementById('image');"
-            "const pixels = () => new Uint32Array(image.getContext('2d').getImageData(0, 0, image.width, "
-            "image.height).data.buffer);"
-            "const here = () => +document.querySelector('#position b').innerText === way[0], told = () => "
-            "document.getElementById('difference').innerText;"
-            "const until = (holds, go) => holds() ? go() : setTimeout(() => until(holds, go), 5);"
-            # which trembles until it lets go
-            "const drag = () => { slider.value = way[0]; slider.dispatchEvent(new Event('input')); }, hand = "
-            "setInterval(drag, 20);"
-            "const go = () => until(here, () => { if (way.length === 1) return letGo(); way.shift(); drag(); go(); });"
-            "const letGo = () => { clearInterval(hand); const few = [image.width, pixels(), told()];"
-            "  until(() => image.width === 1900, () => { const all = pixels(), every = Math.round(1900 / few[0]);"
-            "    done([few[0], image.width, few[2], told(), few[1].every((word, i) => word === all[Math.floor(i "
-            "/ few[0]) * every * 1900 + i % few[0] * every])]); }); };"
-            "drag(); go();"
-        )
         with tempfile.TemporaryDirectory() as folder, Viewer(file_of(folder, capture_of(1900, 1500, events))) as viewer:
             self.open(viewer)
             self.at(9)
             for way in ([3], [1], [6, 8, 7]):
-                few, all_of_it, told, rest, is_so = self.browser.run_to_end(drag, way)
+                few, all_of_it, told, rest, is_so = self.browser.run_to_end(DRAG, way)
                 every = {950: "2nd", 634: "3rd", 475: "4th", 380: "5th"}[
                     few
                 ]  # as wide as the window lets the picture be
@@ -315,7 +354,7 @@ class Answers(viewer_sums.Sums):
                 self.assertTrue(is_so)
                 self.assertIn("changed", rest)
             self.browser.press("Escape", "c")  # no other look is shown by fewer pixels
-            few, _, told, *_ = self.browser.run_to_end(drag, [5])
+            few, _, told, *_ = self.browser.run_to_end(DRAG, [5])
             self.assertEqual((few, "dragged" in told), (1900, False))
 
     def comes_to_rest(self, each):
@@ -348,14 +387,7 @@ class Answers(viewer_sums.Sums):
             self.at(11)
             self.reads("#mesh-told", "2, each of its first corner's colour")
             event = json.loads(HOUSE.read_text())["events"][10]
-            rows = []
-            for k, number in enumerate(event.get("indices", range(len(event["vertices"])))):
-                vertex = event["vertices"][number]
-                rows += [f"{k // 3} clockwise: front, area 384"] * (k % 3 == 0)
-                rows.append(
-                    f"{number} {vertex['x'] // 65536} {vertex['y'] // 65536} {' '.join(map(str, vertex['color']))}"
-                )
-            self.comes(self.corners, rows)
+            self.comes(self.corners, list(rows_of(event)))
             wires = (
                 "const c = document.getElementById('wires'), [x, y] = arguments; const zoom = c.width / 96; "
                 "return [...c.getContext('2d').getImageData(Math.round(x * zoom), Math.round(y * zoom), 1, "
@@ -666,31 +698,8 @@ class Answers(viewer_sums.Sums):
 
     def test_the_program_s_calls(self):
         """Beside the events, known to the filter, and a captured group is folded as such."""
-        mark = lambda name, event, until: {
-            "kind": "marker",
-            "name": name,
-            "source": {"event": event, "name": "push", "until": until},
-        }
-        clear = lambda event, name: {
-            "kind": "clear",
-            "color": [event, 0, 0, 255],
-            "source": {"event": event, "name": name},
-        }
-        events = [
-            mark("frame", 10, 40),
-            mark("shadows", 11, 20),
-            clear(15, "glClear 50"),
-            clear(20, "vkCmdDraw"),
-            clear(30, "glFinish"),
-            clear(50, "after it"),
-        ]
-        events[5]["source"] |= {
-            "set_by": [[48, "glClearColor(1)"]],
-            "textures": [{"id": 9, "name": "lit"}],
-            "reads": [{"target": 9, "event": 20}],
-        }
         with tempfile.TemporaryDirectory() as folder:
-            self.shows(capture_of(4, 4, events), folder)
+            self.shows(capture_of(4, 4, events_of_calls()), folder)
             self.reads(self.row(4) + " .source", "20 vkCmdDraw")
             self.reads(
                 "#origin",

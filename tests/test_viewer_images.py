@@ -82,22 +82,8 @@ class NearPictures(unittest.TestCase):
         self.addCleanup(own.close)
         position, window = events, None
         for _ in range(moves):
-            position = max(
-                0,
-                min(
-                    events,
-                    dice.choice(
-                        (
-                            position - 1,
-                            position + 1,
-                            position + 1,
-                            position - 3,
-                            position + 5,
-                            dice.randrange(events + 1),
-                        )
-                    ),
-                ),
-            )
+            others = [position + by for by in (-1, 1, 1, -3, 5)]
+            position = max(0, min(events, dice.choice((*others, dice.randrange(events + 1)))))
             if dice.random() < 0.1:
                 window = dice.choice((None, (3, 2, 20, 19), (0, 0, 11, 30), (0, 0, 32, 28, 2), (3, 2, 20, 19, 3)))
             number = (
@@ -109,12 +95,8 @@ class NearPictures(unittest.TestCase):
             if dice.random() < 0.1:
                 session.answer(switch)
                 own.answer(switch)
-            switched = (
-                [*switch, b"goto %d" % (number - 1), b"show", b"goto %d" % number, b"show"]
-                if dice.random() < 0.1
-                else []
-            )
-            lines = [*switched, b"goto %d" % position, b"show", b"show"]
+            looked = [*switch, b"goto %d" % (number - 1), b"show", b"goto %d" % number, b"show"]
+            lines = [*(looked if dice.random() < 0.1 else []), b"goto %d" % position, b"show", b"show"]
             (replies, images, _), (wanted, theirs, _) = session.answer(lines, window), own.answer(lines, window)
             self.assertEqual([reply["text"] for reply in replies], [reply["text"] for reply in wanted])
             self.assertEqual([bytes(image) for image in images], [bytes(image) for image in theirs], lines)

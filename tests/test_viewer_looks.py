@@ -397,6 +397,11 @@ class Looks(Hands):
         left, _, wide, _ = self.box("#event-list .fold")
         self.assertLessEqual(left + wide, sum(self.box("#event-list")[::2]))  # but for what folds a group
 
+    def point_at(self, selector):
+        left, top, wide, high = self.box(selector)
+        move = {"type": "pointerMove", "x": round(left + wide / 2), "y": round(top + high / 2)}
+        self.browser.call("/actions", {"actions": [{"type": "pointer", "id": "mouse", "actions": [move]}]})
+
     def test_where_an_event_draws(self):
         """Its box, while the pointer is on its row: of a draw, of a clear, and of what draws nothing none."""
         self.shows_house()
@@ -413,37 +418,11 @@ class Looks(Hands):
             (13, [56, 46, 64, 60]),
             (11, [44, 36, 76, 60]),
         ):
-            left, top, wide, high = self.box(self.row(number))
-            self.browser.call(
-                "/actions",
-                {
-                    "actions": [
-                        {
-                            "type": "pointer",
-                            "id": "mouse",
-                            "actions": [
-                                {"type": "pointerMove", "x": round(left + wide / 2), "y": round(top + high / 2)}
-                            ],
-                        }
-                    ]
-                },
-            )
+            self.point_at(self.row(number))
             self.comes(box, expected)
         self.browser.press("Escape", "+")
         self.comes(box, [44, 36, 76, 60])
-        left, top, wide, high = self.box("#log")
-        self.browser.call(
-            "/actions",
-            {
-                "actions": [
-                    {
-                        "type": "pointer",
-                        "id": "mouse",
-                        "actions": [{"type": "pointerMove", "x": round(left + wide / 2), "y": round(top + high / 2)}],
-                    }
-                ]
-            },
-        )
+        self.point_at("#log")
         self.comes(box, None)
 
     # ---- The PNG

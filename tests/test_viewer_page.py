@@ -15,6 +15,13 @@ from viewer import image as viewer_image
 from viewer.handover import Handover
 
 HOUSE = EXAMPLES / "house.json"
+NO_PICTURES = {  # files that are none, and what the page says of them
+    "a town.rdc": "a town.rdc is a frame that RenderDoc took. Turn it into a capture at a terminal, and open that: "
+    "renderdoc_to_capture './a town.rdc' > './a town.json' Close",
+    "game.trace": "game.trace is a trace of apitrace. Turn it into a capture at a terminal, and open that: "
+    "apitrace_to_capture game.trace > game.json Close",
+    "README.md": "README.md is no PNG, PAM or PPM",
+}
 
 
 @unittest.skipUnless(browser.is_installed(), "Chromium and chromedriver aren't installed")
@@ -335,19 +342,7 @@ class Page(Hands):
             self.reads("#difference", "1 px differ by ≤ 40, 60 50 to 60 50")
             self.browser.choose("#file", other)
             self.reads("#notice", "other.png is 64 × 96, the target 96 × 64")
-            for name, advice in (
-                (
-                    "a town.rdc",
-                    "a town.rdc is a frame that RenderDoc took. Turn it into a capture at a terminal, and open "
-                    "that: renderdoc_to_capture './a town.rdc' > './a town.json' Close",
-                ),
-                (
-                    "game.trace",
-                    "game.trace is a trace of apitrace. Turn it into a capture at a terminal, and open that: "
-                    "apitrace_to_capture game.trace > game.json Close",
-                ),
-                ("README.md", "README.md is no PNG, PAM or PPM"),
-            ):
+            for name, advice in NO_PICTURES.items():
                 strange = pathlib.Path(folder) / name
                 strange.write_bytes(b"strange")
                 self.browser.choose("#file", strange)
@@ -401,6 +396,20 @@ class Page(Hands):
             self.browser.choose("#file", none)
             self.reads("#difference", "no pixel differs")
 
+    def channel_by_channel(self, r, g, a):
+        """The pixel 10 6, whose channels are given: without blue, with alpha, of alpha alone and of green alone."""
+        self.browser.click("[data-channel='b']")
+        self.comes(lambda: self.drawn(10, 6), [r, g, 0, 255])
+        self.browser.click("[data-channel='b']")
+        self.browser.click("[data-channel='a']")
+        self.comes(lambda: self.drawn(10, 6)[3], a)
+        for channel in "rgb":
+            self.browser.click(f"[data-channel='{channel}']")
+        self.comes(lambda: self.drawn(10, 6), [a, a, a, 255])
+        self.browser.click("[data-channel='a']")
+        self.browser.click("[data-channel='g']")
+        self.comes(lambda: self.drawn(10, 6), [g, g, g, 255])
+
     def test_channels_zoom_and_scissor(self):
         with tempfile.NamedTemporaryFile("w", suffix=".json") as file:
             file.write(WINDOW)
@@ -421,17 +430,7 @@ class Page(Hands):
                     [round(v) for v in self.box("#scissor")],
                     [round(v) for v in (left + 8 * scale, top + 4 * scale, 32 * scale, 26 * scale)],
                 )
-                self.browser.click("[data-channel='b']")
-                self.comes(lambda: self.drawn(10, 6), [r, g, 0, 255])
-                self.browser.click("[data-channel='b']")
-                self.browser.click("[data-channel='a']")
-                self.comes(lambda: self.drawn(10, 6)[3], a)
-                for channel in "rgb":
-                    self.browser.click(f"[data-channel='{channel}']")
-                self.comes(lambda: self.drawn(10, 6), [a, a, a, 255])
-                self.browser.click("[data-channel='a']")
-                self.browser.click("[data-channel='g']")
-                self.comes(lambda: self.drawn(10, 6), [g, g, g, 255])
+                self.channel_by_channel(r, g, a)
                 self.browser.click("#larger")
                 self.assertGreater(self.box("#image")[2], width)
                 for x, inside in ((19, 0.85), (20, 0.15), (21, 0.85), (20, 0.5)):
@@ -499,6 +498,15 @@ class Page(Hands):
                 self.browser.press("Left")
                 self.at(1)
 
+    def stopped_twice(self, held):
+        """On the way to 2 it is held, and on the way back to 3 too."""
+        self.browser.press("Left")
+        for _ in range(2):
+            self.comes(held.exists, True)
+            held.unlink()
+            self.stop()
+        self.stopped_at(0)
+
     def test_a_long_move_is_stopped(self):
         """The page stays where it stood, with the events off that were off, and what waited is dropped."""
         with tempfile.TemporaryDirectory() as folder:
@@ -523,20 +531,11 @@ class Page(Hands):
                 self.assertTrue(self.browser.run(f"return document.querySelector(\"{self.row(2)} input\").checked"))
                 self.assertTrue(self.browser.run("return document.getElementById('history').hidden"))
                 self.assertFalse(self.browser.run("return document.getElementById('busy').checkVisibility()"))
-                self.assertEqual(
-                    self.browser.run(
-                        "return [...document.querySelectorAll('#event-list .off')].map(e => e.dataset.number)"
-                    ),
-                    ["3"],
-                )
-                self.assertEqual(
-                    viewer.ask("events")[0]["replies"][0],
-                    {
-                        "text": "events 3 at 0",
-                        "lines": ["1 on clear 1 2 3 4", "2 on clear 1 2 3 4", "3 off clear 1 2 3 4"],
-                        "left_out": 0,
-                    },
-                )
+                off = "return [...document.querySelectorAll('#event-list .off')].map(e => e.dataset.number)"
+                self.assertEqual(self.browser.run(off), ["3"])
+                lines = ["1 on clear 1 2 3 4", "2 on clear 1 2 3 4", "3 off clear 1 2 3 4"]
+                told = viewer.ask("events")[0]["replies"][0]
+                self.assertEqual(told, {"text": "events 3 at 0", "lines": lines, "left_out": 0})
                 self.browser.press("Right")
                 self.at(1)
                 hold.unlink()
@@ -544,12 +543,7 @@ class Page(Hands):
                 self.at(3)
                 hold.touch()
                 held.unlink()
-                self.browser.press("Left")  # on the way to 2 it is held, and on the way back to 3 too
-                for _ in range(2):
-                    self.comes(held.exists, True)
-                    held.unlink()
-                    self.stop()
-                self.stopped_at(0)
+                self.stopped_twice(held)
                 asked = self.browser.run("return [...document.querySelectorAll('#log .asked')].map(e => e.innerText)")
                 self.assertEqual(asked, ["goto 3", "off 3", "goto 0", "step", "goto 3", "goto 0"])
 
