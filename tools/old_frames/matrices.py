@@ -16,10 +16,7 @@ def multiplied(first: Matrix, second: Matrix) -> Matrix:
 
 def applied(matrix: Matrix, vertex: Sequence[float]) -> Vertex:
     x, y, z, w = vertex
-    across, down, deep, scale = (
-        matrix[row] * x + matrix[4 + row] * y + matrix[8 + row] * z + matrix[12 + row] * w for row in range(4)
-    )
-    return across, down, deep, scale
+    return tuple(matrix[row] * x + matrix[4 + row] * y + matrix[8 + row] * z + matrix[12 + row] * w for row in range(4))
 
 
 def transposed(matrix: Sequence[float]) -> Matrix:

@@ -9,6 +9,13 @@ import os
 import signal
 import sys
 
+TYPE_CHECKING = False  # nothing more is imported before a Ctrl-C is told, and an old Python passes over texts
+if TYPE_CHECKING:
+    import typing
+    from _typeshed import ReadableBuffer
+
+    Main = typing.Callable[[], typing.Optional[int]]  # a tool's own function: its status, or none for 0
+
 LEAST = (3, 10)  # the Python that tools want
 FAULT, WRITING, INTERRUPTED = 1, 3, 130
 OPENED = (os.O_RDONLY, os.O_WRONLY, os.O_WRONLY)
@@ -17,7 +24,7 @@ OPENED = (os.O_RDONLY, os.O_WRONLY, os.O_WRONLY)
 class Unwritable(BaseException):
     """Standard output takes no more; `fault` says why. It is no Exception: nobody takes it for a fault of a file."""
 
-    def __init__(self, fault):
+    def __init__(self, fault: OSError) -> None:
         super().__init__(fault)
         self.fault = fault
 
@@ -25,20 +32,20 @@ class Unwritable(BaseException):
 class Outlet(io.FileIO):
     """A descriptor for output, whose faults are Unwritable."""
 
-    def write(self, data):
+    def write(self, data: "ReadableBuffer") -> int:
         try:
             return super().write(data)
         except OSError as fault:
             raise Unwritable(fault) from None
 
 
-def outlet(descriptor, like):
+def outlet(descriptor: int, like: "typing.TextIO") -> io.TextIOWrapper:
     """A stream of text over a descriptor, of the encoding of another."""
     raw = Outlet(descriptor, "w", closefd=False)
     return io.TextIOWrapper(io.BufferedWriter(raw), like.encoding, like.errors, line_buffering=raw.isatty())
 
 
-def ends_as(name, main, writing=WRITING):
+def ends_as(name: str, main: "Main", writing: int = WRITING) -> "typing.NoReturn":
     """Ends the process with what `main` gives: a status, none for 0, or what it leaves by sys.exit. A tool may have a
     status of its own for what it can't write."""
     status = status_of(name, main, writing)
@@ -46,7 +53,7 @@ def ends_as(name, main, writing=WRITING):
     sys.exit(status)
 
 
-def status_of(name, main, writing=WRITING):
+def status_of(name: str, main: "Main", writing: int = WRITING) -> int:
     """The status that a tool comes to, once all is written."""
     try:
         hear_interrupts()
@@ -61,13 +68,13 @@ def status_of(name, main, writing=WRITING):
         return writing if is_left else told(name, "standard output: " + unwritable.fault.strerror, writing)
 
 
-def hear_interrupts():
+def hear_interrupts() -> None:
     """From here on a Ctrl-C is a KeyboardInterrupt."""
     if signal.getsignal(signal.SIGINT) is leave:
         signal.signal(signal.SIGINT, signal.default_int_handler)
 
 
-def left(main):
+def left(main: "Main") -> int:
     try:
         return main() or 0
     except SystemExit as end:
@@ -76,7 +83,7 @@ def left(main):
         return end.code or 0
 
 
-def told(name, why, status):
+def told(name: str, why: str, status: int) -> int:
     try:
         print(": ".join(filter(None, (name, why))), file=sys.stderr, flush=True)
     except OSError:
@@ -84,7 +91,7 @@ def told(name, why, status):
     return status
 
 
-def open_streams():
+def open_streams() -> None:
     """Standard output as an Outlet. What is closed of the three is opened: no file of the tool takes its place."""
     closed = [number for number, how in enumerate(OPENED) if is_closed(number) and os.open(os.devnull, how) == number]
     if sys.stdin is None:
@@ -98,7 +105,7 @@ def open_streams():
         sys.stdout = outlet(1, sys.stdout)
 
 
-def is_closed(number):
+def is_closed(number: int) -> bool:
     try:
         os.fstat(number)
     except OSError:
@@ -106,13 +113,13 @@ def is_closed(number):
     return False
 
 
-def leave(*_):
+def leave(*_: object) -> "typing.NoReturn":
     """What a Ctrl-C does while a tool's modules are read, and nothing has begun."""
     told(own_name(), "interrupted", INTERRUPTED)
     os._exit(INTERRUPTED)
 
 
-def own_name():
+def own_name() -> str:
     return os.path.basename(sys.argv[0])
 
 

@@ -1,11 +1,11 @@
 """Files that are written whole, or not at all."""
+import io
 import os
 import stat
 import tempfile
-from typing import Any
 
 
-def keep(path: Any, data: bytes) -> None:
+def keep(path: str | os.PathLike[str], data: bytes) -> None:
     """Writes a file whole, or leaves what was there. A device or a pipe is written through, and a link stays one."""
     path = os.fspath(path)
     if is_other(path):
@@ -23,7 +23,7 @@ def is_other(path: str) -> bool:
         return False
 
 
-def write_all(file: Any, data: bytes) -> None:
+def write_all(file: io.FileIO, data: bytes) -> None:
     rest = memoryview(data)
     while rest:
         rest = rest[file.write(rest) :]
