@@ -14,18 +14,20 @@ import os
 import pathlib
 import shlex
 import sys
+from collections.abc import Sequence
+from typing import NoReturn
 
 from blaming.command_line import processes, seconds, tolerance
 from blaming.faults import WORDS
 
 
 class Words(argparse.ArgumentParser):
-    def error(self, message):
+    def error(self, message: str) -> NoReturn:
         self.print_usage(sys.stderr)
         self.exit(WORDS, f"framedbg-night: {message}\n")
 
 
-def driver(text):
+def driver(text: str) -> list[str]:
     """Variables and options of framedbg-driver."""
     try:
         return shlex.split(text)
@@ -33,7 +35,7 @@ def driver(text):
         raise argparse.ArgumentTypeError(str(fault)) from None
 
 
-def words(given=None):
+def words(given: Sequence[str] | None = None) -> argparse.Namespace:
     parser = Words(prog="framedbg-night", description=__doc__, formatter_class=argparse.RawDescriptionHelpFormatter)
     parser.add_argument("folder", metavar="FOLDER", type=pathlib.Path, help="the folder of captures and pictures")
     parser.add_argument(
@@ -65,7 +67,7 @@ def words(given=None):
     return parser.parse_args(given)
 
 
-def add_comparing(parser):
+def add_comparing(parser: argparse.ArgumentParser) -> None:
     parser.add_argument(
         "--tolerance",
         type=tolerance,
@@ -78,7 +80,7 @@ def add_comparing(parser):
     )
 
 
-def add_jobs(parser):
+def add_jobs(parser: argparse.ArgumentParser) -> None:
     parser.add_argument(
         "--processes",
         type=processes,
@@ -96,7 +98,7 @@ def add_jobs(parser):
     )
 
 
-def add_task(parser):
+def add_task(parser: argparse.ArgumentParser) -> None:
     """What the command of a job of an array has beside."""
     parser.add_argument("--names", type=pathlib.Path, help=argparse.SUPPRESS)
     parser.add_argument("--task", type=int, help=argparse.SUPPRESS)

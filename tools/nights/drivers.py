@@ -1,16 +1,19 @@
 """The jobs of a night that hold drivers, by framedbg-driver: a capture event by event, or the features."""
+import argparse
 import json
 import os
 import pathlib
 import re
 import subprocess
 import sys
+from collections.abc import Iterable, Sequence
 from html import escape
+from typing import Any
 
 from blaming.faults import READING, Fault
 from writing.counting import counted
 
-from .folder import Case
+from .folder import Case, Result, Results
 from .job import how_of
 
 TOOL = pathlib.Path(__file__).resolve().parent.parent / "framedbg-driver"
@@ -19,7 +22,7 @@ VARIABLE = re.compile(r"[A-Za-z_][A-Za-z_0-9]*=")
 ALIKE, DIFFERS = 0, 1  # statuses of framedbg-driver
 
 
-def cases_of(captures, drivers):
+def cases_of(captures: Sequence[Case], drivers: Iterable[Sequence[str]]) -> list[Case]:
     """For each driver its features, and each capture."""
     cases = []
     for number, words in enumerate(drivers, 1):
@@ -28,19 +31,20 @@ def cases_of(captures, drivers):
     return cases
 
 
-def do(case, results, given):
+def do(case: Case, results: Results, given: argparse.Namespace) -> None:
     """Does a case, and keeps what comes of it."""
     value = called(case, given)
     told = of_features(value) if case.capture is None else of_capture(value)
     results.write(case, how_of(given), {"driver": value["driver"], "seconds": value["seconds"], **told})
 
 
-def called(case, given):
+def called(case: Case, given: argparse.Namespace) -> dict[str, Any]:
     """What framedbg-driver tells, as JSON. Its words that stand before its options are variables."""
-    count = next((number for number, word in enumerate(case.driver) if not VARIABLE.match(word)), len(case.driver))
-    variables = dict(word.split("=", 1) for word in case.driver[:count])
+    driver = case.driver or ()
+    count = next((number for number, word in enumerate(driver) if not VARIABLE.match(word)), len(driver))
+    variables = dict(word.split("=", 1) for word in driver[:count])
     what = ["try", "--scenes", str(SCENES)] if case.capture is None else ["compare", str(case.capture)]
-    words = [sys.executable, str(TOOL), *what, "--json", "--tolerance", str(max(given.tolerance)), *case.driver[count:]]
+    words = [sys.executable, str(TOOL), *what, "--json", "--tolerance", str(max(given.tolerance)), *driver[count:]]
     ran = subprocess.run(
         [*words, "--program", given.program],
         env=os.environ | variables,
@@ -52,19 +56,20 @@ def called(case, given):
     if ran.returncode not in (ALIKE, DIFFERS):
         said = ran.stderr.strip().splitlines() or [f"framedbg-driver ended with status {ran.returncode}"]
         raise Fault(said[-1].removeprefix("framedbg-driver: "), READING)
-    return json.loads(ran.stdout) | {"is_alike": ran.returncode == ALIKE}
+    told: dict[str, Any] = json.loads(ran.stdout)
+    return told | {"is_alike": ran.returncode == ALIKE}
 
 
 # ---- What is told
-def listed(counts):
+def listed(counts: dict[str, int]) -> str:
     return ", ".join(f"{count:,} {kind}" for kind, count in counts.items())
 
 
-def driver_line(driver):
+def driver_line(driver: dict[str, str]) -> str:
     return f"{driver['renderer']}, {driver['version']}"
 
 
-def of_capture(value):
+def of_capture(value: dict[str, Any]) -> Result:
     sums, first = value["sums"], value["first"]
     if value["is_alike"]:
         said = listed(sums) or "no pixel differs"
@@ -77,7 +82,7 @@ def of_capture(value):
     return {"differ": 0 if value["is_alike"] else sum(sums.values()), "headline": said, "report": lines}
 
 
-def of_features(value):
+def of_features(value: dict[str, Any]) -> Result:
     features = value["features"]
     beyond = [name for name, row in features.items() if row["verdict"] == "differs"]
     said = f"{counted(len(features), 'feature')}: {', '.join(beyond) or 'none'} beyond rounding"
@@ -86,7 +91,7 @@ def of_features(value):
     return told | {"differ": 0 if value["is_alike"] else max(1, len(beyond))}
 
 
-def table(results):
+def table(results: Iterable[Result | None]) -> str:
     """The features by driver, as HTML, of the results that there are."""
     known = [result for result in results if result]
     if not known:
@@ -98,7 +103,7 @@ def table(results):
     return f'<table class="features"><tr><th>feature</th>{head}</tr>\n{rows}</table>\n'
 
 
-def cell(row):
+def cell(row: dict[str, Any] | None) -> str:
     if not row:
         return "<td></td>"
     kinds, breaks = escape(listed(row["differ"])), f" ({row['breaks']})" if row["breaks"] else ""

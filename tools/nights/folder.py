@@ -1,7 +1,9 @@
 """The captures of a folder, each with its picture of the same name, and what is kept of each."""
 import hashlib
 import json
+import pathlib
 from dataclasses import dataclass
+from typing import Any
 
 from blaming.faults import Fault
 from writing import files
@@ -9,6 +11,8 @@ from writing import files
 PICTURES = (".png", ".pam", ".ppm")
 RESULTS = "night"  # the folder of results, in that of the captures
 MARK = ".framedbg-night"  # a file that each folder of results has
+Result = dict[str, Any]  # of a case, as JSON
+
 BEGINNING = b'{\n "format": "framedbg-night"'  # of the result of a capture
 
 
@@ -18,16 +22,16 @@ class Case:
     a driver the capture is compared with that, and where there is no capture the driver's features are tried."""
 
     name: str
-    capture: object
-    picture: object
-    driver: object = None
+    capture: pathlib.Path | None
+    picture: pathlib.Path | None
+    driver: tuple[str, ...] | None = None
 
     @property
-    def is_wanted(self):
+    def is_wanted(self) -> bool:
         return self.picture is not None or self.driver is not None
 
 
-def cases_of(folder, results):
+def cases_of(folder: pathlib.Path, results: pathlib.Path) -> list[Case]:
     """All captures below a folder but those among the results, by name."""
     found = []
     for path in sorted(folder.rglob("*.json")):
@@ -40,10 +44,10 @@ def cases_of(folder, results):
 class Results:
     """What is known of each case: a file of JSON for each, with a key of what it is a result of."""
 
-    def __init__(self, folder):
+    def __init__(self, folder: pathlib.Path) -> None:
         self.folder = folder
 
-    def claim(self, captures):
+    def claim(self, captures: pathlib.Path) -> None:
         """Makes the folder. What lacks the mark of results is somebody's own, and is never written over."""
         if captures.resolve().is_relative_to(self.folder.resolve()):
             raise Fault(f"{self.folder}: the captures lie in it: results want a folder of their own")
@@ -56,10 +60,10 @@ class Results:
             self.folder.mkdir(parents=True, exist_ok=True)
             mark.touch()
 
-    def path(self, name, end=".json"):
+    def path(self, name: str, end: str = ".json") -> pathlib.Path:
         return self.folder / f"{name}{end}"
 
-    def read(self, case, how):
+    def read(self, case: Case, how: list[Any]) -> Result | None:
         """The result of a case, where it is of these very files and of the same words; else None."""
         try:
             kept = json.loads(self.path(case.name).read_text(encoding="utf-8"))
@@ -67,7 +71,7 @@ class Results:
             return None
         return kept if isinstance(kept, dict) and kept.get("key") == key_of(case, how) else None
 
-    def write(self, case, how, result):
+    def write(self, case: Case, how: list[Any], result: Result) -> None:
         """Keeps a result. A capture that somebody has put in its place stays."""
         path = self.path(case.name)
         if path.exists() and not is_result(path):
@@ -75,7 +79,7 @@ class Results:
         told = {"format": "framedbg-night", "name": case.name, "key": key_of(case, how), **result}
         self.keep(case.name, ".json", json.dumps(told, indent=1).encode())
 
-    def keep(self, name, end, data):
+    def keep(self, name: str, end: str, data: bytes) -> None:
         """Writes a file whole, or leaves what was there: two jobs at once, or one that is killed, leave no half of
         one."""
         path = self.path(name, end)
@@ -83,14 +87,14 @@ class Results:
         files.keep(path, data)
 
 
-def is_result(path):
+def is_result(path: pathlib.Path) -> bool:
     """Whether a file is a result, or half of one."""
     with open(path, "rb") as file:
         begun = file.read(len(BEGINNING))
     return BEGINNING.startswith(begun)
 
 
-def key_of(case, how):
+def key_of(case: Case, how: list[Any]) -> str:
     """What a result is a result of: the bytes of the capture and of the picture, and the words of the run that
     matter."""
     made = hashlib.sha256(json.dumps(how if case.driver is None else [how, case.driver]).encode())

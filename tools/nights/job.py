@@ -1,16 +1,20 @@
 """One job: a capture compared with its picture, and blamed where they differ. Its result and its pictures are kept."""
+import argparse
 import time
-import types
+from typing import Any
 
 from blaming import report, telling_json
 from blaming.running import found
+from blaming.searching import Outcome
 from framedbg_client import Image
 
+from .folder import Case, Results
 
-def do(case, results, given):
+
+def do(case: Case, results: Results, given: argparse.Namespace) -> None:
     """Does a case, and keeps what comes of it."""
     began = time.monotonic()
-    words = types.SimpleNamespace(program=given.program, tolerance=given.tolerance, seconds=given.seconds, processes=1)
+    words = argparse.Namespace(program=given.program, tolerance=given.tolerance, seconds=given.seconds, processes=1)
     frame, outcome = found(str(case.capture), str(case.picture), words, is_quiet=True)
     if outcome.wrong:
         for name, samples in (("drawn", outcome.drawn), ("wanted", outcome.wanted), ("difference", shown(outcome))):
@@ -24,12 +28,12 @@ def do(case, results, given):
     )
 
 
-def how_of(given):
+def how_of(given: argparse.Namespace) -> list[Any]:
     """The words of a run on which its results depend."""
     return [list(given.tolerance), given.seconds]
 
 
-def shown(outcome):
+def shown(outcome: Outcome) -> bytes:
     """What is drawn, dark, and white where it differs."""
     samples = bytearray(value // 4 for value in outcome.drawn)
     at = outcome.mask.find(1)

@@ -1,16 +1,19 @@
 """The report of a night as JUnit XML: a test case for each capture."""
 import re
+from collections.abc import Sequence
 from xml.sax.saxutils import escape, quoteattr
+
+from .told import Told
 
 UNSEEN = re.compile("[^\t\n\r\x20-\ud7ff\ue000-\ufffd\U00010000-\U0010ffff]")
 
 
-def clean(text):
+def clean(text: str) -> str:
     """Without the characters that XML doesn't have."""
     return UNSEEN.sub("?", text)
 
 
-def text_of(night):
+def text_of(night: Sequence[Told]) -> str:
     count = {word: sum(one.verdict == word for one in night) for word in ("differs", "failed", "no picture")}
     head = (
         f'<testsuite name="framedbg-night" tests="{len(night)}" failures="{count["differs"]}" '
@@ -20,7 +23,7 @@ def text_of(night):
     return '<?xml version="1.0" encoding="UTF-8"?>\n' + "\n".join([head, *map(case_of, night), "</testsuite>"]) + "\n"
 
 
-def case_of(one):
+def case_of(one: Told) -> str:
     head = f'<testcase classname="framedbg-night" name={quoteattr(clean(one.shown))} time="{one.seconds:.2f}"'
     if one.verdict == "alike":
         return head + "/>"

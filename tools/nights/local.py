@@ -1,9 +1,15 @@
 """The jobs of a night on this machine: a process for each capture, so that one that is killed takes no other with
 it."""
+import argparse
 import concurrent.futures
 import signal
 import subprocess
 import threading
+from collections.abc import Callable, Iterable, Sequence
+
+from .folder import Case
+
+Job = subprocess.Popen[bytes]
 
 SLACK = 120  # seconds beside those of the search that a job may take
 GRACE = 10  # seconds that a job has to end when it is told to
@@ -16,10 +22,11 @@ class Over(Exception):
 class Jobs:
     """Those that run. Each has a session of its own, so that a Ctrl-C is the night's, which ends them."""
 
-    def __init__(self):
-        self.running, self.lock, self.is_over = set(), threading.Lock(), False
+    def __init__(self) -> None:
+        self.running: set[Job] = set()
+        self.lock, self.is_over = threading.Lock(), False
 
-    def start(self, words):
+    def start(self, words: Sequence[str]) -> Job:
         with self.lock:
             if self.is_over:
                 raise Over
@@ -33,7 +40,7 @@ class Jobs:
             self.running.add(job)
             return job
 
-    def end(self):
+    def end(self) -> None:
         with self.lock:
             self.is_over = True
             for job in self.running:
@@ -41,12 +48,12 @@ class Jobs:
             for job in self.running:
                 end(job)
 
-    def done(self, job):
+    def done(self, job: Job) -> None:
         with self.lock:
             self.running.discard(job)
 
 
-def end(job):
+def end(job: Job) -> None:
     """Ends a job that was told to end, and ends what doesn't hear it."""
     try:
         job.wait(GRACE)
@@ -55,10 +62,16 @@ def end(job):
         job.wait()
 
 
-def run_all(cases, words, given, tell):
+def run_all(
+    cases: Iterable[Case],
+    words: Callable[[Case], list[str]],
+    given: argparse.Namespace,
+    tell: Callable[[Case, str | None], None],
+) -> dict[str, str]:
     """Runs a job for each case; `words` gives the command line of one. Gives why it failed, by name, for those that
     did."""
-    failed, running = {}, Jobs()
+    failed: dict[str, str] = {}
+    running = Jobs()
     with concurrent.futures.ThreadPoolExecutor(given.processes) as pool:
         jobs = {pool.submit(run, running, words(case), given.seconds + SLACK): case for case in cases}
         try:
@@ -74,7 +87,7 @@ def run_all(cases, words, given, tell):
     return failed
 
 
-def run(running, words, seconds):
+def run(running: Jobs, words: Sequence[str], seconds: float) -> str | None:
     """Why a job failed, in one line, or None."""
     try:
         job = running.start(words)
@@ -93,5 +106,5 @@ def run(running, words, seconds):
     return said[-1].removeprefix("framedbg-night: ") if said and job.returncode > 0 else ending(job.returncode)
 
 
-def ending(status):
+def ending(status: int) -> str:
     return f"killed by {signal.Signals(-status).name}" if status < 0 else f"ended with status {status}"

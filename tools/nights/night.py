@@ -1,11 +1,12 @@
 """A night, from its words to its status: which captures are to do, their jobs, and the reports."""
+import argparse
 import json
 import os
 import pathlib
 import shlex
 import signal
 import sys
-from dataclasses import dataclass
+from collections.abc import Sequence
 
 from blaming.faults import INTERRUPTED, MEMORY, READING, WORDS, Fault
 from explaining.printable import printable
@@ -13,34 +14,18 @@ from framedbg_client import Ended, Garbled, Refusal, find_program
 from writing.counting import counted
 
 from . import drivers, job, junit, local, page, slurm
-from .folder import RESULTS, Results, cases_of
+from .folder import RESULTS, Case, Result, Results, cases_of
+from .told import Told
 
 TOOL = pathlib.Path(__file__).resolve().parent.parent / "framedbg-night"
 ALIKE, DIFFERS, FAILED = 0, 1, 4
 WIDE = 30  # of the bar
 
 
-@dataclass(frozen=True)
-class Told:
-    """What the reports say of one capture."""
-
-    number: int
-    name: str
-    verdict: str  # alike, differs, failed, no picture
-    headline: str
-    lines: tuple
-    seconds: float
-
-    @property
-    def shown(self):
-        """The name, with what of it is no UTF-8 as \\xff and the like."""
-        return os.fsencode(self.name).decode("utf-8", "backslashreplace")
-
-
-def run(given):
+def run(given: argparse.Namespace) -> int:
     """The status of a night, or of one of its jobs. Who ends it by a signal is told so too, and its jobs end with
     it."""
-    sys.stdout.reconfigure(errors="backslashreplace")
+    sys.stdout.reconfigure(errors="backslashreplace")  # type: ignore[attr-defined]  # an io.TextIOWrapper has it
     signal.signal(signal.SIGTERM, signal.default_int_handler)
     try:
         return night(given) if given.job is None and given.task is None else one_job(given)
@@ -58,12 +43,12 @@ def run(given):
         return told("memory", MEMORY)
 
 
-def told(why, status):
+def told(why: object, status: int) -> int:
     print(f"framedbg-night: {printable(str(why))}", file=sys.stderr)
     return status
 
 
-def places(given):
+def places(given: argparse.Namespace) -> tuple[pathlib.Path, Results, list[Case]]:
     if not given.folder.is_dir():
         raise Fault(f"{given.folder}: no such folder", WORDS)
     results = given.results or given.folder / RESULTS
@@ -71,7 +56,7 @@ def places(given):
     return results, Results(results), drivers.cases_of(cases, given.driver) if given.driver else cases
 
 
-def one_job(given):
+def one_job(given: argparse.Namespace) -> int:
     """What a job does: the case of a name, or of the line of a task."""
     _, results, cases = places(given)
     name = given.job if given.task is None else json.loads(given.names.read_text(encoding="utf-8"))[given.task]
@@ -83,7 +68,7 @@ def one_job(given):
     return 0
 
 
-def night(given):
+def night(given: argparse.Namespace) -> int:
     folder, results, cases = places(given)
     given.program = given.program or find_program()
     if not given.program:
@@ -114,7 +99,7 @@ def night(given):
     return summed(report, len(todo), given, folder)
 
 
-def words_of(given):
+def words_of(given: argparse.Namespace) -> list[str]:
     """The command line of a job, but for which it is."""
     made = [
         sys.executable,
@@ -135,7 +120,9 @@ def words_of(given):
     )
 
 
-def done_by_slurm(todo, folder, results, given, bar):
+def done_by_slurm(
+    todo: Sequence[Case], folder: pathlib.Path, results: Results, given: argparse.Namespace, bar: "Bar"
+) -> dict[str, str]:
     """Why each case has no result that has none after the arrays."""
     how, tasks = job.how_of(given), (folder / "tasks").resolve()
     if todo:
@@ -154,7 +141,7 @@ def done_by_slurm(todo, folder, results, given, bar):
     }
 
 
-def of_case(number, case, result, failed):
+def of_case(number: int, case: Case, result: Result | None, failed: dict[str, str]) -> Told:
     if not case.is_wanted:
         return Told(number, case.name, "no picture", "no picture of this name", (), 0.0)
     if result is None:
@@ -167,7 +154,7 @@ def of_case(number, case, result, failed):
     return Told(number, case.name, "differs" if result["differ"] else "alike", said, lines, result["seconds"])
 
 
-def headline(result):
+def headline(result: Result) -> str:
     if not result["differ"]:
         return "no pixel differs"
     best = result["changes"][:1]
@@ -176,7 +163,7 @@ def headline(result):
     return f"{result['differ']:,} of {result['pixels']:,} pixels differ: {named}{mended}"
 
 
-def summed(report, done, given, folder):
+def summed(report: Sequence[Told], done: int, given: argparse.Namespace, folder: pathlib.Path) -> int:
     """Tells what came of the night, and gives its status."""
     count = {word: sum(one.verdict == word for one in report) for word in ("alike", "differs", "failed", "no picture")}
     print(
@@ -196,20 +183,20 @@ def summed(report, done, given, folder):
 class Bar:
     """How far the night has come, on a terminal."""
 
-    def __init__(self, total, before):
+    def __init__(self, total: int, before: int) -> None:
         self.total, self.before, self.done, self.failed = total, before, 0, 0
         self.is_shown = sys.stderr.isatty()
         self.show()
 
-    def tell(self, _, why):
+    def tell(self, _: Case, why: str | None) -> None:
         self.done, self.failed = self.done + 1, self.failed + bool(why)
         self.show()
 
-    def set(self, done):
+    def set(self, done: int) -> None:
         self.done = done
         self.show()
 
-    def show(self):
+    def show(self) -> None:
         if self.is_shown and self.total:
             done = self.before + self.done
             full = WIDE * done // self.total
@@ -219,7 +206,7 @@ class Bar:
             )
             sys.stderr.flush()
 
-    def end(self):
+    def end(self) -> None:
         if self.is_shown:
             sys.stderr.write("\r\x1b[K")
             sys.stderr.flush()

@@ -1,9 +1,13 @@
 """The report of a night as one page: for each capture that differs its picture, the wanted one, where they differ,
 and the finding."""
 import base64
+from collections.abc import Sequence
 from html import escape
 
 from writing.counting import counted
+
+from .folder import Results
+from .told import Told
 
 STYLE = """body { font: 15px/1.5 system-ui, sans-serif; margin: 2em auto; max-width: 72em; padding: 0 1em; color: #222; background: #fff; }
 table { border-collapse: collapse; } td, th { padding: .2em 1em .2em 0; text-align: left; }
@@ -13,7 +17,7 @@ pre { background: #f5f5f5; padding: 1em; overflow-x: auto; } .differs, .failed {
 @media (prefers-color-scheme: dark) { body { color: #ddd; background: #181818; } pre { background: #242424; } figcaption { color: #999; } a { color: #8bf; } .differs, .failed { color: #f88; } }"""
 
 
-def text_of(night, results, table=""):
+def text_of(night: Sequence[Told], results: Results, table: str = "") -> str:
     told = [one for one in night if one.verdict != "alike"]
     rows = "\n".join(
         (
@@ -35,11 +39,11 @@ def text_of(night, results, table=""):
     )
 
 
-def anchor(one):
+def anchor(one: Told) -> str:
     return f"c{one.number}"
 
 
-def section(one, results):
+def section(one: Told, results: Results) -> str:
     shown = "".join(
         figure(one, results, name, caption)
         for name, caption in (
@@ -55,7 +59,7 @@ def section(one, results):
     )
 
 
-def figure(one, results, name, caption):
+def figure(one: Told, results: Results, name: str, caption: str) -> str:
     path = results.path(one.name, f".{name}.png")
     if not path.exists():
         return ""

@@ -2,18 +2,22 @@
 from the results alone."""
 import json
 import os
+import pathlib
 import shlex
 import subprocess
 import time
+from collections.abc import Callable, Sequence
 
 from blaming.faults import READING, Fault
+
+from .folder import Case
 
 MOST_TASKS = 1000  # of one array: Slurm's own bound is 1,001 where it isn't set otherwise
 BETWEEN = 1.0  # seconds between two looks
 WAIT = 60  # seconds that a call of Slurm may take
 
 
-def called(*words):
+def called(*words: str) -> subprocess.CompletedProcess[str]:
     try:
         ran = subprocess.run(words, stdin=subprocess.DEVNULL, capture_output=True, text=True, timeout=WAIT, check=False)
     except (OSError, subprocess.TimeoutExpired) as fault:
@@ -21,7 +25,7 @@ def called(*words):
     return ran
 
 
-def submit(words, logs, count, options):
+def submit(words: Sequence[str], logs: pathlib.Path, count: int, options: Sequence[str]) -> str:
     """Submits an array of so many tasks, and gives its number."""
     script = "#!/bin/sh\nexec " + " ".join(map(shlex.quote, words)) + ' --task "$SLURM_ARRAY_TASK_ID"\n'
     path = logs / "task.sh"
@@ -41,13 +45,19 @@ def submit(words, logs, count, options):
     return ran.stdout.strip().split(";")[0]
 
 
-def is_waiting(job):
+def is_waiting(job: str) -> bool:
     """Whether an array has tasks that aren't over. One that Slurm doesn't know any more is over."""
     ran = called("squeue", "--noheader", "--jobs", job, "--format=%i")
     return ran.returncode == 0 and bool(ran.stdout.strip())
 
 
-def run_all(cases, words, tasks, options, tell):
+def run_all(
+    cases: Sequence[Case],
+    words: Sequence[str],
+    tasks: pathlib.Path,
+    options: Sequence[str],
+    tell: Callable[[], None],
+) -> None:
     """Runs arrays over cases, one after the other. `tasks` is the folder of the lists of their names and of what
     they say; `tell` looks at what is done."""
     for number, start in enumerate(range(0, len(cases), MOST_TASKS)):
@@ -67,7 +77,7 @@ def run_all(cases, words, tasks, options, tell):
             raise
 
 
-def said(cases, tasks):
+def said(cases: Sequence[Case], tasks: pathlib.Path) -> dict[str, str]:
     """The last line of what each task said, by the name of its case."""
     found = {}
     for number, case in enumerate(cases):
