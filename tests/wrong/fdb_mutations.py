@@ -45,13 +45,13 @@ MUTATIONS = [
     ("moves: events that are off are draws too", "debugger/frame.py", "if is_wanted(event) and self.is_on(event)), None)", "if is_wanted(event)), None)", FDB, "Moves.test_draws_and_clears"),
     ("moves: last leaves the event out that it stands on", "debugger/moving.py", "event < position + (not again)", "event < position", FDB, "Moves.test_first_and_last"),
     ("moves: last stays where it is", "debugger/moving.py", "again = session.found == (x, y, position)", "again = False", FDB, "Moves.test_first_and_last"),
-    ("breakpoints: the farthest", "debugger/breakpoints.py", "min(found)[0] if forward", "max(found)[0] if forward", FDB, "Breakpoints.test_events"),
-    ("breakpoints: the farthest back", "debugger/breakpoints.py", "else max(hit[0] for hit in found)", "else min(hit[0] for hit in found)", FDB, "Breakpoints.test_events"),
+    ("breakpoints: the farthest", "debugger/breakpoints.py", "(min if forward else max)(event", "max(event", FDB, "Breakpoints.test_events"),
+    ("breakpoints: the farthest back", "debugger/breakpoints.py", "(min if forward else max)(event", "min(event", FDB, "Breakpoints.test_events"),
     ("breakpoints: where it stands again", "debugger/breakpoints.py", "event > position), None)\n    return", "event >= position), None)\n    return", FDB, "Breakpoints.test_pixels"),
     ("breakpoints: back to the first change", "debugger/breakpoints.py", "for event in reversed(events)", "for event in events", FDB, "Breakpoints.test_pixels"),
     ("breakpoints: the history up to here alone", "debugger/breakpoints.py", "self.y, whole=forward", "self.y, whole=False", FDB, "Breakpoints.test_pixels"),
     ("breakpoints: writes that change nothing", "debugger/frame.py", "if (first.before, depths[0]) != (last.after, depths[1]):", "if True:", FDB, "Breakpoints.test_pixels"),
-    ("breakpoints: depths that change aren't seen", "debugger/frame.py", "[first.depths.before, last.depths.after] if first.depths else [0, 0]", "[0, 0]", FDB, "Breakpoints.test_a_depth_alone"),
+    ("breakpoints: depths that change aren't seen", "debugger/frame.py", "[first.depths.before, last.depths.after] if first.depths and last.depths else [0, 0]", "[0, 0]", FDB, "Breakpoints.test_a_depth_alone"),
     ("breakpoints: a history kept after a switch", "debugger/frame.py", "if self.switches != self.client.switches:", "if False:", FDB, "Breakpoints.test_pixels"),
     ("breakpoints: the history is asked for each time", "debugger/frame.py", "if (x, y, wanted) not in self.histories:", "if True:", FDB, "Breakpoints.test_by_history_and_not_by_steps"),
     ("breakpoints: kinds that are off", "debugger/breakpoints.py", "if frame.kind(event) == self.kind and frame.is_on(event)", "if frame.kind(event) == self.kind", FDB, "Breakpoints.test_kinds"),
@@ -72,7 +72,7 @@ MUTATIONS = [
     ("starts: the home folder's without a prompt", "debugger/batch.py", "if is_asked and os.path.isfile(home)", "if os.path.isfile(home)", FDB, "Starts.test_none_unasked"),
     ("breakpoints: once is for ever", "debugger/moving.py", "    session.breakpoints.delete(session.breakpoints.once.intersection(given for given, _ in stops))\n", "", FDB, "Breakpoints.test_once"),
     ("breakpoints: all are once", "debugger/breakpoints.py", "            if once:\n", "            if True:\n", FDB, "Breakpoints.test_once"),
-    ("breakpoints: what is disabled stops", "debugger/breakpoints.py", "found = [\n            (what.next(frame, position, forward), number, what)\n            for number, what in self.numbered.items()\n            if number not in self.disabled\n        ]", "found = [(what.next(frame, position, forward), number, what) for number, what in self.numbered.items()]", FDB, "Breakpoints.test_disabled"),
+    ("breakpoints: what is disabled stops", "debugger/breakpoints.py", "if number not in self.disabled and (event", "if (event", FDB, "Breakpoints.test_disabled"),
     ("answers: undo leaves the switches", "debugger/switching.py", "client.switch(event, event not in off)", "pass", FDB, "Answers.test_undone"),
     ("answers: undo is undone", "debugger/session.py", 'if name != "undo" and ', "if ", FDB, "Answers.test_undone"),
     ("answers: undo of a script by lines", "debugger/session.py", "self.past[known:] = [before]", "self.past.append(before)", FDB, "Answers.test_undone"),
@@ -122,7 +122,7 @@ MUTATIONS = [
     # pictures
     ("pictures: the file is emptied first", "debugger/picturing.py", '    image = session.frame.client.value("show", Image)\n    try:', '    path.write_bytes(b"")\n    image = session.frame.client.value("show", Image)\n    try:', FDB, "Pictures.test_nothing_is_lost"),
     ("pictures: a file that nobody else reads", "writing/files.py", "        os.chmod(name, 0o666 & ~umask())\n", "", FDB, "Pictures.test_saved"),
-    ("pictures: rows shown twice", "debugger/drawing.py", "zip(rows[::2], [*rows[1::2], None] if len(rows) % 2 else rows[1::2])", "zip(rows[::2], rows[::2])", FDB, "Pictures.test_half_blocks"),
+    ("pictures: rows shown twice", "debugger/drawing.py", "zip(rows[::2], lowers)", "zip(rows[::2], rows[::2])", FDB, "Pictures.test_half_blocks"),
     ("pictures: the upper colour below", "debugger/drawing.py", "48;2;{';'.join(map(str, lower[column]))}", "48;2;{r};{g};{b}", FDB, "Pictures.test_half_blocks"),
     ("pictures: centre not in the middle", "debugger/drawing.py", "at - length // 2", "at - length", FDB, "Pictures.test_views"),
     ("pictures: more than the terminal has room for", "debugger/drawing.py", "-(-image.width // wide)", "image.width // wide", FDB, "Pictures.test_views"),
@@ -202,7 +202,7 @@ MUTATIONS = [
     ("out: past the first", "debugger/calling.py", "    if not session.outer:", "    if False:", FDB, "Targets.test_nowhere"),
     ("call: of the event after", "debugger/calling.py", "else frame.position\n", "else frame.position + 1\n", FDB, "Calls"),
     ("call: of events that there aren't", "debugger/calling.py", "if not 1 <= event <= len(frame):", "if False:", FDB, "Calls"),
-    ("call: numbered from 0", "debugger/frame.py", "enumerate(events_of(self.client.words[1]), 1)", "enumerate(events_of(self.client.words[1]))", FDB, "Calls"),
+    ("call: numbered from 0", "debugger/frame.py", "enumerate(events_of(self.path), 1)", "enumerate(events_of(self.path))", FDB, "Calls"),
 ]
 
 

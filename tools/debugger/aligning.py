@@ -2,14 +2,19 @@
 import bisect
 import collections
 import difflib
+from collections.abc import Sequence
+from typing import Any
+
+Pair = tuple[int, int]
 
 MOST = 1 << 22  # of the product of two lengths: above it difflib leaves what stands often out
 
 
-def common(one, other):
+def common(one: Sequence[Any], other: Sequence[Any]) -> list[tuple[int, int]]:
     """Pairs of places at which both lists have the same, in order. What stands in each of them once is paired first,
     and the rest by difflib."""
-    found, gaps = [], [(0, len(one), 0, len(other))]
+    found: list[Pair] = []
+    gaps = [(0, len(one), 0, len(other))]
     while gaps:
         start, end, first, last = gaps.pop()
         while start < end and first < last and one[start] == other[first]:
@@ -35,28 +40,32 @@ def common(one, other):
     return sorted(found)
 
 
-def singles(one, other):
+def singles(one: Sequence[Any], other: Sequence[Any]) -> list[tuple[int, int]]:
     """The places of what both lists have once, of which as many as can stand in order."""
     counts = [collections.Counter(one), collections.Counter(other)]
     places = {item: j for j, item in enumerate(other) if counts[1][item] == 1}
     pairs = [(i, places[item]) for i, item in enumerate(one) if counts[0][item] == 1 and item in places]
-    ends, before, tops = [], {}, []  # of each length the least place that ends it, and the pair that has it
+    before: dict[Pair, Pair | None] = {}
+    ends: list[int] = []  # of each length the least place that ends it
+    tops: list[Pair] = []  # and the pair that has it
     for i, j in pairs:
         length = bisect.bisect_left(ends, j)
         before[i, j] = tops[length - 1] if length else None
         ends[length : length + 1], tops[length : length + 1] = [j], [(i, j)]
-    chain, pair = [], tops[-1] if tops else None
+    chain: list[Pair] = []
+    pair = tops[-1] if tops else None
     while pair:
         chain.append(pair)
         pair = before[pair]
     return chain[::-1]
 
 
-def aligned(one, other, kinds):
+def aligned(one: Sequence[Any], other: Sequence[Any], kinds: Sequence[Sequence[str]]) -> list[tuple[int, int]]:
     """Steps through both lists, each (number in the one, number in the other), counted from 1; 0 where a step goes
     over nothing of a list. Between what is the same those go together that have the same kind, of the lists of
     kinds."""
-    steps, borders = [], [(-1, -1), *common(one, other), (len(one), len(other))]
+    steps: list[Pair] = []
+    borders = [(-1, -1), *common(one, other), (len(one), len(other))]
     for (i, j), (next_i, next_j) in zip(borders, borders[1:]):
         i, j = i + 1, j + 1
         alike = [(i + a, j + b) for a, b in common(kinds[0][i:next_i], kinds[1][j:next_j])]

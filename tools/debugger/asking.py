@@ -1,8 +1,13 @@
 """Words that ask, and change nothing."""
+from typing import TYPE_CHECKING
+
 from framedbg_client import Pixel
 
 from .faults import Slip
 from .words import OWN, WORDS, number, place
+
+if TYPE_CHECKING:
+    from .session import Session
 
 ROUND = 5  # events that are listed before the position, and after it
 
@@ -14,7 +19,7 @@ ROUND = 5  # events that are listed before the position, and after it
     "'history' is framedbg's own, with its own reply.",
     takes=("number", "number"),
 )
-def who(session, arguments):
+def who(session: "Session", arguments: list[str]) -> None:
     session.tell("history", session.frame.history(*place(arguments, "who X Y")))
 
 
@@ -26,7 +31,7 @@ def who(session, arguments):
     also=("print",),
     takes=("number", "number"),
 )
-def pixel(session, arguments):
+def pixel(session: "Session", arguments: list[str]) -> None:
     x, y = place(arguments, "p X Y")
     session.tell("pixel", session.frame.client.reply(f"pixel {x} {y}", Pixel))
 
@@ -34,7 +39,7 @@ def pixel(session, arguments):
 @WORDS.add(
     "l", "l [K [J]]", "the events round here, or round K, or from K to J", also=("list",), takes=("event", "event")
 )
-def list_events(session, arguments):
+def list_events(session: "Session", arguments: list[str]) -> None:
     frame, bounds = session.frame, [number(text, "K") for text in arguments]
     if len(bounds) > 2:
         raise Slip("l [K [J]] is wanted")
@@ -53,7 +58,7 @@ def list_events(session, arguments):
     also=("info",),
     takes=("info",),
 )
-def info(session, arguments):
+def info(session: "Session", arguments: list[str]) -> None:
     asked = {(): tell_state, ("off",): tell_off, ("b",): tell_breakpoints, ("breakpoints",): tell_breakpoints}.get(
         tuple(arguments)
     )
@@ -62,11 +67,11 @@ def info(session, arguments):
     asked(session)
 
 
-def tell_state(session):
+def tell_state(session: "Session") -> None:
     session.tell("state", session.frame, session.frame.client.state())
 
 
-def tell_off(session):
+def tell_off(session: "Session") -> None:
     off = sorted(session.frame.client.off)
     for event in off:
         session.tell("event", session.frame, event)
@@ -74,13 +79,13 @@ def tell_off(session):
         session.tell("note", "all events are on")
 
 
-def tell_breakpoints(session):
+def tell_breakpoints(session: "Session") -> None:
     breakpoints = session.breakpoints
     session.tell("note", *map(breakpoints.told, breakpoints.numbered) if breakpoints.numbered else ["no breakpoints"])
 
 
 @WORDS.add("help", "help [WORD]", "the words, or more of one", also=("h",), takes=("word",))
-def tell_help(session, arguments):
+def tell_help(session: "Session", arguments: list[str]) -> None:
     if arguments:
         if arguments[0] in OWN and arguments[0] not in WORDS.named:
             return session.tell(

@@ -1,8 +1,10 @@
 """A run of fdb, from its words to its status."""
+import argparse
 import os
 import pathlib
 import subprocess
 import sys
+from collections.abc import Iterable, Iterator
 
 from framedbg_client import Client, Ended, Garbled, Refusal
 from writing.counting import counted
@@ -31,10 +33,10 @@ from .telling import PLAIN, Laid, printable
 FAULT, INTERRUPTED = 1, 130
 
 
-def run(given):
+def run(given: argparse.Namespace) -> int:
     """The status of a run. What went wrong is told on standard error."""
-    sys.stdin.reconfigure(errors="surrogateescape")
-    sys.stdout.reconfigure(errors="backslashreplace")
+    sys.stdin.reconfigure(errors="surrogateescape")  # type: ignore[attr-defined]  # an io.TextIOWrapper has it
+    sys.stdout.reconfigure(errors="backslashreplace")  # type: ignore[attr-defined]
     try:
         client = Client(given.capture, given.program, given.workers, None if sys.stderr.isatty() else subprocess.PIPE)
     except OSError as fault:
@@ -53,7 +55,7 @@ def run(given):
         client.connection.end(at_once=client.is_asking)
 
 
-def end_all(session):
+def end_all(session: Session) -> None:
     """The runs of other captures, which `into` began, and those beside, of changed ones."""
     for client in session.opened:
         client.connection.end(at_once=client.is_asking)
@@ -61,14 +63,14 @@ def end_all(session):
         beside.close()
 
 
-def told(why, status, plain=False):
+def told(why: object, status: int, plain: bool = False) -> int:
     text = "\n".join(map(printable, str(why).split("\n")))
     if text:
         print(text if plain else f"fdb: {text}", file=sys.stderr)
     return status
 
 
-def debugged(client, given):
+def debugged(client: Client, given: argparse.Namespace) -> int:
     screen = Screen(sys.stdout)
     is_asked = not given.batch and screen.is_terminal and sys.stdin.isatty()
     screen.paints = screen.paints and is_asked
@@ -79,7 +81,7 @@ def debugged(client, given):
         end_all(session)
 
 
-def talked(session, given, is_asked):
+def talked(session: Session, given: argparse.Namespace, is_asked: bool) -> int:
     """The scripts, and then what is typed."""
     try:
         start(session, given, is_asked)
@@ -102,14 +104,14 @@ def talked(session, given, is_asked):
     return 0
 
 
-def start_files(given, is_asked):
+def start_files(given: argparse.Namespace, is_asked: bool) -> list[str]:
     """The file whose lines come first: the one that is named, or at a prompt that of the home folder. None of the
     folder where one stands: it may have come with somebody else's capture."""
     home = os.path.expanduser("~/.fdbrc")
     return [given.start] if given.start else [home] if is_asked and os.path.isfile(home) else []
 
 
-def start(session, given, is_asked):
+def start(session: Session, given: argparse.Namespace, is_asked: bool) -> None:
     """Goes where the session is to begin: the last position, at which the whole frame is drawn."""
     frame = session.frame
     wanted = len(frame) if given.at is None else given.at
@@ -129,6 +131,6 @@ def start(session, given, is_asked):
         here(session, reached != wanted)
 
 
-def read_on(stream):
+def read_on(stream: Iterable[str]) -> Iterator[str]:
     """Its lines as they come, so that a program at the other end of a pipe is answered line by line."""
     return (line.rstrip("\n") for line in stream)

@@ -1,12 +1,17 @@
 """Words that set and take away breakpoints."""
+from typing import TYPE_CHECKING
+
 from captures import KINDS
 from framedbg_client import Pixel
 
-from .breakpoints import AtEvent, AtPixel, InBox, OfKind
+from .breakpoints import AtEvent, AtPixel, InBox, OfKind, Place
 from .conditions import condition_of
 from .faults import Slip
 from .frame import WRITERS
 from .words import WORDS, number, place
+
+if TYPE_CHECKING:
+    from .session import Session
 
 MOST_PIXELS = 1 << 16  # of a box: framedbg is asked for the history of each of them
 BOX = (
@@ -19,7 +24,7 @@ CONDITION = (
 )
 
 
-def at_pixel(session, arguments, usage):
+def at_pixel(session: "Session", arguments: list[str], usage: str) -> AtPixel:
     at = arguments.index("if") if "if" in arguments else len(arguments)
     x, y = place(arguments[:at], usage)
     condition = condition_of(arguments[at + 1 :]) if at < len(arguments) else None
@@ -27,22 +32,22 @@ def at_pixel(session, arguments, usage):
     return AtPixel(x, y, condition)
 
 
-def in_box(session, kind, arguments):
+def in_box(session: "Session", kind: str, arguments: list[str]) -> InBox:
     """Where an event of a kind changes a pixel of a box."""
     if kind not in WRITERS or len(arguments) != 4:
         raise Slip(f"KIND in L T R B is wanted, and KIND is one of {', '.join(WRITERS)}")
-    left, top, right, bottom = box = tuple(number(text, name) for text, name in zip(arguments, "LTRB"))
+    left, top, right, bottom = (number(text, name) for text, name in zip(arguments, "LTRB"))
     if not 0 < (right - left) * (bottom - top) <= MOST_PIXELS or right < left:
         raise Slip(f"a box has from 1 to {MOST_PIXELS} pixels: L is less than R, and T less than B")
     session.frame.client.reply(f"pixel {right - 1} {bottom - 1}", Pixel)  # refused where there is no such pixel
-    return InBox(kind, box)
+    return InBox(kind, (left, top, right, bottom))
 
 
-def set_breakpoint(session, what, once=False):
+def set_breakpoint(session: "Session", what: Place, once: bool = False) -> None:
     session.tell("note", session.breakpoints.told(session.breakpoints.add(what, once)))
 
 
-def place_of(session, arguments, word):
+def place_of(session: "Session", arguments: list[str], word: str) -> Place:
     """Where a breakpoint is to stand that is set by a word."""
     if arguments[:1] == ["pixel"]:
         return at_pixel(session, arguments[1:], f"{word} pixel X Y")
@@ -69,7 +74,7 @@ def place_of(session, arguments, word):
     also=("break",),
     takes=("breakpoint", "number", "number"),
 )
-def break_at(session, arguments):
+def break_at(session: "Session", arguments: list[str]) -> None:
     set_breakpoint(session, place_of(session, arguments, "b"))
 
 
@@ -80,16 +85,16 @@ def break_at(session, arguments):
     also=("tb",),
     takes=("breakpoint", "number", "number"),
 )
-def break_once(session, arguments):
+def break_once(session: "Session", arguments: list[str]) -> None:
     set_breakpoint(session, place_of(session, arguments, "tbreak"), once=True)
 
 
 @WORDS.add("watch", "watch X Y", "a breakpoint where the pixel changes, as b pixel X Y", takes=("number", "number"))
-def watch(session, arguments):
+def watch(session: "Session", arguments: list[str]) -> None:
     set_breakpoint(session, at_pixel(session, arguments, "watch X Y"))
 
 
-def given(session, arguments, usage):
+def given(session: "Session", arguments: list[str], usage: str) -> list[int]:
     """The breakpoint that a number names, or all of them."""
     known = session.breakpoints.numbered
     if len(arguments) > 1:
@@ -103,15 +108,15 @@ def given(session, arguments, usage):
 
 
 @WORDS.add("delete", "delete [N]", "takes breakpoint N away, or all of them", takes=("given",))
-def delete(session, arguments):
+def delete(session: "Session", arguments: list[str]) -> None:
     session.breakpoints.delete(given(session, arguments, "delete [N]"))
 
 
 @WORDS.add("disable", "disable [N]", "lets breakpoint N, or all of them, stop nowhere until enable", takes=("given",))
-def disable(session, arguments):
+def disable(session: "Session", arguments: list[str]) -> None:
     session.breakpoints.disabled.update(given(session, arguments, "disable [N]"))
 
 
 @WORDS.add("enable", "enable [N]", "lets breakpoint N, or all of them, stop again", takes=("given",))
-def enable(session, arguments):
+def enable(session: "Session", arguments: list[str]) -> None:
     session.breakpoints.disabled.difference_update(given(session, arguments, "enable [N]"))

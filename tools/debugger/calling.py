@@ -1,6 +1,7 @@
 """Words about the program that a frame was taken of, as the capture's file tells of it, and ways to the frame's
 other targets."""
 import pathlib
+from typing import TYPE_CHECKING, Any
 
 import origins
 import targets
@@ -13,6 +14,9 @@ from .moving import here
 from .what_if import WhatIf
 from .words import WORDS, number, place
 
+if TYPE_CHECKING:
+    from .session import Session
+
 MOST_TARGET = (1 << 64) - 1  # RenderDoc's numbers have up to 20 digits
 
 
@@ -24,7 +28,7 @@ MOST_TARGET = (1 << 64) - 1  # RenderDoc's numbers have up to 20 digits
     "stands in the capture's file, where a converter wrote it.",
     takes=("event",),
 )
-def call(session, arguments):
+def call(session: "Session", arguments: list[str]) -> None:
     if len(arguments) > 1:
         raise Slip("call [K] is wanted")
     frame = session.frame
@@ -45,9 +49,10 @@ def call(session, arguments):
     "folder, with frame.json. Breakpoints, marks and what is off are each capture's own; out goes back.",
     takes=("number",),
 )
-def into(session, arguments):
+def into(session: "Session", arguments: list[str]) -> None:
     frame = session.frame
-    known, own = targets.beside(frame.client.words[1]) or ({"reads": []}, None)
+    nothing: tuple[dict[str, Any], int | None] = {"reads": []}, None
+    known, own = targets.beside(frame.path) or nothing
     reads = [one for one in known["reads"] if one["target"] == own and one["position"] == frame.position]
     pixel = arguments[-2:] if len(arguments) > 1 and all(text.isdigit() for text in arguments[-2:]) else []
     if len(arguments) > len(pixel):
@@ -64,12 +69,12 @@ def into(session, arguments):
     if pixel and not there:
         raise Slip(f"which pixel {' '.join(pixel)} shows isn't told")
     (name,) = (one["capture"] for one in known["targets"] if one["target"] == read["reads"])
-    enter(session, pathlib.Path(frame.client.words[1]).with_name(name), read["at"])
+    enter(session, pathlib.Path(frame.path).with_name(name), read["at"])
     if there:
         session.tell("note", f"pixel {' '.join(pixel)} shows {there[0]} {there[1]} of it")
 
 
-def called(text, known):
+def called(text: str, known: dict[str, Any]) -> set[int]:
     """The targets that a word stands for: those of that name, or the one of that number."""
     named = {one["target"] for one in known.get("targets", ()) if one.get("name") == text}
     if not (named or text.isdigit()):
@@ -77,13 +82,13 @@ def called(text, known):
     return named or {number(text, "TARGET", MOST_TARGET)}
 
 
-def known_as(target, known):
+def known_as(target: int, known: dict[str, Any]) -> str:
     """A target's number, and its name where it has one."""
     names = [origins.name(one.get("name")) for one in known["targets"] if one["target"] == target]
     return " ".join([str(target), *filter(None, names)])
 
 
-def enter(session, path, position):
+def enter(session: "Session", path: pathlib.Path, position: int) -> None:
     """Another capture, in the place of the one at hand, which stays as it is."""
     program, _, *more = session.frame.client.words
     try:
@@ -110,7 +115,7 @@ def enter(session, path, position):
         raise
 
 
-def leave(session):
+def leave(session: "Session") -> None:
     """The capture at hand, for the one before it."""
     session.what_if.close()
     (
@@ -126,11 +131,11 @@ def leave(session):
 
 
 @WORDS.add("out", "out", "back to the draw from which into went")
-def out(session, arguments):
+def out(session: "Session", arguments: list[str]) -> None:
     if arguments:
         raise Slip("nothing is wanted behind the word")
     if not session.outer:
         raise Slip("into went nowhere from here")
     leave(session)
-    session.tell("note", pathlib.Path(session.frame.client.words[1]).name)
+    session.tell("note", pathlib.Path(session.frame.path).name)
     here(session, False)

@@ -1,7 +1,12 @@
 """A change of a capture: an event with another value, or elsewhere. `set 8 mask 15` and `move 14 after 9` are such."""
-from captures import marker
+from collections.abc import Container, Sequence
+from typing import Any
+
+from captures import Event, marker
 
 from .contents import MEMBERS
+
+Change = dict[str, Any]  # {"set": number, "members": {..}}, or {"move": number, "to": its number then}
 
 FIXED = {"kind", "vertices", "indices", "picture", "source"}  # members of an event that aren't changed so
 TRUTHS = {"on": True, "true": True, "off": False, "false": False}
@@ -13,14 +18,13 @@ class Wrong(Exception):
     """It is no change of this capture; the text says why."""
 
 
-def members_of(kind):
+def members_of(kind: str) -> list[str]:
     """The names of what may be set of an event."""
     return [name for name in MEMBERS[kind] if name not in FIXED]
 
 
-def read_change(line, kinds):
-    """What a line asks for: {"set": number, "members": {..}}, or {"move": number, "to": its number then}. `kinds`
-    are those of the events."""
+def read_change(line: str, kinds: Sequence[str]) -> Change:
+    """What a line asks for. `kinds` are those of the events."""
     word, *rest = line.split()
     if word == "move":
         if len(rest) != 3 or rest[1] not in WAYS:
@@ -35,19 +39,19 @@ def read_change(line, kinds):
     return {"set": number, "members": {name: value}}
 
 
-def numbered(text, line, kinds):
+def numbered(text: str, line: str, kinds: Sequence[str]) -> int:
     if not (text.isascii() and text.isdigit() and len(text) < 10 and 1 <= int(text) <= len(kinds)):
         raise Wrong(f"{line}: events are numbered from 1 to {len(kinds)}")
     return int(text)
 
 
-def read(text):
+def read(text: str) -> int | bool | str:
     """A value as it is typed."""
     is_number = text.removeprefix("-").isdigit() and text.isascii() and len(text) < 20
     return TRUTHS[text] if text in TRUTHS else int(text) if is_number else text
 
 
-def changed(events, wanted):
+def changed(events: list[Any], wanted: Change) -> list[Any]:
     """The events after a change, whatever it came from: Wrong where it is none of these."""
     if "move" in wanted:
         number, to = (within(wanted[name], events) for name in ("move", "to"))
@@ -61,12 +65,12 @@ def changed(events, wanted):
     return events[: number - 1] + [{**event, **members}] + events[number:]
 
 
-def within(number, events):
+def within(number: Any, events: Sequence[Any]) -> int:
     if type(number) is not int or not 1 <= number <= len(events):
         raise Wrong(f"events are numbered from 1 to {len(events)}")
     return number
 
 
-def without(events, off):
+def without(events: list[Event], off: Container[int]) -> list[Event]:
     """The events, of which those that are off are none: a marker stands there, so that no number becomes another."""
     return [marker("off") if number in off else event for number, event in enumerate(events, 1)]

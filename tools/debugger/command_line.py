@@ -11,29 +11,31 @@ is trouble, as of diff(1).
 """
 import argparse
 import sys
+from collections.abc import Sequence
+from typing import NoReturn
 
 
 class Words(argparse.ArgumentParser):
     trouble = 1  # the status of a fault of the words
 
-    def error(self, message):
+    def error(self, message: str) -> NoReturn:
         self.print_usage(sys.stderr)
         self.exit(self.trouble, f"fdb: {message}\n")
 
 
-def workers(text):
+def workers(text: str) -> int:
     if not (text.isascii() and text.isdigit() and 1 <= int(text) <= 64):
         raise argparse.ArgumentTypeError("a number from 1 to 64 is wanted")
     return int(text)
 
 
-def position(text):
+def position(text: str) -> int:
     if not (text.isascii() and text.isdigit() and len(text) <= 10):
         raise argparse.ArgumentTypeError("a whole number is wanted")
     return int(text)
 
 
-def words(given=None):
+def words(given: Sequence[str] | None = None) -> argparse.Namespace:
     parser = Words(prog="fdb", description=__doc__, formatter_class=argparse.RawDescriptionHelpFormatter)
     parser.add_argument("capture", metavar="CAPTURE", nargs="?", help="the capture, a JSON file")
     parser.add_argument(
@@ -59,7 +61,7 @@ def words(given=None):
     return parsed
 
 
-def add_scripts(parser):
+def add_scripts(parser: argparse.ArgumentParser) -> None:
     parser.add_argument(
         "-x",
         dest="scripts",

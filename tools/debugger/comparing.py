@@ -1,14 +1,20 @@
 """What differs between two positions: states and images."""
+from collections.abc import Iterator
+from typing import TYPE_CHECKING
+
 from framedbg_client import Image
 
 from .faults import Slip
-from .telling import set_by, state_parts
+from .telling import Parts, set_by, state_parts
 from .words import WORDS, number
+
+if TYPE_CHECKING:
+    from .session import Session
 
 BYTES = 4
 
 
-def differing(one, other):
+def differing(one: Image, other: Image) -> Iterator[tuple[int, int]]:
     """The pixels in which two images of one size differ, as (x, y), row by row."""
     stride = BYTES * one.width
     for y in range(one.height):
@@ -19,7 +25,7 @@ def differing(one, other):
         yield from ((x, y) for x, (a, b) in enumerate(zip(*rows)) if a != b)
 
 
-def tell_images(one, other):
+def tell_images(one: Image, other: Image) -> list[str]:
     """How many pixels differ, in which box, and where the most."""
     count, box, most = 0, [one.width, one.height, 0, 0], (-1, 0, 0)
     for x, y in differing(one, other):
@@ -37,7 +43,7 @@ def tell_images(one, other):
     ]
 
 
-def tell_states(one, other):
+def tell_states(one: Parts, other: Parts) -> list[str]:
     told = [
         f"{part}: {text} {set_by(event)}, and then {then} {set_by(later)}"
         for (part, text, event), (_, then, later) in zip(one, other)
@@ -54,7 +60,7 @@ def tell_states(one, other):
     also=("diff",),
     takes=("position", "position"),
 )
-def differences(session, arguments):
+def differences(session: "Session", arguments: list[str]) -> None:
     if len(arguments) != 2:
         raise Slip("d I J is wanted")
     frame, home = session.frame, session.frame.position

@@ -1,4 +1,5 @@
 """fdb --diff: two captures, event by event and picture by picture."""
+import argparse
 import sys
 
 from framedbg_client import Client, Ended, Garbled, Refusal
@@ -14,9 +15,9 @@ from .telling import printable
 ALIKE, DIFFER, REFUSED, FAULT, MEMORY = 0, 1, 2, 3, 5
 
 
-def run(given):
+def run(given: argparse.Namespace) -> int:
     """The status of a run, as diff(1) has them: above 1 there was trouble."""
-    clients = []
+    clients: list[Client] = []
     try:
         for path in given.diff:
             clients.append(Client(path, given.program, given.workers))
@@ -37,7 +38,7 @@ def run(given):
             client.connection.end(at_once=client.is_asking)
 
 
-def compared(frames, contents, screen):
+def compared(frames: list[DebuggedFrame], contents: list[Contents], screen: Screen) -> int:
     one, other = contents
     heads = [f"size: {' by '.join(map(str, one.size))}, and then {' by '.join(map(str, other.size))}"] * (
         one.size != other.size

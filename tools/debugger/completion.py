@@ -1,12 +1,16 @@
 """What may stand at the end of a line that is being typed."""
 import glob
 import os
+from collections.abc import Callable, Iterable, Sequence
 
 from captures import CULLS, FACTORS, FUNCTIONS, INTERPOLATIONS, KINDS, OPERATIONS
 
 from .bookmarks import LAST
 from .changing import WAYS, members_of
+from .session import Session
 from .words import OWN, WORDS
+
+Find = Callable[[Session, str], list[str]]  # what may stand where a word has begun so
 
 MOST = 200  # candidates: of more the list is no help
 OWN_TAKES = {
@@ -18,7 +22,7 @@ OWN_TAKES = {
 }
 
 
-def candidates(session, line, begun):
+def candidates(session: Session, line: str, begun: str) -> list[str]:
     """The words that may stand for the one that is begun, behind what stands before it in the line."""
     before = line.split()
     if not before:
@@ -37,7 +41,7 @@ def candidates(session, line, begun):
     return FOUND.get(taken, lambda *_: [])(session, begun)
 
 
-def of_event(session, before):
+def of_event(session: Session, before: list[str]) -> Sequence[str]:
     """What of an event may be set, or the values that are words."""
     if not (before[0].isascii() and before[0].isdigit() and 1 <= int(before[0]) <= len(session.frame)):
         return []
@@ -45,7 +49,9 @@ def of_event(session, before):
     return members if len(before) == 1 else VALUES.get(before[1], ()) if before[1] in members else []
 
 
-def events(session, begun, is_wanted=lambda event: True, first=1):
+def events(
+    session: Session, begun: str, is_wanted: Callable[[int], bool] = lambda event: True, first: int = 1
+) -> list[str]:
     """Numbers that begin so."""
     found = []
     for event in range(first, len(session.frame) + 1):
@@ -56,13 +62,13 @@ def events(session, begun, is_wanted=lambda event: True, first=1):
     return found
 
 
-def named(names):
+def named(names: Callable[[Session], Iterable[str]] | Sequence[str]) -> Find:
     return lambda session, begun: [
         name for name in (names(session) if callable(names) else names) if name.startswith(begun)
     ]
 
 
-def files(_, begun):
+def files(_: Session, begun: str) -> list[str]:
     return [
         path + "/" if os.path.isdir(path) else path
         for path in sorted(glob.glob(glob.escape(os.path.expanduser(begun)) + "*"))
@@ -70,7 +76,7 @@ def files(_, begun):
 
 
 PART = (*FACTORS, *OPERATIONS)
-VALUES = {
+VALUES: dict[str, Sequence[str]] = {
     "enable": ("on", "off"),
     "write": ("on", "off"),
     "front_ccw": ("on", "off"),
@@ -81,7 +87,7 @@ VALUES = {
     "rgb": PART,
     "alpha": PART,
 }
-FOUND = {
+FOUND: dict[str | None, Find] = {
     "event": events,
     "position": lambda session, begun: events(session, begun, first=0)
     + named(lambda session: [LAST, *sorted(session.bookmarks)])(session, begun),

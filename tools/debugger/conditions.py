@@ -1,13 +1,15 @@
 """What a pixel has to be after a change, so that a breakpoint stops there: `red > 200`, `depth <= 100`."""
 import operator
+from collections.abc import Callable
 from dataclasses import dataclass
 
 from captures import FARTHEST
 
 from .faults import Slip
+from .frame import Change
 from .words import number
 
-SIGNS = {
+SIGNS: dict[str, Callable[[int, int], bool]] = {
     "<": operator.lt,
     "<=": operator.le,
     "=": operator.eq,
@@ -25,15 +27,15 @@ class Condition:
     sign: str
     value: int
 
-    def __str__(self):
+    def __str__(self) -> str:
         return f"{self.channel} {self.sign} {self.value}"
 
-    def holds(self, change):
+    def holds(self, change: Change) -> bool:
         found = change.depth if self.channel == "depth" else getattr(change.after, self.channel)
         return found is not None and SIGNS[self.sign](found, self.value)
 
 
-def condition_of(words):
+def condition_of(words: list[str]) -> Condition:
     """The condition that words say, which stand behind `if`."""
     if len(words) != 3 or words[0] not in MOST or words[1] not in SIGNS:
         raise Slip(

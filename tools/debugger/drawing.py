@@ -2,7 +2,13 @@
 import base64
 import re
 import zlib
+from collections.abc import Sequence
 from dataclasses import dataclass
+
+from framedbg_client import Image
+
+Colour = tuple[int, ...]  # red, green and blue
+Rows = list[list[Colour]]
 
 PIECE = 4096  # characters of a piece of kitty's protocol
 LETTERS = " .:-=+*#%@"  # from dark to light
@@ -22,21 +28,21 @@ class View:
     zoom: int
     every: int
 
-    def x(self, column):
+    def x(self, column: int) -> int:
         return self.left + column // self.zoom * self.every
 
-    def y(self, row):
+    def y(self, row: int) -> int:
         return self.top + row // self.zoom * self.every
 
 
-def whole(image, wide, high):
+def whole(image: Image, wide: int, high: int) -> View:
     """All of an image within so many columns and rows."""
     every = max(1, -(-image.width // wide), -(-image.height // high))
     zoom = max(1, min(wide // image.width, high // image.height)) if every == 1 else 1
     return View(0, 0, zoom * -(-image.width // every), zoom * -(-image.height // every), zoom, every)
 
 
-def part(image, centre, zoom, wide, high):
+def part(image: Image, centre: Sequence[int], zoom: int, wide: int, high: int) -> View:
     """What is round a pixel, within so many columns and rows."""
     zoom = max(1, min(zoom, wide, high))
     columns, rows = min(image.width, wide // zoom), min(image.height, high // zoom)
@@ -47,10 +53,11 @@ def part(image, centre, zoom, wide, high):
     return View(left, top, zoom * columns, zoom * rows, zoom, 1)
 
 
-def grid(image, view):
+def grid(image: Image, view: View) -> Rows:
     """The colours that are shown, row by row."""
     places = [4 * view.x(column) for column in range(view.columns)]
-    rows, known = [], {}
+    rows: Rows = []
+    known: dict[int, list[Colour]] = {}
     for row in range(view.rows):
         y = view.y(row)
         if y not in known:
@@ -60,11 +67,13 @@ def grid(image, view):
     return rows
 
 
-def half(rows):
+def half(rows: Rows) -> str:
     """Two pixels a character: the upper one in its colour, the lower one in its ground."""
     told = []
-    for upper, lower in zip(rows[::2], [*rows[1::2], None] if len(rows) % 2 else rows[1::2]):
-        line, last = [], None
+    lowers: list[list[Colour] | None] = [*rows[1::2], None]  # the last row of an odd number has none below it
+    for upper, lower in zip(rows[::2], lowers):
+        line: list[str] = []
+        last = None
         for column, (r, g, b) in enumerate(upper):
             ground = f"48;2;{';'.join(map(str, lower[column]))}" if lower else "49"
             style = f"\x1b[38;2;{r};{g};{b};{ground}m"
@@ -74,13 +83,13 @@ def half(rows):
     return "\n".join(told)
 
 
-def letters(rows):
+def letters(rows: Rows) -> str:
     """Light and dark alone, for a terminal without colours and for files."""
     light = lambda r, g, b: LETTERS[(299 * r + 587 * g + 114 * b) * (len(LETTERS) - 1) // 255000]
     return "\n".join("".join(light(*colour) for colour in row).rstrip() for row in rows[::2])
 
 
-def kitty(rows):
+def kitty(rows: Rows) -> str:
     raw = b"".join(bytes(colour) for row in rows for colour in row)
     data = base64.b64encode(zlib.compress(raw)).decode()
     pieces = [data[at : at + PIECE] for at in range(0, len(data), PIECE)]
@@ -90,7 +99,7 @@ def kitty(rows):
     )
 
 
-def sixel(rows):
+def sixel(rows: Rows) -> str:
     """Six rows at a time, each colour in a pass of its own. A colour is told in hundredths."""
     colours = {colour for row in rows for colour in row}
     if len(colours) > 256:
@@ -107,8 +116,8 @@ def sixel(rows):
     return f"\x1bPq\"1;1;{len(rows[0])};{len(rows)}{head}{bands}\x1b\\"
 
 
-def band(rows, number):
-    bits = {}
+def band(rows: Rows, number: dict[Colour, int]) -> str:
+    bits: dict[Colour, bytearray] = {}
     for bit, row in enumerate(rows):
         for column, colour in enumerate(row):
             line = bits.setdefault(colour, bytearray(len(row)))
@@ -116,7 +125,7 @@ def band(rows, number):
     return "$".join(f"#{number[colour]}{packed(line)}" for colour, line in bits.items())
 
 
-def packed(line):
+def packed(line: bytearray) -> str:
     """Sixels, with runs of one shortened, and without the empty ones at the end."""
     letters = line.translate(SIXELS).decode().rstrip("?")
     return RUN.sub(lambda run: f"!{len(run[0])}{run[1]}", letters)

@@ -1,7 +1,12 @@
 """Words about the run itself."""
+from typing import TYPE_CHECKING
+
 from .faults import Leave, Slip
 from .moving import here
 from .words import WORDS
+
+if TYPE_CHECKING:
+    from .session import Session
 
 
 @WORDS.add(
@@ -10,7 +15,7 @@ from .words import WORDS
     "a new run of the same capture, at the same position and with the same events off",
     "For a run that has ended, by want of memory or otherwise.",
 )
-def run(session, arguments):
+def run(session: "Session", arguments: list[str]) -> None:
     if arguments:
         raise Slip("nothing is wanted behind the word")
     position = session.frame.position
@@ -18,5 +23,5 @@ def run(session, arguments):
 
 
 @WORDS.add("q", "q", "ends it, as Ctrl-D does")
-def leave(session, arguments):
+def leave(session: "Session", arguments: list[str]) -> None:
     raise Leave

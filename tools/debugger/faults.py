@@ -1,4 +1,5 @@
 """What a line may come to besides an answer."""
+from framedbg_client import Ended
 
 
 class Slip(Exception):
@@ -9,18 +10,18 @@ class Failed(Exception):
     """An `expect` that doesn't hold, or a line of a script that can't be done: the script ends here. `where` is its
     file and line, and `status` what fdb --batch ends with."""
 
-    def __init__(self, why, where="", status=1):
+    def __init__(self, why: str, where: str = "", status: int = 1) -> None:
         super().__init__(why)
-        self.where, self.status = where, status
+        self.why, self.where, self.status = why, where, status
 
-    def __str__(self):
-        return f"{self.where}: {self.args[0]}" if self.where else self.args[0]
+    def __str__(self) -> str:
+        return f"{self.where}: {self.why}" if self.where else self.why
 
 
 class Leave(Exception):
     """The user has had enough."""
 
 
-def status_of(ended):
+def status_of(ended: Ended) -> int:
     """What fdb ends with where framedbg's run has ended so: the same, where that is one of framedbg's own."""
     return ended.status if 2 <= ended.status <= 5 else 1

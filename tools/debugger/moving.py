@@ -1,20 +1,26 @@
 """Words that go through the frame."""
+from typing import TYPE_CHECKING
+
 from .bookmarks import LAST
+from .breakpoints import AtPixel, Place
 from .faults import Slip
 from .frame import WRITERS
 from .words import WORDS, number, place
 
+if TYPE_CHECKING:
+    from .session import Session
 
-def here(session, stopped=False):
+
+def here(session: "Session", stopped: bool = False) -> None:
     session.tell("here", session.frame, stopped)
 
 
-def go(session, position):
+def go(session: "Session", position: int) -> None:
     """Goes there, and tells where that is."""
     here(session, session.frame.client.goto(position) < position)
 
 
-def times(arguments):
+def times(arguments: list[str]) -> int:
     if len(arguments) > 1:
         raise Slip("at most one number is wanted: how many events")
     return number(arguments[0], "N") if arguments else 1
@@ -28,7 +34,7 @@ def times(arguments):
     takes=("count",),
     repeats=True,
 )
-def forward(session, arguments):
+def forward(session: "Session", arguments: list[str]) -> None:
     by, frame = times(arguments), session.frame
     if by == 1 or frame.position == len(frame):
         before = frame.position
@@ -45,7 +51,7 @@ def forward(session, arguments):
     takes=("count",),
     repeats=True,
 )
-def backward(session, arguments):
+def backward(session: "Session", arguments: list[str]) -> None:
     by, frame = times(arguments), session.frame
     if by == 1 or frame.position == 0:
         frame.client.back()
@@ -53,7 +59,7 @@ def backward(session, arguments):
     go(session, max(0, frame.position - by))
 
 
-def to_writer(session, arguments, forward):
+def to_writer(session: "Session", arguments: list[str], forward: bool) -> None:
     if arguments:
         raise Slip("nothing is wanted behind the word")
     frame = session.frame
@@ -64,12 +70,12 @@ def to_writer(session, arguments, forward):
 
 
 @WORDS.add("n", "n", "to the next draw or clear that is on", also=("next",), repeats=True)
-def to_next_writer(session, arguments):
+def to_next_writer(session: "Session", arguments: list[str]) -> None:
     to_writer(session, arguments, True)
 
 
 @WORDS.add("rn", "rn", "to the draw or clear before", also=("reverse-next",), repeats=True)
-def to_writer_before(session, arguments):
+def to_writer_before(session: "Session", arguments: list[str]) -> None:
     to_writer(session, arguments, False)
 
 
@@ -80,7 +86,7 @@ def to_writer_before(session, arguments):
     "'goto' is framedbg's own, with its own reply.",
     takes=("position",),
 )
-def go_to(session, arguments):
+def go_to(session: "Session", arguments: list[str]) -> None:
     if len(arguments) != 1:
         raise Slip("g K is wanted")
     named = {LAST: len(session.frame), **session.bookmarks}
@@ -104,7 +110,7 @@ GROUP = (
     f"Of several the innermost that goes on. {GROUP}",
     also=("fin",),
 )
-def finish(session, arguments):
+def finish(session: "Session", arguments: list[str]) -> None:
     if arguments:
         raise Slip("nothing is wanted behind the word")
     end = session.frame.groups.end(session.frame.position)
@@ -120,7 +126,7 @@ def finish(session, arguments):
     f"Said again it goes out of the group round that one. {GROUP}",
     also=("rfin",),
 )
-def finish_backward(session, arguments):
+def finish_backward(session: "Session", arguments: list[str]) -> None:
     if arguments:
         raise Slip("nothing is wanted behind the word")
     marker = session.frame.groups.start(session.frame.position)
@@ -130,7 +136,7 @@ def finish_backward(session, arguments):
 
 
 # ---- Breakpoints
-def run_on(session, arguments, forward):
+def run_on(session: "Session", arguments: list[str], forward: bool) -> None:
     """To the nearest breakpoint, or where the frame ends. A move that memory stops before a breakpoint stays where
     it came to."""
     if arguments:
@@ -150,27 +156,28 @@ def run_on(session, arguments, forward):
     here(session, reached != position)
 
 
-def tell_stops(session, stops, position):
+def tell_stops(session: "Session", stops: list[tuple[int, Place]], position: int) -> None:
     for given, what in stops:
         session.tell("note", session.breakpoints.told(given))
-        for change in what.changes(session.frame):
-            if change.event == position:
-                session.tell("change", what.place, change)
+        if isinstance(what, AtPixel):
+            for change in what.changes(session.frame):
+                if change.event == position:
+                    session.tell("change", what.place, change)
     session.breakpoints.delete(session.breakpoints.once.intersection(given for given, _ in stops))
 
 
 @WORDS.add("c", "c", "on to the next breakpoint, or to the end", also=("continue",), repeats=True)
-def continue_forward(session, arguments):
+def continue_forward(session: "Session", arguments: list[str]) -> None:
     run_on(session, arguments, True)
 
 
 @WORDS.add("rc", "rc", "back to the breakpoint before, or to the start", also=("reverse-continue",), repeats=True)
-def continue_backward(session, arguments):
+def continue_backward(session: "Session", arguments: list[str]) -> None:
     run_on(session, arguments, False)
 
 
 # ---- Where a pixel was written
-def to_write(session, x, y, event):
+def to_write(session: "Session", x: int, y: int, event: int) -> None:
     session.found = (x, y, event)
     go(session, event)
     session.tell("entries", session.frame.history(x, y), event)
@@ -184,7 +191,7 @@ def to_write(session, x, y, event):
     takes=("number", "number"),
     repeats=True,
 )
-def to_last_write(session, arguments):
+def to_last_write(session: "Session", arguments: list[str]) -> None:
     x, y = place(arguments, "last X Y")
     position = session.frame.position
     again = session.found == (x, y, position)
@@ -197,7 +204,7 @@ def to_last_write(session, arguments):
 @WORDS.add(
     "first", "first X Y", "to the event of the whole frame that wrote the pixel first", takes=("number", "number")
 )
-def to_first_write(session, arguments):
+def to_first_write(session: "Session", arguments: list[str]) -> None:
     x, y = place(arguments, "first X Y")
     frame = session.frame
     home = frame.position

@@ -1,15 +1,19 @@
 """Words that show the image, or keep it in a file."""
 import os
 import pathlib
+from typing import TYPE_CHECKING
 
 from framedbg_client import Image
 from writing.files import keep
 
 from . import drawing
 from .faults import Slip
-from .screen import CELL
+from .screen import CELL, Screen
 from .telling import printable
 from .words import WORDS, number
+
+if TYPE_CHECKING:
+    from .session import Session
 
 ZOOM, LARGEST_ZOOM = 4, 64
 BELOW = 2  # rows that stay free below a picture
@@ -23,7 +27,7 @@ BELOW = 2  # rows that stay free below a picture
     "letters. FDB_LOOK=kitty, sixel, half or letters names one.",
     takes=("number", "number", "number"),
 )
-def look(session, arguments):
+def look(session: "Session", arguments: list[str]) -> None:
     if len(arguments) not in (0, 2, 3):
         raise Slip("look [X Y [ZOOM]] is wanted")
     numbers = [number(text, what) for text, what in zip(arguments, ("X", "Y", "ZOOM"))]
@@ -39,7 +43,7 @@ def look(session, arguments):
         session.tell("note", f"columns {view.left} to {right}, rows {view.top} to {bottom}, {shown}")
 
 
-def room(screen, kind):
+def room(screen: Screen, kind: str) -> tuple[int, int]:
     """How many pixels a picture may have."""
     columns, rows = screen.size()
     rows = max(1, rows - BELOW)
@@ -47,7 +51,7 @@ def room(screen, kind):
     return columns * across, rows * down
 
 
-def view_of(image, numbers, wide, high):
+def view_of(image: Image, numbers: list[int], wide: int, high: int) -> drawing.View:
     if not numbers:
         return drawing.whole(image, wide, high)
     zoom = numbers[2] if len(numbers) == 3 else ZOOM
@@ -63,7 +67,7 @@ def view_of(image, numbers, wide, high):
     "A file that is there is replaced; a device, a pipe or a link is written through.",
     takes=("file",),
 )
-def save(session, arguments):
+def save(session: "Session", arguments: list[str]) -> None:
     path = pathlib.Path(os.path.expanduser(" ".join(arguments)))
     kind = path.suffix.lower()
     if kind not in (".png", ".pam"):

@@ -2,6 +2,7 @@
 import os
 import pathlib
 import sys
+from typing import TYPE_CHECKING
 
 try:
     import readline
@@ -15,15 +16,19 @@ from .faults import Failed, Leave, Slip
 from .telling import printable
 from .words import WORDS
 
+if TYPE_CHECKING:
+    from .session import Session
+
 KEPT = 1000  # lines of the history
 
 
 class Prompt:
-    def __init__(self, session):
-        self.session, self.before, self.offered = session, "", []
+    def __init__(self, session: "Session") -> None:
+        self.session, self.before = session, ""
+        self.offered: list[str] = []
         self.kept = 0  # lines of the history that were there before
 
-    def run(self):
+    def run(self) -> None:
         """Takes lines until the user has had enough."""
         history = history_file()
         self.begin(history)
@@ -37,7 +42,7 @@ class Prompt:
         finally:
             self.end(history)
 
-    def take(self):
+    def take(self) -> None:
         """One line; whatever comes of it, the next may be typed."""
         try:
             line = self.line()
@@ -55,7 +60,7 @@ class Prompt:
         except MemoryError:
             self.session.screen.write("  fdb: memory")
 
-    def line(self):
+    def line(self) -> str:
         frame, screen = self.session.frame, self.session.screen
         text = f"({frame.position}/{len(frame)}) "
         if screen.paints and readline:
@@ -69,7 +74,7 @@ class Prompt:
             if readline:
                 readline.set_startup_hook(None)
 
-    def begin(self, history):
+    def begin(self, history: pathlib.Path) -> None:
         if not readline:
             return
         readline.set_completer(self.complete)
@@ -85,7 +90,7 @@ class Prompt:
             pass  # there is none yet, or none that can be read
         self.kept = readline.get_current_history_length()
 
-    def end(self, history):
+    def end(self, history: pathlib.Path) -> None:
         if not readline:
             return
         try:
@@ -99,20 +104,20 @@ class Prompt:
         except OSError as fault:
             print(f"fdb: the history isn't kept: {fault}", file=sys.stderr)
 
-    def complete(self, begun, index):
+    def complete(self, begun: str, index: int) -> str | None:
         if index == 0:
             self.offered = candidates(self.session, readline.get_line_buffer()[: readline.get_begidx()], begun)
         return self.offered[index] if index < len(self.offered) else None
 
 
-def repeats(line):
+def repeats(line: str) -> bool:
     """Whether an empty line means that one again."""
     words = line.split()
     word = WORDS.named.get(words[0]) if words else None
     return line.strip() in ("step", "back") or bool(word and word.repeats)
 
 
-def history_file():
+def history_file() -> pathlib.Path:
     """FDB_HISTORY names it; else it is where programs keep such things."""
     named = os.environ.get("FDB_HISTORY")
     state = os.environ.get("XDG_STATE_HOME") or os.path.expanduser("~/.local/state")

@@ -5,6 +5,8 @@ import sys
 import termios
 import time
 import tty
+from collections.abc import Mapping
+from typing import TextIO
 
 from .faults import Slip
 
@@ -15,22 +17,23 @@ ATTRIBUTES = b"\x1b[c"  # asks a terminal what it can; a 4 in its answer is sixe
 
 
 class Screen:
-    def __init__(self, out, environment=os.environ):
+    def __init__(self, out: TextIO, environment: Mapping[str, str] = os.environ) -> None:
         self.out, self.environment = out, environment
         self.is_terminal = out.isatty()
         dumb = environment.get("TERM", "") in ("", "dumb")
         self.paints = self.is_terminal and not dumb and not environment.get("NO_COLOR")
-        self.kind, self.typed = None, ""  # typed: what the user typed while the terminal was asked
+        self.kind: str | None = None
+        self.typed = ""  # what the user typed while the terminal was asked
 
-    def write(self, line):
+    def write(self, line: str) -> None:
         self.out.write(f"{line}\n")
         self.out.flush()
 
-    def clear_line(self):
+    def clear_line(self) -> None:
         if self.is_terminal:
             self.out.write("\r\x1b[K" if self.paints else "\n")
 
-    def size(self):
+    def size(self) -> tuple[int, int]:
         """Columns and rows as they are now."""
         try:
             columns, rows = os.get_terminal_size(self.out.fileno())
@@ -38,7 +41,7 @@ class Screen:
             columns, rows = 80, 24
         return columns or 80, rows or 24
 
-    def picture_kind(self):
+    def picture_kind(self) -> str:
         """How pictures are shown: one of KINDS. FDB_LOOK names it, or the terminal does."""
         if self.kind is None:
             named = self.environment.get("FDB_LOOK")
@@ -47,7 +50,7 @@ class Screen:
             self.kind = named or self.best_kind()
         return self.kind
 
-    def best_kind(self):
+    def best_kind(self) -> str:
         if not self.paints:
             return "letters"
         name, inside = self.environment.get("TERM", ""), self.environment.get("TMUX") or self.environment.get("STY")
@@ -61,7 +64,7 @@ class Screen:
             return "sixel"
         return "half" if (self.out.encoding or "").lower().replace("-", "") == "utf8" else "letters"
 
-    def shows_sixel(self):
+    def shows_sixel(self) -> bool:
         """Asks the terminal. What the user types meanwhile is kept for the next line."""
         try:
             terminal = sys.stdin.fileno()
@@ -82,7 +85,7 @@ class Screen:
         return bool(escape) and b"4" in told.rstrip(b"c").split(b";")[1:]
 
 
-def read_answer(terminal):
+def read_answer(terminal: int) -> bytes:
     """What comes from a terminal until its answer ends, or for a little while."""
     answer, end = b"", time.monotonic() + PATIENCE
     while not (b"\x1b[?" in answer and answer.endswith(b"c")) and (left := end - time.monotonic()) > 0:

@@ -1,16 +1,21 @@
 """Scripts of lines, and what they may expect."""
 import os
+from collections.abc import Iterable
+from typing import TYPE_CHECKING
 
 from framedbg_client import Ended, Garbled
 
 from .faults import Failed, Slip, status_of
 from .words import WORDS
 
+if TYPE_CHECKING:
+    from .session import Session
+
 DEEPEST = 16  # scripts that run scripts
 MOST = 64 << 20  # bytes of a script
 
 
-def read(path):
+def read(path: str) -> list[str]:
     try:
         with open(os.path.expanduser(path), "rb") as file:
             data = file.read(MOST + 1)
@@ -21,7 +26,7 @@ def read(path):
     return data.decode("utf-8", "surrogateescape").split("\n")
 
 
-def run(session, lines, name):
+def run(session: "Session", lines: Iterable[str], name: str) -> None:
     """The lines one after the other. A line that can't be done ends the script, and is told by its number."""
     for number, line in enumerate(lines, 1):
         try:
@@ -42,7 +47,7 @@ def run(session, lines, name):
     "Empty lines and lines that begin with # are left out. A line that can't be done ends it.",
     takes=("file",),
 )
-def source(session, arguments):
+def source(session: "Session", arguments: list[str]) -> None:
     if not arguments:
         raise Slip("source FILE is wanted")
     if len(session.scripts) == DEEPEST:
@@ -62,7 +67,7 @@ def source(session, arguments):
     "TEXT is words that stand one after the other in a line. Where that isn't so a script ends, and fdb --batch "
     "with status 1.",
 )
-def expect(session, arguments):
+def expect(session: "Session", arguments: list[str]) -> None:
     wanted, words = arguments[:1] != ["not"], arguments[arguments[:1] == ["not"] :]
     if not words:
         raise Slip("expect TEXT is wanted")
@@ -75,5 +80,5 @@ def expect(session, arguments):
         )
 
 
-def stands_in(words, line):
+def stands_in(words: list[str], line: list[str]) -> bool:
     return any(line[at : at + len(words)] == words for at in range(len(line) - len(words) + 1))

@@ -1,10 +1,15 @@
 """Several events switched at once. One alone is framedbg's own line."""
+from typing import TYPE_CHECKING
+
 from .faults import Slip
 from .moving import go
 from .words import WORDS, number
 
+if TYPE_CHECKING:
+    from .session import Session
 
-def switch(session, arguments, on):
+
+def switch(session: "Session", arguments: list[str], on: bool) -> None:
     client, numbers = session.frame.client, sorted({number(text, "I") for text in arguments})
     for event in numbers:
         if not 1 <= event <= len(session.frame):
@@ -23,14 +28,14 @@ def switch(session, arguments, on):
     "With one event it is framedbg's own line.",
     takes=("on", "on"),
 )
-def switch_off(session, arguments):
+def switch_off(session: "Session", arguments: list[str]) -> None:
     switch(session, arguments, False)
 
 
 @WORDS.add(
     "on", "on I [J ..]", "switches events on again", "With one event it is framedbg's own line.", takes=("off", "off")
 )
-def switch_on(session, arguments):
+def switch_on(session: "Session", arguments: list[str]) -> None:
     switch(session, arguments, True)
 
 
@@ -40,7 +45,7 @@ def switch_on(session, arguments):
     "takes the last word back that moved, switched or changed",
     "Said again it takes the one before it back, up to 1000 of them. A script is one.",
 )
-def undo(session, arguments):
+def undo(session: "Session", arguments: list[str]) -> None:
     if arguments:
         raise Slip("nothing is wanted behind the word")
     if not session.past:

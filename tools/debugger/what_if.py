@@ -4,6 +4,8 @@ import json
 import os
 import pathlib
 import tempfile
+from collections.abc import Iterable
+from typing import TYPE_CHECKING
 
 from captures import MOST_BYTES, text
 from explaining.verdict import explained
@@ -11,13 +13,16 @@ from framedbg_client import Client, Ended
 from writing.files import keep as keep_file
 
 from .aligning import aligned
-from .changing import Wrong, changed, read_change, without
+from .changing import Change, Wrong, changed, read_change, without
 from .contents import Contents
 from .differing import tell_change, tell_pictures
 from .faults import Slip
 from .frame import DebuggedFrame
 from .telling import printable
 from .words import WORDS
+
+if TYPE_CHECKING:
+    from .session import Session
 
 REFUSED = 2  # framedbg's status for a capture
 OF_THE_SESSION = (
@@ -41,14 +46,16 @@ SET = (
 class Beside:
     """A run of the changed capture. `numbers` are those that its events have in the frame that is shown."""
 
-    def __init__(self, frame, capture, numbers):
-        program, path, workers, errors = frame.client.words
+    frame: DebuggedFrame  # as soon as framedbg has accepted the capture
+
+    def __init__(self, frame: DebuggedFrame, capture: bytes, numbers: list[int]) -> None:
+        program, _, workers, errors = frame.client.words
         self.numbers, self.room = numbers, tempfile.TemporaryDirectory(prefix="fdb-")
-        self.path = pathlib.Path(self.room.name) / pathlib.Path(path).name
+        self.path = pathlib.Path(self.room.name) / pathlib.Path(frame.path).name
         self.path.write_bytes(capture)
         self.client = Client(self.path, program, workers, errors)
 
-    def close(self):
+    def close(self) -> None:
         self.client.connection.end(at_once=True)
         self.room.cleanup()
 
@@ -57,25 +64,27 @@ class WhatIf:
     """What was changed, one thing after the other, as {"set": ..} and {"move": ..} of changing.py in the numbers
     of the capture at that time."""
 
-    def __init__(self, session):
-        self.session, self.changes, self.beside = session, (), None
+    def __init__(self, session: "Session") -> None:
+        self.session = session
+        self.changes: tuple[Change, ...] = ()
+        self.beside: Beside | None = None
 
-    def close(self):
+    def close(self) -> None:
         if self.beside:
             self.beside.close()
         self.beside = None
 
-    def capture(self, changes):
+    def capture(self, changes: Iterable[Change]) -> tuple[bytes, list[int]]:
         """The capture with some changes, and the numbers of its events in the frame that is shown."""
         frame = self.session.frame
-        with open(frame.client.words[1], "rb") as file:
+        with open(frame.path, "rb") as file:
             capture = json.loads(file.read(MOST_BYTES))
         events, numbers = without(capture["events"], frame.client.off), list(range(1, len(frame) + 1))
         for change in changes:
             events, numbers = changed(events, change), changed(numbers, change) if "move" in change else numbers
         return text(capture | {"events": events}).encode(), numbers
 
-    def read(self, line):
+    def read(self, line: str) -> Change:
         """A change that is typed, after those that are made: its numbers are the shown frame's, and these may
         stand elsewhere already."""
         frame = self.session.frame
@@ -87,7 +96,7 @@ class WhatIf:
         moved, rest = at(int(number)), [one for one in numbers if one != int(number)]
         return {"move": moved, "to": rest.index(int(other)) + 1 + (way == "after") if number != other else moved}
 
-    def become(self, changes):
+    def become(self, changes: tuple[Change, ...]) -> None:
         """Has these changes, and tells what they come to; none of it where that fails."""
         beside = None
         try:
@@ -105,7 +114,7 @@ class WhatIf:
         self.beside, self.changes = beside, changes
         self.session.tell("note", *(told if changes else ["nothing is changed"]))
 
-    def compared(self, beside, changes, data):
+    def compared(self, beside: Beside, changes: Iterable[Change], data: bytes) -> list[str]:
         """What differs, event by event and in the pictures, of the shown frame and of that beside, which
         framedbg may refuse."""
         frame = self.session.frame
@@ -127,7 +136,7 @@ class WhatIf:
                 frame.client.goto(home)
 
 
-def touched_by(changes, count):
+def touched_by(changes: Iterable[Change], count: int) -> set[int]:
     """The events that were set, by their numbers in the frame that is shown."""
     numbers, touched = list(range(1, count + 1)), set()
     for change in changes:
@@ -138,15 +147,17 @@ def touched_by(changes, count):
     return touched
 
 
-def steps_to(numbers):
+def steps_to(numbers: list[int]) -> list[tuple[int, int]]:
     """The steps through the shown frame and the changed one, as `aligned` has them: an event that moved goes at
     one place, and comes at another."""
     shown = list(range(1, len(numbers) + 1))
     return aligned(shown, numbers, ([f"from {number}" for number in shown], [f"to {number}" for number in numbers]))
 
 
-def tell_changes(frames, beside, touched, steps):
-    contents = [Contents(frame.client.words[1]) for frame in frames] if touched else []
+def tell_changes(
+    frames: list[DebuggedFrame], beside: Beside, touched: set[int], steps: Iterable[tuple[int, int]]
+) -> list[str]:
+    contents = [Contents(frame.path) for frame in frames] if touched else []
     places, told = {number: at for at, number in enumerate(beside.numbers, 1)}, []
     told += [
         f"changed {number} to {places[number]}: {tell_change(frames, contents, number, places[number])}"
@@ -155,7 +166,7 @@ def tell_changes(frames, beside, touched, steps):
     return told + [f"moved {i} to {places[i]}: {frames[0].events[i - 1]}" for i, j in steps if not j]
 
 
-def change(session, line):
+def change(session: "Session", line: str) -> None:
     what_if = session.what_if
     try:
         wanted = what_if.read(line)
@@ -164,7 +175,7 @@ def change(session, line):
     what_if.become((*what_if.changes, wanted))
 
 
-def beside_of(session):
+def beside_of(session: "Session") -> Beside:
     if not session.what_if.beside:
         raise Slip("nothing is changed: set and move do that")
     return session.what_if.beside
@@ -178,7 +189,7 @@ def beside_of(session):
     f"Said again it changes more. {SET}",
     takes=("event", "member", *["value"] * 4),
 )
-def set_member(session, arguments):
+def set_member(session: "Session", arguments: list[str]) -> None:
     change(session, " ".join(["set", *arguments]))
 
 
@@ -189,7 +200,7 @@ def set_member(session, arguments):
     f"Said again it changes more. {SET}",
     takes=("event", "way", "event"),
 )
-def move(session, arguments):
+def move(session: "Session", arguments: list[str]) -> None:
     change(session, " ".join(["move", *arguments]))
 
 
@@ -200,7 +211,7 @@ def move(session, arguments):
     "It stands at its own position, and has all events on.",
     takes=("line",),
 )
-def there(session, arguments):
+def there(session: "Session", arguments: list[str]) -> None:
     if not arguments or arguments[0] in OF_THE_SESSION:
         raise Slip("there LINE is wanted, and the line asks or moves")
     frame, past, found = session.frame, list(session.past), session.found
@@ -218,13 +229,13 @@ def there(session, arguments):
     "A file that is there is replaced, but for the capture that is shown.",
     takes=("file",),
 )
-def keep(session, arguments):
+def keep(session: "Session", arguments: list[str]) -> None:
     beside_of(session)
     path = pathlib.Path(os.path.expanduser(" ".join(arguments)))
     if path.suffix.lower() != ".json":
         raise Slip("keep FILE.json is wanted")
     try:
-        if path.exists() and path.samefile(session.frame.client.words[1]):
+        if path.exists() and path.samefile(session.frame.path):
             raise Slip(f"{path}: that is the capture that is shown")
         keep_file(path, session.what_if.capture(session.what_if.changes)[0])
     except (OSError, ValueError) as fault:
@@ -233,7 +244,7 @@ def keep(session, arguments):
 
 
 @WORDS.add("drop", "drop", "leaves the changed capture, and the frame is what it was")
-def drop(session, arguments):
+def drop(session: "Session", arguments: list[str]) -> None:
     if arguments:
         raise Slip("nothing is wanted behind the word")
     beside_of(session)

@@ -1,9 +1,15 @@
 """The words that are known: how they are written, what they do, and which is the nearest to a slip."""
 import difflib
+from collections.abc import Callable
 from dataclasses import dataclass, field
-from typing import Callable
+from typing import TYPE_CHECKING, Any, TypeAlias
 
 from .faults import Slip
+
+if TYPE_CHECKING:
+    from .session import Session
+
+Run: TypeAlias = "Callable[[Session, list[str]], None]"  # does what a word says with what stands behind it
 
 OWN = {  # framedbg's lines, with their own replies
     "step": "step: goes through the next event",
@@ -27,20 +33,21 @@ class Word:
     usage: str
     short: str  # a line of the list
     long: str  # more, for `help WORD`
-    also: tuple = ()
-    takes: tuple = ()  # what is completed behind it: event, on, off, kind, word, file, info, position
+    also: tuple[str, ...] = ()
+    takes: tuple[str, ...] = ()  # what is completed behind it: event, on, off, kind, word, file, info, position
     repeats: bool = False  # by an empty line
-    run: Callable | None = field(default=None, compare=False)
+    run: Run = field(kw_only=True, compare=False)
 
 
 class Words:
-    def __init__(self):
-        self.listed, self.named = [], {}
+    def __init__(self) -> None:
+        self.listed: list[Word] = []
+        self.named: dict[str, Word] = {}
 
-    def add(self, name, usage, short, long="", **how):
+    def add(self, name: str, usage: str, short: str, long: str = "", **how: Any) -> Callable[[Run], Run]:
         """A decorator of the function that does what the word says."""
 
-        def added(run):
+        def added(run: Run) -> Run:
             word = Word(name, usage, short, long, run=run, **how)
             self.listed.append(word)
             self.named.update((called, word) for called in (name, *word.also))
@@ -48,10 +55,10 @@ class Words:
 
         return added
 
-    def names(self):
+    def names(self) -> list[str]:
         return sorted({*self.named, *OWN})
 
-    def find(self, name):
+    def find(self, name: str) -> Word:
         """The word of a name, or of the beginning of one alone; a slip is told the nearest."""
         if name in self.named:
             return self.named[name]
@@ -62,13 +69,13 @@ class Words:
         raise Slip(f"no such word: {name}{f'; did you mean {near[0]}?' if near else '; help lists them'}")
 
 
-def number(text, what, most=LARGEST):
+def number(text: str, what: str, most: int = LARGEST) -> int:
     if not (text.isascii() and text.isdigit() and len(text) <= max(len(str(most)), 10) and int(text) <= most):
         raise Slip(f"{what} is a whole number{f' up to {most}' if most < LARGEST else ''}, and not {text}")
     return int(text)
 
 
-def place(arguments, usage):
+def place(arguments: list[str], usage: str) -> tuple[int, int]:
     """The pixel that two words name."""
     if len(arguments) != 2:
         raise Slip(f"{usage} is wanted")
