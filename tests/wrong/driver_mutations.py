@@ -45,7 +45,7 @@ MUTATIONS = [
     ("player: depths of ES between 0 and 1", "player.py",
      "depth if self.is_zero_to_one else 2 * depth - 1", "depth", RUNS, DRAWN),
     ("player: positions as they are", "player.py",
-     "(mapping.FRACTIONS, int) if self.is_raw", "(mapping.FRACTIONS, int) if True", RUNS, "Pictures.test_positions_that_are_not_snapped"),
+     "if self.is_raw:\n            unit", "if True:\n            unit", RUNS, "Pictures.test_positions_that_are_not_snapped"),
     ("player: states stay as they were after depths are drawn", "player.py",
      "            self._set_viewport()\n            self._set_states()\n", "            self._set_viewport()\n", RUNS, DRAWN),
     ("player: no viewport after depths are drawn", "player.py",

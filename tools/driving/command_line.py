@@ -12,6 +12,8 @@ No window and no display is wanted. Statuses: 0 all are alike, 1 some differ, 2 
 import argparse
 import pathlib
 import sys
+from collections.abc import Callable, Sequence
+from typing import NoReturn
 
 from . import plants
 from .faults import WORDS
@@ -22,15 +24,15 @@ MOST_VIEWPORT = 1 << 20
 
 
 class Words(argparse.ArgumentParser):
-    def error(self, message):
+    def error(self, message: str) -> NoReturn:
         self.print_usage(sys.stderr)
         self.exit(WORDS, f"framedbg-driver: {message}\n")
 
 
-def number(least, most):
+def number(least: int, most: int) -> Callable[[str], int]:
     """A reader of whole numbers."""
 
-    def read(text):
+    def read(text: str) -> int:
         if not (text.isascii() and text.isdigit() and len(text) < 10 and least <= int(text) <= most):
             raise argparse.ArgumentTypeError(f"a number from {least} to {most} is wanted")
         return int(text)
@@ -38,7 +40,7 @@ def number(least, most):
     return read
 
 
-def viewport(text):
+def viewport(text: str) -> int | str:
     if text == "target":
         return text
     if not (
@@ -52,7 +54,7 @@ def viewport(text):
     return int(text)
 
 
-def seconds(text):
+def seconds(text: str) -> float:
     try:
         value = float(text)
     except ValueError:
@@ -62,9 +64,9 @@ def seconds(text):
     return value
 
 
-def ways():
+def ways() -> Words:
     """The options of all commands: how the driver is asked to draw."""
-    parser = argparse.ArgumentParser(add_help=False)
+    parser = Words(add_help=False)
     group = parser.add_argument_group("the driver")
     group.add_argument(
         "--api",
@@ -83,7 +85,7 @@ def ways():
     return parser
 
 
-def add_drawing(group):
+def add_drawing(group: argparse._ArgumentGroup) -> None:
     group.add_argument(
         "--viewport",
         type=viewport,
@@ -114,18 +116,18 @@ def add_drawing(group):
     )
 
 
-def judging():
+def judging() -> Words:
     """The options of commands that hold the driver against framedbg."""
-    parser = argparse.ArgumentParser(add_help=False)
+    parser = Words(add_help=False)
     parser.add_argument(
         "--program", help="framedbg [the one that was built or installed here, else the one on the path]"
     )
     return parser
 
 
-def telling():
+def telling() -> Words:
     """The options of commands that tell of many events or features."""
-    parser = argparse.ArgumentParser(add_help=False)
+    parser = Words(add_help=False)
     parser.add_argument(
         "--tolerance",
         type=number(0, 255),
@@ -138,7 +140,7 @@ def telling():
     return parser
 
 
-def words(given=None):
+def words(given: Sequence[str] | None = None) -> argparse.Namespace:
     """The words of a command line."""
     parser = Words(prog="framedbg-driver", description=__doc__, formatter_class=argparse.RawDescriptionHelpFormatter)
     parser.add_argument("--list", action="store_true", help="names EGL's devices, and does nothing else")
@@ -171,11 +173,11 @@ def words(given=None):
     return asked
 
 
-def add_capture(parser):
+def add_capture(parser: argparse.ArgumentParser) -> None:
     parser.add_argument("capture", metavar="CAPTURE", nargs="?", help="the capture, a JSON file")
 
 
-def add_draw(parser):
+def add_draw(parser: argparse.ArgumentParser) -> None:
     add_capture(parser)
     parser.add_argument(
         "--at", type=number(0, 1_000_000), metavar="K", help="the position whose image is written [the last one]"
@@ -193,7 +195,7 @@ def add_draw(parser):
     )
 
 
-def add_compare(parser):
+def add_compare(parser: argparse.ArgumentParser) -> None:
     add_capture(parser)
     parser.add_argument(
         "--bits",
@@ -215,7 +217,7 @@ def add_compare(parser):
     )
 
 
-def add_try(parser):
+def add_try(parser: argparse.ArgumentParser) -> None:
     parser.add_argument("--scenes", type=number(1, 10_000), default=10, metavar="N", help="scenes of each feature [10]")
     parser.add_argument(
         "--seed", type=number(0, 999_999_999), default=1, metavar="N", help="the number of the first scene [1]"
@@ -245,7 +247,7 @@ def add_try(parser):
     )
 
 
-def add_reduce(parser):
+def add_reduce(parser: argparse.ArgumentParser) -> None:
     add_capture(parser)
     parser.add_argument(
         "--kind", choices=sorted(KINDS), default="any", help="the difference that has to stay [any but rounding]"

@@ -1,33 +1,44 @@
 """compare: a capture drawn by framedbg and by the driver, event by event."""
+import argparse
 import collections
 import json
 import pathlib
 import time
+from collections.abc import Iterable, Iterator, Sequence
+from typing import Any
 
 from explaining.printable import printable
+from framedbg_client import Entry
 from writing.counting import counted as counted_as
 
 from . import junit, plants, reading
-from .blame import blamed
+from .blame import Answer, blamed
 from .driver import line_of, player_of
 from .exact import Exact, program_of
 from .faults import ALIKE, DIFFERS
 from .features import coarse
-from .judging import Judge
-from .kinds import counted, is_beyond, is_fault
+from .judging import Judge, Judgement
+from .kinds import Counts, Difference, counted, is_beyond, is_fault
+from .player import Player
 
+Pick = tuple[int, Difference]  # an event, and a pixel of it that differs
 MOST_ENTRIES = 8  # of a history that are told
 
 
 class Told:
     """What has come of the events so far: sums, and the first pixels that differ."""
 
-    def __init__(self, given, capture):
+    def __init__(self, given: argparse.Namespace, capture: dict[str, Any]) -> None:
         self.given, self.capture = given, capture
-        self.sums, self.changed, self.events, self.cases = collections.Counter(), 0, [], []
-        self.first = self.worst = self.shown = None  # (number, Difference); and of colours alone the Judgement
+        self.sums: Counts = collections.Counter()
+        self.changed = 0
+        self.events: list[dict[str, Any]] = []
+        self.cases: list[junit.Case] = []
+        self.first: Pick | None = None
+        self.worst: Pick | None = None
+        self.shown: Judgement | None = None  # the first of which a colour differs
 
-    def note(self, one, seconds):
+    def note(self, one: Judgement, seconds: float) -> None:
         self.sums += one.counts
         self.changed += one.changed
         self.events.append(
@@ -44,15 +55,15 @@ class Told:
         self.cases.append(junit.Case(title(one), seconds, line(one) if failure else ""))
 
     @property
-    def pick(self):
+    def pick(self) -> Pick | None:
         return self.worst or self.first
 
     @property
-    def is_alike(self):
+    def is_alike(self) -> bool:
         return not any(is_fault(kind, self.given.tolerance) for kind in +self.sums)
 
 
-def run(given):
+def run(given: argparse.Namespace) -> int:
     capture, program = coarse(reading.read_capture(given.capture), given.bits), program_of(given.program)
     player = player_of(given, capture["width"], capture["height"])
     began, told, driver = time.monotonic(), Told(given, capture), player.named()
@@ -80,7 +91,7 @@ def run(given):
     return ALIKE if told.is_alike else DIFFERS
 
 
-def judged(exact, player, told):
+def judged(exact: Exact, player: Player, told: Told) -> None:
     given, at = told.given, time.monotonic()
     for one in Judge(exact, player, told.capture, plants.change_of(given.plant), not given.going_on):
         now = time.monotonic()
@@ -90,36 +101,36 @@ def judged(exact, player, told):
             print(line(one), flush=True)
 
 
-def history(exact, pick):
+def history(exact: Exact, pick: Pick | None) -> list[Entry]:
     """What the event with a pixel that differs did to it."""
     return exact.entries(pick[0], pick[1].x, pick[1].y) if pick else []
 
 
 # ---- What is told
-def title(one):
+def title(one: Judgement) -> str:
     event = one.event
     if event["kind"] != "draw":
         return f"event {one.number}: {event['kind']}"
     return f"event {one.number}: draw {len(event.get('indices', event['vertices'])) // 3} {event['interp']}"
 
 
-def line(one):
+def line(one: Judgement) -> str:
     return f"{title(one)}, {counted_as(one.changed, 'pixel')} changed: {listed(one.counts) or 'alike'}"
 
 
-def listed(counts):
+def listed(counts: Counts) -> str:
     return ", ".join(f"{count:,} {kind}" for kind, count in counted(counts).items())
 
 
-def named(counts):
+def named(counts: Counts) -> dict[str, int]:
     return {kind.value: count for kind, count in counted(counts).items()}
 
 
-def words_of(four):
+def words_of(four: Iterable[int]) -> str:
     return " ".join(map(str, four))
 
 
-def pixel_of(pick):
+def pixel_of(pick: Pick) -> str:
     number, one = pick
     left_open = ", on an edge, which OpenGL leaves open" if one.is_left_open else ""
     return (
@@ -128,7 +139,7 @@ def pixel_of(pick):
     )
 
 
-def entry_of(entry):
+def entry_of(entry: Entry) -> str:
     """An entry of a history, as framedbg writes it."""
     triangle = "-" if entry.triangle is None else entry.triangle
     return " ".join(
@@ -139,7 +150,7 @@ def entry_of(entry):
     ).rstrip()
 
 
-def closing(told, entries, answer, seconds):
+def closing(told: Told, entries: Sequence[Entry], answer: Answer | None, seconds: float) -> Iterator[str]:
     if told.pick:
         yield f"first   {'beyond rounding: ' if told.worst else ''}{pixel_of(told.pick)}"
         yield from (f"history {entry_of(entry)}" for entry in entries[:MOST_ENTRIES])
@@ -149,7 +160,9 @@ def closing(told, entries, answer, seconds):
     yield f"in all  {events} judged, {pixels} changed: {listed(told.sums) or 'all alike'}; {seconds:.1f} s"
 
 
-def value_of(told, driver, entries, answer, seconds):
+def value_of(
+    told: Told, driver: dict[str, Any], entries: Sequence[Entry], answer: Answer | None, seconds: float
+) -> dict[str, Any]:
     first = None
     if told.pick:
         number, one = told.pick

@@ -1,8 +1,11 @@
 """framedbg's depths, event after event."""
 import array
 
+from blaming.frame import CaptureFrame
+from captures import Event
 from rules.snapping import snap
 
+from .exact import Exact
 from .mapping import DEEPEST
 
 
@@ -10,11 +13,11 @@ class Depths:
     """`words` are those of all pixels, row by row. They change inside the box of a draw's triangles alone, and are
     asked for there."""
 
-    def __init__(self, exact, frame):
+    def __init__(self, exact: Exact, frame: CaptureFrame) -> None:
         self.exact, self.frame, self.width, self.height = exact, frame, frame.width, frame.height
         self.words = array.array("H", [DEEPEST]) * (self.width * self.height)
 
-    def after(self, number):
+    def after(self, number: int) -> "array.array[int]":
         """The depths after an event, of which all before have been gone through. A list that was given is never
         changed."""
         event = self.frame.events[number - 1]
@@ -28,11 +31,11 @@ class Depths:
                 self.words[y * self.width + left : y * self.width + right] = found[row * wide : (row + 1) * wide]
         return self.words
 
-    def _is_written(self, number, event):
+    def _is_written(self, number: int, event: Event) -> bool:
         depth = self.frame.state(number, "depth")
-        return event["kind"] == "draw" and depth["enable"] and depth["write"]
+        return bool(event["kind"] == "draw" and depth["enable"] and depth["write"])
 
-    def _box(self, event):
+    def _box(self, event: Event) -> tuple[int, int, int, int] | None:
         """The pixels of the target that the triangles of a draw may cover: left, top, and right and bottom behind
         the last; None if there are none."""
         edges = []

@@ -1,4 +1,5 @@
 """draw: the driver's picture of a capture."""
+import argparse
 import pathlib
 import sys
 import zlib
@@ -10,10 +11,11 @@ from writing.counting import counted
 from . import plants
 from .driver import player_of
 from .faults import ALIKE, READING, Fault
+from .player import Player
 from .reading import read_capture
 
 
-def run(given):
+def run(given: argparse.Namespace) -> int:
     capture = read_capture(given.capture)
     events = capture["events"]
     if given.at is not None and given.at > len(events):
@@ -36,7 +38,7 @@ def run(given):
     return ALIKE
 
 
-def keep(folder, number, image):
+def keep(folder: pathlib.Path, number: int, image: Image) -> None:
     """The picture after an event, named by it: framedbg-blame judges each of them alone."""
     try:
         folder.mkdir(parents=True, exist_ok=True)
@@ -45,7 +47,7 @@ def keep(folder, number, image):
         raise Fault(f"{folder}: {fault.strerror}", READING) from None
 
 
-def tell(given, player, kinds):
+def tell(given: argparse.Namespace, player: Player, kinds: list[str]) -> None:
     if given.each:
         print(
             len(kinds) - 1,

@@ -2,7 +2,9 @@
 import ctypes
 import os
 import pathlib
+from collections.abc import Callable, Iterable
 from ctypes import POINTER, byref, c_char_p, c_int, c_uint, c_void_p
+from typing import Any
 
 from .faults import NoDriver
 
@@ -16,7 +18,7 @@ VERSIONS["vulkan"] = VERSIONS["gl"]  # which Mesa's zink draws by Vulkan
 RENDER_NODES = pathlib.Path("/dev/dri")
 
 
-def library():
+def library() -> ctypes.CDLL:
     """libEGL, with the calls that are wanted of it."""
     try:
         egl = ctypes.CDLL("libEGL.so.1")
@@ -35,7 +37,7 @@ def library():
     return egl
 
 
-def devices(egl):
+def devices(egl: ctypes.CDLL) -> list[int | None]:
     """EGL's devices, in its order; none where it can't list them."""
     address = egl.eglGetProcAddress(b"eglQueryDevicesEXT")
     if not address or b"EGL_EXT_platform_device" not in (egl.eglQueryString(None, EXTENSIONS) or b""):
@@ -45,7 +47,7 @@ def devices(egl):
     return list(found[: count.value])
 
 
-def display_of(egl, device):
+def display_of(egl: ctypes.CDLL, device: int | None) -> int:
     """An initialised display: of a device by its number, or without a surface, or of the first device."""
     if device is not None:
         found = devices(egl)
@@ -61,7 +63,7 @@ def display_of(egl, device):
     return display
 
 
-def choose_vulkan():
+def choose_vulkan() -> None:
     """Has Mesa draw by Vulkan: by its loader where there is a card, else by the choice among its software renderers."""
     if any(RENDER_NODES.glob("renderD*")):
         os.environ["MESA_LOADER_DRIVER_OVERRIDE"] = "zink"
@@ -73,7 +75,7 @@ class Context:
     """A context that is current. `api` is gl (OpenGL 3.3 core), es (OpenGL ES 3.0) or vulkan; `device` a number of
     EGL's devices, or None."""
 
-    def __init__(self, api="gl", device=None):
+    def __init__(self, api: str = "gl", device: int | None = None) -> None:
         if api == "vulkan":
             choose_vulkan()
         self.egl = library()
@@ -84,11 +86,11 @@ class Context:
         if not self.context or not self.egl.eglMakeCurrent(self.display, None, None, self.context):
             raise NoDriver(f"the driver gives no context of {api}: EGL's error {self.egl.eglGetError():#x}")
 
-    def function(self, name, arguments, gives):
+    def function(self, name: str, arguments: Iterable[Any], gives: Any) -> Callable[..., Any] | None:
         """A function of OpenGL by its name, or None. An address is no promise that the call is one of this API."""
         address = self.egl.eglGetProcAddress(name.encode())
         return ctypes.CFUNCTYPE(gives, *arguments)(address) if address else None
 
-    def close(self):
+    def close(self) -> None:
         self.egl.eglMakeCurrent(self.display, None, None, None)
         self.egl.eglDestroyContext(self.display, self.context)

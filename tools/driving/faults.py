@@ -4,7 +4,7 @@ ALIKE, DIFFERS, WORDS, NO_DRIVER, READING, INTERRUPTED = 0, 1, 2, 3, 4, 130
 
 
 class Fault(Exception):
-    def __init__(self, why, status=WORDS):
+    def __init__(self, why: str, status: int = WORDS) -> None:
         super().__init__(why)
         self.status = status
 
@@ -12,5 +12,5 @@ class Fault(Exception):
 class NoDriver(Fault):
     """There is no driver, or it can't do what a capture wants."""
 
-    def __init__(self, why):
+    def __init__(self, why: str) -> None:
         super().__init__(why, NO_DRIVER)

@@ -1,8 +1,13 @@
 """The features that a driver is tried on, by name. scene(feature, seed) is the same capture everywhere."""
+from collections.abc import Callable, Sequence
+from typing import Any
+
 import captures
 from captures import ALPHA_FACTORS, FACTORS, FUNCTIONS, OPERATIONS, PIXEL
 
-from .scenes import HALF, SIDE, Scene, box
+from .scenes import HALF, SIDE, Point, Scene, Triangle, box
+
+Feature = Callable[[Scene], None]
 
 OVER = ("SRC_ALPHA", "INV_SRC_ALPHA", "ADD")
 SUM = ("ONE", "ONE", "ADD")
@@ -13,7 +18,7 @@ WHOLE = "every "  # features that begin so have one scene
 
 
 # ---- Coverage
-def snapping(scene):
+def snapping(scene: Scene) -> None:
     """Corners that snap so that edges run through centres, or just don't."""
     for _ in range(4):
         triangles = []
@@ -29,13 +34,13 @@ def snapping(scene):
         scene.flat(triangles)
 
 
-def subpixels(scene):
+def subpixels(scene: Scene) -> None:
     """Corners anywhere in 1/256 pixel, or on the driver's own grid."""
     for _ in range(4):
         scene.flat(scene.soup(8))
 
 
-def shared_edges(scene):
+def shared_edges(scene: Scene) -> None:
     """Each pixel is covered once: added up, a hole or a pixel that is drawn twice shows."""
     scene.blend(SUM, SUM)
     columns, rows = scene.dice.between(3, 12), scene.dice.between(3, 12)
@@ -44,7 +49,7 @@ def shared_edges(scene):
     scene.draw(triangles, [[40] * 4] * 3 * len(triangles))
 
 
-def top_left_rule(scene):
+def top_left_rule(scene: Scene) -> None:
     """Corners on centres, and edges through many of them."""
     for _ in range(4):
         triangles = []
@@ -57,38 +62,47 @@ def top_left_rule(scene):
         scene.flat(triangles)
 
 
-def slivers(scene, is_linear=False):
+def slivers(scene: Scene, is_linear: bool = False) -> None:
+    draw = drawn(scene, is_linear)
     for _ in range(4):
         triangles = []
         for _ in range(60):
             start, end = scene.place(), scene.place()
             triangles.append((start, end, tuple(part + scene.dice.between(-96, 97) * scene.step for part in end)))
-        (scene.linear if is_linear else scene.flat)(triangles)
+        draw(triangles)
 
 
-def small_triangles(scene):
+def drawn(scene: Scene, is_linear: bool) -> Callable[[Sequence[Triangle]], None]:
+    if is_linear:
+        return scene.linear
+    return scene.flat
+
+
+def small_triangles(scene: Scene) -> None:
     """Smaller than a pixel, or little larger."""
     for _ in range(4):
         places = [scene.place(fifths=0) for _ in range(120)]
         scene.flat([(place, scene.near(place, 3 * HALF), scene.near(place, 3 * HALF)) for place in places])
 
 
-def huge(reach, is_linear=False):
+def huge(reach: int, is_linear: bool = False) -> Feature:
     """Corners up to so many pixels away."""
 
-    def made(scene):
-        def far():
+    def made(scene: Scene) -> None:
+        draw = drawn(scene, is_linear)
+
+        def far() -> Point:
             return tuple(scene.dice.between(-reach, reach) * PIXEL for _ in "xy")
 
         for _ in range(4):
             triangles = [(far(), far(), scene.place() if scene.dice.is_so(4) else far()) for _ in range(4)]
-            (scene.linear if is_linear else scene.flat)(triangles)
+            draw(triangles)
 
     return made
 
 
 # ---- Colours
-def flat(scene):
+def flat(scene: Scene) -> None:
     """Corners of different colours, with and without indices."""
     for number in range(4):
         triangles = scene.soup(6)
@@ -97,15 +111,16 @@ def flat(scene):
         scene.draw(triangles, [scene.any() for _ in range(count)], indices=indices)
 
 
-def linear(scene):
+def linear(scene: Scene) -> None:
     for _ in range(4):
         scene.linear(scene.soup(3))
 
 
-def linear_halfway(scene):
+def linear_halfway(scene: Scene) -> None:
     """Means that lie halfway between two bytes, of which the larger is right."""
     for _ in range(3):
-        triangles, colours = [], []
+        triangles: list[Triangle] = []
+        colours: list[list[int]] = []
         for pair in scene.cells(16):
             first, second, third = scene.any(), scene.any(), scene.any()
             triangles += pair
@@ -113,8 +128,8 @@ def linear_halfway(scene):
         scene.draw(triangles, colours, interp="linear")
 
 
-def factor(name, is_source):
-    def made(scene):
+def factor(name: str, is_source: bool) -> Feature:
+    def made(scene: Scene) -> None:
         scene.mosaic()
         scene.add(captures.factor(*scene.any()))
         part = [name, "ZERO", "ADD"] if is_source else ["ZERO", name, "ADD"]
@@ -124,8 +139,8 @@ def factor(name, is_source):
     return made
 
 
-def operation(name):
-    def made(scene):
+def operation(name: str) -> Feature:
+    def made(scene: Scene) -> None:
         scene.mosaic()
         scene.blend(("ONE", "ONE", name), ("ONE", "ONE", name))
         scene.mosaic()
@@ -133,14 +148,14 @@ def operation(name):
     return made
 
 
-def alpha_over(scene):
+def alpha_over(scene: Scene) -> None:
     """What programs do: the source's alpha over, and alphas added up."""
     scene.mosaic()
     scene.blend(OVER, ("ONE", "INV_SRC_ALPHA", "ADD"))
     scene.mosaic()
 
 
-def any_blending(scene):
+def any_blending(scene: Scene) -> None:
     scene.mosaic()
     for _ in range(4):
         scene.add(captures.factor(*scene.any()))
@@ -152,13 +167,14 @@ def any_blending(scene):
         scene.mosaic()
 
 
-def every_pair(rgb, alpha=255):
+def every_pair(rgb: Sequence[str], alpha: int | None = 255) -> Feature:
     """All pairs of a source's byte (its column) and a destination's (its row)."""
 
-    def made(scene):
+    def made(scene: Scene) -> None:
         scene.side = 256
         for is_row in (True, False):
-            triangles, colours = [], []
+            triangles: list[Triangle] = []
+            colours: list[list[int]] = []
             for byte in range(256):
                 triangles += box(0, byte, 256, byte + 1) if is_row else box(byte, 0, byte + 1, 256)
                 colours += [[byte, byte, 255 - byte, byte if alpha is None else alpha]] * 6
@@ -169,17 +185,17 @@ def every_pair(rgb, alpha=255):
 
 
 # ---- State
-def mask(scene):
+def mask(scene: Scene) -> None:
     scene.mosaic(8)
     for bits in range(16):
         scene.blend(captures.REPLACE if bits % 2 else SUM, mask=bits, enable=scene.dice.is_so(5))
         scene.flat(scene.soup(3))
 
 
-def scissor(scene):
+def scissor(scene: Scene) -> None:
     """Rectangles that are empty, turned, outside, or as far as a capture can say."""
 
-    def edge():
+    def edge() -> int:
         return scene.dice.choice(
             (0, SIDE, scene.dice.between(-9, SIDE + 9), scene.dice.below(SIDE), captures.LEAST_EDGE, captures.MOST_EDGE)
         )
@@ -190,7 +206,7 @@ def scissor(scene):
         scene.flat(scene.soup(4))
 
 
-def culling(scene):
+def culling(scene: Scene) -> None:
     for _ in range(3):
         for cull in captures.CULLS:
             for front_ccw in (False, True):
@@ -202,7 +218,7 @@ def culling(scene):
                 )
 
 
-def clears(scene):
+def clears(scene: Scene) -> None:
     """Under a scissor and masks, which don't matter to them."""
     for _ in range(8):
         scene.add(captures.scissor(*(scene.dice.below(SIDE) for _ in range(4))))
@@ -213,7 +229,7 @@ def clears(scene):
         scene.add(captures.depth_clear(scene.dice.below(DEEP + 1)))
 
 
-def odd_lists(scene):
+def odd_lists(scene: Scene) -> None:
     """Triangles of no area, corners that are left over, nothing at all, an index twice."""
     for _ in range(4):
         p, q = scene.place(), scene.place()
@@ -227,7 +243,7 @@ def odd_lists(scene):
         )
 
 
-def order(scene):
+def order(scene: Scene) -> None:
     """Triangles on one another in one draw, blended in turn."""
     scene.blend(OVER)
     for _ in range(3):
@@ -237,10 +253,10 @@ def order(scene):
 
 
 # ---- Depth
-def depth_function(name):
+def depth_function(name: str) -> Feature:
     """Depths that are the same all over a triangle, with neighbours by 1: nothing is interpolated."""
 
-    def made(scene):
+    def made(scene: Scene) -> None:
         scene.add(captures.depth_clear(scene.dice.choice((0, DEEP, scene.dice.below(DEEP + 1)))))
         scene.depth("ALWAYS")
         levels = [0, DEEP] + [scene.dice.below(DEEP + 1) for _ in range(4)]
@@ -252,25 +268,25 @@ def depth_function(name):
     return made
 
 
-def any_depths(scene, count):
+def any_depths(scene: Scene, count: int) -> list[int]:
     return [
         scene.dice.choice((0, DEEP, scene.dice.below(DEEP + 1), scene.dice.below(DEEP + 1))) for _ in range(3 * count)
     ]
 
 
-def depth_values(scene):
+def depth_values(scene: Scene) -> None:
     scene.depth("ALWAYS")
     for _ in range(3):
         scene.flat(scene.soup(3), any_depths(scene, 3))
 
 
-def depth_crossing(scene):
+def depth_crossing(scene: Scene) -> None:
     scene.depth("LESS")
     for _ in range(4):
         scene.flat(scene.soup(4), [scene.dice.below(DEEP + 1) for _ in range(12)])
 
 
-def depth_again(scene):
+def depth_again(scene: Scene) -> None:
     """The same triangles a second time, EQUAL: each passes where it was in front."""
     scene.depth("LESS_EQUAL")
     scene.flat(scene.soup(6), [scene.dice.below(DEEP + 1) for _ in range(18)])
@@ -281,7 +297,7 @@ def depth_again(scene):
     )
 
 
-FEATURES = {
+FEATURES: dict[str, Feature] = {
     "snapping": snapping,
     "subpixels": subpixels,
     "shared edges": shared_edges,
@@ -320,7 +336,7 @@ FEATURES = {
 }
 
 
-def scene(feature, seed, bits=8):
+def scene(feature: str, seed: int, bits: int = 8) -> dict[str, Any]:
     """A capture of a feature, with corners on so many bits of a pixel's fraction."""
     made = Scene(feature, seed, bits)
     FEATURES[feature](made)
@@ -328,13 +344,13 @@ def scene(feature, seed, bits=8):
     return captures.frame(made.side, made.side, made.events, version)
 
 
-def coarse(capture, bits):
+def coarse(capture: dict[str, Any], bits: int) -> dict[str, Any]:
     """A capture with its corners moved to the nearest places that so many bits of a pixel's fraction hold."""
     step = 1 << 16 - bits
     if bits >= 8:
         return capture
 
-    def moved(vertex):
+    def moved(vertex: dict[str, Any]) -> dict[str, Any]:
         return vertex | {name: (vertex[name] + step // 2) // step * step for name in "xy"}
 
     events = [

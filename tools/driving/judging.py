@@ -1,12 +1,20 @@
 """framedbg beside a driver, event by event: which pixels differ, and why."""
+import array
 import collections
+from collections.abc import Callable, Container, Iterator
 from dataclasses import dataclass, field
+from typing import Any, TypeAlias
 
 from blaming.frame import CaptureFrame
+from captures import Event
 
 from .depths import Depths
-from .kinds import Difference, Kind
+from .exact import Exact
+from .kinds import Counts, Difference, Kind
+from .player import Player
 from .reasons import Reasons, apart
+
+Words: TypeAlias = "array.array[int]"  # the depths of all pixels, row by row
 
 DRAWS = ("clear", "draw", "depth_clear")  # kinds of events that change pixels
 
@@ -16,14 +24,14 @@ class Judgement:
     """What an event was drawn like."""
 
     number: int
-    event: dict
+    event: Event
     changed: int  # pixels whose colour it changed, as is right
-    found: list  # a Difference each
+    found: list[Difference]
     image: bytes  # the driver's, after the event
-    counts: collections.Counter = field(default_factory=collections.Counter)
+    counts: Counts = field(default_factory=collections.Counter)
 
 
-def pixels_apart(width, one, other, size):
+def pixels_apart(width: int, one: bytes, other: bytes, size: int) -> Iterator[int]:
     """The numbers of the pixels whose `size` bytes differ."""
     if one == other:
         return
@@ -36,7 +44,7 @@ def pixels_apart(width, one, other, size):
                     yield (start + at) // size
 
 
-def same(event):
+def same(event: Event) -> Event:
     return event
 
 
@@ -48,18 +56,23 @@ class Judge:
     is a fault that is planted in the driver.
     """
 
-    def __init__(self, exact, player, capture, change=same, is_alone=True):
+    def __init__(
+        self,
+        exact: Exact,
+        player: Player,
+        capture: dict[str, Any],
+        change: Callable[[Event], Event] = same,
+        is_alone: bool = True,
+    ) -> None:
         self.exact, self.player, self.frame = exact, player, CaptureFrame(capture)
         self.width, self.height = capture["width"], capture["height"]
         self.change, self.is_alone = change, is_alone
         size = self.width * self.height
-        self.right, self.shown = bytes(4 * size), bytes(
-            4 * size
-        )  # framedbg's colours, and the driver's, before the event
+        self.right = self.shown = bytes(4 * size)  # framedbg's colours, and the driver's, before the event
         self.depths = Depths(exact, self.frame)
         self.deep = self.driver_deep = self.depths.words
 
-    def __iter__(self):
+    def __iter__(self) -> Iterator[Judgement]:
         self.player.restart()
         for number, event in enumerate(self.frame.events, 1):
             self.player.apply(self.change(event))
@@ -67,7 +80,7 @@ class Judge:
                 yield self._judged(number, event)
         self.player.check()
 
-    def _judged(self, number, event):
+    def _judged(self, number: int, event: Event) -> Judgement:
         right, shown = self.exact.image(number), self.player.colours()
         reasons = (
             Reasons(self.exact, self.frame, number, self._there, self._is_alike) if event["kind"] == "draw" else None
@@ -84,7 +97,7 @@ class Judge:
         self._go_on(right, shown, deep, driver_deep)
         return told
 
-    def _go_on(self, right, shown, deep, driver_deep):
+    def _go_on(self, right: bytes, shown: bytes, deep: Words, driver_deep: Words) -> None:
         if self.is_alone:
             is_far = deep != driver_deep and any(abs(a - b) > 1 for a, b in zip(deep, driver_deep))
             if right != shown or is_far:
@@ -92,16 +105,16 @@ class Judge:
             shown, driver_deep = right, deep if is_far else driver_deep
         self.right, self.shown, self.deep, self.driver_deep = right, shown, deep, driver_deep
 
-    def _there(self, x, y):
+    def _there(self, x: int, y: int) -> tuple[int, ...]:
         at = 4 * (y * self.width + x)
         return tuple(self.shown[at : at + 4])
 
-    def _is_alike(self, x, y):
+    def _is_alike(self, x: int, y: int) -> bool:
         at = y * self.width + x
         return self.deep[at] == self.driver_deep[at]
 
     # ---- Colours
-    def _colours(self, reasons, right, shown):
+    def _colours(self, reasons: Reasons | None, right: bytes, shown: bytes) -> Iterator[Difference]:
         for pixel in pixels_apart(self.width, right, shown, 4):
             y, x = divmod(pixel, self.width)
             one, other = (tuple(image[4 * pixel : 4 * pixel + 4]) for image in (right, shown))
@@ -115,7 +128,9 @@ class Judge:
                 yield Difference(x, y, Kind.BY_2 if gap == 2 else Kind.BY_MORE, one, other)
 
     # ---- Depths
-    def _depths(self, reasons, deep, driver_deep, told):
+    def _depths(
+        self, reasons: Reasons | None, deep: Words, driver_deep: Words, told: Container[tuple[int, int]]
+    ) -> Iterator[Difference]:
         """Depths that differ and that the event wrote, on this side or on that, where no colour tells of it already."""
         for pixel in pixels_apart(self.width, deep.tobytes(), driver_deep.tobytes(), 2):
             y, x = divmod(pixel, self.width)
@@ -127,7 +142,7 @@ class Judge:
                 kind = self._by_test(reasons, x, y)
             yield Difference(x, y, kind, (one,), (other,))
 
-    def _by_test(self, reasons, x, y):
+    def _by_test(self, reasons: Reasons, x: int, y: int) -> Kind:
         """The kind of a pixel whose depth was written by one side alone."""
         if not (reasons.depth["enable"] and reasons.depth["write"]):
             return Kind.DEPTH_BY_MORE

@@ -1,5 +1,6 @@
 """A report as JUnit XML, for machines that run tests."""
 import re
+from collections.abc import Sequence
 from dataclasses import dataclass
 from xml.sax.saxutils import escape, quoteattr
 
@@ -15,7 +16,7 @@ class Case:
     failure: str = ""
 
 
-def text_of(suite, cases):
+def text_of(suite: str, cases: Sequence[Case]) -> str:
     failures, time = sum(bool(case.failure) for case in cases), sum(case.seconds for case in cases)
     head = (
         f'<testsuite name={named(suite)} tests="{len(cases)}" failures="{failures}" errors="0" skipped="0" '
@@ -24,7 +25,7 @@ def text_of(suite, cases):
     return '<?xml version="1.0" encoding="UTF-8"?>\n' + "\n".join([head, *map(line_of, cases), "</testsuite>"]) + "\n"
 
 
-def line_of(case):
+def line_of(case: Case) -> str:
     head = f'<testcase classname="framedbg-driver" name={named(case.name)} time="{case.seconds:.2f}"'
     if not case.failure:
         return f"{head}/>"
@@ -34,9 +35,9 @@ def line_of(case):
     )
 
 
-def named(text):
+def named(text: str) -> str:
     return quoteattr(seen(text))
 
 
-def seen(text):
+def seen(text: str) -> str:
     return UNSEEN.sub("?", text)

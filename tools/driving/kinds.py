@@ -1,4 +1,5 @@
 """The kinds of differences between what a driver drew and what is right."""
+import collections
 import enum
 from typing import NamedTuple
 
@@ -18,19 +19,20 @@ class Kind(str, enum.Enum):
     DEPTH_BY_1 = "depth by 1"  # the depth that is stored
     DEPTH_BY_MORE = "depth by more"
 
-    def __str__(self):
+    def __str__(self) -> str:
         return self.value
 
     @property
-    def is_rounding(self):
+    def is_rounding(self) -> bool:
         return self in ROUNDING
 
     @property
-    def is_of_depth(self):
+    def is_of_depth(self) -> bool:
         """Whether two depths are told with it, and no colours."""
         return self in (Kind.DEPTH_BY_1, Kind.DEPTH_BY_MORE)
 
 
+Counts = collections.Counter[Kind]
 ROUNDING = frozenset({Kind.BY_1, Kind.ADDS_UP, Kind.DEPTH_BY_1, Kind.DEPTH_TIE})
 
 
@@ -41,25 +43,25 @@ class Difference(NamedTuple):
     x: int
     y: int
     kind: Kind
-    exact: tuple
-    driver: tuple
+    exact: tuple[int, ...]
+    driver: tuple[int, ...]
     is_left_open: bool = False
 
     @property
-    def is_depth(self):
+    def is_depth(self) -> bool:
         return len(self.exact) == 1
 
 
-def is_beyond(kind, tolerance=0):
+def is_beyond(kind: Kind, tolerance: int = 0) -> bool:
     """Whether a kind is no rounding, and isn't within a tolerance that was asked for either."""
     return not (kind.is_rounding or kind == Kind.BY_2 and tolerance >= 2)
 
 
-def is_fault(kind, tolerance):
+def is_fault(kind: Kind, tolerance: int) -> bool:
     """Whether a difference makes a picture differ: without a tolerance each does, with one those beyond it."""
     return is_beyond(kind, tolerance) if tolerance else True
 
 
-def counted(counts):
+def counted(counts: Counts) -> dict[Kind, int]:
     """Counts in the kinds' order, without those of which there are none."""
     return {kind: counts[kind] for kind in Kind if counts.get(kind)}

@@ -1,11 +1,13 @@
 """--list: EGL's devices."""
+import argparse
+
 from . import egl
 from .driver import line_of
 from .faults import ALIKE, NoDriver
 from .player import Player, Way
 
 
-def run(given):
+def run(given: argparse.Namespace) -> int:
     api = getattr(given, "api", "gl")
     count = len(egl.devices(egl.library()))
     if not count:
@@ -15,7 +17,7 @@ def run(given):
     return ALIKE
 
 
-def told(api, number):
+def told(api: str, number: int) -> str:
     try:
         player = Player(1, 1, Way(api, number))
     except NoDriver as fault:

@@ -5,6 +5,7 @@ is clockwise on the target, where y goes down, is counter-clockwise to OpenGL, a
 one to both.
 """
 import math
+from collections.abc import Sequence
 from typing import NamedTuple
 
 from . import opengl
@@ -50,29 +51,29 @@ class Box(NamedTuple):
     height: int
 
 
-def power_from(number):
+def power_from(number: int) -> int:
     """The least power of two that is no less."""
     return 1 << math.ceil(math.log2(number))
 
 
-def viewport(width, height, wanted, most):
+def viewport(width: int, height: int, wanted: int | str, most: int) -> Box:
     """The viewport of a target. `wanted` is a power of two that it is wide and high, of which a larger target takes
     the next; or "target", what a program would set. In a power of two a position is exact in floats; in the target's
     own size it is so where that is one too.
     """
-    if wanted == "target":
+    if isinstance(wanted, str):
         return Box(0, 0, width, height)
     side = min(most, max(wanted, power_from(max(width, height))))
     return Box(-min(side // 2, side - power_from(width)), -min(side // 2, side - power_from(height)), side, side)
 
 
-def scissor_of(rect, width, height):
+def scissor_of(rect: Sequence[int], width: int, height: int) -> tuple[int, int, int, int]:
     """A rectangle cut to the target, as left, top, width and height; an empty or turned one is none wide or none
     high."""
     left, top, right, bottom = (min(max(edge, 0), side) for edge, side in zip(rect, (width, height) * 2))
     return left, top, max(0, right - left), max(0, bottom - top)
 
 
-def last_first(order):
+def last_first(order: Sequence[int]) -> list[int]:
     """The corners of triangles turned so that the first of each becomes its last, and each still runs the same way."""
     return [corner for at in range(0, len(order), 3) for corner in (order[at + 1], order[at + 2], order[at])]

@@ -1,7 +1,9 @@
 """OpenGL's functions and numbers, as far as a capture wants them (OpenGL 3.3, OpenGL ES 3.0)."""
 import ctypes
 from ctypes import byref, c_char_p, c_float, c_int, c_ubyte, c_uint, c_void_p
+from typing import TYPE_CHECKING, Any
 
+from .egl import Context
 from .faults import NoDriver
 
 # what is bound, and of what kind it is
@@ -27,7 +29,8 @@ RENDERER, VERSION, EXTENSIONS, NUM_EXTENSIONS = 0x1F01, 0x1F02, 0x1F03, 0x821D
 MAX_TEXTURE_SIZE, MAX_VIEWPORT_DIMS, VIEWPORT, SUBPIXEL_BITS = 0xD33, 0xD3A, 0xBA2, 0xD50
 
 u, i, f, p = c_uint, c_int, c_float, c_void_p
-FUNCTIONS = {  # by their names without gl: what they take, and what they give
+# by their names without gl: what they take, and what they give
+FUNCTIONS: dict[str, tuple[tuple[Any, ...], Any]] = {
     "GetError": ((), u),
     "GetString": ((u,), c_char_p),
     "GetStringi": ((u, u), c_char_p),
@@ -77,42 +80,46 @@ FUNCTIONS = {  # by their names without gl: what they take, and what they give
     "DrawArrays": ((u, i, i), None),
     "DrawElements": ((u, i, u, p), None),
 }
-OPTIONAL = {"ProvokingVertex": ((u,), None), "ClipControl": ((u, u), None)}
+OPTIONAL: dict[str, tuple[tuple[Any, ...], Any]] = {"ProvokingVertex": ((u,), None), "ClipControl": ((u, u), None)}
 
 
 class Functions:
     """The functions of a context: `functions.DrawArrays(..)` is glDrawArrays. Those that a driver need not have may
     be None."""
 
-    def __init__(self, context):
+    if TYPE_CHECKING:
+
+        def __getattr__(self, name: str) -> Any: ...
+
+    def __init__(self, context: Context) -> None:
         for name, (arguments, gives) in {**FUNCTIONS, **OPTIONAL}.items():
             found = context.function(f"gl{name}", arguments, gives)
             if not found and name in FUNCTIONS:
                 raise NoDriver(f"the driver has no gl{name}")
             setattr(self, name, found)
 
-    def integer(self, name):
+    def integer(self, name: int) -> int:
         return self.integers(name, 1)[0]
 
-    def integers(self, name, count):
+    def integers(self, name: int, count: int) -> list[int]:
         found = (c_int * max(count, 4))()
         self.GetIntegerv(name, found)
         return list(found[:count])
 
-    def text(self, name):
+    def text(self, name: int) -> str:
         return (self.GetString(name) or b"").decode("utf-8", "replace")
 
-    def made(self, what):
+    def made(self, what: str) -> int:
         """The name of one more object: of "Textures", "Buffers", and so on."""
         name = c_uint()
         getattr(self, f"Gen{what}")(1, byref(name))
         return name.value
 
-    def extensions(self):
+    def extensions(self) -> set[str]:
         return {self.GetStringi(EXTENSIONS, number).decode() for number in range(self.integer(NUM_EXTENSIONS))}
 
 
-def program_of(gl, vertex, fragment):
+def program_of(gl: Functions, vertex: str, fragment: str) -> int:
     """A linked program of two shaders' texts."""
     made = gl.CreateProgram()
     for kind, text in ((VERTEX_SHADER, vertex), (FRAGMENT_SHADER, fragment)):

@@ -1,4 +1,10 @@
 """Faults that a driver might have, each a change of the events that it gets: for tests of what finds them."""
+from collections.abc import Callable
+from typing import Any
+
+from captures import Event
+
+Change = Callable[[Event], Event]
 
 OTHER_FACTORS = {"INV_SRC_ALPHA": "ONE", "INV_DEST_ALPHA": "ONE", "SRC_ALPHA": "SRC_COLOR", "BLEND_FACTOR": "ONE"}
 OTHER_FUNCTIONS = {"LESS": "LESS_EQUAL", "LESS_EQUAL": "LESS", "GREATER": "GREATER_EQUAL", "EQUAL": "ALWAYS"}
@@ -6,39 +12,39 @@ OTHER_CULLS = {"front": "back", "back": "front", "none": "none"}
 FOUR_BITS = 1 << 12  # in 1/65536 pixel
 
 
-def setting(kind, **parts):
+def setting(kind: str, **parts: Any) -> Change:
     """The fault that parts of a state are always the same."""
     return lambda event: event | parts if event["kind"] == kind else event
 
 
-def of_kind(kind):
+def of_kind(kind: str) -> Callable[[Change], Change]:
     """Has a change see the events of a kind alone."""
 
-    def made(change):
+    def made(change: Change) -> Change:
         return lambda event: change(event) if event["kind"] == kind else event
 
     return made
 
 
 @of_kind("blend")
-def other_factor(event):
+def other_factor(event: Event) -> Event:
     source, there, operation = event["rgb"]
     return event | {"rgb": [source, OTHER_FACTORS.get(there, there), operation]}
 
 
 @of_kind("blend")
-def alpha_like_colour(event):
+def alpha_like_colour(event: Event) -> Event:
     return event | {"alpha": [word.replace("_COLOR", "_ALPHA") for word in event["rgb"]]}
 
 
 @of_kind("scissor")
-def wider_scissor(event):
+def wider_scissor(event: Event) -> Event:
     left, top, right, bottom = event["rect"]
     return event | {"rect": [left, top, right + 1, bottom]}
 
 
 @of_kind("draw")
-def last_corner(event):
+def last_corner(event: Event) -> Event:
     if event["interp"] != "flat":
         return event
     order = event.get("indices", list(range(len(event["vertices"]))))
@@ -50,7 +56,7 @@ def last_corner(event):
 
 
 @of_kind("draw")
-def four_bits(event):
+def four_bits(event: Event) -> Event:
     moved = [
         vertex | {name: (vertex[name] + FOUR_BITS // 2) // FOUR_BITS * FOUR_BITS for name in "xy"}
         for vertex in event["vertices"]
@@ -79,6 +85,6 @@ PLANTS = {
 }
 
 
-def change_of(name):
+def change_of(name: str | None) -> Change:
     """The change of an event that a fault is, or none."""
     return PLANTS[name] if name else lambda event: event

@@ -2,8 +2,11 @@
 a power of two, so each arrives where triangles are drawn without rounding."""
 import array
 import ctypes
+from collections.abc import Callable, Sequence
 from dataclasses import dataclass
+from typing import Any
 
+from captures import Event
 from rules.snapping import snap
 from rules.states import AT_START
 
@@ -34,7 +37,7 @@ class Way:
 
     api: str = "gl"  # gl, es or vulkan
     device: int | None = None  # EGL's, counted from 0
-    viewport: object = 4096  # a power of two, or "target"
+    viewport: int | str = 4096  # a power of two, or "target"
     linear: str = "smooth"  # or noperspective, which is the same as w is 1
     convention: str = (
         "first"  # whose colour a flat triangle has; turned: corners are turned so that the first is the last
@@ -44,7 +47,7 @@ class Way:
 class Player:
     """A driver with a target. Positions are snapped before the driver gets them, unless `is_raw`."""
 
-    def __init__(self, width, height, way=Way()):
+    def __init__(self, width: int, height: int, way: Way = Way()) -> None:
         self.way, self.is_raw, self.context = way, False, Context(way.api, way.device)
         self.gl = gl = Functions(self.context)
         if way.api == "vulkan" and not gl.text(opengl.RENDERER).startswith("zink"):
@@ -74,7 +77,7 @@ class Player:
         gl.PixelStorei(opengl.UNPACK_ALIGNMENT, 1)
         self.resize(width, height)
 
-    def _buffers(self):
+    def _buffers(self) -> None:
         gl = self.gl
         gl.BindVertexArray(gl.made("VertexArrays"))
         self.buffers = [gl.made("Buffers") for _ in range(3)]
@@ -84,10 +87,10 @@ class Player:
             gl.EnableVertexAttribArray(number)
         gl.BindBuffer(opengl.ELEMENT_ARRAY_BUFFER, self.buffers[2])
 
-    def close(self):
+    def close(self) -> None:
         self.context.close()
 
-    def resize(self, width, height):
+    def resize(self, width: int, height: int) -> None:
         """A fresh target, perhaps of another size."""
         if (width, height) != (self.target.width, self.target.height):
             self.target.resize(width, height)
@@ -96,7 +99,7 @@ class Player:
         self._set_viewport()
         self.restart()
 
-    def _set_viewport(self):
+    def _set_viewport(self) -> None:
         self.gl.Viewport(*self.box)
         became = tuple(self.gl.integers(opengl.VIEWPORT, 4))
         if became != tuple(self.box):
@@ -104,7 +107,7 @@ class Player:
                 f"the driver makes of the viewport {' '.join(map(str, self.box))} {' '.join(map(str, became))}"
             )
 
-    def named(self):
+    def named(self) -> dict[str, Any]:
         """What the driver says that it is."""
         gl = self.gl
         return {
@@ -113,21 +116,21 @@ class Player:
             "subpixel_bits": gl.integer(opengl.SUBPIXEL_BITS),
         }
 
-    def check(self):
+    def check(self) -> None:
         """Ends it where OpenGL has noted an error."""
         error = self.gl.GetError()
         if error:
             raise NoDriver(f"the driver notes the error {error:#x} of OpenGL")
 
     # ---- Events
-    def restart(self):
+    def restart(self) -> None:
         """A fresh target and the states at the start."""
         self.states = dict(AT_START)
         self.apply({"kind": "clear", "color": [0, 0, 0, 0]})
         self.apply({"kind": "depth_clear", "depth": mapping.DEEPEST})
         self._set_states()
 
-    def apply(self, event):
+    def apply(self, event: Event) -> None:
         kind = event["kind"]
         if kind in self.states:
             self.states[kind] = event
@@ -135,52 +138,52 @@ class Player:
         elif kind != "marker":
             getattr(self, kind)(event)
 
-    def _set_states(self, *kinds):
+    def _set_states(self, *kinds: str) -> None:
         for kind in kinds or self.states:
             getattr(self, f"_set_{kind}")(self.states[kind])
 
-    def _switch(self, what, is_on):
+    def _switch(self, what: int, is_on: bool) -> None:
         (self.gl.Enable if is_on else self.gl.Disable)(what)
 
-    def _set_raster(self, state):
+    def _set_raster(self, state: Event) -> None:
         self._switch(opengl.CULL_FACE, state["cull"] != "none")
         if state["cull"] != "none":
             self.gl.CullFace(mapping.CULLED[state["cull"]])
         self.gl.FrontFace(mapping.FRONT_FACES[state["front_ccw"]])
         self._switch(opengl.SCISSOR_TEST, state["scissor"])
 
-    def _set_scissor(self, state):
+    def _set_scissor(self, state: Event) -> None:
         self.gl.Scissor(*mapping.scissor_of(state["rect"], self.target.width, self.target.height))
 
-    def _set_blend(self, state):
+    def _set_blend(self, state: Event) -> None:
         (source, there, operation), (alpha_source, alpha_there, alpha_operation) = state["rgb"], state["alpha"]
         self._switch(opengl.BLEND, state["enable"])
         self.gl.BlendFuncSeparate(*(mapping.FACTORS[name] for name in (source, there, alpha_source, alpha_there)))
         self.gl.BlendEquationSeparate(mapping.OPERATIONS[operation], mapping.OPERATIONS[alpha_operation])
         self.gl.ColorMask(*(state["mask"] >> channel & 1 for channel in range(4)))
 
-    def _set_factor(self, state):
+    def _set_factor(self, state: Event) -> None:
         self.gl.BlendColor(*(byte / 255 for byte in state["color"]))
 
-    def _set_depth(self, state):
+    def _set_depth(self, state: Event) -> None:
         self._switch(opengl.DEPTH_TEST, state["enable"])
         self.gl.DepthMask(state["write"])
         self.gl.DepthFunc(mapping.FUNCTIONS[state["func"]])
 
-    def clear(self, event):
+    def clear(self, event: Event) -> None:
         """OpenGL's clears obey scissor and mask, a capture's don't."""
         self.gl.Disable(opengl.SCISSOR_TEST)
         self.gl.ColorMask(1, 1, 1, 1)
         self.gl.ClearBufferfv(opengl.COLOR, 0, (ctypes.c_float * 4)(*(byte / 255 for byte in event["color"])))
         self._set_states("raster", "blend")
 
-    def depth_clear(self, event):
+    def depth_clear(self, event: Event) -> None:
         self.gl.Disable(opengl.SCISSOR_TEST)
         self.gl.DepthMask(1)
         self.gl.ClearBufferfv(opengl.DEPTH, 0, (ctypes.c_float * 1)(event["depth"] / mapping.DEEPEST))
         self._set_states("raster", "depth")
 
-    def draw(self, event):
+    def draw(self, event: Event) -> None:
         gl, vertices, order = self.gl, event["vertices"], event.get("indices")
         count = len(vertices if order is None else order) // 3 * 3
         if not count:
@@ -196,11 +199,14 @@ class Player:
             self._fill(opengl.ELEMENT_ARRAY_BUFFER, 2, array.array("I", order[:count]).tobytes())
             gl.DrawElements(opengl.TRIANGLES, count, opengl.UNSIGNED_INT, None)
 
-    def _places(self, vertices):
+    def _places(self, vertices: Sequence[dict[str, Any]]) -> "array.array[float]":
         """The corners in clip space: half the viewport from its middle is 1."""
         half_x, half_y = self.box.width / 2, self.box.height / 2
         middle_x, middle_y = self.box.left + half_x, self.box.top + half_y
-        unit, snapped = (mapping.FRACTIONS, int) if self.is_raw else (mapping.SNAPPED, snap)
+        unit = mapping.SNAPPED
+        snapped: Callable[[int], int] = snap
+        if self.is_raw:
+            unit, snapped = mapping.FRACTIONS, int
         places = array.array("f")
         for vertex in vertices:
             depth = vertex.get("z", 0) / mapping.DEEPEST
@@ -213,21 +219,21 @@ class Player:
             )
         return places
 
-    def _fill(self, kind, number, data):
+    def _fill(self, kind: int, number: int, data: bytes) -> None:
         self.gl.BindBuffer(kind, self.buffers[number])
         self.gl.BufferData(kind, len(data), data, opengl.STREAM_DRAW)
 
     # ---- Pixels
-    def colours(self):
+    def colours(self) -> bytes:
         return self.target.colours()
 
-    def depths(self):
+    def depths(self) -> "array.array[int]":
         words = self.target.depths()
         if self.target.other:
             self._set_viewport()
             self._set_states()
         return words
 
-    def put(self, colours=None, depths=None):
+    def put(self, colours: bytes | None = None, depths: bytes | None = None) -> None:
         """Sets the target's pixels, so that the next event is judged by itself."""
         self.target.put(colours, depths)

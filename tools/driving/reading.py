@@ -1,5 +1,6 @@
 """A capture from its file, as framedbg accepts it; and what is written, whole or not at all."""
 import os
+from typing import Any
 
 from captures import MOST_BYTES
 from explaining import json_text
@@ -9,7 +10,7 @@ from writing import files
 from .faults import READING, Fault
 
 
-def read_capture(path):
+def read_capture(path: str | os.PathLike[str]) -> dict[str, Any]:
     """The capture in a file. What is refused is told with its place."""
     try:
         with open(path, "rb") as file:
@@ -19,10 +20,11 @@ def read_capture(path):
     is_accepted, verdict, why = explained(data)
     if not is_accepted:
         raise Fault(f"{path}: capture refused {verdict}: {why}")
-    return json_text.read(json_text.decoded(data))
+    capture: dict[str, Any] = json_text.read(json_text.decoded(data))
+    return capture
 
 
-def write(path, text):
+def write(path: str | os.PathLike[str], text: str) -> None:
     """Writes a file whole, or leaves what was there. A device or a pipe is written through, and a link stays one."""
     try:
         files.keep(os.path.abspath(path), text.encode())

@@ -1,20 +1,28 @@
 """reduce: from a capture that a driver draws otherwise than framedbg, the smallest found that it still draws
 otherwise."""
+import argparse
 import contextlib
 import sys
 import time
+from collections.abc import Callable, Container, Iterable, Iterator
+from typing import TypeVar
 
-from captures import compact
+from captures import Event, compact
+from writing.counting import counted as counted_as
 
 from . import plants, reading, smaller
-from .comparing import counted_as, pixel_of
+from .comparing import Pick, pixel_of
 from .driver import player_of
 from .exact import Exact, program_of
 from .faults import ALIKE, DIFFERS
 from .judging import Judge
 from .kinds import Kind
+from .player import Player
+from .smaller import Capture
 
-KINDS = {
+Item = TypeVar("Item")  # an event, or a triangle
+
+KINDS: dict[str, tuple[Kind, ...]] = {
     "coverage": (Kind.COVERAGE, Kind.SCISSOR, Kind.CULL),
     "colour": (Kind.BY_MORE,),
     "depth": (Kind.DEPTH_TEST, Kind.DEPTH_BY_MORE),
@@ -33,11 +41,14 @@ class Over(Exception):
 class Reducer:
     """Makes `best` smaller, one thing after another, as long as the driver differs by a kind."""
 
-    def __init__(self, player, program, kinds, change, seconds):
+    def __init__(
+        self, player: Player, program: str, kinds: Container[Kind], change: plants.Change, seconds: float
+    ) -> None:
         self.player, self.program, self.kinds, self.change = player, program, kinds, change
-        self.deadline, self.tried, self.best = time.monotonic() + seconds, 0, None
+        self.deadline, self.tried = time.monotonic() + seconds, 0
+        self.best: Capture = {}
 
-    def differs(self, capture):
+    def differs(self, capture: Capture) -> Pick | None:
         """The event and the Difference at which it first differs so, from a fresh target and with nothing mended; or
         None."""
         self.player.resize(capture["width"], capture["height"])
@@ -48,7 +59,7 @@ class Reducer:
                         return one.number, pixel
         return None
 
-    def keeps(self, capture):
+    def keeps(self, capture: Capture) -> bool:
         """Whether a capture still differs; then it is the best."""
         if time.monotonic() > self.deadline:
             raise Over
@@ -58,7 +69,7 @@ class Reducer:
         self.best = capture
         return True
 
-    def run(self, capture):
+    def run(self, capture: Capture) -> bool:
         """Whether it differs at all; then `best` is the smallest that was found."""
         first = self.differs(capture)
         if not first:
@@ -72,23 +83,24 @@ class Reducer:
                 self.turn()
         return True
 
-    def turn(self):
+    def turn(self) -> None:
         self.fewer(self.best["events"], lambda events: self.best | {"events": events})
         for at in range(min(len(self.best["events"]), MOST_EVENTS)):
             self.event(at)
-        _, pixel = self.differs(self.best)
-        self.first_of(smaller.cut_out(self.best, pixel.x, pixel.y))
+        first = self.differs(self.best)
+        if first:
+            self.first_of(smaller.cut_out(self.best, first[1].x, first[1].y))
         self.first_of(smaller.without_depth(self.best))
         for at, event in enumerate(self.best["events"]):
             for number in range(len(event["vertices"]) if event["kind"] == "draw" else 0):
                 for name in "xyz" if len(event["vertices"]) <= smaller.MOST_CORNERS else ():
                     self.first_of(smaller.rounder(self.best, at, number, name))
 
-    def first_of(self, captures):
+    def first_of(self, captures: Iterable[Capture]) -> bool:
         """Keeps the first of some that still differs."""
         return any(self.keeps(capture) for capture in captures)
 
-    def fewer(self, items, made):
+    def fewer(self, items: list[Item], made: Callable[[list[Item]], Capture]) -> None:
         """Leaves out pieces of a list, half of it at first and one at last, as long as made(items) still differs."""
         size = max(1, len(items) // 2)
         while items:
@@ -103,7 +115,7 @@ class Reducer:
                 return
             size //= 2
 
-    def event(self, at):
+    def event(self, at: int) -> None:
         """Fewer triangles, and plainer parts of an event."""
         event = self.best["events"][at]
         if event["kind"] == "draw":
@@ -116,7 +128,7 @@ class Reducer:
             pass
 
 
-def run(given):
+def run(given: argparse.Namespace) -> int:
     capture, program = reading.read_capture(given.capture), program_of(given.program)
     player, began = player_of(given, capture["width"], capture["height"]), time.monotonic()
     reducer = Reducer(player, program, KINDS[given.kind], plants.change_of(given.plant), given.seconds)
@@ -129,23 +141,25 @@ def run(given):
     return DIFFERS
 
 
-def closing(capture, small, reducer, seconds):
+def closing(capture: Capture, small: Capture, reducer: Reducer, seconds: float) -> Iterator[str]:
     triangles = sum(len(smaller.triangles_of(event)) for event in small["events"] if event["kind"] == "draw")
     events, tried = counted_as(len(capture["events"]), "event"), counted_as(reducer.tried, "capture")
     yield (
         f"{events} became {len(small['events'])}, with {counted_as(triangles, 'triangle')} "
         f"on {small['width']} x {small['height']} pixels; {tried} tried in {seconds:.1f} s"
     )
-    yield pixel_of(reducer.differs(small))
+    pick = reducer.differs(small)
+    if pick:
+        yield pixel_of(pick)
 
 
-def text_of(capture):
+def text_of(capture: Capture) -> str:
     """A capture with a line for each event, and for each corner."""
     head = {name: part for name, part in capture.items() if name != "events"}
     return compact(head)[:-1] + ',"events":[\n  ' + ",\n  ".join(map(event_text, capture["events"])) + "\n]}"
 
 
-def event_text(event):
+def event_text(event: Event) -> str:
     if event["kind"] != "draw" or not event["vertices"]:
         return compact(event)
     head = compact({name: part for name, part in event.items() if name != "vertices"})[:-1]

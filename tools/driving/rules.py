@@ -3,6 +3,7 @@
 A gzip file: a line `framedbg-rules 1 WIDTH HEIGHT POSITIONS DEPTHS`, and for each position the colours, and the
 depths where DEPTHS is 1 (words of 16 bits, the low byte first), each byte XORed with that of the position before.
 """
+import argparse
 import array
 import gzip
 import sys
@@ -15,7 +16,7 @@ from .faults import ALIKE
 from .depths import Depths
 
 
-def run(given):
+def run(given: argparse.Namespace) -> int:
     capture, program = reading.read_capture(given.capture), program_of(given.program)
     with Exact(program, capture) as exact, gzip.GzipFile(
         filename="", fileobj=sys.stdout.buffer, mode="wb", mtime=0
@@ -32,11 +33,11 @@ def run(given):
     return ALIKE
 
 
-def xored(data, before):
+def xored(data: bytes, before: bytes) -> bytes:
     return (int.from_bytes(data, "little") ^ int.from_bytes(before, "little")).to_bytes(len(data), "little")
 
 
-def little_endian(words):
+def little_endian(words: "array.array[int]") -> bytes:
     if sys.byteorder == "little":
         return words.tobytes()
     swapped = array.array("H", words)

@@ -1,4 +1,5 @@
 """A run of framedbg-driver, from its words to its status."""
+import argparse
 import signal
 import sys
 
@@ -17,9 +18,9 @@ COMMANDS = {
 }
 
 
-def run(given):
+def run(given: argparse.Namespace) -> int:
     """The status of a run. What went wrong is told on standard error, and nothing is left behind."""
-    sys.stdout.reconfigure(errors="backslashreplace")
+    sys.stdout.reconfigure(errors="backslashreplace")  # type: ignore[attr-defined]  # an io.TextIOWrapper has it
     signal.signal(signal.SIGTERM, signal.default_int_handler)
     try:
         return listing.run(given) if given.list else COMMANDS[given.command](given)
@@ -35,6 +36,6 @@ def run(given):
         return told("memory", READING)
 
 
-def told(why, status):
+def told(why: object, status: int) -> int:
     print(f"framedbg-driver: {printable(str(why))}", file=sys.stderr)
     return status

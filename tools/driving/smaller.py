@@ -1,6 +1,12 @@
 """Captures that are a little smaller or plainer than one: each function gives some, the smallest first. Nothing is
 changed in place."""
-from captures import PIXEL
+from collections.abc import Iterable, Iterator
+from typing import Any
+
+from captures import PIXEL, Event
+
+Capture = dict[str, Any]
+Corner = dict[str, Any]
 
 SIDES = (1, 2, 4, 8, 16, 32)  # pixels of a target that is cut out
 PLAIN_STATES = (
@@ -17,23 +23,23 @@ ROUND_PLACES, ROUND_DEPTHS = (8 * PIXEL, PIXEL, PIXEL // 2, 4096, 256), (65535, 
 MOST_CORNERS, MOST_DEPTH = 24, 65535  # of a draw whose corners are taken one by one
 
 
-def with_event(capture, at, event):
+def with_event(capture: Capture, at: int, event: Event) -> Capture:
     events = list(capture["events"])
     events[at] = event
     return capture | {"events": events}
 
 
-def with_corner(capture, at, number, **parts):
+def with_corner(capture: Capture, at: int, number: int, **parts: Any) -> Capture:
     event = capture["events"][at]
     vertices = list(event["vertices"])
     vertices[number] = vertices[number] | parts
     return with_event(capture, at, event | {"vertices": vertices})
 
 
-def with_place(capture, place, **parts):
+def with_place(capture: Capture, place: Corner, **parts: Any) -> Capture:
     """With all corners moved that lie where one does: a triangle that is drawn twice stays the same triangle."""
 
-    def moved_there(corner):
+    def moved_there(corner: Corner) -> Corner:
         return corner | parts if all(corner.get(name) == place.get(name) for name in "xyz") else corner
 
     events = [
@@ -43,14 +49,14 @@ def with_place(capture, place, **parts):
     return capture | {"events": events}
 
 
-def triangles_of(event):
+def triangles_of(event: Event) -> list[list[Corner]]:
     """The triangles of a draw, three corners each, and no index and no corner that is left over."""
     order = event.get("indices", range(len(event["vertices"])))
     corners = [event["vertices"][number] for number in order]
     return [corners[at : at + 3] for at in range(0, len(corners) - 2, 3)]
 
 
-def of_triangles(event, triangles):
+def of_triangles(event: Event, triangles: Iterable[Iterable[Corner]]) -> Event:
     return {
         "kind": "draw",
         "interp": event["interp"],
@@ -58,7 +64,7 @@ def of_triangles(event, triangles):
     }
 
 
-def plainer_event(capture, at):
+def plainer_event(capture: Capture, at: int) -> Iterator[Capture]:
     """With one part of an event at what a capture begins with, or of a plain colour."""
     event = capture["events"][at]
     for name, plain in PLAIN_STATES:
@@ -70,7 +76,7 @@ def plainer_event(capture, at):
         yield from plainer_draw(capture, at, event)
 
 
-def plainer_draw(capture, at, event):
+def plainer_draw(capture: Capture, at: int, event: Event) -> Iterator[Capture]:
     if event["interp"] == "linear":
         yield with_event(capture, at, event | {"interp": "flat"})
     vertices = event["vertices"]
@@ -83,7 +89,7 @@ def plainer_draw(capture, at, event):
             yield from (with_corner(capture, at, number, color=plain) for plain in PLAIN_COLOURS)
 
 
-def cut_out(capture, x, y):
+def cut_out(capture: Capture, x: int, y: int) -> Iterator[Capture]:
     """The target round a pixel alone: positions move by whole pixels."""
     width, height = capture["width"], capture["height"]
     for side in SIDES:
@@ -94,7 +100,7 @@ def cut_out(capture, x, y):
         yield capture | {"width": min(side, width), "height": min(side, height), "events": events}
 
 
-def moved(event, left, top):
+def moved(event: Event, left: int, top: int) -> Event:
     if event["kind"] == "scissor":
         return event | {"rect": [edge - by for edge, by in zip(event["rect"], (left, top, left, top))]}
     if event["kind"] != "draw":
@@ -106,7 +112,7 @@ def moved(event, left, top):
     }
 
 
-def without_depth(capture):
+def without_depth(capture: Capture) -> Iterator[Capture]:
     """As a capture of version 1, where nothing of depth is left."""
     if capture["version"] == 1 and not any(
         "z" in corner for event in capture["events"] for corner in event.get("vertices", ())
@@ -127,7 +133,7 @@ def without_depth(capture):
         yield capture | {"version": 1, "events": events}
 
 
-def rounder(capture, at, number, name):
+def rounder(capture: Capture, at: int, number: int, name: str) -> Iterator[Capture]:
     """With a rounder coordinate of a corner, and of all others that lie where it does, the roundest first; up to the
     one that it has."""
     corner = capture["events"][at]["vertices"][number]

@@ -4,7 +4,7 @@ import ctypes
 
 from . import opengl
 from .faults import NoDriver
-from .opengl import program_of
+from .opengl import Functions, program_of
 
 # Depths are drawn as two bytes where they can't be read
 WHOLE = """{head}
@@ -21,13 +21,14 @@ class Target:
     """A framebuffer with a texture of colours and one of depths. `head` is the first line of shaders; `has_to_draw`
     says that depths can't be read."""
 
-    def __init__(self, gl, head, has_to_draw):
+    def __init__(self, gl: Functions, head: str, has_to_draw: bool) -> None:
         self.gl, self.width, self.height = gl, 0, 0
-        self.frame, self.textures = gl.made("Framebuffers"), []
+        self.frame = gl.made("Framebuffers")
+        self.textures: list[int] = []
         self.other = gl.made("Framebuffers") if has_to_draw else None
         self.program = program_of(gl, WHOLE.format(head=head), TWO_BYTES.format(head=head)) if has_to_draw else None
 
-    def resize(self, width, height):
+    def resize(self, width: int, height: int) -> None:
         """Another size, with pixels of any colour."""
         gl = self.gl
         most = gl.integer(opengl.MAX_TEXTURE_SIZE)
@@ -46,7 +47,7 @@ class Target:
             self._attach(self.other, {opengl.COLOR_ATTACHMENT0: self.textures[-1]})
             gl.BindFramebuffer(opengl.FRAMEBUFFER, self.frame)
 
-    def _texture(self, kind):
+    def _texture(self, kind: int) -> int:
         gl, name = self.gl, self.gl.made("Textures")
         gl.BindTexture(opengl.TEXTURE_2D, name)
         gl.TexImage2D(opengl.TEXTURE_2D, 0, kind, self.width, self.height, 0, *self._form(kind), None)
@@ -54,11 +55,11 @@ class Target:
             gl.TexParameteri(opengl.TEXTURE_2D, filter_, opengl.NEAREST)
         return name
 
-    def _form(self, kind):
+    def _form(self, kind: int) -> tuple[int, int]:
         is_colour = kind == opengl.RGBA8
         return (opengl.RGBA, opengl.UNSIGNED_BYTE) if is_colour else (opengl.DEPTH_COMPONENT, opengl.UNSIGNED_SHORT)
 
-    def _attach(self, frame, textures):
+    def _attach(self, frame: int, textures: dict[int, int]) -> None:
         self.gl.BindFramebuffer(opengl.FRAMEBUFFER, frame)
         for attachment, name in textures.items():
             self.gl.FramebufferTexture2D(opengl.FRAMEBUFFER, attachment, opengl.TEXTURE_2D, name, 0)
@@ -66,13 +67,13 @@ class Target:
             raise NoDriver("the driver has no target of RGBA8 and 16 bits of depth")
 
     # ---- Reading and setting
-    def colours(self):
+    def colours(self) -> bytes:
         """Red, green, blue and alpha of each pixel, row by row from the top."""
         data = ctypes.create_string_buffer(4 * self.width * self.height)
         self.gl.ReadPixels(0, 0, self.width, self.height, opengl.RGBA, opengl.UNSIGNED_BYTE, data)
         return data.raw
 
-    def depths(self):
+    def depths(self) -> "array.array[int]":
         """The depth of each pixel, a word of 16 bits, in the same order."""
         if self.other:
             return self._drawn_depths()
@@ -81,7 +82,7 @@ class Target:
         self.gl.ReadPixels(0, 0, self.width, self.height, opengl.DEPTH_COMPONENT, opengl.UNSIGNED_SHORT, room)
         return words
 
-    def _drawn_depths(self):
+    def _drawn_depths(self) -> "array.array[int]":
         """The same, drawn on another target with nothing but a scissor that is off; the caller sets its state anew."""
         gl = self.gl
         for what in (opengl.SCISSOR_TEST, opengl.CULL_FACE, opengl.BLEND, opengl.DEPTH_TEST):
@@ -96,7 +97,7 @@ class Target:
         gl.BindFramebuffer(opengl.FRAMEBUFFER, self.frame)
         return array.array("H", [high << 8 | low for high, low in zip(four[0::4], four[1::4])])
 
-    def put(self, colours=None, depths=None):
+    def put(self, colours: bytes | None = None, depths: bytes | None = None) -> None:
         """Sets all colours or all depths, whatever the state."""
         for texture, kind, data in zip(self.textures, (opengl.RGBA8, opengl.DEPTH_COMPONENT16), (colours, depths)):
             if data is not None:

@@ -1,9 +1,12 @@
 """try: scenes of one feature each, drawn by framedbg and by the driver; a table of what is alike."""
+import argparse
 import collections
 import json
 import pathlib
 import time
+from collections.abc import Iterable, Sequence
 from dataclasses import dataclass, field
+from typing import Any
 
 from writing.counting import counted as counted_as
 
@@ -12,8 +15,8 @@ from .driver import line_of, player_of
 from .exact import Exact, program_of
 from .faults import ALIKE, DIFFERS, Fault
 from .features import FEATURES, UNSNAPPED, WHOLE, scene
-from .judging import Judge
-from .kinds import Kind, counted, is_beyond, is_fault
+from .judging import Judge, Judgement
+from .kinds import Counts, Kind, counted, is_beyond, is_fault
 from .scenes import SIDE
 
 COLUMNS = {  # of the table: what they have, and the kinds that are counted there
@@ -39,11 +42,11 @@ class Row:
     name: str
     pixels: int = 0
     seconds: float = 0.0
-    counts: collections.Counter = field(default_factory=collections.Counter)
+    counts: Counts = field(default_factory=collections.Counter)
     left_open: int = 0  # pixels beyond rounding, and those of them that OpenGL leaves to its drivers
     beyond: int = 0
 
-    def note(self, one, tolerance):
+    def note(self, one: Judgement, tolerance: int) -> None:
         self.pixels += one.changed
         self.counts += one.counts
         beyond = [pixel for pixel in one.found if is_beyond(pixel.kind, tolerance)]
@@ -51,16 +54,16 @@ class Row:
         self.left_open += sum(pixel.is_left_open for pixel in beyond)
 
     @property
-    def verdict(self):
+    def verdict(self) -> str:
         return "differs" if self.beyond else "within 1" if +self.counts else "exact"
 
     @property
-    def breaks(self):
+    def breaks(self) -> str:
         """Whose rules it breaks: those of Direct3D, or of OpenGL too."""
         return "" if not self.beyond else "Direct3D" if self.left_open == self.beyond else "both"
 
 
-def run(given):
+def run(given: argparse.Namespace) -> int:
     if given.features:
         print("\n".join(FEATURES))
         return ALIKE
@@ -73,14 +76,14 @@ def run(given):
     return tried(given, Trial(given, program_of(given.program)), names)
 
 
-def scene_text(words, bits):
+def scene_text(words: str, bits: int) -> str:
     name, _, seed = words.rpartition(" ")
     if name not in FEATURES or not (seed.isascii() and seed.isdigit() and len(seed) < 10):
         raise Fault("a scene is a feature and a number, as in --scene 'linear 7'; --features names the features")
     return json.dumps(scene(name, int(seed), bits))
 
 
-def tried(given, trial, names):
+def tried(given: argparse.Namespace, trial: "Trial", names: Iterable[str]) -> int:
     began, driver, bits = time.monotonic(), trial.player.named(), given.bits or trial.bits()
     if not given.json:
         print(f"{line_of(driver)}; corners on {bits} bits, {counted_as(given.scenes, 'scene')} of each feature")
@@ -105,11 +108,11 @@ def tried(given, trial, names):
 class Trial:
     """The driver and framedbg, for scenes one after the other."""
 
-    def __init__(self, given, program):
+    def __init__(self, given: argparse.Namespace, program: str) -> None:
         self.given, self.program = given, program
         self.player, self.change = player_of(given, SIDE, SIDE), plants.change_of(given.plant)
 
-    def bits(self):
+    def bits(self) -> int:
         """8 bits of a pixel's fraction, or 4 where those alone are covered exactly: what a driver says of them isn't
         to be believed."""
         for bits in (MOST_BITS, FEWER_BITS):
@@ -118,7 +121,7 @@ class Trial:
                 return bits
         return MOST_BITS
 
-    def row(self, name, seeds, bits, is_probe=False):
+    def row(self, name: str, seeds: Iterable[int], bits: int, is_probe: bool = False) -> Row:
         began, row, is_kept = time.monotonic(), Row(name), is_probe or not self.given.write
         self.player.is_raw = self.given.raw or name in UNSNAPPED
         for seed in seeds:
@@ -133,7 +136,7 @@ class Trial:
         row.seconds = time.monotonic() - began
         return row
 
-    def keep(self, name, capture):
+    def keep(self, name: str, capture: dict[str, Any]) -> None:
         try:
             self.given.write.mkdir(parents=True, exist_ok=True)
         except OSError as fault:
@@ -142,11 +145,11 @@ class Trial:
 
 
 # ---- What is told
-def heading():
+def heading() -> str:
     return f"{'feature':33}{'pixels':>9}" + "".join(f"{column:>11}" for column in COLUMNS) + "  verdict   breaks"
 
 
-def line(row):
+def line(row: Row) -> str:
     cells = [sum(row.counts[kind] for kind in kinds) for kinds in COLUMNS.values()]
     return (
         f"{row.name:33}{row.pixels:9,}"
@@ -155,7 +158,7 @@ def line(row):
     ).rstrip()
 
 
-def closing(rows, seconds):
+def closing(rows: Sequence[Row], seconds: float) -> str:
     verdicts = [row.verdict for row in rows]
     return (
         f"{counted_as(len(rows), 'feature')}: {verdicts.count('exact')} exact, {verdicts.count('within 1')} within 1, "
@@ -163,7 +166,7 @@ def closing(rows, seconds):
     )
 
 
-def value_of(driver, bits, rows, seconds):
+def value_of(driver: dict[str, Any], bits: int, rows: Iterable[Row], seconds: float) -> dict[str, Any]:
     features = {
         row.name: {
             "pixels": row.pixels,
@@ -176,7 +179,7 @@ def value_of(driver, bits, rows, seconds):
     return {"driver": driver, "bits": bits, "seconds": round(seconds, 1), "features": features}
 
 
-def case_of(row, tolerance):
+def case_of(row: Row, tolerance: int) -> junit.Case:
     is_failed = any(is_fault(kind, tolerance) for kind in +row.counts)
     counts = ", ".join(f"{count:,} {kind}" for kind, count in counted(row.counts).items())
     return junit.Case(
