@@ -169,7 +169,7 @@ class Everywhere(Folder):
         """Nothing is exchanged where nothing is culled."""
         events = [clear(*SKY), raster("none"), box(2, 2, 12, 9, RED), raster("front"), box(4, 8, 22, 16, GREEN)]
         self.found(capture(events), capture(events), driver=True)
-        case = Case(self.frame, [], [], {}, lambda one, other: False, [0, 1, 2, 3])
+        case = Case(self.frame, [], [], {}, lambda one, other: False, [0, 1, 2, 3], None)
         told = {number: {change.says for change in changes_of(case, number, for_drivers())} for number in (2, 4)}
         self.assertEqual([said for said in told[2] if "exchanged" in said], [])
         self.assertIn("front and back exchanged in all 2 raster events", told[4])

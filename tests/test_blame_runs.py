@@ -322,6 +322,13 @@ class Called(Folder):
     def test_alike(self):
         self.assertEqual(told(*self.files(RIGHT)), (0, ["no pixel differs"], ""))
 
+    def test_one_pixel_is_told_as_one(self):
+        of_one = lambda red: capture([clear(red, 20, 30, 255)], 1, 1)
+        wrong, wanted = self.written("one.json", of_one(99)), self.written("one.pam", pam(of_one(10)))
+        status, lines, errors = told(wrong, wanted)
+        self.assertEqual((status, lines[0], errors), (1, "1 of 1 pixel differs, in 1 place", ""))
+        self.assertIn("why     it drew the pixel last (1 of 1 pixel asked)", lines)
+
     def test_json(self):
         status, lines, errors = told(*self.files(), "--json")
         value = json.loads("\n".join(lines))

@@ -138,7 +138,7 @@ MUTATIONS = [
     # runs
     ("runs: status 0 where pixels differ", "running.py", "ALIKE, NAMED = 0, 1", "ALIKE, NAMED = 0, 0", RUNS, "Called.test_json"),
     ("runs: nobody is somebody", "running.py", "NAMED if outcome.suspects else NOBODY", "NAMED", RUNS, "Called.test_nobody"),
-    ("runs: pictures of any size", "pictures.py", "    if size not in (None, (width, height)):\n", "    if False:\n", RUNS, "Called.test_what_is_at_fault"),
+    ("runs: pictures of any size", "pictures.py", "    if size and size != (width, height):\n", "    if False:\n", RUNS, "Called.test_what_is_at_fault"),
     ("runs: the wrong capture is kept", "running.py", "frame.text(outcome.changes[0].change.events)", "frame.text(frame.events)", RUNS, "Called.test_write"),
     ("runs: temporary files stay", "trying.py", "        self.room.cleanup()\n", "        self.room._finalizer.detach()\n", RUNS, "Called.test_nothing_stays"),
     ("runs: no end", "trying.py", "return time.monotonic() > self.deadline or", "return", RUNS, "Called.test_a_budget"),

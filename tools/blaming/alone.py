@@ -1,8 +1,10 @@
 """Events judged alone: a folder has what a driver drew after each event. An event is looked at where the picture before
 it was right, so that nothing is told again by the events behind it."""
+import argparse
 import pathlib
 import re
 import tempfile
+from collections.abc import Iterator, Sequence
 from dataclasses import dataclass
 
 from framedbg_client import Client
@@ -10,6 +12,7 @@ from writing.counting import counted
 
 from .comparing import Comparison, pixels_of
 from .faults import READING, Fault
+from .frame import CaptureFrame
 from .pictures import read_picture
 
 MOST_TOLD = 8  # events that differ
@@ -25,7 +28,7 @@ class Alone:
     wanted: Comparison
 
 
-def pictures_in(folder, most):
+def pictures_in(folder: pathlib.Path, most: int) -> dict[int, pathlib.Path]:
     """The files by the number of the event behind which each was drawn."""
     try:
         names = sorted(path.name for path in folder.iterdir())
@@ -40,7 +43,7 @@ def pictures_in(folder, most):
     return {number: folder / found[number] for number in sorted(found)}
 
 
-def judged(program, frame, capture, given):
+def judged(program: str, frame: CaptureFrame, capture: str, given: argparse.Namespace) -> Iterator[Alone]:
     """An Alone for each event of the folder at which pixels differ."""
     size = frame.width, frame.height
     right = drawn = bytes(4 * frame.width * frame.height)
@@ -59,7 +62,7 @@ def judged(program, frame, capture, given):
             right, drawn = exact, picture.samples
 
 
-def put_right(samples, exact, mask):
+def put_right(samples: bytes, exact: bytes, mask: bytes) -> bytes:
     """Samples with those of another image where a mask has a pixel."""
     made = bytearray(samples)
     for pixel in pixels_of(mask):
@@ -67,7 +70,7 @@ def put_right(samples, exact, mask):
     return bytes(made)
 
 
-def cut(frame, number):
+def cut(frame: CaptureFrame, number: int) -> tuple[CaptureFrame, str, tempfile.TemporaryDirectory[str]]:
     """The frame that ends with an event, and the folder with its capture, which is gone with the block."""
     folder = tempfile.TemporaryDirectory(prefix="framedbg-blame-")
     made = frame.with_events(frame.events[:number])
@@ -76,7 +79,7 @@ def cut(frame, number):
     return made, str(path), folder
 
 
-def lines(some, total):
+def lines(some: Sequence[Alone], total: int) -> Iterator[str]:
     """What is told of all of them."""
     if not some:
         yield f"no pixel differs after any of {counted(total, 'event')}, where it was right before"

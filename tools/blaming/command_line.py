@@ -12,17 +12,19 @@ Statuses: 0 no pixel differs, 1 some differ, and an event is named, 2 a fault of
 import argparse
 import os
 import sys
+from collections.abc import Sequence
+from typing import NoReturn
 
 from .faults import WORDS
 
 
 class Words(argparse.ArgumentParser):
-    def error(self, message):
+    def error(self, message: str) -> NoReturn:
         self.print_usage(sys.stderr)
         self.exit(WORDS, f"framedbg-blame: {message}\n")
 
 
-def tolerance(text):
+def tolerance(text: str) -> tuple[int, ...]:
     """A number for each of red, green, blue and alpha."""
     parts = text.split(",")
     if len(parts) not in (1, 4) or not all(part.isascii() and part.isdigit() and int(part) <= 255 for part in parts):
@@ -30,7 +32,7 @@ def tolerance(text):
     return tuple(int(part) for part in (parts * 4)[:4])
 
 
-def seconds(text):
+def seconds(text: str) -> float:
     try:
         value = float(text)
     except ValueError:
@@ -40,13 +42,13 @@ def seconds(text):
     return value
 
 
-def processes(text):
+def processes(text: str) -> int:
     if not (text.isascii() and text.isdigit() and 1 <= int(text) <= 256):
         raise argparse.ArgumentTypeError("a number from 1 to 256 is wanted")
     return int(text)
 
 
-def words(given=None):
+def words(given: Sequence[str] | None = None) -> argparse.Namespace:
     parser = Words(prog="framedbg-blame", description=__doc__, formatter_class=argparse.RawDescriptionHelpFormatter)
     parser.add_argument("capture", metavar="CAPTURE", help="the capture, a JSON file")
     parser.add_argument(
@@ -70,7 +72,7 @@ def words(given=None):
     return parser.parse_args(given)
 
 
-def add_search(parser):
+def add_search(parser: argparse.ArgumentParser) -> None:
     parser.add_argument(
         "--tolerance",
         type=tolerance,

@@ -1,13 +1,20 @@
 """What the histories of wrong pixels say of events: who drew them last, who drew over what is wanted, and by which
 state."""
 import collections
+from collections.abc import Callable, Iterable, Iterator, Sequence
 from dataclasses import dataclass, field
 
 from captures import PIXEL, STATES
+from framedbg_client import Entry
 
+from .fragments import Colour
+from .frame import CaptureFrame
+
+Fact = tuple[int, int | None, str, float]  # an event, a triangle of it, what a pixel says of it, and its weight
+IsNear = Callable[[Sequence[int], Sequence[int]], bool]  # whether a colour is near enough to a wanted one
 
 DISCARDED = "discarded"  # by the draw's own picture, and with no colour that could be the wanted one
-BY_VERDICT = {
+BY_VERDICT: dict[str, tuple[str, ...]] = {
     "scissored": ("raster", "scissor"),
     "culled": ("raster",),
     DISCARDED: (),
@@ -28,12 +35,12 @@ class Sample:
     pixel: int
     x: int
     y: int
-    wanted: tuple
-    entries: list
+    wanted: Colour
+    entries: list[Entry]
     cluster: int
 
     @property
-    def drawn(self):
+    def drawn(self) -> list[Entry]:
         return [entry for entry in self.entries if entry.is_drawn]
 
 
@@ -41,13 +48,13 @@ class Sample:
 class Suspect:
     event: int
     weight: float = 0
-    reasons: collections.Counter = field(default_factory=collections.Counter)
-    triangles: collections.Counter = field(default_factory=collections.Counter)
-    clusters: collections.Counter = field(default_factory=collections.Counter)
+    reasons: collections.Counter[str] = field(default_factory=collections.Counter)
+    triangles: collections.Counter[int] = field(default_factory=collections.Counter)
+    clusters: collections.Counter[int] = field(default_factory=collections.Counter)
 
 
-def facts(frame, sample, is_near):
-    """(event, triangle, what the pixel says of it, weight) of one pixel."""
+def facts(frame: CaptureFrame, sample: Sample, is_near: IsNear) -> Iterator[Fact]:
+    """What one pixel says."""
     wanted, drawn, since = sample.wanted, sample.drawn, first_that_counts(frame, sample.entries)
     for entry in sample.entries:
         is_wanted = entry.verdict != DISCARDED and is_near(entry.source, wanted)
@@ -74,7 +81,7 @@ def facts(frame, sample, is_near):
                 ]
 
 
-def first_that_counts(frame, entries):
+def first_that_counts(frame: CaptureFrame, entries: Sequence[Entry]) -> int:
     """The first event that can show at a pixel, or hide there what comes later: the last clear; where depths are
     tested behind it, the last of depths if that is earlier."""
     last = lambda kind, some: max((entry.event for entry in some if frame.kind(entry.event) == kind), default=0)
@@ -86,7 +93,7 @@ def first_that_counts(frame, entries):
     return min(cleared, last("depth_clear", entries)) if is_tested else cleared
 
 
-def hidden(frame, entry, is_wanted):
+def hidden(frame: CaptureFrame, entry: Entry, is_wanted: bool) -> Iterator[Fact]:
     if is_wanted:
         yield entry.event, entry.triangle, f"is {entry.verdict} where its colour is the one that is wanted", WEIGHTS[
             "hidden"
@@ -101,7 +108,7 @@ def hidden(frame, entry, is_wanted):
             ] if is_wanted else WEIGHTS["touched"]
 
 
-def last(frame, entry, wanted, is_near):
+def last(frame: CaptureFrame, entry: Entry, wanted: Colour, is_near: IsNear) -> Iterator[Fact]:
     yield entry.event, entry.triangle, "drew the pixel last", WEIGHTS["last"]
     if frame.kind(entry.event) != "draw":
         return
@@ -114,7 +121,7 @@ def last(frame, entry, wanted, is_near):
             ]
 
 
-def reaching(frame, samples):
+def reaching(frame: CaptureFrame, samples: Iterable[Sample]) -> Iterator[tuple[Sample, Fact]]:
     """What can't be in a history: draws whose vertices lie round a pixel, which none of their triangles covers."""
     met = [
         (sample, {entry.event for entry in sample.entries}, first_that_counts(frame, sample.entries))
@@ -135,9 +142,9 @@ def reaching(frame, samples):
                 yield sample, (number, None, REACHES, WEIGHTS["reaches"])
 
 
-def shown(frame, entries):
+def shown(frame: CaptureFrame, entries: Sequence[Entry]) -> set[int]:
     """The events whose colours a pixel has in the end, and those that set their states."""
-    found = set()
+    found: set[int] = set()
     for entry in reversed([entry for entry in entries if entry.is_drawn and frame.kind(entry.event) != "depth_clear"]):
         found.add(entry.event)
         if frame.kind(entry.event) == "clear":
@@ -149,11 +156,14 @@ def shown(frame, entries):
     return found
 
 
-def suspects_of(frame, samples, is_near, right=()):
+def suspects_of(
+    frame: CaptureFrame, samples: Sequence[Sample], is_near: IsNear, right: Sequence[Sequence[Entry]] = ()
+) -> list[Suspect]:
     """The suspects by the evidence of some pixels, the strongest first. What shows at pixels that are right is the
     less suspected, the more of them show it, and a state the less, the fewer of the draws that have it met a pixel.
     `right` are the histories of right pixels."""
-    found, weights = {}, collections.Counter()
+    found: dict[int, Suspect] = {}
+    weights: dict[tuple[int, int], float] = collections.defaultdict(float)
     for sample, (event, triangle, reason, weight) in [
         *((sample, fact) for sample in samples for fact in facts(frame, sample, is_near)),
         *reaching(frame, samples),
@@ -175,14 +185,12 @@ def suspects_of(frame, samples, is_near, right=()):
     return sorted(found.values(), key=lambda suspect: (-suspect.weight, suspect.event))
 
 
-def seen_of(frame, samples):
+def seen_of(frame: CaptureFrame, samples: Iterable[Sample]) -> dict[int, float]:
     """Of each event that sets a state what is left of its weight, by the draws that have the state and by those of
     them that met a pixel."""
-    met, having, seen = (
-        {entry.event for sample in samples for entry in sample.entries},
-        collections.Counter(),
-        collections.Counter(),
-    )
+    met = {entry.event for sample in samples for entry in sample.entries}
+    having: collections.Counter[int | None] = collections.Counter()
+    seen: collections.Counter[int | None] = collections.Counter()
     for kind in frame.states:
         for number in (number for number in frame.draws() if frame.kind(number) == "draw"):
             by = frame.setter(number, kind)

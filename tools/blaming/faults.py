@@ -3,6 +3,6 @@ WORDS, READING, MEMORY, NOBODY, INTERRUPTED = 2, 3, 5, 4, 130
 
 
 class Fault(Exception):
-    def __init__(self, why, status=WORDS):
+    def __init__(self, why: str, status: int = WORDS) -> None:
         super().__init__(why)
         self.status = status

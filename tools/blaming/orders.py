@@ -1,5 +1,5 @@
 """Kinds of change: the order of events, an event too many, and one that is missing."""
-from .kinds import inserted, kind
+from .kinds import Case, Made, inserted, kind
 
 DRAWN = ("draw", "clear", "depth_clear")
 ALL = (*DRAWN, "raster", "scissor", "blend", "factor", "depth")
@@ -8,12 +8,12 @@ MOST_MOVES = 24  # places that an event is moved to, the nearest first
 
 
 @kind(WITHOUT, *ALL)
-def without(case, number):
+def without(case: Case, number: int) -> Made:
     yield "without it", case.frame.events[: number - 1] + case.frame.events[number:]
 
 
 @kind("order of draws", *DRAWN)
-def moves(case, number):
+def moves(case: Case, number: int) -> Made:
     """Before or after another one that meets it at a wrong pixel, or that is its neighbour."""
     events, event = case.frame.events, case.frame.events[number - 1]
     rest = events[: number - 1] + events[number:]
@@ -34,7 +34,7 @@ def moves(case, number):
 
 
 @kind("order of states", "raster", "scissor", "blend", "factor", "depth")
-def state_moves(case, number):
+def state_moves(case: Case, number: int) -> Made:
     """Set later or earlier: a state event on the other side of a draw. One that is set earlier stands in for the one
     by which the draw had been drawn."""
     events, event = case.frame.events, case.frame.events[number - 1]
@@ -48,7 +48,7 @@ def state_moves(case, number):
 
 
 @kind("two events exchanged", *DRAWN)
-def exchanged(case, number):
+def exchanged(case: Case, number: int) -> Made:
     for other in [other for other in case.touched() if other > number and case.frame.kind(other) in DRAWN][:MOST_MOVES]:
         events = list(case.frame.events)
         events[number - 1], events[other - 1] = events[other - 1], events[number - 1]
@@ -56,7 +56,7 @@ def exchanged(case, number):
 
 
 @kind("an event once more", *DRAWN)
-def doubled(case, number):
+def doubled(case: Case, number: int) -> Made:
     """Drawn twice, or a clear that is missing later on."""
     event = case.frame.events[number - 1]
     yield "twice", inserted(case.frame.events, number, event)

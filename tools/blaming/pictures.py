@@ -1,7 +1,9 @@
 """Pictures that a frame is compared with: PAM of three or four channels, PPM, and PNG of eight bits a channel."""
+import os
 import re
 import struct
 import zlib
+from collections.abc import Callable, Iterator
 from dataclasses import dataclass
 
 from captures import MOST_SIDE
@@ -10,6 +12,7 @@ from framedbg_client.image import END, PNG, fields_of
 from .faults import READING, Fault
 from .unfiltering import unfiltered
 
+Size = tuple[int, int]  # width and height
 CHANNELS = {0: 1, 2: 3, 3: 1, 4: 2, 6: 4}  # of a PNG, by its colour type
 BLANK = re.compile(rb"\s+|#[^\n]*\n")  # of a PPM's header, some of which lie between two numbers
 NUMBER = re.compile(rb"\d{1,5}(?!\d)")
@@ -22,11 +25,11 @@ class Picture:
     samples: bytes  # red, green, blue, alpha of each pixel, row by row from the top
     has_alpha: bool
 
-    def pixel(self, number):
+    def pixel(self, number: int) -> tuple[int, ...]:
         return tuple(self.samples[4 * number : 4 * number + 4])
 
 
-def read_picture(path, size=None):
+def read_picture(path: str | os.PathLike[str], size: Size | None = None) -> Picture:
     """The picture in a file. One of another size than is wanted is a Fault before its pixels are unpacked."""
     try:
         with open(path, "rb") as file:
@@ -41,21 +44,21 @@ def read_picture(path, size=None):
         raise Fault(f"{path}: a PNG that is cut or broken") from None
 
 
-def picture_of(data, size=None):
+def picture_of(data: bytes, size: Size | None = None) -> Picture:
     read = next((read for begun, read in READERS.items() if data.startswith(begun)), None)
     if read is None:
         raise Fault("no picture: PAM, PPM or PNG is wanted")
     return read(data, size)
 
 
-def check_size(width, height, size):
+def check_size(width: int, height: int, size: Size | None) -> None:
     if not (1 <= width <= MOST_SIDE and 1 <= height <= MOST_SIDE):
         raise Fault(f"a picture of {width} by {height}: each side is 1 to {MOST_SIDE}")
-    if size not in (None, (width, height)):
+    if size and size != (width, height):
         raise Fault(f"the capture's target is {size[0]} by {size[1]}, the picture {width} by {height}")
 
 
-def made(width, height, samples, channels):
+def made(width: int, height: int, samples: bytes, channels: int) -> Picture:
     """A picture from samples of three or four channels."""
     if len(samples) < channels * width * height:
         raise Fault("a picture that is shorter than its header says")
@@ -68,7 +71,7 @@ def made(width, height, samples, channels):
     return Picture(width, height, bytes(four), False)
 
 
-def of_pam(data, size):
+def of_pam(data: bytes, size: Size | None) -> Picture:
     head, end, samples = data.partition(END)
     fields = fields_of(head)
     numbers = [fields.get(name, b"") for name in (b"WIDTH", b"HEIGHT", b"DEPTH", b"MAXVAL")]
@@ -81,7 +84,7 @@ def of_pam(data, size):
     return made(width, height, samples, channels)
 
 
-def of_ppm(data, size):
+def of_ppm(data: bytes, size: Size | None) -> Picture:
     width, end = number_of_ppm(data, len(b"P6"))
     height, end = number_of_ppm(data, end)
     most, end = number_of_ppm(data, end)
@@ -93,7 +96,7 @@ def of_ppm(data, size):
     return made(width, height, data[end + 1 :], 3)
 
 
-def number_of_ppm(data, at):
+def number_of_ppm(data: bytes, at: int) -> tuple[int, int]:
     """The next number of a header, which stands behind blanks and comments, and where it ends."""
     start = at
     while blank := BLANK.match(data, at):
@@ -104,7 +107,7 @@ def number_of_ppm(data, at):
     return int(number[0]), number.end()
 
 
-def of_png(data, size):
+def of_png(data: bytes, size: Size | None) -> Picture:
     chunks = list(pieces(data))
     if not chunks or chunks[0][0] != b"IHDR" or chunks[-1][0] != b"IEND":
         raise Fault("a PNG that is cut or broken")
@@ -121,7 +124,7 @@ def of_png(data, size):
     return made(width, height, *spread(rows, kind, next((body for name, body in chunks if name == b"PLTE"), b"")))
 
 
-def pieces(data):
+def pieces(data: bytes) -> Iterator[tuple[bytes, bytes]]:
     """Name and body of each chunk; one whose sum is wrong is a fault."""
     at = len(PNG)
     while at < len(data):
@@ -133,7 +136,7 @@ def pieces(data):
         at += 12 + size
 
 
-def spread(rows, kind, palette):
+def spread(rows: bytes, kind: int, palette: bytes) -> tuple[bytes, int]:
     """Samples of three or four channels, and how many they are."""
     if kind in (2, 6):
         return rows, CHANNELS[kind]
@@ -149,7 +152,7 @@ def spread(rows, kind, palette):
     return bytes(out), channels
 
 
-def by_palette(indices, palette):
+def by_palette(indices: bytes, palette: bytes) -> bytes:
     count = len(palette) // 3
     if max(indices) >= count:
         raise Fault("a PNG that is cut or broken")
@@ -159,4 +162,4 @@ def by_palette(indices, palette):
     return bytes(samples)
 
 
-READERS = {PNG: of_png, b"P7": of_pam, b"P6": of_ppm}
+READERS: dict[bytes, Callable[[bytes, Size | None], Picture]] = {PNG: of_png, b"P7": of_pam, b"P6": of_ppm}

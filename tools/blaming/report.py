@@ -1,21 +1,27 @@
 """The report, which a person reads from the top: who, since when, why, what mends it, and how sure that is."""
+from collections.abc import Iterable, Iterator, Sequence
+from typing import Any
+
 from writing.counting import counted
 
-from .verdicts import reasons, since, state_lines, verdicts_of
+from .evidence import Sample
+from .frame import CaptureFrame
+from .searching import Outcome
+from .verdicts import Verdict, reasons, since, state_lines, verdicts_of
 
 SHOWN_CHANGES, SHOWN_SUSPECTS, SHOWN_LINES = 4, 3, 8
 
 
-def colour(four):
+def colour(four: Iterable[int]) -> str:
     return " ".join(map(str, four))
 
 
-def line_of(outcome, event):
+def line_of(outcome: Outcome, event: int) -> str:
     told = outcome.events[event - 1]
     return " ".join([told.kind, *told.words])
 
 
-def lines(frame, outcome, is_driver=False):
+def lines(frame: CaptureFrame, outcome: Outcome, is_driver: bool = False) -> Iterator[str]:
     """The lines of a report."""
     if not outcome.wrong:
         yield "no pixel differs"
@@ -36,7 +42,7 @@ def lines(frame, outcome, is_driver=False):
     yield from others(outcome)
 
 
-def named(frame, outcome, is_driver):
+def named(frame: CaptureFrame, outcome: Outcome, is_driver: bool) -> Iterator[str]:
     suspect = outcome.suspects[0]
     yield f"who     event {suspect.event}: {line_of(outcome, suspect.event)}"
     found = since(frame, outcome, suspect)
@@ -58,7 +64,7 @@ def named(frame, outcome, is_driver):
     yield from mended(outcome, is_driver)
 
 
-def mended(outcome, is_driver):
+def mended(outcome: Outcome, is_driver: bool) -> Iterator[str]:
     best = outcome.changes[:1]
     if not best:
         yield "mends   no change that was tried"
@@ -72,16 +78,16 @@ def mended(outcome, is_driver):
         yield f"sure    fewer differ after it, {best[0].left:,} in place of {outcome.wrong:,}: a hint, and no answer"
 
 
-def last_colour(sample):
+def last_colour(sample: Sample) -> Sequence[int]:
     drawn = sample.drawn
     return drawn[-1].after if drawn else (0, 0, 0, 0)
 
 
-def findings(outcome):
+def findings(outcome: Outcome) -> Iterator[str]:
     """The clusters, the largest first; those with one verdict in one line."""
-    groups = {}
+    groups: dict[tuple[Any, ...], list[Verdict]] = {}
     for verdict in verdicts_of(outcome):
-        key = (
+        key: tuple[Any, ...] = (
             (id(verdict.change), verdict.left == 0)
             if verdict.change
             else (None, verdict.suspect and verdict.suspect.event)
@@ -98,11 +104,11 @@ def findings(outcome):
         yield f"and {counted(len(rest), 'smaller place')} with {counted(sum(map(len, rest)))}"
 
 
-def told_numbers(group):
+def told_numbers(group: Sequence[Verdict]) -> str:
     return f"{group[0].number}" if len(group) == 1 else ", ".join(str(verdict.number) for verdict in group)
 
 
-def told_verdict(group):
+def told_verdict(group: Sequence[Verdict]) -> str:
     verdict = group[0]
     if verdict.change is None:
         return (
@@ -110,12 +116,12 @@ def told_verdict(group):
             if verdict.suspect
             else "nobody is named"
         )
-    left = sum(one.left for one in group)
+    left = sum(one.left or 0 for one in group)
     said = f"event {verdict.change.change.event}, {verdict.change.change.says}"
     return f"mended by {said}" if not left else f"{left:,} of these pixels are left by {said}"
 
 
-def others(outcome):
+def others(outcome: Outcome) -> Iterator[str]:
     yield (
         f"{counted(outcome.count, 'change')} tried{', and then the time was over' if outcome.is_over else ''}; "
         f"the best of them"
@@ -127,7 +133,7 @@ def others(outcome):
         yield f"  event {suspect.event}: {line_of(outcome, suspect.event)}{told_alone(outcome, suspect.event)}"
 
 
-def told_alone(outcome, event):
+def told_alone(outcome: Outcome, event: int) -> str:
     alone = outcome.alone.get(event)
     if alone is None or not alone.is_whole:
         return ""

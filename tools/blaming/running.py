@@ -1,10 +1,12 @@
 """A run of framedbg-blame, from its words to its status."""
+import argparse
 import json
 import os
 import signal
 import subprocess
 import sys
 import time
+from collections.abc import Sequence
 
 from explaining.printable import printable
 from framedbg_client import Ended, Garbled, Refusal, find_program
@@ -17,16 +19,16 @@ from .faults import MEMORY, NOBODY, READING, WORDS, Fault
 from .frame import CaptureFrame, read_capture
 from .pictures import read_picture
 from .progress import Progress
-from .searching import searched
+from .searching import Outcome, searched
 from .trying import Trials
 
 ALIKE, NAMED = 0, 1
 
 
-def run(given):
+def run(given: argparse.Namespace) -> int:
     """The status of a run. What went wrong is told on standard error. Who ends it by a signal is told so too, and
     nothing is left behind."""
-    sys.stdout.reconfigure(errors="backslashreplace")
+    sys.stdout.reconfigure(errors="backslashreplace")  # type: ignore[attr-defined]  # an io.TextIOWrapper has it
     signal.signal(signal.SIGTERM, signal.default_int_handler)
     try:
         return blamed(given)
@@ -46,19 +48,19 @@ def run(given):
         return told("memory", MEMORY)
 
 
-def told(why, status, is_plain=False):
+def told(why: object, status: int, is_plain: bool = False) -> int:
     text = printable(str(why))
     print(text if is_plain else f"framedbg-blame: {text}", file=sys.stderr)
     return status
 
 
-def blamed(given):
+def blamed(given: argparse.Namespace) -> int:
     if given.driver and os.path.isdir(given.picture):
         return blamed_alone(given)
     return tell(given, *found(given.capture, given.picture, given))
 
 
-def blamed_alone(given):
+def blamed_alone(given: argparse.Namespace) -> int:
     """The first event that differs by itself; what else does is told too."""
     program = program_of(given)
     frame = checked_frame(program, given.capture)
@@ -76,7 +78,7 @@ def blamed_alone(given):
     return tell(given, made, outcome, some)
 
 
-def tell(given, frame, outcome, some=()):
+def tell(given: argparse.Namespace, frame: CaptureFrame, outcome: Outcome, some: Sequence[alone.Alone] = ()) -> int:
     """Tells an Outcome, keeps what is to be kept, and gives the status."""
     if given.json:
         print(telling_json.text_of(outcome, some))
@@ -88,11 +90,13 @@ def tell(given, frame, outcome, some=()):
     return status_of(outcome)
 
 
-def status_of(outcome):
+def status_of(outcome: Outcome) -> int:
     return ALIKE if not outcome.wrong else NAMED if outcome.suspects else NOBODY
 
 
-def found(capture, picture, given, is_quiet=False):
+def found(
+    capture: str, picture: str, given: argparse.Namespace, is_quiet: bool = False
+) -> tuple[CaptureFrame, Outcome]:
     """The frame and the Outcome over a capture and a picture."""
     program = program_of(given)
     frame = checked_frame(program, capture)
@@ -101,14 +105,20 @@ def found(capture, picture, given, is_quiet=False):
     return frame, searched_in(program, (frame, capture), Comparison(wanted.samples, tolerance), given, is_quiet)
 
 
-def program_of(given):
+def program_of(given: argparse.Namespace) -> str:
     program = given.program or find_program()
     if not program:
         raise Fault("framedbg isn't built or installed here", READING)
     return program
 
 
-def searched_in(program, frame_and_path, comparison, given, is_quiet=False):
+def searched_in(
+    program: str,
+    frame_and_path: tuple[CaptureFrame, str],
+    comparison: Comparison,
+    given: argparse.Namespace,
+    is_quiet: bool = False,
+) -> Outcome:
     """The Outcome over a frame and the file that it stands in, within the time."""
     progress = Progress(is_quiet=is_quiet)
     try:
@@ -123,7 +133,7 @@ def searched_in(program, frame_and_path, comparison, given, is_quiet=False):
         progress.end()
 
 
-def checked_frame(program, capture):
+def checked_frame(program: str, capture: str) -> CaptureFrame:
     """The frame of a capture that framedbg accepts; why it is refused is framedbg's to say."""
     try:
         with as_word(capture) as (word, descriptors):
@@ -143,7 +153,7 @@ def checked_frame(program, capture):
     return CaptureFrame(read_capture(capture))
 
 
-def keep(path, text):
+def keep(path: str, text: str) -> None:
     try:
         files.keep(path, f"{text}\n".encode())
     except OSError as fault:

@@ -3,23 +3,29 @@ the time allows."""
 import collections
 import itertools
 import pathlib
+from collections.abc import Callable, Iterable, Iterator, Sequence
 from dataclasses import dataclass, field
 
-from captures import STATES
-from framedbg_client import Client, Ended, History
+from captures import STATES, Event
+from framedbg_client import Client, Ended, Entry, History, Image
+from framedbg_client import Event as EventLine
 
 # each puts kinds into the table, which are tried in this order
 from . import everywhere, states, orders, splitting, slips, corners  # noqa: F401
-from .clusters import clusters_of, outside, spread
+from .clusters import Cluster, clusters_of, outside, spread
+from .comparing import Comparison
 from .everywhere import EVERYWHERE
-from .evidence import REACHES, Sample, suspects_of
+from .evidence import REACHES, Sample, Suspect, suspects_of
 from .faults import MEMORY, Fault
-from .frame import differing_part
+from .frame import CaptureFrame, differing_part
 from .kinds import KINDS, Case, changes_of, for_drivers, searching, simple
 from .orders import WITHOUT
+from .painting import Window
 from .points import Points
-from .trying import Change, View
+from .trying import Change, Trials, Tried, View
 from .windows import comparison_on, cut, window_of
+
+Hint = tuple[int, int, Change]  # how many points are wrong after a change, its turn, and the change
 
 NAMED_CLUSTERS = 8  # the largest: each has its own verdict
 TURNS = 3, 8, 24, 200  # up to so many suspects, whose simple changes are tried in turn, as long as nothing mends all
@@ -47,32 +53,32 @@ class Outcome:
 
     width: int
     height: int
-    events: list
+    events: list[EventLine]
     mask: bytes
     drawn: bytes  # samples of what is drawn, and of what is wanted
     wanted: bytes
-    clusters: list = field(default_factory=list)
-    samples: list = field(default_factory=list)
-    suspects: list = field(default_factory=list)
-    tried: list = field(default_factory=list)
-    alone: dict = field(default_factory=dict)  # by event: what differs without it
+    clusters: list[Cluster] = field(default_factory=list)
+    samples: list[Sample] = field(default_factory=list)
+    suspects: list[Suspect] = field(default_factory=list)
+    tried: list[Tried] = field(default_factory=list)
+    alone: dict[int, Tried] = field(default_factory=dict)  # by event: what differs without it
     count: int = 0
     is_over: bool = False
 
     @property
-    def wrong(self):
+    def wrong(self) -> int:
         return self.mask.count(1)
 
     @property
-    def changes(self):
+    def changes(self) -> list[Tried]:
         return [one for one in self.tried if one.left < self.wrong]
 
     @property
-    def is_mended(self):
+    def is_mended(self) -> bool:
         return bool(self.tried) and self.tried[0].left == 0
 
 
-def asked(path, program):
+def asked(path: str, program: str) -> tuple[Client, Image, list[EventLine]]:
     """The image at the end of a capture, its events as framedbg tells them, and a call that gives the histories of
     some pixels there."""
     client = Client(path, program)
@@ -86,14 +92,17 @@ def asked(path, program):
         raise
 
 
-def history_of(client, pixel, width):
-    return client.value(f"history {pixel % width} {pixel // width}", History).entries
+def history_of(client: Client, pixel: int, width: int) -> list[Entry]:
+    history: History = client.value(f"history {pixel % width} {pixel // width}", History)
+    return list(history.entries)
 
 
 class Search:
     """Over one frame; a second one stands on a frame that is changed already."""
 
-    def __init__(self, frame, comparison, trials, path, is_driver=False):
+    def __init__(
+        self, frame: CaptureFrame, comparison: Comparison, trials: Trials, path: str, is_driver: bool = False
+    ) -> None:
         """What is wanted may be what a driver drew: then all events of a kind are changed at once too."""
         self.frame, self.trials, self.is_driver = frame, trials, is_driver
         client, self.image, self.told = asked(path, trials.program)
@@ -120,18 +129,21 @@ class Search:
         self.case.view = self.view = self._view(comparison, window) if window else self.whole
         self.case.points = self.points = self._points(comparison)
         self.few = self.points.few()
-        self.tried, self.checked, self.breadths, self.hints = [], {}, {}, []
-        self.looked_at = set()  # the events whose simple changes were tried
+        self.tried: list[Tried] = []
+        self.checked: dict[int, Tried] = {}
+        self.breadths: dict[int, int] = {}
+        self.hints: list[Hint] = []
+        self.looked_at: set[int] = set()  # the events whose simple changes were tried
         self.met = collections.Counter(
             event for sample in self.samples for event in {entry.event for entry in sample.entries}
         )
 
-    def _view(self, comparison, window):
+    def _view(self, comparison: Comparison, window: Window | None) -> View:
         named = [cluster.mask(len(self.mask)) for cluster in self.clusters[:NAMED_CLUSTERS]] + [self.mask]
         masks = tuple(cut(mask, self.frame.width, window, 1) for mask in named) if window else tuple(named)
         return View(self.frame, comparison_on(comparison, self.frame.width, window), window, masks)
 
-    def _samples(self, client, comparison):
+    def _samples(self, client: Client, comparison: Comparison) -> list[Sample]:
         """Wrong pixels from all over the largest clusters, with their histories."""
         width, most = self.frame.width, 96
         named = self.clusters[:NAMED_CLUSTERS]
@@ -157,9 +169,9 @@ class Search:
             )
         return made
 
-    def _points(self, comparison):
+    def _points(self, comparison: Comparison) -> Points:
         """The pixels that were asked, by turns of one cluster and the other, and some that are right."""
-        turns = collections.Counter()
+        turns: collections.Counter[int] = collections.Counter()
         wrong = []
         for sample in self.samples:
             wrong.append((turns[sample.cluster], sample.cluster, (sample.x, sample.y, sample.wanted)))
@@ -171,7 +183,7 @@ class Search:
         return Points(self.frame, [point for _, _, point in sorted(wrong)], places, comparison)
 
     # ---- The steps, each of which ends the search where no pixel differs any more
-    def run(self, deep=True):
+    def run(self, deep: bool = True) -> "Search":
         ranked = [suspect.event for suspect in self.suspects]
         simple_ = [
             lambda some=ranked[start:end], has_all=not start: self.attempt(
@@ -183,25 +195,28 @@ class Search:
             lambda some=some: self.attempt(self._searched(*some), stops=True)
             for some in ((0, SEARCHED), (SEARCHED, LATER))
         )
-        for step in [*simple_, first, lambda: self.attempt(self._pairs()), later] if deep else [*simple_[:2], first]:
+        steps: list[Callable[[], None]] = [*simple_[:2], first]
+        if deep:
+            steps = [*simple_, first, lambda: self.attempt(self._pairs()), later]
+        for step in steps:
             if self.is_mended or self.trials.is_over():
                 break
             step()
         self.attempt(self._simple(self._stood_in_for()))
         return self
 
-    def _turn(self, events, everywhere_):
+    def _turn(self, events: Iterable[int], everywhere_: Iterable[int]) -> Iterator[Change]:
         """The simple changes of some events; and before them those of all events of a kind."""
         for event in everywhere_ if self.is_driver else ():
             yield from changes_of(self.case, event, for_drivers())
         yield from self._simple(events)
 
-    def _simple(self, events):
+    def _simple(self, events: Iterable[int]) -> Iterator[Change]:
         for event in events:
             self.looked_at.add(event)
             yield from changes_of(self.case, event, simple())
 
-    def _stood_in_for(self):
+    def _stood_in_for(self) -> list[int]:
         """The state events that a mending change of another event stands in for: a change of their own is as good,
         and says more."""
         mending = [one.change for one in self.checked.values() if one.left == 0 and one.change.kind != EVERYWHERE]
@@ -209,8 +224,8 @@ class Search:
             {event for change in mending for event in change.also if self.frame.kind(event) in STATES} - self.looked_at
         )
 
-    def _searched(self, start, end):
-        helped = {}
+    def _searched(self, start: int, end: int) -> Iterator[Change]:
+        helped: dict[int, int] = {}
         for left, _, change in self.hints:
             helped[change.event] = min(left, helped.get(change.event, left))
         events = [one.event for one in self.suspects if self.frame.kind(one.event) in ("draw", "blend")]
@@ -218,20 +233,20 @@ class Search:
         for one, event in itertools.product(searching(), ranked[start:end]):
             yield from changes_of(self.case, event, [one])
 
-    def _pairs(self):
+    def _pairs(self) -> Iterator[Change]:
         for one, other in itertools.combinations(best_of_each(self.hints, PAIRED, 1), 2):
             events = joined(self.frame.events, one.events, other.events)
             if events:
                 yield together(one, other.event, other.says, events)
 
     @property
-    def is_mended(self):
+    def is_mended(self) -> bool:
         return any(one.left == 0 for one in self.checked.values())
 
-    def attempt(self, changes, stops=False):
+    def attempt(self, changes: Iterable[Change], stops: bool = False) -> None:
         """Tries changes: those after which all points are right are drawn, and the others that help are kept as
         hints."""
-        perfect = []
+        perfect: list[Hint] = []
         for change in changes:
             if self.trials.is_over():
                 break
@@ -244,20 +259,20 @@ class Search:
                 break
         self.draw([change for _, _, change in sorted(perfect, key=by_rank)[:MOST_PERFECT]])
 
-    def weighed(self, change):
+    def weighed(self, change: Change) -> tuple[int, int] | None:
         """What is left of the points after a change; None where none of a few is right."""
         self.trials.count += 1
         if self.trials.count % TOLD_EVERY == 0:
             self.trials.tell()
         return self.points.left(change.events) if self.few.left(change.events)[0] < self.few.wrong else None
 
-    def draw(self, changes):
+    def draw(self, changes: Iterable[Change]) -> None:
         """Draws the pictures after changes; what mends the window is drawn whole at once."""
         found = self.trials.all_of(changes, self.view, is_late=True)
         self.tried += [one for one in found if one.left < self.mask.count(1)]
         self.check([one for one in found if one.left == 0])
 
-    def look_alone(self, events):
+    def look_alone(self, events: Iterable[int]) -> None:
         """What differs without each of some events, on the whole target."""
         changes = [
             change
@@ -266,7 +281,7 @@ class Search:
         ]
         self.case.alone = {one.change.event: one for one in self.trials.all_of(changes, self.whole, is_late=True)}
 
-    def check(self, some):
+    def check(self, some: Sequence[Tried]) -> None:
         """Draws the whole target after changes of a window."""
         todo = [one.change for one in some if id(one.change) not in self.checked]
         if self.view is self.whole:
@@ -275,11 +290,11 @@ class Search:
             self.checked.update((id(one.change), one) for one in self.trials.all_of(todo, self.whole, is_late=True))
 
     # ---- The order of what was found
-    def weight(self, event):
+    def weight(self, event: int) -> float:
         suspect = self.case.suspects.get(event)
         return suspect.weight if suspect else 0
 
-    def order(self, one):
+    def order(self, one: Tried) -> tuple[int, int, int, float]:
         """Of changes after which as many pixels differ the kind that stands first in the table, the event that has
         to do with the fewest draws, and the one with the most evidence."""
         names, event = [kind.name for kind in KINDS], one.change.event
@@ -290,7 +305,7 @@ class Search:
             -self.weight(event),
         )
 
-    def breadth(self, event):
+    def breadth(self, event: int) -> int:
         """How many draws have the state that an event sets; a draw has to do with itself."""
         if event not in self.breadths:
             kind, events = self.frame.kind(event), self.frame.events[event:]
@@ -302,7 +317,7 @@ class Search:
             self.breadths[event] = sum(other["kind"] == "draw" for other in events[:ends])
         return self.breadths[event]
 
-    def ranked(self):
+    def ranked(self) -> list[Suspect]:
         """All suspects: those of the best changes, each with the events that it has to do with, and then the others
         by evidence. Behind the state event of the best change stand the draws at which it shows."""
         whole = sorted((self.checked.get(id(one.change), one) for one in self.tried), key=self.order)
@@ -315,7 +330,7 @@ class Search:
             if event in self.case.suspects
         ]
 
-    def shows_at(self, event):
+    def shows_at(self, event: int) -> list[int]:
         """The draws with a state that an event sets which the most wrong pixels have met."""
         kind = self.frame.kind(event)
         drawn = (
@@ -329,7 +344,7 @@ class Search:
         )
         return drawn[:SHOWN_AT]
 
-    def specific(self, event):
+    def specific(self, event: int) -> tuple[int, int, int]:
         """Draws that all wrong pixels have to do with before others, and of those the smallest first: a bug in one
         draw shows nowhere else."""
         count = self.met[event] + self.case.suspects[event].reasons[REACHES]
@@ -339,20 +354,21 @@ class Search:
         )
         return -count, wide * high, event
 
-    def best(self):
+    def best(self) -> list[Tried]:
         """Changes over the whole target, the best first."""
         self.check(sorted(self.tried, key=self.order)[:CHECKED])
         return sorted(self.checked.values(), key=self.order)
 
 
-def by_rank(weighed):
-    """The order of (what is left, turn, change)."""
-    return weighed[:2]
+def by_rank(weighed: Hint) -> tuple[int, int]:
+    left, turn, _ = weighed
+    return left, turn
 
 
-def best_of_each(weighed, most, of_event):
-    """The best changes of (what is left, turn, change), no more than a few of one event."""
-    counted, found = collections.Counter(), []
+def best_of_each(weighed: Iterable[Hint], most: int, of_event: int) -> list[Change]:
+    """The best of some changes, no more than a few of one event."""
+    counted: collections.Counter[int] = collections.Counter()
+    found: list[Change] = []
     for _, _, change in sorted(weighed, key=by_rank):
         counted[change.event] += 1
         if counted[change.event] <= of_event:
@@ -360,11 +376,11 @@ def best_of_each(weighed, most, of_event):
     return found[:most]
 
 
-def together(first, event, says, events):
+def together(first: Change, event: int, says: str, events: list[Event]) -> Change:
     return Change(first.event, "two at once", f"{first.says}; and event {event}, {says}", events, (event,))
 
 
-def joined(events, one, other):
+def joined(events: list[Event], one: list[Event], other: list[Event]) -> list[Event] | None:
     """The events after two changes that touch different parts of the list; None where they touch the same."""
     (first, behind_first), (second, _) = differing_part(events, one), differing_part(events, other)
     if second < first:
@@ -374,7 +390,7 @@ def joined(events, one, other):
     return one[: len(one) - behind_first] + events[len(events) - behind_first : second] + other[second:]
 
 
-def blind_pairs(search):
+def blind_pairs(search: Search) -> Iterator[Change]:
     """Two simple changes of the first suspects, for where neither alone is any better."""
     simple_ = [
         list(itertools.islice(changes_of(search.case, suspect.event, simple()), MOST_BLIND))
@@ -387,7 +403,7 @@ def blind_pairs(search):
                 yield together(one, other.event, other.says, events)
 
 
-def followed(search, comparison):
+def followed(search: Search, comparison: Comparison) -> None:
     """A second change after each of the best first ones: the frame is changed, and searched anew."""
     trials = search.trials
     if not search.hints:
@@ -409,13 +425,15 @@ def followed(search, comparison):
             search.checked[id(change)] = search.tried[-1]
 
 
-def number_before(frame, change, event):
+def number_before(frame: CaptureFrame, change: Change, event: Event) -> int:
     """The number in the first frame of an event of a changed one; of one that the change made or put there, the
     change's own."""
     return next((i for i, other in enumerate(frame.events, 1) if other is event), change.event)
 
 
-def searched(frame, comparison, trials, path, is_driver=False):
+def searched(
+    frame: CaptureFrame, comparison: Comparison, trials: Trials, path: str, is_driver: bool = False
+) -> Outcome:
     """The Outcome over a frame whose capture is in a file."""
     search = Search(frame, comparison, trials, path, is_driver)
     outcome = Outcome(

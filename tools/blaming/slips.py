@@ -2,11 +2,13 @@
 that run the other way round."""
 import itertools
 import math
+from collections.abc import Callable, Iterable, Sequence
+from typing import Any
 
-from captures import PIXEL
+from captures import PIXEL, Event
 
 from .frame import order_of
-from .kinds import kind, replaced
+from .kinds import Case, Made, kind, replaced
 
 SLIPS = (1, 2, 3)
 GRID = 24  # places that a search looks at in each of its rounds
@@ -22,11 +24,11 @@ WORTH = 0.8  # of what differs: a slip that leaves more than so much, wherever i
 FAR = 7  # indices that two exchanged ones lie apart at most
 
 
-def with_order(case, number, order):
+def with_order(case: Case, number: int, order: Iterable[int]) -> list[Event]:
     return replaced(case.frame.events, number, case.frame.events[number - 1] | {"indices": list(order)})
 
 
-def triangles_of(case, number):
+def triangles_of(case: Case, number: int) -> list[int]:
     """The triangles of a draw that wrong pixels have met, the most often met first, and behind them those beside
     wrong pixels."""
     suspect = case.suspects.get(number)
@@ -34,7 +36,7 @@ def triangles_of(case, number):
     return list(dict.fromkeys([*met, *beside(case, number)]))[:MOST_TRIANGLES]
 
 
-def beside(case, number):
+def beside(case: Case, number: int) -> list[int]:
     """The triangles with most of their corners near wrong pixels, those before others that were asked."""
     order, near = order_of(case.frame.events[number - 1]), set(vertices_near(case, number))
     asked = set(vertices_round(case, number, [(sample.x, sample.y) for sample in case.samples]))
@@ -49,7 +51,7 @@ def beside(case, number):
     return [t for _, count, t in sorted(counted) if count][:MOST_TRIANGLES]
 
 
-def turned(order, triangles):
+def turned(order: list[int], triangles: Iterable[int]) -> list[int]:
     made = list(order)
     for triangle in triangles:
         at = 3 * triangle
@@ -58,7 +60,7 @@ def turned(order, triangles):
 
 
 @kind("direction of triangles", "draw")
-def directions(case, number):
+def directions(case: Case, number: int) -> Made:
     order, met = order_of(case.frame.events[number - 1]), sorted(triangles_of(case, number))
     count = len(order) // 3
     yield "its triangles the other way round", with_order(case, number, turned(order, range(count)))
@@ -67,7 +69,7 @@ def directions(case, number):
             entry.triangle
             for sample in case.samples
             for entry in sample.entries
-            if entry.event == number and entry.verdict == "culled"
+            if entry.event == number and entry.verdict == "culled" and entry.triangle is not None
         }
     )
     runs = {(t, t + 1) for t in met} | {(some[0], some[-1] + 1) for some in (met, culled) if some}
@@ -78,7 +80,7 @@ def directions(case, number):
 
 
 @kind("a triangle too many", "draw")
-def triangles_left_out(case, number):
+def triangles_left_out(case: Case, number: int) -> Made:
     order = order_of(case.frame.events[number - 1])
     for triangle in triangles_of(case, number):
         yield f"without its triangle {triangle}", with_order(
@@ -87,7 +89,7 @@ def triangles_left_out(case, number):
 
 
 @kind("indices doubled", "draw", searches=True)
-def doubled(case, number):
+def doubled(case: Case, number: int) -> Made:
     """One to three too many: all that come behind them slip."""
     order = order_of(case.frame.events[number - 1])
     for slip in SLIPS:
@@ -97,7 +99,7 @@ def doubled(case, number):
 
 
 @kind("indices left out", "draw", searches=True)
-def left_out(case, number):
+def left_out(case: Case, number: int) -> Made:
     """One to three are missing: all that come behind them slip. First where, with any vertex there, and then which."""
     order = order_of(case.frame.events[number - 1])
     for slip in SLIPS:
@@ -108,7 +110,7 @@ def left_out(case, number):
                 yield f"{told(slip)} more at {at}: {' '.join(map(str, corners))}", with_order(case, number, made)
 
 
-def missing_corners(case, number, at, padded, slip):
+def missing_corners(case: Case, number: int, at: int, padded: list[int], slip: int) -> list[tuple[int, ...]]:
     """The vertices that may be missing, so many at a time: those near what still differs with any vertex there, and
     those of the indices beside."""
     near = vertices_round(case, number, case.points.still(with_order(case, number, padded)))[:MOST_NEAR]
@@ -117,7 +119,7 @@ def missing_corners(case, number, at, padded, slip):
 
 
 @kind("indices exchanged", "draw", searches=True)
-def exchanges(case, number):
+def exchanges(case: Case, number: int) -> Made:
     order = order_of(case.frame.events[number - 1])
     pairs = {
         (min(i, j), max(i, j)): None
@@ -133,7 +135,7 @@ def exchanges(case, number):
 
 
 @kind("an index that is wrong", "draw", searches=True)
-def wrong_indices(case, number):
+def wrong_indices(case: Case, number: int) -> Made:
     order = order_of(case.frame.events[number - 1])
     for triangle in triangles_of(case, number)[:CLOSEST]:
         for at in range(3 * triangle, 3 * triangle + 3):
@@ -145,7 +147,7 @@ def wrong_indices(case, number):
 
 
 @kind("a triangle that is missing", "draw", searches=True)
-def missing(case, number):
+def missing(case: Case, number: int) -> Made:
     """A triangle more: one that closes a hole of the mesh, or one between vertices near the wrong pixels; behind one
     beside it, or at the end."""
     draw = case.frame.events[number - 1]
@@ -164,27 +166,27 @@ def missing(case, number):
             )
 
 
-def holes(order, near):
+def holes(order: list[int], near: set[int]) -> list[tuple[int, int, int]]:
     """Triangles that would close a hole: their edges run against edges that no other triangle has run against. Those
     near wrong pixels come first."""
     edges = {(order[3 * t + i], order[3 * t + (i + 1) % 3]) for t in range(len(order) // 3) for i in range(3)}
-    after = {}
+    after: dict[int, list[int]] = {}
     for a, b in edges:
         if (b, a) not in edges:
             after.setdefault(b, []).append(a)
     paths = [(a, b, c) for a in after for b in after[a] for c in after.get(b, ()) if c != a]
     paths.sort(key=lambda path: (path[0] not in after.get(path[2], ()), -len(near & set(path)), path))
-    found = {}
+    found: dict[tuple[int, int, int], tuple[int, int, int]] = {}
     for a, b, c in paths:
         found.setdefault(min((a, b, c), (b, c, a), (c, a, b)), (a, b, c))
     return list(found.values())[: 4 * MOST_HOLES]
 
 
-def told(slip):
+def told(slip: int) -> str:
     return "index" if slip == 1 else f"{slip} indices"
 
 
-def places(case, number, made, count):
+def places(case: Case, number: int, made: Callable[[int], list[int]], count: int) -> list[int]:
     """Where a slip is most likely: of places all over the draw the best, and then ever nearer to it; each of the
     last ones."""
     low, high = 0, count
@@ -205,12 +207,13 @@ def places(case, number, made, count):
     return [at for (left, _), at in tried if left <= WORTH * case.points.wrong]
 
 
-def worth_of(case, number, order):
+def worth_of(case: Case, number: int, order: list[int]) -> tuple[int, int]:
     """How many points differ with an order of indices, and how far they are from what is wanted."""
-    return case.worth(with_order(case, number, order))[::-1]
+    far, count = case.worth(with_order(case, number, order))
+    return count, far
 
 
-def corners_for(case, number, at, slip):
+def corners_for(case: Case, number: int, at: int, slip: int) -> list[int]:
     """The vertices that an index may be meant to name, the likeliest first: those of the indices round it, those
     near the wrong pixels, and others."""
     order, vertices = order_of(case.frame.events[number - 1]), case.frame.events[number - 1]["vertices"]
@@ -224,7 +227,7 @@ def corners_for(case, number, at, slip):
     return list(likely)[: MOST_CORNERS[slip]]
 
 
-def vertices_near(case, number):
+def vertices_near(case: Case, number: int) -> list[int]:
     """The vertices of a draw that lie within a few pixels of one that is wrong: those near the pixels that were
     asked, the nearest first, and then the others."""
     if number not in case.near:
@@ -244,7 +247,7 @@ def vertices_near(case, number):
     return case.near[number]
 
 
-def is_near_wrong(case, vertex):
+def is_near_wrong(case: Case, vertex: dict[str, Any]) -> bool:
     """Whether any pixel within reach differs."""
     x, y, width, height = vertex["x"] / PIXEL - 0.5, vertex["y"] / PIXEL - 0.5, case.frame.width, case.frame.height
     left, right = max(0, math.ceil(x - REACH)), min(width - 1, math.floor(x + REACH))
@@ -252,7 +255,7 @@ def is_near_wrong(case, vertex):
     return left <= right and any(case.mask.find(1, row * width + left, row * width + right + 1) >= 0 for row in rows)
 
 
-def vertices_round(case, number, pixels):
+def vertices_round(case: Case, number: int, pixels: Sequence[tuple[int, int]]) -> list[int]:
     found = []
     for at, vertex in enumerate(case.frame.events[number - 1]["vertices"]):
         x, y = vertex["x"] / PIXEL - 0.5, vertex["y"] / PIXEL - 0.5

@@ -1,9 +1,13 @@
 """A kind of change: a draw in two parts, with another state for the second one. A batch that wasn't ended where the
 program set a state is one draw, and its later triangles are drawn with the state of the earlier ones."""
+from collections.abc import Iterator
+from typing import Any
+
+from captures import Event
 from rules.states import AT_START
 
-from .frame import key_of, order_of
-from .kinds import kind
+from .frame import CaptureFrame, key_of, order_of
+from .kinds import Case, Made, kind
 from .states import MOST_HELD, USUAL, told
 
 MOST_STATES = 3  # of those that help the most where the second part begins as late as it can
@@ -11,7 +15,7 @@ MOST_EARLIER = 16  # triangles before that one at which the second part may begi
 
 
 @kind("a part of the state from a triangle on", "draw", searches=True)
-def from_triangle(case, number):
+def from_triangle(case: Case, number: int) -> Made:
     """As at the start, as another event sets it, or as is usual. Where a later draw has the state it is set back
     behind the draw."""
     last = latest(case, number)
@@ -22,7 +26,7 @@ def from_triangle(case, number):
             yield f"with {part} {says} from triangle {triangle} on", split(case.frame, number, triangle, event), *by
 
 
-def latest(case, number):
+def latest(case: Case, number: int) -> int:
     """The last triangle from which on another state can mend all pixels: each wrong one that the draw met has to
     have that one or a later one. None is 0."""
     met = [
@@ -32,11 +36,11 @@ def latest(case, number):
     return min((max(triangles) for triangles in met if triangles), default=0)
 
 
-def helping(case, number, triangle):
+def helping(case: Case, number: int, triangle: int) -> Iterator[tuple[Any, ...]]:
     """(what is left of the points, what it says, the part, the state event, the number of an event that sets it so)
     of each state after which fewer are wrong."""
     for part in case.frame.states:
-        held = [
+        held: list[tuple[Any, ...]] = [
             ("as at the start", AT_START[part]),
             *(
                 (f"as event {i} sets it", case.frame.events[i - 1], i)
@@ -53,7 +57,7 @@ def helping(case, number, triangle):
                     yield left, says, part, event, *by
 
 
-def split(frame, number, triangle, event):
+def split(frame: CaptureFrame, number: int, triangle: int, event: Event) -> list[Event]:
     """The events where a state is set before a triangle of a draw, and is set back where a later draw has it."""
     draw, part = frame.events[number - 1], event["kind"]
     order = order_of(draw)

@@ -1,40 +1,45 @@
 """Kinds of change: parts of the state, clears, and how a draw is shaded. One thing of one event, by the values that
 it can have."""
 import collections
+from collections.abc import Callable, Iterable, Iterator, Sequence
+from typing import Any, TypeVar
 
-from captures import ALPHA_FACTORS, CULLS, FACTORS, FARTHEST, FUNCTIONS, INTERPOLATIONS, OPERATIONS, depth, scissor
+from captures import ALPHA_FACTORS, CULLS, FACTORS, FARTHEST, FUNCTIONS, INTERPOLATIONS, OPERATIONS, Event
+from captures import depth, scissor
 from rules.states import AT_START
 
 from .blending import Chain
+from .evidence import Sample
 from .everywhere import last_corner
 from .frame import key_of
-from .kinds import inserted, kind, replaced
+from .kinds import Case, Made, inserted, kind, replaced
 
+Held = TypeVar("Held")  # what is known of a pixel
 MOST_VALUES = 4  # of several values that all pixels allow
 MOST_HELD = 48  # states that other events set, of those that differ the nearest
 
 
-def with_members(case, number, says, **members):
+def with_members(case: Case, number: int, says: str, **members: Any) -> Made:
     event = case.frame.events[number - 1]
     if any(event.get(name) != value for name, value in members.items()):
         yield says, replaced(case.frame.events, number, event | members)
 
 
 @kind("write mask", "blend")
-def masks(case, number):
+def masks(case: Case, number: int) -> Made:
     was = case.frame.events[number - 1]["mask"]
     for mask in sorted(range(16), key=lambda mask: (mask != 15, (mask ^ was).bit_count())):
         yield from with_members(case, number, f"mask {mask} in place of {was}", mask=mask)
 
 
 @kind("blending on or off", "blend")
-def enables(case, number):
+def enables(case: Case, number: int) -> Made:
     enable = not case.frame.events[number - 1]["enable"]
     yield from with_members(case, number, f"blending {'on' if enable else 'off'}", enable=enable)
 
 
 @kind("factor of blending", "blend")
-def factors(case, number):
+def factors(case: Case, number: int) -> Made:
     event = case.frame.events[number - 1]
     for part, names, word in (("rgb", FACTORS, "colour"), ("alpha", ALPHA_FACTORS, "alpha")):
         for at, side in ((0, "source"), (1, "destination")):
@@ -57,7 +62,7 @@ def factors(case, number):
 
 
 @kind("operation of blending", "blend")
-def operations(case, number):
+def operations(case: Case, number: int) -> Made:
     event = case.frame.events[number - 1]
     for part, word in (("rgb", "colour"), ("alpha", "alpha")):
         for name in OPERATIONS:
@@ -70,26 +75,26 @@ def operations(case, number):
 
 
 @kind("cull", "raster")
-def culls(case, number):
+def culls(case: Case, number: int) -> Made:
     was = case.frame.events[number - 1]["cull"]
     for cull in CULLS:
         yield from with_members(case, number, f"cull {cull} in place of {was}", cull=cull)
 
 
 @kind("front face", "raster")
-def fronts(case, number):
+def fronts(case: Case, number: int) -> Made:
     ccw = not case.frame.events[number - 1]["front_ccw"]
     yield from with_members(case, number, f"front faces {'counter-clockwise' if ccw else 'clockwise'}", front_ccw=ccw)
 
 
 @kind("scissor on or off", "raster")
-def scissors(case, number):
+def scissors(case: Case, number: int) -> Made:
     scissor = not case.frame.events[number - 1]["scissor"]
     yield from with_members(case, number, f"scissor {'on' if scissor else 'off'}", scissor=scissor)
 
 
 @kind("rectangle of the scissor", "scissor")
-def rectangles(case, number):
+def rectangles(case: Case, number: int) -> Made:
     """One edge, or two, where a cluster of wrong pixels ends, or where the target does."""
     was = case.frame.events[number - 1]["rect"]
     whole = [0, 0, case.frame.width, case.frame.height]
@@ -110,26 +115,26 @@ def rectangles(case, number):
 
 
 @kind("depth test on or off", "depth")
-def tests(case, number):
+def tests(case: Case, number: int) -> Made:
     enable = not case.frame.events[number - 1]["enable"]
     yield from with_members(case, number, f"depth test {'on' if enable else 'off'}", enable=enable)
 
 
 @kind("depth writes", "depth")
-def writes(case, number):
+def writes(case: Case, number: int) -> Made:
     write = not case.frame.events[number - 1]["write"]
     yield from with_members(case, number, f"depth writes {'on' if write else 'off'}", write=write)
 
 
 @kind("depth function", "depth")
-def functions(case, number):
+def functions(case: Case, number: int) -> Made:
     was = case.frame.events[number - 1]["func"]
     for func in sorted(FUNCTIONS, key=lambda func: func not in ("LESS", "LESS_EQUAL")):
         yield from with_members(case, number, f"depth function {func} in place of {was}", func=func)
 
 
 @kind("value of a depth clear", "depth_clear")
-def depths(case, number):
+def depths(case: Case, number: int) -> Made:
     """The two ends, and values between the depths that the wrong pixels' entries have."""
     was = case.frame.events[number - 1]["depth"]
     met = sorted(
@@ -147,14 +152,14 @@ def depths(case, number):
 
 
 @kind("interpolation", "draw")
-def interpolations(case, number):
+def interpolations(case: Case, number: int) -> Made:
     was = case.frame.events[number - 1]["interp"]
     for other in [other for other in INTERPOLATIONS if was in INTERPOLATIONS and other != was]:
         yield from with_members(case, number, f"{other} in place of {was}", interp=other)
 
 
 @kind("corner of the flat colour", "draw")
-def flat_corners(case, number):
+def flat_corners(case: Case, number: int) -> Made:
     """A flat triangle has its first corner's colour; OpenGL's has its last one's, unless it is told otherwise."""
     yield from with_members(
         case, number, "the last corner's colour in flat triangles", **last_corner(case.frame.events[number - 1])
@@ -162,11 +167,13 @@ def flat_corners(case, number):
 
 
 # ---- Values that are worked out from the pixels
-def allowed(case, chains, finals):
+def allowed(
+    case: Case, chains: Sequence[tuple[Sample, Held]], finals: Callable[[Held, int, int], Sequence[int]]
+) -> Iterator[tuple[int, list[int]]]:
     """For each channel that is looked at the values with which every pixel comes out as wanted; `finals` gives a
     pixel's colour by chain, channel and value."""
     for channel in case.looked_at:
-        values = range(256)
+        values: Sequence[int] = range(256)
         for sample, chain in chains:
             values = [
                 value
@@ -178,12 +185,12 @@ def allowed(case, chains, finals):
         yield channel, list(values)
 
 
-def only(colour, wanted, channel):
+def only(colour: Sequence[int], wanted: Sequence[int], channel: int) -> tuple[int, ...]:
     """A colour that is as wanted but in one channel."""
     return tuple(colour[i] if i == channel else value for i, value in enumerate(wanted))
 
 
-def filled(was, found):
+def filled(was: Sequence[int], found: Iterable[tuple[int, list[int]]]) -> Iterator[list[int]]:
     """The colours that the values found allow, the nearest to what it was first."""
     colour = list(was)
     for channel, values in found:
@@ -194,14 +201,14 @@ def filled(was, found):
 
 
 @kind("colour of a clear", "clear")
-def clears(case, number):
+def clears(case: Case, number: int) -> Made:
     was = case.frame.events[number - 1]["color"]
     says = lambda colour: f"clear {' '.join(map(str, colour))} in place of {' '.join(map(str, was))}"
     seen = collections.Counter(
         sample.wanted for sample in case.samples if sample.drawn and sample.drawn[-1].event == number
     )
-    for colour, _ in seen.most_common(MOST_VALUES):
-        colour = [value if channel in case.looked_at else was[channel] for channel, value in enumerate(colour)]
+    for wanted, _ in seen.most_common(MOST_VALUES):
+        colour = [value if channel in case.looked_at else was[channel] for channel, value in enumerate(wanted)]
         yield from with_members(case, number, says(colour), color=colour)
     chains = [
         (sample, chain, at)
@@ -219,7 +226,7 @@ def clears(case, number):
 
 
 @kind("blend factor", "factor")
-def factor_values(case, number):
+def factor_values(case: Case, number: int) -> Made:
     was = case.frame.events[number - 1]["color"]
     by = {event for event in case.touched() if case.frame.setter(event, "factor") == number}
     chains = [
@@ -229,7 +236,7 @@ def factor_values(case, number):
     ]
     if chains:
 
-        def finals(chain, channel, value):
+        def finals(chain: Chain, channel: int, value: int) -> Sequence[int]:
             colour = [value if i == channel else byte for i, byte in enumerate(was)]
             return chain.final(0, (0, 0, 0, 0), factors=dict.fromkeys(by, colour))
 
@@ -240,14 +247,15 @@ def factor_values(case, number):
 
 
 # ---- What is missing before a draw
-def blends(*parts):
+def blends(*parts: str) -> list[Event]:
     return [
         AT_START["blend"] | {"enable": True, "rgb": part.split(), "alpha": ["ONE", "INV_SRC_ALPHA", "ADD"]}
         for part in parts
     ]
 
 
-USUAL = {  # states that a program often sets, for where the one that is wanted is nowhere in the frame
+# states that a program often sets, for where the one that is wanted is nowhere in the frame
+USUAL: dict[str, list[Event]] = {
     "blend": blends(
         "SRC_ALPHA INV_SRC_ALPHA ADD",
         "ONE INV_SRC_ALPHA ADD",
@@ -262,7 +270,7 @@ USUAL = {  # states that a program often sets, for where the one that is wanted 
 
 
 @kind("a part of the state before a draw", "draw")
-def before(case, number):
+def before(case: Case, number: int) -> Made:
     """As at the start, as another event sets it, or as is usual: a state that was never set, or never taken back.
     Before a draw that covers no point it does what it does before the next one that covers some."""
     if not case.points.covering(case.frame.events[number - 1]):
@@ -275,7 +283,7 @@ def before(case, number):
                 (f"as event {i} sets it", case.frame.events[i - 1])
                 for i in case.frame.settings(number, part, MOST_HELD)
             ),
-            *((told(event), event) for event in (round_clusters(case) if part == "scissor" else USUAL.get(part, ()))),
+            *((told(event), event) for event in (round_clusters(case) if part == "scissor" else USUAL.get(part, []))),
         ]
         seen = {key_of(case.frame.state(number, part))}
         for says, event in held:
@@ -284,21 +292,21 @@ def before(case, number):
                 yield f"with {part} {says}", inserted(case.frame.events, number, event), *([by] if by else [])
 
 
-def round_clusters(case):
+def round_clusters(case: Case) -> list[Event]:
     """Scissors round what differs: round all of it, and round each of the largest clusters."""
     boxes = [cluster.box for cluster in case.clusters]
     all_ = [end(box[at] for box in boxes) for at, end in enumerate((min, min, max, max))] if boxes else []
     return [scissor(*rect) for rect in ([all_, *boxes[:MOST_VALUES]] if boxes else [])]
 
 
-def told(event):
+def told(event: Event) -> str:
     """A state in framedbg's own words."""
     flat = [part for value in list(event.values())[1:] for part in (value if isinstance(value, list) else [value])]
     return " ".join(str(int(part)) if isinstance(part, bool) else str(part) for part in flat)
 
 
 @kind("both factors of blending", "blend", searches=True)
-def both_factors(case, number):
+def both_factors(case: Case, number: int) -> Made:
     """Two at once: one writes them together."""
     event = case.frame.events[number - 1]
     for first in FACTORS:
@@ -313,7 +321,7 @@ def both_factors(case, number):
 
 
 @kind("both factors of alpha", "blend", searches=True)
-def both_alpha_factors(case, number):
+def both_alpha_factors(case: Case, number: int) -> Made:
     event = case.frame.events[number - 1]
     was, operation = " ".join(event["alpha"][:2]), event["alpha"][2]
     for first in ALPHA_FACTORS:

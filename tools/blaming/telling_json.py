@@ -1,10 +1,16 @@
 """The outcome as JSON, for scripts."""
 import json
+from collections.abc import Sequence
+from typing import Any
 
-from .verdicts import verdicts_of
+from .alone import Alone
+from .evidence import Suspect
+from .searching import Outcome
+from .trying import Tried
+from .verdicts import Verdict, verdicts_of
 
 
-def value_of(outcome):
+def value_of(outcome: Outcome) -> dict[str, Any]:
     """`differ`, `suspects`, `changes` (the best first of each), `findings`, and how much was tried."""
     return {
         "differ": outcome.wrong,
@@ -18,9 +24,9 @@ def value_of(outcome):
     }
 
 
-def suspect_of(outcome, suspect):
+def suspect_of(outcome: Outcome, suspect: Suspect) -> dict[str, Any]:
     event = outcome.events[suspect.event - 1]
-    told = {
+    told: dict[str, Any] = {
         "event": suspect.event,
         "kind": event.kind,
         "line": " ".join([event.kind, *event.words]),
@@ -34,7 +40,7 @@ def suspect_of(outcome, suspect):
     return told
 
 
-def change_of(one):
+def change_of(one: Tried) -> dict[str, Any]:
     return {
         "event": one.change.event,
         "change": one.change.says,
@@ -44,8 +50,8 @@ def change_of(one):
     }
 
 
-def finding_of(verdict):
-    told = {
+def finding_of(verdict: Verdict) -> dict[str, Any]:
+    told: dict[str, Any] = {
         "number": verdict.number,
         "pixels": verdict.pixels,
         "box": list(verdict.box),
@@ -55,7 +61,7 @@ def finding_of(verdict):
     return told | ({"change": verdict.change.change.says, "left": verdict.left} if verdict.change else {})
 
 
-def text_of(outcome, alone=()):
+def text_of(outcome: Outcome, alone: Sequence[Alone] = ()) -> str:
     """The outcome; and where events were judged alone those that differ, of which it tells the first."""
     value = value_of(outcome)
     if alone:

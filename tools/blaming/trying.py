@@ -6,13 +6,20 @@ import pathlib
 import subprocess
 import tempfile
 import time
+from collections.abc import Iterable
 from dataclasses import dataclass
 
+from captures import Event
 from framedbg_client import Fault as NoImage
 from framedbg_client import read_pam
 from writing.counting import counted
 
-from .comparing import both, pixels_of
+from .comparing import Comparison, both, pixels_of
+from .frame import CaptureFrame
+from .painting import Window
+from .progress import Progress
+
+Measured = tuple[int, tuple[int, ...], bool]  # how many differ, how many of each cluster, whether all were looked at
 
 CHUNK = 4  # changes a process that are given out at once
 LONGEST = 120  # seconds that framedbg may take for one picture
@@ -26,8 +33,8 @@ class Change:
     event: int
     kind: str
     says: str
-    events: list
-    also: tuple = ()
+    events: list[Event]
+    also: tuple[int, ...] = ()
 
 
 @dataclass(frozen=True)
@@ -37,36 +44,41 @@ class Tried:
 
     change: Change
     left: int
-    of_clusters: tuple
+    of_clusters: tuple[int, ...]
     is_whole: bool
 
 
 class Trials:
     """Draws lists of events over a frame's window, or over the whole target, and counts what differs."""
 
-    def __init__(self, program, processes, deadline, progress, most=None):
+    def __init__(
+        self, program: str, processes: int, deadline: float, progress: Progress | None, most: int | None = None
+    ) -> None:
         """`most` bounds the number of changes, where the time mustn't: a measurement on a busy machine. `count` is
         of those that were looked at in whatever way; few of them are drawn."""
         self.program, self.deadline, self.progress, self.most = program, deadline, progress, most
         self.pool = concurrent.futures.ThreadPoolExecutor(processes)
         self.chunk = CHUNK * processes
         self.room = tempfile.TemporaryDirectory(prefix="framedbg-blame-")
-        self.count, self.best, self.known, self.runs = 0, None, {}, set()
+        self.count = 0
+        self.best: int | None = None
+        self.known: dict[int, tuple[View, dict[bytes, Measured | None]]] = {}
+        self.runs: set[subprocess.Popen[bytes]] = set()
 
-    def __enter__(self):
+    def __enter__(self) -> "Trials":
         return self
 
-    def __exit__(self, fault, *_):
+    def __exit__(self, fault: object, *_: object) -> None:
         """Where it was broken off the pictures that are drawn still are too, as a program may be silent for long."""
         for run in list(self.runs) if fault else ():
             run.kill()
         self.pool.shutdown(wait=True, cancel_futures=True)
         self.room.cleanup()
 
-    def is_over(self):
+    def is_over(self) -> bool:
         return time.monotonic() > self.deadline or self.most is not None and self.count >= self.most
 
-    def drawn(self, text, words=()):
+    def drawn(self, text: str, words: Iterable[str] = ()) -> bytes | None:
         """The samples of a capture's picture, or None where framedbg gives none."""
         handle, name = tempfile.mkstemp(dir=self.room.name, suffix=".json")
         try:
@@ -76,7 +88,7 @@ class Trials:
         finally:
             pathlib.Path(name).unlink()
 
-    def answer(self, words):
+    def answer(self, words: list[str]) -> bytes | None:
         with subprocess.Popen(
             words, stdin=subprocess.DEVNULL, stdout=subprocess.PIPE, stderr=subprocess.DEVNULL
         ) as run:
@@ -90,7 +102,7 @@ class Trials:
                 run.kill()
                 self.runs.discard(run)
 
-    def mask_of(self, events, view):
+    def mask_of(self, events: Iterable[Event], view: "View") -> list[tuple[int, int]]:
         """Which pixels of a view differ after some events, as numbers of the whole target's; none where they can't
         be drawn."""
         samples = self.drawn(view.frame.text(events, view.window))
@@ -98,11 +110,11 @@ class Trials:
         found = pixels_of(view.comparison.differing(samples)) if samples else []
         return [(left + at % (right - left), top + at // (right - left)) for at in found]
 
-    def all_of(self, changes, view, is_late=False):
+    def all_of(self, changes: Iterable[Change], view: "View", is_late: bool = False) -> list[Tried]:
         """Tries changes, several at once, up to the end of the time, or also when it is over; gives Tried."""
-        changes, done = iter(changes), []
+        left, done = iter(changes), []
         while is_late or not self.is_over():
-            some = [change for _, change in zip(range(self.chunk), changes)]
+            some = [change for _, change in zip(range(self.chunk), left)]
             if not some:
                 break
             found = [tried for tried in self.pool.map(lambda change: self.one(change, view), some) if tried]
@@ -112,23 +124,23 @@ class Trials:
             self.tell()
         return done
 
-    def tell(self):
-        if self.best is not None:
+    def tell(self) -> None:
+        if self.best is not None and self.progress:
             self.progress.say(
                 f"{counted(self.count, 'change')} tried, after the best of them {counted(self.best)} "
                 f"{'differs' if self.best == 1 else 'differ'}"
             )
 
-    def one(self, change, view):
+    def one(self, change: Change, view: "View") -> Tried | None:
         """A change tried on a view; None where it can't be drawn."""
         text = view.frame.text(change.events, view.window)
         known = self.known.setdefault(id(view), (view, {}))[1]
         key = hashlib.blake2b(text.encode(), digest_size=16).digest()
         if key not in known:
             samples = self.drawn(text)
-            known[key] = samples and view.measured(samples)
+            known[key] = view.measured(samples) if samples else None
         measured = known[key]
-        return measured and Tried(change, *measured)
+        return Tried(change, *measured) if measured else None
 
 
 @dataclass(frozen=True)
@@ -136,16 +148,16 @@ class View:
     """What of the target is looked at: a window of it with what is wanted there, and the clusters as masks of it.
     Without a window it is the whole."""
 
-    frame: object
-    comparison: object
-    window: tuple | None = None
-    masks: tuple = ()  # of the largest clusters, and of all that differs last
+    frame: CaptureFrame
+    comparison: Comparison
+    window: Window | None = None
+    masks: tuple[bytes, ...] = ()  # of the largest clusters, and of all that differs last
 
     @property
-    def wrong(self):
+    def wrong(self) -> int:
         return self.masks[-1].count(1)
 
-    def measured(self, samples):
+    def measured(self, samples: bytes) -> Measured:
         mask = self.comparison.differing(samples)
         left = mask.count(1)
         return left, tuple(both(mask, cluster) if left else 0 for cluster in self.masks), self.window is None

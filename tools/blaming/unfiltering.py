@@ -2,12 +2,13 @@
 it."""
 
 
-def unfiltered(data, channels, width, height):
+def unfiltered(data: bytes, channels: int, width: int, height: int) -> bytes | None:
     """The samples of a PNG, whose rows each begin with the number of their filter; None where that isn't so."""
     stride = channels * width
     if len(data) < (stride + 1) * height:
         return None
-    above, out = bytes(stride), []
+    above = bytes(stride)
+    out: list[bytes] = []
     for start in range(0, (stride + 1) * height, stride + 1):
         if data[start] >= len(FILTERS):
             return None
@@ -16,17 +17,17 @@ def unfiltered(data, channels, width, height):
     return b"".join(out)
 
 
-def added(one, other, length):
+def added(one: int, other: int, length: int) -> int:
     """Two rows as numbers, the first byte the lowest, added byte by byte: each byte's highest bit takes no carry on."""
     low = int.from_bytes(b"\x7f" * length, "little")
     return (one & low) + (other & low) ^ (one ^ other) & ~low
 
 
-def none(row, _above, _step):
+def none(row: bytes, _above: bytes, _step: int) -> bytes:
     return row
 
 
-def left(row, _above, step):
+def left(row: bytes, _above: bytes, step: int) -> bytes:
     """Sums from the start of the row: of two pixels, then of four, and so on."""
     length = len(row)
     total, whole = int.from_bytes(row, "little"), (1 << 8 * length) - 1
@@ -36,15 +37,16 @@ def left(row, _above, step):
     return total.to_bytes(length, "little")
 
 
-def up(row, above, _step):
+def up(row: bytes, above: bytes, _step: int) -> bytes:
     length = len(row)
     return added(int.from_bytes(row, "little"), int.from_bytes(above, "little"), length).to_bytes(length, "little")
 
 
-def mean(row, above, step):
+def mean(row: bytes, above: bytes, step: int) -> bytes:
     out = bytearray(len(row))
     for channel in range(step):
-        before, found = 0, []
+        before = 0
+        found: list[int] = []
         for value, over in zip(row[channel::step], above[channel::step]):
             before = value + (before + over >> 1) & 255
             found.append(before)
@@ -52,11 +54,12 @@ def mean(row, above, step):
     return bytes(out)
 
 
-def paeth(row, above, step):
+def paeth(row: bytes, above: bytes, step: int) -> bytes:
     """Each byte is added to the nearest to left + above - corner: the one on the left, above, or in the corner."""
     out = bytearray(len(row))
     for channel in range(step):
-        before, corner, found = 0, 0, []
+        before = corner = 0
+        found: list[int] = []
         for value, over in zip(row[channel::step], above[channel::step]):
             across, down = over - corner, before - corner
             towards_corner = abs(across + down)

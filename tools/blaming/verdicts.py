@@ -1,8 +1,15 @@
 """What is said of a frame in the end: findings, each of one cluster, with who did it, since when, by which state,
 and what mends it."""
+from collections.abc import Iterator, Sequence
 from dataclasses import dataclass
 
-from .searching import NAMED_CLUSTERS
+from framedbg_client import Entry, Event
+
+from .clusters import Box, Cluster
+from .evidence import Sample, Suspect
+from .frame import CaptureFrame
+from .searching import NAMED_CLUSTERS, Outcome
+from .trying import Tried
 
 PARTS = {"raster": "cull", "scissor": "scissor", "blend": "blend", "factor": "factor", "depth": "depth"}
 MOST_REASONS = 2
@@ -15,14 +22,14 @@ class Verdict:
 
     number: int
     pixels: int
-    box: tuple
-    change: object
-    left: object
-    suspect: object
-    place: tuple  # a pixel of it
+    box: Box
+    change: Tried | None
+    left: int | None
+    suspect: Suspect | None
+    place: tuple[int, int]  # a pixel of it
 
 
-def verdicts_of(outcome):
+def verdicts_of(outcome: Outcome) -> list[Verdict]:
     """A verdict for each of the largest clusters, in their order."""
     made = []
     for number, cluster in enumerate(outcome.clusters[:NAMED_CLUSTERS]):
@@ -36,7 +43,7 @@ def verdicts_of(outcome):
                 len(cluster),
                 cluster.box,
                 best,
-                best and left_of(best, number),
+                left_of(best, number) if best else None,
                 of_best or next(iter(suspects), None),
                 place_in(cluster, outcome.width),
             )
@@ -44,19 +51,19 @@ def verdicts_of(outcome):
     return made
 
 
-def place_in(cluster, width):
+def place_in(cluster: Cluster, width: int) -> tuple[int, int]:
     """The pixel of a cluster that stands in the middle of their list."""
     return cluster.pixels[len(cluster) // 2] % width, cluster.pixels[len(cluster) // 2] // width
 
 
-def left_of(tried, number):
+def left_of(tried: Tried, number: int) -> int:
     """How many pixels of a cluster differ after a change; all that are left, where the change was looked at as a
     whole."""
     return tried.of_clusters[number] if number < len(tried.of_clusters) else tried.left
 
 
-def since(frame, outcome, suspect):
-    """A pixel at which it shows, and the entry by which: (sample, entry), or None."""
+def since(frame: CaptureFrame, outcome: Outcome, suspect: Suspect) -> tuple[Sample, Entry] | None:
+    """A pixel at which it shows, and the entry by which."""
     number, kind = suspect.event, frame.kind(suspect.event)
     for sample in outcome.samples:
         for entry in reversed(sample.entries):
@@ -70,7 +77,7 @@ def since(frame, outcome, suspect):
     return None
 
 
-def state_lines(frame, events, number):
+def state_lines(frame: CaptureFrame, events: Sequence[Event], number: int) -> Iterator[tuple[str, str, int | None]]:
     """The parts of the state with which an event is drawn, each with the event that set it."""
     for kind in frame.states:
         by = frame.setter(number, kind)
@@ -78,6 +85,6 @@ def state_lines(frame, events, number):
         yield kind, said, by
 
 
-def reasons(suspect, asked):
+def reasons(suspect: Suspect, asked: int) -> list[tuple[str, int, int]]:
     """What the pixels that were asked say of a suspect, the most often said first."""
     return [(text, count, asked) for text, count in suspect.reasons.most_common(MOST_REASONS)]

@@ -1,6 +1,10 @@
 """Which part of a large target is looked at while changes are tried: the one with the most pixels that differ."""
-from .clusters import thinned
+from collections.abc import Callable, Sequence
+
+from .clusters import Cluster, thinned
 from .comparing import Comparison
+from .frame import CaptureFrame
+from .painting import Window
 
 SIDE = 144  # pixels of a window's side at most
 MARGIN = 24
@@ -8,14 +12,14 @@ SMALL = 128 * 128  # pixels of a target that is tried whole
 LIGHT = 6000  # vertices and indices of a frame that is tried whole
 
 
-def is_small(frame):
+def is_small(frame: CaptureFrame) -> bool:
     corners = sum(
         len(event["vertices"]) + len(event.get("indices", ())) for event in frame.events if event["kind"] == "draw"
     )
     return frame.width * frame.height <= SMALL and corners <= LIGHT
 
 
-def window_of(frame, clusters):
+def window_of(frame: CaptureFrame, clusters: Sequence[Cluster]) -> Window | None:
     """Left, top, right, bottom of the window round what differs, or None where the whole target is as good."""
     if is_small(frame):
         return None
@@ -31,7 +35,7 @@ def window_of(frame, clusters):
     return window if frame.can_have(window) else None
 
 
-def side(low, high, size, middle):
+def side(low: int, high: int, size: int, middle: Callable[[], int]) -> tuple[int, int]:
     """The ends of a window on one axis."""
     most = SIDE - 2 * MARGIN
     if high - low > most:
@@ -40,18 +44,18 @@ def side(low, high, size, middle):
     return max(0, low - MARGIN), min(size, high + MARGIN)
 
 
-def fullest(clusters, axis, width):
+def fullest(clusters: Sequence[Cluster], axis: int, width: int) -> int:
     """The middle of the largest cluster's pixels on one axis."""
     pixels = thinned(clusters[0].pixels)
     places = sorted((pixel // width if axis else pixel % width) for pixel in pixels)
     return places[len(places) // 2]
 
 
-def cut(samples, width, window, depth=4):
+def cut(samples: bytes, width: int, window: Window, depth: int = 4) -> bytes:
     """The samples of a window, row by row."""
     left, top, right, bottom = window
     return b"".join(samples[depth * (y * width + left) : depth * (y * width + right)] for y in range(top, bottom))
 
 
-def comparison_on(comparison, width, window):
+def comparison_on(comparison: Comparison, width: int, window: Window | None) -> Comparison:
     return comparison if window is None else Comparison(cut(comparison.wanted, width, window), comparison.tolerance)
