@@ -113,7 +113,7 @@ MUTATIONS = [   # name, file, text, what stands there instead, test
     ("discards: cut without detail", "painter.py", "self.detail.smallest if is_cut else None", "self.detail.smallest", "Frames.test_what_may_not_be_discarded_stays"),
     ("discards: whole triangles stay", "discards.py", "    if not there:\n        return []", "    if not there:\n        return [(piece, cover)]", "Frames.test_a_triangle_of_which_nothing_is_seen_is_left_out_without_detail"),
     ("writer: groups have no end", "writer.py", '{} if record.until is None else {"until": record.until}', "{}", "Frames.test_each_event_knows_its_call"),
-    ("clipping: behind the eye stays", "clipping.py", "kept = [lambda v: v[3] - LEAST_W]", "kept = []", "Placing"),
+    ("clipping: behind the eye stays", "clipping.py", "kept: list[Plane] = [lambda v: v[3] - LEAST_W]", "kept: list[Plane] = []", "Placing"),
     ("clipping: neighbours are cut at two places", "clipping.py", "if inside >= 0 else (there, here, outside, inside)", "if True else (there, here, outside, inside)", "Placing"),
     ("clipping: no near plane", "clipping.py", "    if clip_depth:", "    if False:", "Placing"),
     ("viewport: y isn't turned", "viewport.py", "            y = -y", "            pass", "Placing"),

@@ -1,4 +1,5 @@
 """What draws give: vertices in the program's own coordinates, and from those primitives in clip space."""
+import operator
 from collections.abc import Iterable, Sequence
 from dataclasses import dataclass, field
 from typing import TYPE_CHECKING, Any
@@ -145,7 +146,7 @@ def within(corners: list[tuple[float, ...]], planes: int) -> list[list[tuple[flo
         if not any(inside):
             return []
         if not all(inside):
-            corners = cut(corners, lambda corner, at=4 + number: corner[at])
+            corners = cut(corners, operator.itemgetter(4 + number))
             corners = corners[:2] if len(inside) == 2 else corners
     if len(corners) <= 3:
         return [corners]

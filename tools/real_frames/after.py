@@ -1,8 +1,10 @@
 """The image of a converted frame after each of its draws, beside the frame's own picture."""
+from typing import Any
+
 from .names import BEFORE
 
 
-def positions_of(capture):
+def positions_of(capture: dict[str, Any]) -> dict[int, int]:
     """{RenderDoc's event: the position after it} of draws, clears and copies, in their order; draws that are there
     for their depths alone are left out."""
     found = {}
@@ -13,7 +15,7 @@ def positions_of(capture):
     return found
 
 
-def apart(theirs, ours, width):
+def apart(theirs: bytes, ours: bytes, width: int) -> tuple[int, int, tuple[int, int] | None]:
     """(how many pixels differ, by how much at most, the first of them) of two pictures of one size."""
     if theirs == ours:
         return 0, 0, None

@@ -1,13 +1,21 @@
 """What a shader gave at some pixels of a draw, asked of RenderDoc's histories where the draw can't be drawn alone:
 which pixels are asked, and what lies between."""
+from collections.abc import Iterable, Mapping, Sequence
+from typing import TypeVar
+
 from .pieces import Piece
-from .planes import CHANNELS, Table
+from .planes import CHANNELS, Row, Table
+from .records import Colour, Shape
+
+One = TypeVar("One")
 
 MOST_OF_A_DRAW = 12
 
 
-def pixels_to_ask(shapes, size, pictures, most):
-    """[(x, y)] over the triangles of a draw, where its picture isn't as before: so many in all, at least one, and as
+def pixels_to_ask(
+    shapes: Iterable[Shape], size: tuple[int, int], pictures: tuple[bytes, bytes], most: int
+) -> list[tuple[int, int]]:
+    """Pixels over the triangles of a draw, where its picture isn't as before: so many in all, at least one, and as
     many of each triangle."""
     width, height = size
     before, after = (memoryview(picture).cast("I") for picture in pictures)
@@ -23,7 +31,7 @@ def pixels_to_ask(shapes, size, pictures, most):
     return list(dict.fromkeys(pixel for changed in chosen for pixel in evenly(changed, max(most // len(chosen), 1))))
 
 
-def evenly(some, most):
+def evenly(some: Sequence[One], most: int) -> list[One]:
     """At most so many of a list, the first and the last among them."""
     if len(some) <= most:
         return list(some)
@@ -36,15 +44,14 @@ class Model:
     """The plane through what was given at some pixels, for each primitive; for one that wasn't asked the mean of the
     others."""
 
-    def __init__(self, known):
-        """known: {(x, y): {primitive: (r, g, b, a)}}"""
-        rows = {}
+    def __init__(self, known: Mapping[tuple[int, int], Mapping[int, Colour]]) -> None:
+        rows: dict[int, dict[int, list[tuple[int, Colour]]]] = {}
         for (x, y), given in sorted(known.items()):
             for primitive, colour in given.items():
                 rows.setdefault(primitive, {}).setdefault(y, []).append((x, colour))
         self.planes = {primitive: Plane(samples) for primitive, samples in rows.items()}
 
-    def at(self, primitive, x, y):
+    def at(self, primitive: int, x: int, y: int) -> tuple[float, ...]:
         if primitive in self.planes:
             return self.planes[primitive].at(x, y)
         return tuple(
@@ -53,13 +60,13 @@ class Model:
 
 
 class Plane:
-    def __init__(self, samples):
+    def __init__(self, samples: Mapping[int, Row]) -> None:
         sums = Table(samples).over([(y, row[0][0], row[-1][0] + 1) for y, row in samples.items()])
         self.centre = sums.x / sums.count, sums.y / sums.count
         self.middle = tuple(sums.mean(channel) for channel in CHANNELS)
         self.slopes = tuple(sums.slopes(channel) for channel in CHANNELS)
 
-    def at(self, x, y):
+    def at(self, x: int, y: int) -> tuple[float, ...]:
         right, down = x - self.centre[0], y - self.centre[1]
         return tuple(
             min(max(middle + b * right + c * down, 0.0), 255.0) for middle, (b, c) in zip(self.middle, self.slopes)

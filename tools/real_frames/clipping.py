@@ -1,6 +1,13 @@
 """Triangles, lines and points in clip space, cut to what a capture can say: in front of the eye, and within 16,384
 pixels of the target's corner."""
+from collections.abc import Callable, Iterable, Sequence
+
 from captures import MOST_SIDE
+
+from .viewport import Viewport
+
+Vertex = tuple[float, ...]  # x, y, z and w
+Plane = Callable[[Vertex], float]  # at least zero inside
 
 GUARD = (
     MOST_SIDE - 0.25
@@ -8,15 +15,15 @@ GUARD = (
 LEAST_W = 1e-6
 
 
-def sides(axis, middle, half):
+def sides(axis: int, middle: float, half: float) -> list[Plane]:
     """Two half spaces: what lies within the guard, of an axis on which clip space has its middle at one place and
     reaches so far from it."""
     return [lambda v: (GUARD - middle) * v[3] - half * v[axis], lambda v: (GUARD + middle) * v[3] + half * v[axis]]
 
 
-def planes(viewport, clip_depth):
-    """The half spaces that hold what can be drawn, each as a function that is at least zero inside."""
-    kept = [lambda v: v[3] - LEAST_W]
+def planes(viewport: Viewport, clip_depth: bool) -> list[Plane]:
+    """The half spaces that hold what can be drawn."""
+    kept: list[Plane] = [lambda v: v[3] - LEAST_W]
     if clip_depth:
         kept.append((lambda v: v[2]) if viewport.half_depth else (lambda v: v[2] + v[3]))
         kept.append(lambda v: v[3] - v[2])
@@ -28,10 +35,10 @@ def planes(viewport, clip_depth):
     )
 
 
-def cut(polygon, plane):
+def cut(polygon: Sequence[Vertex], plane: Plane) -> list[Vertex]:
     """Cuts a convex polygon at one plane. A new vertex is worked out from the inner end, so that two neighbours
     agree."""
-    kept = []
+    kept: list[Vertex] = []
     for i, here in enumerate(polygon):
         there = polygon[(i + 1) % len(polygon)]
         inside, outside = plane(here), plane(there)
@@ -46,7 +53,7 @@ def cut(polygon, plane):
     return kept
 
 
-def clip(corners, kept_planes):
+def clip(corners: Sequence[Vertex], kept_planes: Sequence[Plane]) -> tuple[list[tuple[Vertex, ...]], bool]:
     """Gives the clipped triangle as a list of triangles, and whether anything was cut."""
     outside = [[plane(v) < 0 for v in corners] for plane in kept_planes]
     if not any(any(side) for side in outside):
@@ -61,7 +68,7 @@ def clip(corners, kept_planes):
     return [(polygon[0], polygon[i], polygon[i + 1]) for i in range(1, len(polygon) - 1)], True
 
 
-def clip_line(ends, kept_planes):
+def clip_line(ends: Sequence[Vertex], kept_planes: Iterable[Plane]) -> tuple[Vertex, ...]:
     """Gives the two ends of the part that is left, or nothing."""
     for plane in kept_planes:
         inside = [plane(end) >= 0 for end in ends]

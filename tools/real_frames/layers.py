@@ -1,12 +1,15 @@
 """How many triangles of a draw pass at each pixel of the target, and which of them is the last."""
 from array import array
+from collections.abc import Iterator, Sequence
+
+from .pieces import Piece
 
 ONE_MORE = bytes([*range(1, 256), 255])
 MOST = 255  # that are counted
 
 
 class Layers:
-    def __init__(self, pieces, width, height):
+    def __init__(self, pieces: Sequence[Piece], width: int, height: int) -> None:
         self.width, self.counts = width, bytearray(width * height)
         self.pieces = pieces
         spans = [span for piece in pieces for span in piece.passed]
@@ -25,12 +28,12 @@ class Layers:
             else (0, 0, 0, 0)
         )
 
-    def rows(self):
+    def rows(self) -> Iterator[tuple[int, int]]:
         """Gives where each row of the box begins and where it ends, as places of pixels."""
         left, top, right, bottom = self.box
         return ((y * self.width + left, y * self.width + right) for y in range(top, bottom))
 
-    def last(self):
+    def last(self) -> "array[int]":
         """The number of the last piece that passes, for each pixel where one does."""
         found = array("L", bytes(array("L").itemsize * len(self.counts)))
         for number, piece in enumerate(self.pieces):

@@ -4,6 +4,6 @@ BEFORE = "before"  # in the place of a call's name: what lay on the target befor
 MOST, MOST_LINE = 200, 2000  # characters of a name, and of a line that says what is wrong
 
 
-def printable(text, most=MOST):
+def printable(text: object, most: int = MOST) -> str:
     """A name without what would steer a terminal, and not endless."""
     return "".join(c if c.isprintable() else "?" for c in str(text)[:most])

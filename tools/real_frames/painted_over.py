@@ -2,15 +2,17 @@
 from rules.snapping import snap
 
 from .raster import Triangle
+from .records import DrawRecord
+from .states import State
 
 
-def replaces(state):
+def replaces(state: State) -> bool:
     """Whether it shows wherever its triangles are, and nothing of what was there."""
     is_tested = state.depth["enable"] and state.depth["func"] != "ALWAYS"
     return not (state.blend["enable"] or state.blend["mask"] != 15 or state.discards or is_tested)
 
 
-def paints_all(record, width, height):
+def paints_all(record: DrawRecord, width: int, height: int) -> bool:
     if not (record.after and replaces(record.state)):
         return False
     rows = [0] * height

@@ -1,11 +1,17 @@
 """Gives the triangles of a draw their colours, from its pictures."""
 import zlib
+from collections.abc import Iterable, Mapping, Sequence
 from dataclasses import dataclass
 
 from .discards import Unseen, parts
+from .losses import Losses
+from .pieces import Colour, Corner, Piece, Root
 from .pixels import DrawPixels
 from .planes import Table, fit, mean
-from .raster import pixels
+from .raster import Span, pixels
+from .records import DrawRecord
+
+Fitted = tuple[Piece, float, float]  # a piece with its colours, how far off they are, and of how many samples
 
 GREY = (128, 128, 128, 255)
 STRAYS = "pixels that change where no triangle of the draw passes"
@@ -20,13 +26,14 @@ class Detail:
 
 
 class Painter:
-    def __init__(self, width, height, losses, detail, passes):
+    def __init__(self, width: int, height: int, losses: Losses, detail: Detail, passes: Mapping[Root, int]) -> None:
         self.width, self.height, self.losses, self.detail = width, height, losses, detail
         self.passes = passes  # how many draws with the depth test have a triangle at a place
-        self.faults = []  # (event, name, pixels, how far off) of each draw
+        self.faults: list[tuple[int, str, float, float]] = []  # (event, name, pixels, how far off) of each draw
 
-    def paint(self, record, pieces, before):
+    def paint(self, record: DrawRecord, pieces: Sequence[Piece], before: bytes) -> list[Piece]:
         """The pieces with their colours, cut into smaller ones where detail asks for it."""
+        assert record.after  # a draw is painted where its colours are wanted
         pictures = (
             before,
             record.after.picture(),
@@ -34,7 +41,7 @@ class Painter:
             record.own.picture() if record.own else b"",
         )
         own = DrawPixels(self.width, record, pieces, pictures)
-        fitted = []
+        fitted: list[Fitted] = []
         for number, piece in enumerate(pieces):
             samples, unchanged = own.samples(number, piece)
             table = Table(samples)
@@ -49,7 +56,9 @@ class Painter:
         )
         return [piece for piece, _, _ in fitted]
 
-    def seen(self, record, piece, unchanged):
+    def seen(
+        self, record: DrawRecord, piece: Piece, unchanged: Mapping[int, Iterable[int]]
+    ) -> list[tuple[Piece, list[Span]]]:
         """A piece and its spans; of a draw that may discard fragments, what is left where the picture shows none."""
         cover = list(piece.shape.spans(self.width, self.height))
         if not (record.state.discards and unchanged):
@@ -68,7 +77,7 @@ class Painter:
             self.losses.add("pixels left out of draws that may discard", "where the picture is as it was before", gone)
         return left
 
-    def count(self, record, own):
+    def count(self, record: DrawRecord, own: DrawPixels) -> None:
         if own.total:
             self.losses.add("pixels of draws", "their colours are planes over triangles", own.total)
         strays = own.strays()
@@ -99,8 +108,8 @@ class Painter:
                     "blended draws whose alpha is made up", "where they can't be drawn alone, nor asked about"
                 )
 
-    def fitted(self, piece, cover, table, is_deep):
-        """[(piece, how far off, samples)]: the piece with its colours, or what it was cut into."""
+    def fitted(self, piece: Piece, cover: list[Span], table: Table, is_deep: bool) -> list[Fitted]:
+        """The piece with its colours, or what it was cut into."""
         sums = table.over(cover)
         if not sums.count:
             return [(piece, 0.0, 0)]
@@ -117,9 +126,10 @@ class Painter:
             return whole
         return [found for half, part in halves if part for found in self.fitted(half, part, table, is_deep)]
 
-    def colour_hidden(self, fitted):
+    def colour_hidden(self, fitted: Sequence[Fitted]) -> None:
         """A triangle that shows nowhere gets the colours that its corners have elsewhere, else the draw's mean."""
-        by_place, known = {}, []
+        by_place: dict[Corner, list[Colour]] = {}
+        known: list[tuple[Piece, float]] = []
         for piece, _, count in fitted:
             if count:
                 known.append((piece, count))
@@ -143,7 +153,7 @@ class Painter:
             )
 
 
-def distinct(number):
+def distinct(number: int) -> Colour:
     """A colour for the draw of a number, far from those of the draws next to it."""
     turn = number * 0.618034 % 1 * 6
     rise = turn % 1

@@ -4,25 +4,30 @@ triangle.
 Sums are kept for each row of samples, added up from its left end, so that the sums over any part of a triangle cost
 as much as it has rows.
 """
+from collections.abc import Iterable, Mapping, Sequence
 from itertools import accumulate
+
+from .raster import Span
+
+Row = Sequence[tuple[int, Sequence[float]]]  # samples from the left end: x, and red, green, blue and alpha
 
 CHANNELS = range(4)
 
 
 class Table:
-    """Samples {y: [(x, (r, g, b, a)), ..]}, each row from its left end, as sums."""
+    """Samples of each row, as sums."""
 
-    def __init__(self, samples):
+    def __init__(self, samples: Mapping[int, Row]) -> None:
         self.rows = {y: self.row(some) for y, some in samples.items() if some}
 
     @staticmethod
-    def row(some):
+    def row(some: Row) -> tuple[int, int, list[list[float]]]:
         """The first x, and sums over the samples before each place: how many, of x and x squared; of v, x v and v
         squared for each channel."""
         left, width = some[0][0], some[-1][0] - some[0][0] + 1
         there = {x: colour for x, colour in some}
-        xs = [x if x in there else 0 for x in range(left, left + width)]
-        lists = [[int(x in there) for x in range(left, left + width)], xs, [x * x for x in xs]]
+        xs: list[float] = [x if x in there else 0 for x in range(left, left + width)]
+        lists: list[list[float]] = [[int(x in there) for x in range(left, left + width)], xs, [x * x for x in xs]]
         nothing = (0, 0, 0, 0)
         colours = [there.get(x, nothing) for x in range(left, left + width)]
         for channel in CHANNELS:
@@ -30,8 +35,8 @@ class Table:
             lists += [values, [x * v for x, v in zip(xs, values)], [v * v for v in values]]
         return left, width, [list(accumulate(one, initial=0)) for one in lists]
 
-    def over(self, spans):
-        """The sums over the samples in spans (y, x0, x1)."""
+    def over(self, spans: Iterable[Span]) -> "Sums":
+        """The sums over the samples in spans."""
         total = Sums()
         for y, x0, x1 in spans:
             row = self.rows.get(y)
@@ -44,11 +49,24 @@ class Table:
 
 
 class Sums:
-    def __init__(self):
+    """Over samples: how many they are, and sums of their places, of each channel, and of both together."""
+
+    count: float
+    x: float
+    y: float
+    xx: float
+    xy: float
+    yy: float
+    v: list[float]
+    xv: list[float]
+    yv: list[float]
+    vv: list[float]
+
+    def __init__(self) -> None:
         self.count = self.x = self.y = self.xx = self.xy = self.yy = 0
         self.v, self.xv, self.yv, self.vv = [0] * 4, [0] * 4, [0] * 4, [0] * 4
 
-    def add(self, y, row):
+    def add(self, y: int, row: Sequence[float]) -> None:
         count, x, xx = row[:3]
         self.count += count
         self.x += x
@@ -63,10 +81,10 @@ class Sums:
             self.yv[channel] += v * y
             self.vv[channel] += vv
 
-    def mean(self, channel):
+    def mean(self, channel: int) -> float:
         return self.v[channel] / self.count
 
-    def spreads(self):
+    def spreads(self) -> tuple[float, float, float]:
         """The sums of squares about the middle: of x, of x and y, of y."""
         return (
             self.xx - self.x * self.x / self.count,
@@ -74,7 +92,7 @@ class Sums:
             self.yy - self.y * self.y / self.count,
         )
 
-    def rises(self, channel):
+    def rises(self, channel: int) -> tuple[float, float, float]:
         """The sums of the channel with x and with y, and of its own squares, about the middle."""
         mean = self.mean(channel)
         return (
@@ -83,7 +101,7 @@ class Sums:
             max(self.vv[channel] - self.v[channel] * mean, 0.0),
         )
 
-    def slopes(self, channel):
+    def slopes(self, channel: int) -> tuple[float, float]:
         """Least squares of v = mean + b (x - middle) + c (y - middle); zeros where the samples lie on a line."""
         xx, xy, yy = self.spreads()
         whole = xx * yy - xy * xy
@@ -93,7 +111,7 @@ class Sums:
         return (xv * yy - yv * xy) / whole, (yv * xx - xv * xy) / whole
 
 
-def fit(corners, sums):
+def fit(corners: Sequence[tuple[float, float]], sums: Sums) -> tuple[list[tuple[int, ...]], float]:
     """Three colours for corners in pixels, and how far the samples are off: the root of the mean square, of the
     channel where it is largest.
 
@@ -114,7 +132,7 @@ def fit(corners, sums):
     return list(zip(*values)), (max(worst, 0.0) / sums.count) ** 0.5
 
 
-def kept_within(middle, rises):
+def kept_within(middle: float, rises: Iterable[float]) -> float:
     """The part of the rises that leaves no corner outside of a byte."""
     share = 1.0
     for rise in rises:
@@ -125,10 +143,10 @@ def kept_within(middle, rises):
     return max(share, 0.0)
 
 
-def clamp(value):
+def clamp(value: float) -> int:
     return min(max(int(round(value)), 0), 255)
 
 
-def mean(colours):
+def mean(colours: Sequence[Sequence[float]]) -> tuple[int, ...]:
     """The mean of some colours, rounded."""
     return tuple(clamp(sum(colour[channel] for colour in colours) / len(colours)) for channel in CHANNELS)

@@ -5,12 +5,12 @@ GRAIN = 4096  # bytes within which it isn't looked where a change begins and end
 
 
 class Reel:
-    def __init__(self):
-        self.steps = []  # (where a change begins, what differs from there on, packed)
+    def __init__(self) -> None:
+        self.steps: list[tuple[int, bytes]] = []  # (where a change begins, what differs from there on, packed)
         self.last = b""  # the picture that was put last
         self.at, self.content = -1, b""  # the picture that was asked for last
 
-    def put(self, picture):
+    def put(self, picture: bytes) -> "Kept":
         """Keeps a picture; gives what it is asked for by."""
         start, end = changed(self.last, picture)
         self.steps.append(
@@ -19,7 +19,7 @@ class Reel:
         self.last = picture
         return Kept(self, len(self.steps) - 1)
 
-    def get(self, number):
+    def get(self, number: int) -> bytes:
         if number < self.at:
             self.at, self.content = -1, b""
         while self.at < number:
@@ -37,14 +37,14 @@ class Reel:
 class Kept:
     """One picture of a reel."""
 
-    def __init__(self, reel, number):
+    def __init__(self, reel: Reel, number: int) -> None:
         self.reel, self.number = reel, number
 
-    def picture(self):
+    def picture(self) -> bytes:
         return self.reel.get(self.number)
 
 
-def changed(first, other):
+def changed(first: bytes, other: bytes) -> tuple[int, int]:
     """Where two pictures begin to differ and where they end to, as (start, end), roughly; all of it where they
     aren't of one size."""
     if len(first) != len(other):
@@ -62,6 +62,6 @@ def changed(first, other):
     return start, high
 
 
-def exchanged(first, other):
+def exchanged(first: bytes, other: bytes) -> bytes:
     """What differs of two pictures; of one and what differs, the other."""
     return (int.from_bytes(first, "little") ^ int.from_bytes(other, "little")).to_bytes(len(other), "little")

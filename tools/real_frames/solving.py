@@ -1,11 +1,16 @@
 """The source with which a draw's blending makes of a pixel what the frame has there, by framedbg's own rules.
 Several may: the one nearest to what is known of the shader's own is taken."""
+from collections.abc import Sequence
+
+from captures import Event
 from rules.blending import HALF, Blending
+
+Colour = tuple[int, ...]
 
 BEYOND = 1 << 20  # above any sum of a source and what was there
 
 
-def nearest(value):
+def nearest(value: int) -> list[int]:
     """The bytes from the nearest to a byte to the farthest."""
     return sorted(range(256), key=lambda other: abs(other - value))
 
@@ -13,22 +18,23 @@ def nearest(value):
 class Undoing(Blending):
     """A blend state with its factor, and what is known already of the sources that give a colour."""
 
-    def __init__(self, blend, factor):
+    def __init__(self, blend: Event, factor: Sequence[int]) -> None:
         super().__init__(blend, factor)
         first, second, operation = blend["rgb"]
         self.is_straight = "SRC_COLOR" not in first + second and operation not in (
             "MIN",
             "MAX",
         )  # in each channel of the source
-        self.known, self.alphas_known = {}, {}
+        self.known: dict[tuple[Colour, Colour, Colour, int], Colour | None] = {}
+        self.alphas_known: dict[tuple[int, int, int, int], list[int]] = {}
 
-    def over(self, source, there, layers):
+    def over(self, source: Colour, there: Colour, layers: int) -> Colour:
         """A pixel after so many equal layers of a source."""
         for _ in range(layers):
             there = self.colour(source, there)
         return there
 
-    def source(self, guess, before, after, layers):
+    def source(self, guess: Colour, before: Colour, after: Colour, layers: int) -> Colour | None:
         """The source nearest to a guess that gives a pixel's colour after the draw from the one before it; None
         where none is found."""
         key = guess, before, after, layers
@@ -36,19 +42,19 @@ class Undoing(Blending):
             self.known[key] = self.solved(*key)
         return self.known[key]
 
-    def solved(self, guess, before, after, layers):
+    def solved(self, guess: Colour, before: Colour, after: Colour, layers: int) -> Colour | None:
         if self.over(guess, before, layers) == after:
             return guess
         if not self.enable:
             made = tuple(after[channel] if self.mask >> channel & 1 else guess[channel] for channel in range(4))
             return made if self.over(made, before, layers) == after else None
         for alpha in self.alphas(guess[3], before[3], after[3], layers):
-            made = self.with_alpha((*guess[:3], alpha), before, after, layers)
-            if made:
-                return made
+            found = self.with_alpha((*guess[:3], alpha), before, after, layers)
+            if found:
+                return found
         return None
 
-    def alphas(self, guess, before, after, layers):
+    def alphas(self, guess: int, before: int, after: int, layers: int) -> list[int]:
         """The source's alphas that give an alpha, the nearest to a guess first: no colour is in the alpha part."""
         key = guess, before, after, layers
         if key not in self.alphas_known:
@@ -57,7 +63,7 @@ class Undoing(Blending):
             ]
         return self.alphas_known[key]
 
-    def with_alpha(self, source, before, after, layers):
+    def with_alpha(self, source: Colour, before: Colour, after: Colour, layers: int) -> Colour | None:
         """The source with this alpha whose other channels are the nearest ones that give what is wanted."""
         for channel in range(3):
             found = (self.straight if self.is_straight and layers == 1 else self.tried)(
@@ -68,7 +74,7 @@ class Undoing(Blending):
             source = (*source[:channel], found, *source[channel + 1 :])
         return source
 
-    def tried(self, channel, source, both, layers):
+    def tried(self, channel: int, source: Colour, both: tuple[Colour, Colour], layers: int) -> int | None:
         """The value of a channel nearest to the source's that gives what is wanted, or None."""
         before, after = both
         for value in nearest(source[channel]):
@@ -76,7 +82,7 @@ class Undoing(Blending):
                 return value
         return None
 
-    def straight(self, channel, source, both, _):
+    def straight(self, channel: int, source: Colour, both: tuple[Colour, Colour], _: int) -> int | None:
         """The same where the value stands once in the equation: there is an interval of values, by the rounding of
         `unorm`."""
         before, after = both

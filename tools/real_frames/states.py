@@ -1,11 +1,15 @@
 """RenderDoc's pipeline state in framedbg's words. Names of RenderDoc's enumerations come as text, so that nothing
 here needs its module."""
+from collections.abc import Sequence
 from dataclasses import dataclass
+from typing import Any
 
 import captures
+from captures import Event
 
+from .losses import Losses
 from .placing import Bias
-from .viewport import Viewport
+from .viewport import Rectangle, Viewport
 
 FACTORS = {
     "Zero": "ZERO",
@@ -56,27 +60,28 @@ class State:
     """The state of a draw: events of framedbg, and what places its triangles."""
 
     viewport: Viewport
-    scissor: list  # the rectangle that scissor and viewport leave
-    raster: dict
-    blend: dict
-    factor: dict
-    depth: dict
+    scissor: Rectangle  # that scissor and viewport leave
+    raster: Event
+    blend: Event
+    factor: Event
+    depth: Event
     clip_depth: bool = True
     bias: Bias = Bias()
     width: float = 1.0  # of lines and points, in pixels
     discards: bool = False  # a shader may discard fragments, or the alpha or the stencil test
 
-    def rectangle(self):
+    def rectangle(self) -> Rectangle | None:
         return self.scissor if self.raster["scissor"] else None
 
 
-def byte(value):
+def byte(value: float) -> int:
     return min(max(int(value * 255 + 0.5), 0), 255)
 
 
-def part(source, destination, operation, for_alpha, losses):
+def part(told: Sequence[str], for_alpha: bool, losses: Losses) -> list[str]:
     """One part of a blend state. In the alpha part a colour factor is the alpha factor, as the two are the same
     there."""
+    source, destination, operation = told
     words = []
     for name in (source, destination):
         if name in NEAREST:
@@ -86,17 +91,17 @@ def part(source, destination, operation, for_alpha, losses):
     return words + [OPERATIONS[operation]]
 
 
-def plain(mask=15):
+def plain(mask: int = 15) -> Event:
     """No blending."""
     return captures.blend(False, mask=mask & 15)
 
 
-def blend(colour, alpha, mask, losses):
-    """Each of colour and alpha is (source, destination, operation)."""
-    return captures.blend(True, part(*colour, False, losses), part(*alpha, True, losses), mask & 15)
+def blend(colour: Sequence[str], alpha: Sequence[str], mask: int, losses: Losses) -> Event:
+    """Each of colour and alpha is a source, a destination and an operation."""
+    return captures.blend(True, part(colour, False, losses), part(alpha, True, losses), mask & 15)
 
 
-def factor(constant, colour, losses):
+def factor(constant: Sequence[float], colour: Sequence[str], losses: Losses) -> Event:
     """The blend constant. Where the colour part takes the constant's alpha, all channels become that alpha."""
     r, g, b, a = (byte(v) for v in constant)
     if any(name.endswith("FactorAlpha") for name in colour[:2]):
@@ -109,11 +114,11 @@ def factor(constant, colour, losses):
 class StateLog:
     """Adds a state event only where the state isn't so already."""
 
-    def __init__(self, events):
+    def __init__(self, events: list[Event]) -> None:
         self.events = events
-        self.last = {}
+        self.last: dict[str, Event] = {}
 
-    def set(self, event, source):
+    def set(self, event: Event, source: dict[str, Any]) -> None:
         if self.last.get(event["kind"]) != event:
             self.last[event["kind"]] = event
             self.events.append({**event, "source": source})

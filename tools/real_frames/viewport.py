@@ -1,5 +1,8 @@
 """Where clip space lands on the target."""
+from collections.abc import Sequence
 from dataclasses import dataclass
+
+Rectangle = list[int]  # left, top, right, bottom
 
 
 @dataclass(frozen=True)
@@ -16,7 +19,7 @@ class Viewport:
     half_depth: bool = True  # clip space has 0 <= z <= w, else -w <= z <= w
     rows_from_below: bool = False  # an edge along the middles of a row gives it to what lies over the edge
 
-    def place(self, vertex):
+    def place(self, vertex: Sequence[float]) -> tuple[float, float, float]:
         """Gives (x, y, depth) of a vertex in clip space: pixels, and a depth of 0 to 1."""
         x, y, z, w = vertex
         x, y, z = x / w, y / w, z / w
@@ -30,15 +33,15 @@ class Viewport:
             self.nearest + z * (self.farthest - self.nearest),
         )
 
-    def box(self):
+    def box(self) -> Rectangle:
         """The rectangle that it is: left, top, right, bottom in whole pixels."""
         return rectangle(self.left, min(self.top, self.top + self.height), self.width, abs(self.height))
 
 
-def rectangle(left, top, width, height):
+def rectangle(left: float, top: float, width: float, height: float) -> Rectangle:
     return [int(left), int(top), int(left + width), int(top + height)]
 
 
-def meet(first, second):
+def meet(first: Rectangle, second: Rectangle) -> Rectangle:
     """The rectangle that lies in both; its right may be left of its left, where there is none."""
     return [max(first[0], second[0]), max(first[1], second[1]), min(first[2], second[2]), min(first[3], second[3])]
