@@ -256,7 +256,7 @@ class Sums(Hands):
             self.browser.until("return document.querySelectorAll('#history .entry').length === 4")
             self.choose_entry(11)
             self.comes(lambda: len(self.sum()), 4)
-            self.within("const { frame } = await import(name('frame.js')); frame.entries.at(-1).source.r = 200;")
+            self.within("const { shown } = await import(name('shown.js')); shown.entries.at(-1).source.r = 200;")
             self.browser.press("Escape", "Left", "Right")
             self.comes(
                 lambda: self.sum()[:1],

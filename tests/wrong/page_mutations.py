@@ -114,7 +114,7 @@ MUTATIONS = [   # name, file, text, what stands there instead, test
     ("page: the card is asked for no frame", "page/run.js", '  if (!capture) throw new Error("no capture is shown yet");\n', "", "CardInChromium.test_before_a_capture_is_chosen"),
     ("page: another run of the card's capture", "page/run.js", "const run = new Runner(() => workerOf(bytes));\n  let position", "const run = new Runner(started);\n  let position", "CardInChromium.test_a_dropped_capture"),
     ("viewer: the outline stays", "viewer/page/picture.js", "    this.setOutline(null);\n    this.setMark(null);\n", "    this.setMark(null);\n", ANOTHER),
-    ("viewer: the pixel stays", "viewer/page/frame.js", "  Object.assign(frame, unset(), { isOpening: true });\n", "", ANOTHER),
+    ("viewer: the pixel stays", "viewer/page/frame.js", "      show(UNKNOWN);\n", "", ANOTHER),
     ("viewer: groups of another capture", "viewer/page/events.js", "  group();\n  const rows", "  if (!filter) group();\n  const rows", "test_another_capture_is_filtered"),
     ("viewer: the log stays", "viewer/page/log.js", "  log.replaceChildren();\n", "", ANOTHER),
 ]

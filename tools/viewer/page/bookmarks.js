@@ -1,18 +1,24 @@
 // Places that the user keeps, by the capture's name.
 
+import { $ } from "./elements.js";
 import { readPlace } from "./place.js";
 
-const list = document.getElementById("bookmarks");
+/** @typedef {import("./types").Stand} Stand */
+
+const list = $("bookmarks");
 let key = "";
 
-const kept = () => { try { return JSON.parse(localStorage.getItem(key)) ?? []; } catch { return []; } };
+/** @type {() => string[]} */
+const kept = () => { try { return JSON.parse(localStorage.getItem(key) ?? "null") ?? []; } catch { return []; } };
 
+/** @type {(name: string) => void} */
 export function showBookmarks(name) {
   key = `bookmarks ${name}`;
   draw();
 }
 
 // Keeps a place, or forgets it where it is kept already; says which
+/** @type {(place: string) => boolean} */
 export function keepBookmark(place) {
   const places = kept(), isKept = places.includes(place);
   localStorage.setItem(key, JSON.stringify(isKept ? places.filter(other => other !== place) : [...places, place]));
@@ -26,6 +32,7 @@ function draw() {
   list.replaceChildren(new Option("Bookmarks", ""), ...places.map(place => new Option(place.replaceAll("&", " "), place)));
 }
 
+/** @type {(lead: (place: Stand) => void) => void} */
 export function followBookmarks(lead) {
   list.onchange = () => {
     const place = readPlace(list.value);

@@ -3,8 +3,13 @@
 import { Player } from "./card_player.js";
 import { COLUMNS, Row, several, tellCard, tellEvent, tellFirst, tellFrame, tellRows, Trial } from "./card_trial.js";
 import { coarse } from "./features.js";
-import { element } from "./list.js";
+import { $, element } from "./elements.js";
+import { messageOf } from "./log.js";
 import { openCapture, ownCapture } from "./run.js";
+
+/** @typedef {import("./types").Capture} Capture */
+/** @typedef {import("./card_trial.js").First} First */
+/** @typedef {{ player: Player, trial: Trial, say: (text: string) => void }} Hands */
 
 const DIALOG = `<h2>This card</h2>
   <p>Scenes of one feature each are drawn by this browser's WebGL2 and by framedbg, and compared pixel by pixel.
@@ -20,8 +25,11 @@ const DIALOG = `<h2>This card</h2>
   <form method="dialog"><button id="card-copy" type="button" hidden title="The table as a text, for a bug report">Copy report</button>
     <button id="card-keep" type="button" hidden title="The scene of the first pixel that differs, for framedbg-driver">Save scene</button>
     <button>Close</button></form>`;
-const $ = id => document.getElementById(id);
-let dialog = null, turns = 0, report = "", worst = null;
+/** @type {HTMLDialogElement | null} */
+let dialog = null;
+let turns = 0, report = "";
+/** @type {First | null} */
+let worst = null;
 
 // The view, opened by whoever asks for it
 export function showCard() {
@@ -29,6 +37,7 @@ export function showCard() {
   if (!dialog.open) dialog.showModal();
 }
 
+/** @type {() => HTMLDialogElement} */
 function made() {
   const its = document.createElement("dialog");
   Object.assign(its, { id: "card", innerHTML: DIALOG });
@@ -38,13 +47,13 @@ function made() {
   $("card-stop").onclick = stop;
   $("card-copy").onclick = () => navigator.clipboard.writeText(report);
   $("card-keep").onclick = keep;
-  $("card-file").onchange = () => { take($("card-file").files[0]); $("card-file").value = ""; };
+  $("card-file").onchange = () => { take($("card-file").files?.[0]); $("card-file").value = ""; };
   its.onclose = stop;
   its.ondragover = event => event.preventDefault();
   its.ondrop = event => {
     event.preventDefault();
     event.stopPropagation();
-    take(event.dataTransfer.files[0]);
+    take(event.dataTransfer?.files[0]);
   };
   return its;
 }
@@ -54,11 +63,14 @@ function stop() {
   $("card-stop").hidden = true;
 }
 
+/** @type {(file?: File) => unknown} */
 const take = file => file && work(async hands => compare(hands, { name: file.name, bytes: new Uint8Array(await file.arrayBuffer()) }));
 
 // Has the card do something; what was begun before is given up
+/** @type {(doing: (hands: Hands) => Promise<string>) => Promise<void>} */
 async function work(doing) {
   const its = ++turns, isStopped = () => its !== turns;
+  /** @type {Player | null} */
   let player = null;
   [report, worst] = ["", null];
   $("card-table").replaceChildren();
@@ -66,21 +78,23 @@ async function work(doing) {
   $("card-stop").hidden = false;
   try {
     player = new Player();
-    const told = await doing({ player, trial: new Trial(player, openCapture, isStopped), say: text => isStopped() || ($("card-told").textContent = text) });
+    const told = await doing({ player, trial: new Trial(player, openCapture, isStopped), say: text => { if (!isStopped()) $("card-told").textContent = text; } });
     if (!isStopped()) finish(told);
   } catch (fault) {
-    if (!isStopped()) $("card-told").textContent = String(fault.message ?? fault);
+    if (!isStopped()) $("card-told").textContent = messageOf(fault);
   } finally {
     player?.close();
     if (!isStopped()) $("card-stop").hidden = true;
   }
 }
 
+/** @type {(told: string) => void} */
 function finish(told) {
   report = told;
   $("card-copy").hidden = false;
 }
 
+/** @type {(first: First | null) => void} */
 function noteFirst(first) {
   if (worst || !first) return;
   worst = first;
@@ -90,6 +104,7 @@ function noteFirst(first) {
 }
 
 // ---- Scenes
+/** @type {(hands: Hands) => Promise<string>} */
 async function tryScenes({ player, trial, say }) {
   const named = player.named(), scenes = Math.max(1, Math.min(100, Math.floor(+$("card-scenes").value) || 1));
   say(`${tellCard(named)}: how many bits of a pixel's fraction it has is tried`);
@@ -101,11 +116,13 @@ async function tryScenes({ player, trial, say }) {
   return tellRows(named, done, navigator.userAgent);
 }
 
+/** @type {(names: string[]) => void} */
 function headRow(names) {
   $("card-table").createTHead().insertRow().append(...names.map(name => element("th", "", name)));
   $("card-table").createTBody();
 }
 
+/** @type {(row: Row) => void} */
 function addRow(row) {
   const line = $("card-table").tBodies[0].insertRow();
   line.className = row.verdict.split(" ")[0];
@@ -115,10 +132,13 @@ function addRow(row) {
 }
 
 // ---- A capture
+/** @type {(hands: Hands, file: { name: string, bytes: Uint8Array }) => Promise<string>} */
 async function compare({ player, trial, say }, { name, bytes }) {
   const named = player.named(), read = await readCapture(name, bytes);
   say(`${tellCard(named)}: how many bits of a pixel's fraction it has is tried`);
-  const bits = await trial.bits(), capture = coarse(read, bits), row = new Row(name), lines = [];
+  const bits = await trial.bits(), capture = coarse(read, bits), row = new Row(name);
+  /** @type {string[]} */
+  const lines = [];
   let judged = 0;
   headRow(["event"]);
   await trial.judged(capture, one => {
@@ -134,19 +154,21 @@ async function compare({ player, trial, say }, { name, bytes }) {
 }
 
 // One that framedbg refuses is told as elsewhere
+/** @type {(name: string, bytes: Uint8Array) => Promise<Capture>} */
 async function readCapture(name, bytes) {
   const run = openCapture(bytes);
   try {
     await run.ask(["state"]);
     return JSON.parse(new TextDecoder().decode(bytes));
   } catch (fault) {
-    throw new Error(`${name}: ${fault.message}`);
+    throw new Error(`${name}: ${messageOf(fault)}`);
   } finally {
     run.end();
   }
 }
 
 function keep() {
+  if (!worst) return;
   const { name, ...capture } = worst.capture, link = document.createElement("a");
   link.href = URL.createObjectURL(new Blob([JSON.stringify(capture)], { type: "application/json" }));
   link.download = name;

@@ -11,10 +11,11 @@ void main() {
   bytes = vec4(float(depth / 256), float(depth % 256), 0.0, 0.0) / 255.0;
 }`;
 
+/** @type {(gl: WebGL2RenderingContext, ...texts: string[]) => WebGLProgram} */
 export function programOf(gl, ...texts) {
-  const made = gl.createProgram();
+  const made = /** @type {WebGLProgram} */ (gl.createProgram());
   texts.forEach((text, at) => {
-    const shader = gl.createShader(at ? gl.FRAGMENT_SHADER : gl.VERTEX_SHADER);
+    const shader = /** @type {WebGLShader} */ (gl.createShader(at ? gl.FRAGMENT_SHADER : gl.VERTEX_SHADER));
     gl.shaderSource(shader, text);
     gl.compileShader(shader);
     gl.attachShader(made, shader);
@@ -25,15 +26,19 @@ export function programOf(gl, ...texts) {
 }
 
 export class Target {
+  width = 0; height = 0;
+  /** @type {(WebGLTexture | null)[]} */ textures = [];
+
+  /** @param {WebGL2RenderingContext} gl */
   constructor(gl) {
     this.gl = gl;
     this.frame = gl.createFramebuffer();
     this.other = gl.createFramebuffer();
     this.program = programOf(gl, WHOLE, TWO_BYTES);
-    this.textures = [];
   }
 
   // Another size, with pixels of any colour
+  /** @type {(width: number, height: number) => void} */
   resize(width, height) {
     const { gl } = this, most = gl.getParameter(gl.MAX_TEXTURE_SIZE);
     if (Math.max(width, height) > most) throw new Error(`the card's textures have at most ${most} pixels a side, and the target is ${width} by ${height}`);
@@ -45,6 +50,7 @@ export class Target {
     this.attach(this.frame, [[gl.COLOR_ATTACHMENT0, colours], [gl.DEPTH_ATTACHMENT, depths]]);
   }
 
+  /** @type {(kind: number) => WebGLTexture | null} */
   texture(kind) {
     const { gl } = this, made = gl.createTexture();
     gl.bindTexture(gl.TEXTURE_2D, made);
@@ -53,6 +59,7 @@ export class Target {
     return made;
   }
 
+  /** @type {(frame: WebGLFramebuffer | null, textures: [where: number, texture: WebGLTexture | null][]) => void} */
   attach(frame, textures) {
     const { gl } = this;
     gl.bindFramebuffer(gl.FRAMEBUFFER, frame);
@@ -84,12 +91,13 @@ export class Target {
   }
 
   // Sets all colours, and depths where there are some, whatever the state
+  /** @type {(colours: Uint8Array, depths?: Uint16Array | null) => void} */
   put(colours, depths = null) {
-    const { gl } = this, all = [0, 0, 0, this.width, this.height];
+    const { gl, width, height } = this;
     gl.bindTexture(gl.TEXTURE_2D, this.textures[0]);
-    gl.texSubImage2D(gl.TEXTURE_2D, ...all, gl.RGBA, gl.UNSIGNED_BYTE, colours);
+    gl.texSubImage2D(gl.TEXTURE_2D, 0, 0, 0, width, height, gl.RGBA, gl.UNSIGNED_BYTE, colours);
     if (!depths) return;
     gl.bindTexture(gl.TEXTURE_2D, this.textures[1]);
-    gl.texSubImage2D(gl.TEXTURE_2D, ...all, gl.DEPTH_COMPONENT, gl.UNSIGNED_SHORT, depths);
+    gl.texSubImage2D(gl.TEXTURE_2D, 0, 0, 0, width, height, gl.DEPTH_COMPONENT, gl.UNSIGNED_SHORT, depths);
   }
 }

@@ -1,9 +1,13 @@
 // The columns beside the picture: dragged, moved by keys, and folded by a double click. What the user chose is kept.
 
-const KEY = "columns", LEAST = 140, STEP = 20;      // pixels of the page: less than the least is folded
-const main = document.querySelector("main");
-const widths = (() => { try { return JSON.parse(localStorage.getItem(KEY)) ?? {}; } catch { return {}; } })();
+import { all } from "./elements.js";
 
+const KEY = "columns", LEAST = 140, STEP = 20;      // pixels of the page: less than the least is folded
+const main = all("main")[0];
+/** @type {Record<string, number | null>} */
+const widths = (() => { try { return JSON.parse(localStorage.getItem(KEY) ?? "null") ?? {}; } catch { return {}; } })();
+
+/** @type {(side: string, width: number | null) => void} */
 function set(side, width) {
   widths[side] = width === null ? null : width < LEAST ? 0 : Math.min(width, Math.round(innerWidth * 0.45));
   apply();
@@ -19,8 +23,8 @@ function apply() {
 }
 
 export function dragColumns() {
-  for (const bar of document.querySelectorAll(".splitter")) {
-    const { side } = bar.dataset, sign = side === "left" ? 1 : -1, column = side === "left" ? bar.previousElementSibling : bar.nextElementSibling;
+  for (const bar of all(".splitter")) {
+    const { side = "" } = bar.dataset, sign = side === "left" ? 1 : -1, column = /** @type {Element} */ (side === "left" ? bar.previousElementSibling : bar.nextElementSibling);
     bar.onpointerdown = down => {
       const was = column.getBoundingClientRect().width;
       down.preventDefault();
@@ -30,7 +34,7 @@ export function dragColumns() {
     };
     bar.ondblclick = () => set(side, widths[side] === 0 ? null : 0);
     bar.onkeydown = event => {
-      const by = { ArrowLeft: -STEP, ArrowRight: STEP }[event.key], width = column.getBoundingClientRect().width;
+      const by = event.key === "ArrowLeft" ? -STEP : event.key === "ArrowRight" ? STEP : 0, width = column.getBoundingClientRect().width;
       if (event.key === "Enter") set(side, widths[side] === 0 ? null : 0);
       else if (by) set(side, width === 0 ? LEAST : width + sign * by);
       else return;

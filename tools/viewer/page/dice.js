@@ -3,6 +3,7 @@
 export class Dice {
   state = 0x811c9dc5;
 
+  /** @param {string} seed */
   constructor(seed) {
     for (const byte of new TextEncoder().encode(seed)) this.state = Math.imul(this.state ^ byte, 0x01000193) >>> 0;
   }
@@ -16,10 +17,14 @@ export class Dice {
   }
 
   // A whole number from 0 to one less than the end
+  /** @type {(end: number) => number} */
   below(end) { return this.next() % end; }
+  /** @type {(first: number, end: number) => number} */
   between(first, end) { return first + this.below(end - first); }
+  /** @template T @param {readonly T[]} some @returns {T} */
   choice(some) { return some[this.below(some.length)]; }
 
   // True in so many of ten
+  /** @type {(tenths: number) => boolean} */
   isSo(tenths) { return this.below(10) < tenths; }
 }

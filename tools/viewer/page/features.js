@@ -2,6 +2,12 @@
 
 import { box, HALF, PIXEL, REPLACE, Scene, SIDE, times } from "./scene.js";
 
+/** @typedef {import("./types").Capture} Capture */
+/** @typedef {import("./types").Draw} Draw */
+/** @typedef {import("./types").Vertex} Vertex */
+/** @typedef {import("./dice.js").Dice} Dice */
+/** @typedef {(it: Scene) => void} Feature */
+
 const FACTORS = ["ZERO", "ONE", "SRC_COLOR", "INV_SRC_COLOR", "SRC_ALPHA", "INV_SRC_ALPHA", "DEST_ALPHA", "INV_DEST_ALPHA", "DEST_COLOR",
   "INV_DEST_COLOR", "BLEND_FACTOR", "INV_BLEND_FACTOR"];
 const ALPHA_FACTORS = FACTORS.filter(name => !name.endsWith("_COLOR"));
@@ -11,10 +17,16 @@ const OVER = ["SRC_ALPHA", "INV_SRC_ALPHA", "ADD"], SUM = ["ONE", "ONE", "ADD"];
 const DEEP = 65_535, LEAST_EDGE = -(2 ** 31), MOST_EDGE = 2 ** 31 - 1;
 export const WHOLE = "every ";          // features that begin so have one scene
 
+/** @template T @param {() => T} made @returns {T[]} */
 const four = made => times(4, made);
+/** @type {(dice: Dice) => number} */
 const byte = dice => dice.below(256);
 
+/** @type {(it: Scene) => Draw} */
+const lastOf = it => /** @type {Draw} */ (it.events[it.events.length - 1]);
+
 // ---- Coverage
+/** @type {Feature} */
 function sharedEdges(it) {
   it.blend(SUM, { alpha: SUM });
   const columns = it.dice.between(3, 12), rows = it.dice.between(3, 12);
@@ -23,6 +35,7 @@ function sharedEdges(it) {
   it.draw(triangles, triangles.flatMap(() => Array(3).fill([40, 40, 40, 40])));
 }
 
+/** @type {Feature} */
 function topLeftRule(it) {
   for (let turn = 0; turn < 4; turn++) {
     it.flat(times(8, () => {
@@ -34,6 +47,7 @@ function topLeftRule(it) {
   }
 }
 
+/** @type {(it: Scene, isLinear?: boolean) => void} */
 function slivers(it, isLinear = false) {
   for (let turn = 0; turn < 4; turn++) {
     const triangles = times(60, () => {
@@ -45,6 +59,7 @@ function slivers(it, isLinear = false) {
   }
 }
 
+/** @type {Feature} */
 function smallTriangles(it) {
   for (let turn = 0; turn < 4; turn++) {
     const places = times(120, () => it.place(0));
@@ -52,6 +67,7 @@ function smallTriangles(it) {
   }
 }
 
+/** @type {(reach: number, isLinear?: boolean) => Feature} */
 const huge = (reach, isLinear = false) => it => {
   const far = () => times(2, () => it.dice.between(-reach, reach) * PIXEL);
   for (let turn = 0; turn < 4; turn++) {
@@ -62,6 +78,7 @@ const huge = (reach, isLinear = false) => it => {
 };
 
 // ---- Colours
+/** @type {Feature} */
 function flat(it) {
   for (let turn = 0; turn < 4; turn++) {
     const triangles = it.soup(6), indices = turn % 2 ? null : times(18, () => it.dice.below(18));
@@ -69,6 +86,7 @@ function flat(it) {
   }
 }
 
+/** @type {Feature} */
 function linearHalfway(it) {
   for (let turn = 0; turn < 3; turn++) {
     const triangles = [], colours = [];
@@ -81,6 +99,7 @@ function linearHalfway(it) {
   }
 }
 
+/** @type {(name: string, isSource: boolean) => Feature} */
 const factor = (name, isSource) => it => {
   it.mosaic();
   it.factor(...it.any());
@@ -89,18 +108,21 @@ const factor = (name, isSource) => it => {
   it.mosaic();
 };
 
+/** @type {(name: string) => Feature} */
 const operation = name => it => {
   it.mosaic();
   it.blend(["ONE", "ONE", name], { alpha: ["ONE", "ONE", name] });
   it.mosaic();
 };
 
+/** @type {Feature} */
 function alphaOver(it) {
   it.mosaic();
   it.blend(OVER, { alpha: ["ONE", "INV_SRC_ALPHA", "ADD"] });
   it.mosaic();
 }
 
+/** @type {Feature} */
 function anyBlending(it) {
   it.mosaic();
   for (let turn = 0; turn < 4; turn++) {
@@ -112,6 +134,7 @@ function anyBlending(it) {
 }
 
 // All pairs of a source's byte (its column) and a destination's (its row)
+/** @type {(rgb: string[], alpha?: number | null) => Feature} */
 const everyPair = (rgb, alpha = 255) => it => {
   it.side = 256;
   for (const isRow of [true, false]) {
@@ -122,6 +145,7 @@ const everyPair = (rgb, alpha = 255) => it => {
 };
 
 // ---- State
+/** @type {Feature} */
 function mask(it) {
   it.mosaic(8);
   for (let bits = 0; bits < 16; bits++) {
@@ -130,6 +154,7 @@ function mask(it) {
   }
 }
 
+/** @type {Feature} */
 function scissor(it) {
   const edge = () => it.dice.choice([0, SIDE, it.dice.between(-9, SIDE + 9), it.dice.below(SIDE), LEAST_EDGE, MOST_EDGE]);
   for (let turn = 0; turn < 10; turn++) {
@@ -139,6 +164,7 @@ function scissor(it) {
   }
 }
 
+/** @type {Feature} */
 function culling(it) {
   for (let turn = 0; turn < 3; turn++) {
     for (const cull of CULLS) {
@@ -151,6 +177,7 @@ function culling(it) {
   }
 }
 
+/** @type {Feature} */
 function clears(it) {
   for (let turn = 0; turn < 8; turn++) {
     it.scissor(...four(() => it.dice.below(SIDE)));
@@ -163,11 +190,12 @@ function clears(it) {
   }
 }
 
+/** @type {Feature} */
 function oddLists(it) {
   for (let turn = 0; turn < 4; turn++) {
     const p = it.place(), q = it.place();
     it.flat([[p, p, q], [p, q, q], [p, q, q.map((b, axis) => 2 * b - p[axis])], [p, p, p], ...it.soup(2)]);
-    const { vertices } = it.events.at(-1);
+    const { vertices } = lastOf(it);
     vertices.push(...vertices.slice(0, it.dice.below(3)));
     it.add({ kind: "draw", interp: "flat", vertices: [] });
     const indices = times(it.dice.below(12), () => it.dice.below(vertices.length));
@@ -175,6 +203,7 @@ function oddLists(it) {
   }
 }
 
+/** @type {Feature} */
 function order(it) {
   it.blend(OVER);
   for (let turn = 0; turn < 3; turn++) {
@@ -184,6 +213,7 @@ function order(it) {
 }
 
 // ---- Depth
+/** @type {(name: string) => Feature} */
 const depthFunction = name => it => {
   it.depthClear(it.dice.choice([0, DEEP, it.dice.below(DEEP + 1)]));
   it.depth("ALWAYS");
@@ -196,8 +226,10 @@ const depthFunction = name => it => {
   }
 };
 
+/** @type {(it: Scene, count: number) => number[]} */
 const anyDepths = (it, count) => times(3 * count, () => it.dice.choice([0, DEEP, it.dice.below(DEEP + 1), it.dice.below(DEEP + 1)]));
 
+/** @type {Feature} */
 function depthValues(it) {
   it.depth("ALWAYS");
   for (let turn = 0; turn < 3; turn++) {
@@ -206,6 +238,7 @@ function depthValues(it) {
   }
 }
 
+/** @type {Feature} */
 function depthCrossing(it) {
   it.depth("LESS");
   for (let turn = 0; turn < 4; turn++) {
@@ -215,18 +248,22 @@ function depthCrossing(it) {
 }
 
 // The same triangles a second time, EQUAL: each passes where it was in front
+/** @type {Feature} */
 function depthAgain(it) {
   it.depth("LESS_EQUAL");
   const triangles = it.soup(6);
   it.flat(triangles, times(18, () => it.dice.below(DEEP + 1)));
-  const { vertices } = it.events.at(-1);
+  const { vertices } = lastOf(it);
   it.depth("EQUAL", { write: false });
+  /** @type {(vertex: Vertex) => Vertex} */
   const turned = ({ color: [r, g, b], ...place }) => ({ ...place, color: [255 - r, 255 - g, 255 - b, 255] });
   it.add({ kind: "draw", interp: "flat", vertices: vertices.map(turned) });
 }
 
+/** @type {(prefix: string, names: string[], made: (name: string) => Feature) => Record<string, Feature>} */
 const named = (prefix, names, made) => Object.fromEntries(names.map(name => [`${prefix} ${name}`, made(name)]));
 
+/** @type {Record<string, Feature>} */
 export const FEATURES = {
   subpixels: it => times(4, () => it.flat(it.soup(8))), "shared edges": sharedEdges, "top-left rule": topLeftRule, slivers: it => slivers(it),
   "small triangles": smallTriangles, "huge, to 1,000": huge(1000), "huge, to 8,000": huge(8000), "huge, to 16,000": huge(16_000),
@@ -242,14 +279,18 @@ export const FEATURES = {
 };
 
 // A capture with its corners moved to the nearest places that so many bits of a pixel's fraction hold
+/** @type {(capture: Capture, bits: number) => Capture} */
 export function coarse(capture, bits) {
-  const step = 2 ** (16 - bits), moved = value => Math.floor((value + step / 2) / step) * step;
+  const step = 2 ** (16 - bits), moved = /** @param {number} value */ value => Math.floor((value + step / 2) / step) * step;
+  /** @type {(vertex: Vertex) => Vertex} */
   const place = vertex => ({ ...vertex, x: moved(vertex.x), y: moved(vertex.y) });
+  /** @type {(event: Capture["events"][0]) => Capture["events"][0]} */
   const held = event => event.kind === "draw" ? { ...event, vertices: event.vertices.map(place) } : event;
   return bits >= 8 ? capture : { ...capture, events: capture.events.map(held) };
 }
 
 // A capture of a feature, with corners on so many bits of a pixel's fraction
+/** @type {(feature: string, seed: number, bits?: number) => Capture} */
 export function sceneOf(feature, seed, bits = 8) {
   const made = new Scene(feature, seed, bits);
   FEATURES[feature](made);

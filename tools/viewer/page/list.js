@@ -2,16 +2,26 @@
 // A row stays as long as its item is the same one and looks the same. Where it stands and how tall it is are remembered: to ask the browser amid changes
 // has it lay the page out at once, several times for a picture.
 
+/** @type {Record<string, number>} */
+const ASIDE = { ArrowUp: -1, ArrowDown: 1 };
+
+/** @template Item @typedef {{ item: Item, look: string | number, row: HTMLElement }} Row */
+/** @template Item @typedef {{ onKey?: (key: string, item: Item) => unknown, look?: (item: Item) => string | number }} How */
+
+/** @template Item */
 export class List {
-  constructor(element, rowHeight, row, { onKey = () => {}, look = () => NaN } = {}) {
+  /** @type {readonly Item[]} */ items = [];
+  /** @type {Map<number, Row<Item>>} */ rows = new Map();        // those that stand in the page, by the item's number
+  chosen = -1;                  // the item that keys move from
+  top = 0; height = 0;          // of what is in sight, in pixels of the page
+
+  // `row` makes the element of an item, and `look` tells what of its row may be another at another time; NaN is never the same
+  /** @param {HTMLElement} element @param {number} rowHeight @param {(item: Item, i: number) => HTMLElement} row @param {How<Item>} how */
+  constructor(element, rowHeight, row, { onKey = () => false, look = () => NaN } = {}) {
     this.element = element;
     this.rowHeight = rowHeight;
-    this.row = row;               // the element of item i
-    this.look = look;             // what of an item's row may be another at another time; NaN is never the same
-    this.items = [];
-    this.rows = new Map();        // those that stand in the page, by the item's number: { item, look, row }
-    this.chosen = -1;             // the item that keys move from
-    this.top = this.height = 0;   // of what is in sight, in pixels of the page
+    this.row = row;
+    this.look = look;
     this.body = element.appendChild(document.createElement("div"));
     this.body.className = "rows";
     element.tabIndex = 0;
@@ -29,9 +39,10 @@ export class List {
   }
 
   // Up and down choose rows; onKey(key, item) is told of these, and of what else is pressed, and says whether it took the key
+  /** @type {(event: KeyboardEvent, onKey: (key: string, item: Item) => unknown) => void} */
   press(event, onKey) {
     if (event.shiftKey) return;          // the page's own: the pixel is moved
-    const aside = { ArrowUp: -1, ArrowDown: 1 }[event.key] ?? 0;
+    const aside = ASIDE[event.key] ?? 0;
     if (aside) this.chosen = Math.max(0, Math.min(this.items.length - 1, this.chosen + aside));
     const item = this.items[this.chosen];
     if (!item || !onKey(event.key, item)) return;
@@ -40,11 +51,13 @@ export class List {
     event.stopPropagation();
   }
 
+  /** @type {(items: readonly Item[]) => void} */
   show(items) {
     this.items = items;
     this.draw();
   }
 
+  /** @type {(i: number) => void} */
   choose(i) {
     this.chosen = i;
     this.reveal(i);
@@ -59,7 +72,7 @@ export class List {
     for (const [i, { row }] of before) if (this.rows.get(i)?.row !== row) row.remove();
     let next = this.body.firstChild;
     for (const { row } of this.rows.values()) {
-      if (row === next) next = next.nextSibling;
+      if (row === next) next = row.nextSibling;
       else this.body.insertBefore(row, next);
     }
     if (this.chosen >= 0) this.element.setAttribute("aria-activedescendant", `${this.element.id}-${this.chosen}`);
@@ -71,6 +84,7 @@ export class List {
     for (const kept of this.rows.values()) kept.look = NaN;
   }
 
+  /** @type {(item: Item, i: number) => Row<Item>} */
   rowOf(item, i) {
     const was = this.rows.get(i), look = this.look(item);
     if (was?.item === item && was.look === look) return was;
@@ -83,6 +97,7 @@ export class List {
     return { item, look, row };
   }
 
+  /** @type {(i: number) => void} */
   reveal(i) {
     if (i < 0) return;
     const top = i * this.rowHeight;
@@ -93,20 +108,4 @@ export class List {
     }
     this.draw();
   }
-}
-
-export function element(kind, className = "", ...inside) {
-  const made = document.createElement(kind);
-  if (className) made.className = className;
-  made.append(...inside);
-  return made;
-}
-
-// A swatch of a colour, its alpha in the right half over a chequerboard
-export function swatch({ r, g, b, a }) {
-  const made = element("span", "swatch");
-  made.style.setProperty("--opaque", `rgb(${r} ${g} ${b})`);
-  made.style.setProperty("--seen", `rgb(${r} ${g} ${b} / ${a / 255})`);
-  made.title = `${r} ${g} ${b} ${a}`;
-  return made;
 }

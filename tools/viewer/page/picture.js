@@ -3,45 +3,86 @@
 import { listenToHands } from "./touch.js";
 import { knownBands } from "./image.js";
 import { lighten, paint, paintDifference, paintGreys, paintValues } from "./paint.js";
+import { contextOf } from "./elements.js";
+import { show, shown } from "./shown.js";
+
+/** @typedef {import("./types").Band} Band */
+/** @typedef {import("./types").Chart} Chart */
+/** @typedef {import("./types").Difference} Difference */
+/** @typedef {import("./types").Image} Image */
+/** @typedef {import("./types").Part} Part */
+/** @typedef {import("./types").Place} Place */
+/** @typedef {import("./types").Point} Point */
+/** @typedef {import("./types").Rect} Rect */
+// Elements of the page
+/** @typedef {{ stage: HTMLElement, sheet: HTMLElement, canvas: HTMLCanvasElement, grid: HTMLElement, scissor: HTMLElement, box: HTMLElement, cross: HTMLElement, outline: SVGSVGElement, mark: HTMLElement }} Parts */
+/** @typedef {{ difference?: Difference | null, isWhite?: boolean, lights?: Uint8Array | null }} How */
+
+/** @type {(value: number) => [r: number, g: number, b: number]} */
+const grey = value => [value, value, value];
 
 export class Picture {
+  width = 0; height = 0;                // of the target
+  fitted = true;
+  moved = 0;
+  /** @type {Part | null} */ part = null;                                     // that is on the canvas
+  /** @type {{ image: Image, how: string } | null} */ plain = null;           // an image that is there as it is
+  /** @type {Rect | null} */ crossAt = null;
+  /** @type {Rect | null} */ boxAt = null;
+  /** @type {Rect | null} */ scissorAt = null;
+  /** @type {Point | null} */ markAt = null;
+  /** @type {(place: Place) => void} */ onPick = () => {};
+  /** @type {(place: Place | null) => void} */ onHover = () => {};
+  /** @type {(zoom: number) => void} */ onZoom = () => {};
+  /** @type {(visible: Rect) => void} */ onMove = () => {};
+  onView = () => {};
+
+  /** @param {Parts} parts */
   constructor(parts) {
-    Object.assign(this, parts);         // stage, sheet, canvas, grid, scissor, box, cross, outline, mark: elements of the page
-    this.zoom = 1;
-    this.fitted = true;
-    this.channels = { r: true, g: true, b: true, a: false };
-    this.onPick = this.onHover = this.onZoom = this.onMove = this.onView = () => {};
-    this.moved = 0;
+    this.stage = parts.stage;
+    this.sheet = parts.sheet;
+    this.canvas = parts.canvas;
+    this.grid = parts.grid;
+    this.scissor = parts.scissor;
+    this.box = parts.box;
+    this.cross = parts.cross;
+    this.outline = parts.outline;
+    this.mark = parts.mark;
     this.listen();
   }
 
+  get zoom() { return shown.zoom; }
+
   // Shows an image; where a difference is given, what is the same is dim, or what differs white; between the lights of a range, where there is one.
   // Of one that differs in some rows from what is shown those alone are painted
+  /** @type {(image: Image, how?: How) => void} */
   show(image, { difference = null, isWhite = false, lights = null } = {}) {
     this.setSize(image);
-    const how = JSON.stringify(this.channels), bands = this.plain?.how === how && !difference && !lights ? knownBands(image, this.plain.image) : null;
+    const how = JSON.stringify(shown.channels), bands = this.plain?.how === how && !difference && !lights ? knownBands(image, this.plain.image) : null;
     if (bands) this.drawBands(image, bands);
     else this.draw(image, pixels => {
       if (difference && isWhite) paintDifference(pixels, image.bytes, difference.mask);
-      else paint(pixels, image.bytes, difference?.mask, this.channels);
+      else paint(pixels, image.bytes, difference?.mask, shown.channels);
       if (lights) lighten(pixels, lights);
     });
     this.plain = difference || lights ? null : { image, how };
-    this.sheet.classList.toggle("transparent", this.channels.a && (this.channels.r || this.channels.g || this.channels.b));
+    this.sheet.classList.toggle("transparent", shown.channels.a && (shown.channels.r || shown.channels.g || shown.channels.b));
   }
 
+  /** @type {(image: Image, bands: Band[]) => void} */
   drawBands({ bytes, columns }, bands) {
     for (const [first, count] of bands) {
-      const shown = new ImageData(columns, count);
-      paint(shown.data, bytes.subarray(4 * columns * first, 4 * columns * (first + count)), null, this.channels);
-      this.canvas.getContext("2d").putImageData(shown, 0, first);
+      const band = new ImageData(columns, count);
+      paint(band.data, bytes.subarray(4 * columns * first, 4 * columns * (first + count)), null, shown.channels);
+      contextOf(this.canvas).putImageData(band, 0, first);
     }
   }
 
   // Shows a map in its part of the target: greys, or of each value its colour
-  showMap({ part, values, greys }, colour) {
+  /** @type {(map: { part: Part, greys?: Uint8Array, values?: Chart["values"] }, colour?: (value: number) => [r: number, g: number, b: number]) => void} */
+  showMap({ part, values, greys }, colour = grey) {
     this.plain = null;
-    this.draw(part, pixels => greys ? paintGreys(pixels, greys) : paintValues(pixels, values, colour));
+    this.draw(part, pixels => greys ? paintGreys(pixels, greys) : values && paintValues(pixels, values, colour));
     this.sheet.classList.remove("transparent");
   }
 
@@ -54,6 +95,7 @@ export class Picture {
     this.setBox(null);
   }
 
+  /** @type {(image: Image) => void} */
   setSize({ width, height }) {
     this.sheet.hidden = false;
     if (this.width === width && this.height === height) return;
@@ -62,13 +104,13 @@ export class Picture {
     if (this.fitted) this.fit();
   }
 
+  /** @type {(part: Part, paintOn: (pixels: Uint8ClampedArray) => void) => void} */
   draw(part, paintOn) {
-    const { columns, rows } = part, { canvas } = this;
+    const { columns, rows } = part, { canvas } = this, made = new ImageData(columns, rows);
     this.part = part;
     if (canvas.width !== columns || canvas.height !== rows) Object.assign(canvas, { width: columns, height: rows });
-    const shown = new ImageData(columns, rows);
-    paintOn(shown.data);
-    canvas.getContext("2d").putImageData(shown, 0, 0);
+    paintOn(made.data);
+    contextOf(canvas).putImageData(made, 0, 0);
     this.placeCanvas();
   }
 
@@ -83,9 +125,10 @@ export class Picture {
   leftOut() { return Math.max(1, Math.round(1 / (this.zoom * devicePixelRatio))); }
 
   // What of the target is in sight: [left, top, right, bottom] in its pixels
+  /** @type {() => Rect} */
   visible() {
     const stage = this.stage.getBoundingClientRect(), sheet = this.sheet.getBoundingClientRect();
-    const inside = (value, most) => Math.max(0, Math.min(most, value));
+    const inside = /** @type {(value: number, most: number) => number} */ (value, most) => Math.max(0, Math.min(most, value));
     return [inside(Math.floor((stage.left - sheet.left) / this.zoom), this.width - 1), inside(Math.floor((stage.top - sheet.top) / this.zoom), this.height - 1),
       inside(Math.ceil((stage.right - sheet.left) / this.zoom), this.width), inside(Math.ceil((stage.bottom - sheet.top) / this.zoom), this.height)];
   }
@@ -98,6 +141,7 @@ export class Picture {
   }
 
   // A zoom, with the stage's point (x, y) kept where it is
+  /** @type {(zoom: number, x?: number, y?: number) => void} */
   zoomTo(zoom, x = this.stage.clientWidth / 2, y = this.stage.clientHeight / 2) {
     const stage = this.stage.getBoundingClientRect(), sheet = this.sheet.getBoundingClientRect();
     const held = [(stage.left + x - sheet.left) / this.zoom, (stage.top + y - sheet.top) / this.zoom];
@@ -108,11 +152,14 @@ export class Picture {
     this.stage.scrollTop += moved.top + held[1] * this.zoom - stage.top - y;
   }
 
-  larger(x, y) { this.zoomTo(Math.min(64, this.zoom < 1 ? Math.min(1, this.zoom * 1.5) : this.zoom < 4 ? Math.floor(this.zoom) + 1 : Math.round(this.zoom * 1.5)), x, y); }
-  smaller(x, y) { this.zoomTo(Math.max(1 / 64, this.zoom <= 1 ? this.zoom / 1.5 : this.zoom <= 4 ? Math.ceil(this.zoom) - 1 : Math.round(this.zoom / 1.5)), x, y); }
+  /** @type {(x?: number, y?: number) => void} */
+  larger(x = undefined, y = undefined) { this.zoomTo(Math.min(64, this.zoom < 1 ? Math.min(1, this.zoom * 1.5) : this.zoom < 4 ? Math.floor(this.zoom) + 1 : Math.round(this.zoom * 1.5)), x, y); }
+  /** @type {(x?: number, y?: number) => void} */
+  smaller(x = undefined, y = undefined) { this.zoomTo(Math.max(1 / 64, this.zoom <= 1 ? this.zoom / 1.5 : this.zoom <= 4 ? Math.ceil(this.zoom) - 1 : Math.round(this.zoom / 1.5)), x, y); }
 
+  /** @type {(zoom: number) => void} */
   setZoom(zoom) {
-    this.zoom = zoom;
+    show({ zoom });
     const { style } = this.sheet;
     style.width = `${this.width * zoom}px`;
     style.height = `${this.height * zoom}px`;
@@ -134,11 +181,15 @@ export class Picture {
     this.moved = setTimeout(() => this.onMove(this.visible()), 150);
   }
 
+  /** @type {(x: number, y: number) => void} */
   setCross(x, y) { this.place(this.cross, this.crossAt = [x, y, x + 1, y + 1]); }
+  /** @type {(rect: Rect | null) => void} */
   setBox(rect) { this.place(this.box, this.boxAt = rect); }
+  /** @type {(rect: Rect | null) => void} */
   setScissor(rect) { this.place(this.scissor, this.scissorAt = rect && this.inside(rect)); }
 
   // A ring round a place between pixels, or none
+  /** @type {(at: Point | null) => void} */
   setMark(at) {
     this.markAt = at;
     this.mark.hidden = !at;
@@ -146,16 +197,19 @@ export class Picture {
   }
 
   // Three corners in pixels, or null
+  /** @type {(corners: Point[] | null) => void} */
   setOutline(corners) {
     for (const line of this.outline.children) line.setAttribute("points", corners ? corners.map(corner => corner.join(",")).join(" ") : "");
   }
 
+  /** @type {(rect: Rect) => Rect} */
   inside([left, top, right, bottom]) {
     if (left >= right || top >= bottom) return [0, 0, 0, 0];
-    const x = v => Math.max(-1, Math.min(this.width + 1, v)), y = v => Math.max(-1, Math.min(this.height + 1, v));
-    return [x(left), y(top), x(right), y(bottom)];
+    const within = /** @type {(edge: number, most: number) => number} */ (edge, most) => Math.max(-1, Math.min(most + 1, edge));
+    return [within(left, this.width), within(top, this.height), within(right, this.width), within(bottom, this.height)];
   }
 
+  /** @type {(element: HTMLElement, rect: Rect | null) => void} */
   place(element, rect) {
     element.hidden = !rect;
     if (!rect) return;
@@ -166,7 +220,9 @@ export class Picture {
   listen() {
     const { stage, sheet } = this;
     const isPinched = listenToHands(stage, this);
+    /** @type {{ x: number, y: number, left: number, top: number, moved: boolean } | null} */
     let from = null;
+    /** @type {(event: PointerEvent) => Place | null} */
     const at = event => {
       const box = sheet.getBoundingClientRect();
       const x = Math.floor((event.clientX - box.left) / this.zoom), y = Math.floor((event.clientY - box.top) / this.zoom);

@@ -1,11 +1,16 @@
 // The targets of a frame as tabs, each the page of another capture, and the way from a draw to what it reads.
 
-import { element } from "./list.js";
+import { $, element } from "./elements.js";
 import { readPlace } from "./place.js";
 
-const bar = document.getElementById("targets");
+/** @typedef {{ position: number, target: number, address: string, at: number, laid?: [kind: string, size: [width: number, height: number], there: [wide: number, high: number]] | null }} Read */
+/** @typedef {{ tabs: { name: string, target: number, address: string, own: boolean }[], reads: Read[] }} Tabs */
+
+const bar = $("targets");
+/** @type {Read[]} */
 let reads = [];
 
+/** @type {(frame: Tabs | null) => void} */
 export function showTabs(frame) {
   bar.hidden = !frame;
   if (!frame) return;
@@ -15,8 +20,10 @@ export function showTabs(frame) {
 }
 
 // Links to what the draw at a position reads, as it was made; where it is told how that lies here, to the chosen pixel
+/** @type {(position: number) => HTMLElement[]} */
 export const waysFrom = position => reads.filter(read => read.position === position).map(leading);
 
+/** @type {(read: Read) => HTMLElement} */
 function leading({ target, address, at, laid }) {
   const there = `${address}&at=${at}`;
   const way = Object.assign(element("a", "way", `to target ${target}, as this draw reads it`), { href: there });
@@ -25,6 +32,7 @@ function leading({ target, address, at, laid }) {
 }
 
 // &pixel=80,119 where the chosen pixel lies on the target that is read, or nothing; tools/targets.py says the same
+/** @type {(laid?: Read["laid"]) => string} */
 function texelOf(laid) {
   const pixel = readPlace(document.documentElement.dataset.place ?? "")?.pixel;
   if (!laid || !pixel) return "";

@@ -2,10 +2,13 @@
 
 const KEY = "theme", system = matchMedia("(prefers-color-scheme: light)");
 
+/** @type {(theme: string) => void} */
 export function setTheme(theme) {
   document.documentElement.dataset.theme = theme;
 }
 
+// Gives what changes it
+/** @type {(drawn: () => void) => () => void} */
 export function followTheme(drawn) {
   const told = () => localStorage.getItem(KEY) ?? (system.matches ? "light" : "dark");
   const apply = () => { setTheme(told()); drawn(); };

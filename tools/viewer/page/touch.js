@@ -1,10 +1,16 @@
 // The wheel and two fingers on the picture: Shift or a sideways turn pans, else it zooms in fine steps.
 
+/** @typedef {import("./types").Place} Place */
+/** @typedef {import("./picture.js").Picture} Picture */
+
 const TURN = 400, LEAST = 1 / 64, MOST = 64;         // units of the wheel for a factor of e; zooms
 
+/** @type {(stage: HTMLElement, picture: Picture) => () => boolean} */
 export function listenToHands(stage, picture) {
+  /** @type {Map<number, Place>} */
   const fingers = new Map();
   let apart = 0;
+  /** @type {(factor: number, x: number, y: number) => void} */
   const zoomBy = (factor, x, y) => {
     const box = stage.getBoundingClientRect();
     picture.zoomTo(Math.min(MOST, Math.max(LEAST, picture.zoom * factor)), x - box.left, y - box.top);
@@ -31,6 +37,6 @@ export function listenToHands(stage, picture) {
     if (apart) zoomBy(now.apart / apart, now.x, now.y);
     apart = now.apart;
   });
-  for (const end of ["pointerup", "pointercancel"]) addEventListener(end, event => { fingers.delete(event.pointerId); apart = 0; });
+  for (const end of /** @type {const} */ (["pointerup", "pointercancel"])) addEventListener(end, event => { fingers.delete(event.pointerId); apart = 0; });
   return () => fingers.size > 1;
 }

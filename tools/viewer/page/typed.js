@@ -2,7 +2,9 @@
 
 const MOST = 200;
 
+/** @type {(form: HTMLFormElement, line: HTMLInputElement, command: (line: string) => void) => void} */
 export function listenToLine(form, line, command) {
+  /** @type {string[]} */
   const before = [];
   let at = 0;
   form.onsubmit = event => {
@@ -17,7 +19,7 @@ export function listenToLine(form, line, command) {
     line.value = "";
   };
   line.onkeydown = event => {
-    const way = { ArrowUp: -1, ArrowDown: 1 }[event.key];
+    const way = event.key === "ArrowUp" ? -1 : event.key === "ArrowDown" ? 1 : 0;
     if (!way || !before.length) return;
     at = Math.max(0, Math.min(before.length, at + way));
     line.value = before[at] ?? "";

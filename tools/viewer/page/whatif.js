@@ -1,22 +1,33 @@
 // What if an event were another one, or stood elsewhere: a line, as it is typed, becomes a change of the capture. Its picture is drawn beside the run, compared, and kept as a capture.
 
 import { changed, changedCapture } from "./run.js";
-import { notice } from "./log.js";
+import { $ } from "./elements.js";
+import { notice, tellFault } from "./log.js";
 
-const $ = id => document.getElementById(id);
+/** @typedef {import("./types").Change} Change */
+/** @typedef {import("./types").FrameEvent} FrameEvent */
+/** @typedef {import("./types").Image} Image */
+/** @typedef {{ events: () => FrameEvent[], name: () => string, atEnd: () => Promise<Image | null | undefined>, compare: (made: { width: number, height: number, samples: Uint8Array }, before: Image) => void, show: (is: boolean) => void }} Hands */
+
+/** @type {Record<string, string[]>} */
 const MEMBERS = {
   clear: ["color"], factor: ["color"], raster: ["cull", "front_ccw", "scissor"], scissor: ["rect"], blend: ["enable", "rgb", "alpha", "mask"], draw: ["interp"],
   depth: ["enable", "write", "func"], depth_clear: ["depth"], marker: ["name"],
 };
+/** @type {Map<string, unknown>} */
 const WORDS = new Map([["on", true], ["true", true], ["off", false], ["false", false]]);
-let change = null, turns = 0;          // that is shown; how many were typed
+/** @type {Change | null} */
+let change = null;                     // that is shown
+let turns = 0;                         // how many were typed
 
+/** @type {(line: string) => boolean} */
 export const isChange = line => /^\s*(set|move)\b/.test(line);
 
 // { set, members } or { move, to }, its number then; throws a sentence where it is neither
+/** @type {(line: string, events: FrameEvent[]) => Change} */
 export function readChange(line, events) {
-  const [word, ...rest] = line.trim().split(/\s+/), number = text => {
-    const event = events[text - 1];
+  const [word, ...rest] = line.trim().split(/\s+/), number = /** @type {(text: string) => number} */ text => {
+    const event = events[Number(text) - 1];
     if (!event) throw new Error(`${line}: events are numbered from 1 to ${events.length}`);
     return event.number;
   };
@@ -24,7 +35,7 @@ export function readChange(line, events) {
     const [what, way, where] = rest;
     if (rest.length !== 3 || !["after", "before"].includes(way)) throw new Error("move EVENT after EVENT, or move EVENT before EVENT");
     const [from, other] = [number(what), number(where)];
-    return { move: from, to: other + (way === "after") - (other > from) - (other === from && way === "after") };
+    return { move: from, to: other + Number(way === "after") - Number(other > from) - Number(other === from && way === "after") };
   }
   const [what, name, ...values] = rest, event = events[number(what) - 1], members = MEMBERS[event.kind] ?? [];
   if (!members.includes(name) || !values.length) throw new Error(`set EVENT NAME VALUE: event ${what} is a ${event.kind}, and has ${members.join(", ")}`);
@@ -33,18 +44,18 @@ export function readChange(line, events) {
 }
 
 // `hands` of the page: events() and name() are what is changed, atEnd() gives the image at the end of the frame; compare(picture, that) and show(whether) show what came of it
+/** @type {(hands: Hands) => void} */
 export function followChanges(hands) {
   $("changed-shown").onclick = () => {
     const is = $("changed-shown").getAttribute("aria-pressed") !== "true";
     $("changed-shown").setAttribute("aria-pressed", is);
     hands.show(is);
   };
-  $("changed-keep").onclick = () => keep(hands.name()).catch(tell);
+  $("changed-keep").onclick = () => keep(hands.name()).catch(tellFault);
   $("changed-forget").onclick = () => forgetChange(hands);
 }
 
-const tell = fault => notice(String(fault.message ?? fault), true);
-
+/** @type {(line: string, hands: Hands) => Promise<void>} */
 export async function tryChange(line, hands) {
   const its = ++turns;
   try {
@@ -57,10 +68,11 @@ export async function tryChange(line, hands) {
     $("changed-shown").setAttribute("aria-pressed", true);
     hands.compare(picture, before);
   } catch (fault) {
-    tell(fault);
+    tellFault(fault);
   }
 }
 
+/** @type {(hands?: Hands | null) => void} */
 export function forgetChange(hands = null) {
   if ($("what-if").hidden) return;
   $("what-if").hidden = true;
@@ -68,7 +80,9 @@ export function forgetChange(hands = null) {
 }
 
 // The changed capture as a file
+/** @type {(name: string) => Promise<void>} */
 async function keep(name) {
+  if (!change) return;
   const link = document.createElement("a");
   link.href = URL.createObjectURL(new Blob([await changedCapture(change)], { type: "application/json" }));
   link.download = `${name.replace(/\.json$/i, "")}_changed.json`;

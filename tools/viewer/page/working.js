@@ -2,17 +2,27 @@
 
 import { ask as askRun, depths as depthsOfRun, stop as stopRun, Stopped } from "./run.js";
 
+/** @typedef {import("./types").Part} Part */
+/** @typedef {import("./types").Reply} Reply */
+
 const A_WHILE = 300;     // milliseconds
-let asked = null, tell = () => {};
+/** @type {{ stopped: boolean } | null} */
+let asked = null;
+/** @type {(isSlow: boolean) => void} */
+let tell = () => {};
 
 // Told true where an answer takes a while, and false when it is there
+/** @type {(told: (isSlow: boolean) => void) => void} */
 export const onWorking = told => { tell = told; };
 
+/** @type {(lines: string[], window?: number[] | null, beside?: string | null, atEnd?: string[]) => Promise<Reply[]>} */
 export const ask = (...given) => answered(() => askRun(...given));
 
 // The depths of a part at a position in one go, where the run has such a call
+/** @type {((position: number, part: Part) => Promise<Uint16Array>) | null} */
 export const depths = depthsOfRun && ((...given) => answered(() => depthsOfRun(...given)));
 
+/** @template T @param {() => Promise<T>} job @returns {Promise<T>} */
 async function answered(job) {
   const its = asked = { stopped: false }, late = setTimeout(() => tell(true), A_WHILE);
   try {
