@@ -16,6 +16,7 @@ from test_viewer_card import *  # noqa: F401, F403
 from test_viewer_images import *  # noqa: F401, F403
 from test_viewer_looks import *  # noqa: F401, F403
 from test_viewer_maps import *  # noqa: F401, F403
+from test_viewer_modules import *  # noqa: F401, F403
 from test_viewer_page import *  # noqa: F401, F403
 from test_viewer_server import *  # noqa: F401, F403
 from test_viewer_what_if import *  # noqa: F401, F403

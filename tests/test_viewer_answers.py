@@ -227,16 +227,6 @@ class Answers(viewer_sums.Sums):
                 self.at(position)
             self.assertEqual(self.within(held), 1)
 
-    def test_what_is_shown_is_exchanged(self):
-        """The value that says what is shown is never changed: who holds it has it as it was."""
-        exchanged = """const it = await import(name("shown.js")), before = it.shown;
-          it.show({ zoom: before.zoom + 1 });
-          return [it.shown.zoom - before.zoom, Object.isFrozen(it.shown)]"""
-        with Viewer(HOUSE) as viewer:
-            self.open(viewer)
-            self.at(13)
-            self.assertEqual(self.within(exchanged), [1, True])
-
     def test_rows_stay_and_are_right(self):
         """Of the list of events those rows alone are made anew that look otherwise after a move."""
         rows = (
@@ -753,9 +743,9 @@ class AnswersInChromium(Answers):
 @unittest.skipUnless(browser.Firefox.installed(), "Firefox isn't installed")
 class AnswersInFirefox(Answers):
     kind = browser.Firefox
-    # Its driver imports none of the page's scripts
-    test_the_sum_is_the_definitions = test_a_sum_that_differs_is_marked = None
-    test_no_image_holds_another = test_what_is_shown_is_exchanged = None
+    test_the_sum_is_the_definitions = (
+        test_a_sum_that_differs_is_marked
+    ) = test_no_image_holds_another = None  # its driver imports none of the page's scripts
 
 
 del Answers  # it is tried in browsers alone
