@@ -1,7 +1,10 @@
 """The calls of a frame as text, and which of them set each part of the state. They are RenderDoc's chunks: a name,
 and members that are told of by the type they have."""
 import re
+from collections.abc import Iterable, Mapping, Sequence
+from typing import Any
 
+from .frame import RenderDoc, SetBy
 from .names import printable
 
 UNSAID = {"DebugMessages", "commandBuffer", "vaobj"}  # members that aren't the caller's words, or say nothing
@@ -53,11 +56,11 @@ LATER = (
 )  # members that name another target or viewport than the first, where they aren't 0
 
 
-def members(chunk):
+def members(chunk: RenderDoc) -> list[RenderDoc]:
     return [chunk.GetChild(number) for number in range(chunk.NumChildren())]
 
 
-def worded(member, names):
+def worded(member: RenderDoc, names: Mapping[int, str]) -> str:
     """A member of a call as text; `names` are those of resources."""
     kind, value = member.type.basetype.name, member.data.basic
     if kind == "Enum" and member.name in FACTORS and value.u < 2:
@@ -81,14 +84,14 @@ def worded(member, names):
     }.get(kind, lambda: "..")()
 
 
-def text_of(chunk, names):
+def text_of(chunk: RenderDoc, names: Mapping[int, str]) -> str:
     """A call as it would be written: glBlendFunc(GL_ONE, GL_ONE)"""
     return printable(
         f"{chunk.name}({', '.join(worded(member, names) for member in members(chunk) if member.name not in UNSAID)})"
     )
 
 
-def set_by(chunk):
+def set_by(chunk: RenderDoc) -> tuple[str, tuple[str, ...]] | None:
     """(what a call takes the place of, the kinds of the state that it sets), or None where it sets no state of the
     first target."""
     given = {member.name: member for member in members(chunk)}
@@ -102,16 +105,20 @@ def set_by(chunk):
     return next(((found[1], kinds) for name, kinds in SETTERS if (found := name.match(chunk.name))), None)
 
 
-def chunk_of(event, chunks):
+def chunk_of(event: RenderDoc, chunks: Sequence[RenderDoc]) -> RenderDoc:
     """The call of an event, or None: RenderDoc adds events of its own to frames of Vulkan, whose number of a chunk
     is that of none."""
     return chunks[event.chunkIndex] if event.chunkIndex < len(chunks) else None
 
 
-def setters(actions, chunks, names):
+def setters(
+    actions: Iterable[RenderDoc], chunks: Sequence[RenderDoc], names: Mapping[int, str]
+) -> dict[int, SetBy]:
     """{an action's event: {kind of state: [[event, text]]}}: of the calls up to it those which made that part of the
     state what it is, each the last of its kind."""
-    found, last, told = {}, {}, {}
+    found: dict[int, SetBy] = {}
+    last: dict[str, dict[str, list[Any]]] = {}
+    told: SetBy = {}
     for action in actions:
         for event in action.events:
             chunk = chunk_of(event, chunks)

@@ -15,7 +15,9 @@ class Display:
     """In a `with` statement. The Xvfb chooses a number that is free, and ends with the statement or with this
     process."""
 
-    def __enter__(self):
+    process: "subprocess.Popen[bytes] | None"
+
+    def __enter__(self) -> "Display":
         self.process = None
         if os.environ.get("DISPLAY"):
             return self
@@ -41,7 +43,7 @@ class Display:
         return self
 
     @staticmethod
-    def number(reader):
+    def number(reader: int) -> str:
         """The number that Xvfb says, once it is up; empty where it says none in time."""
         told = b""
         while not told.endswith(b"\n"):
@@ -53,7 +55,7 @@ class Display:
             told += some
         return told.decode().strip()
 
-    def __exit__(self, *_):
+    def __exit__(self, *_: object) -> None:
         if self.process:
             os.environ.pop("DISPLAY", None)
             self.process.terminate()

@@ -1,15 +1,18 @@
 """Goes through a frame once, and keeps what is wanted of each action on one target."""
 import zlib
+from collections.abc import Callable, Iterable
 from dataclasses import dataclass
 
 from . import unblended
 from .asked import MOST_OF_A_DRAW, pixels_to_ask
 from .fault import Fault
+from .frame import Frame, RenderDoc
 from .losses import Losses
 from .names import BEFORE
 from .placing import placed
-from .records import ClearRecord, DrawRecord, MarkerRecord, PictureRecord
+from .records import ClearRecord, Colour, DrawRecord, MarkerRecord, PictureRecord, Record
 from .reel import Reel
+from .viewport import Rectangle
 
 MULTISAMPLED, IN_SRGB, OF_FLOATS = (
     "samples of each pixel beyond the first",
@@ -33,7 +36,16 @@ class Wanted:
 class Gatherer:
     """The frame is a replay.ReplayedFrame, or what stands in for one."""
 
-    def __init__(self, frame, target, losses, wanted=Wanted(), say=lambda text: None):
+    records: list[Record]
+
+    def __init__(
+        self,
+        frame: Frame,
+        target: int,
+        losses: Losses,
+        wanted: Wanted = Wanted(),
+        say: Callable[[str], None] = lambda text: None,
+    ) -> None:
         self.frame, self.target, self.losses, self.wanted, self.say = frame, target, losses, wanted, say
         self.size = self.width, self.height = frame.size(target)
         self.records, self.reel, self.own_reel = [], Reel(), Reel()
@@ -43,7 +55,7 @@ class Gatherer:
         self.done = 0
         self.all = sum(1 for action in frame.actions if frame.kind(action) == "draw" and self.is_here(action))
 
-    def gather(self):
+    def gather(self) -> list[Record]:
         """The records of the part that is wanted, behind those that bring the depths of what comes before it, where
         it has a depth test."""
         for note, count in self.frame.notes(self.target).items():
@@ -58,7 +70,7 @@ class Gatherer:
             self.walk(early)
         return self.records + records
 
-    def walk(self, actions):
+    def walk(self, actions: Iterable[RenderDoc]) -> None:
         readers = {
             "draw": self.draw,
             "clear": self.clear,
@@ -75,21 +87,21 @@ class Gatherer:
                     raise Fault(f"event {action.eventId}, {self.frame.name(action)}: {fault}") from None
             self.before = action.eventId
 
-    def is_here(self, action):
+    def is_here(self, action: RenderDoc) -> bool:
         return self.target in self.frame.targets(action)
 
-    def is_early(self, action):
+    def is_early(self, action: RenderDoc) -> bool:
         return action.eventId < self.wanted.first
 
-    def mark(self, action):
+    def mark(self, action: RenderDoc) -> None:
         if not self.is_early(action):
             self.records.append(MarkerRecord(action.eventId, self.frame.name(action), self.frame.until(action)))
 
-    def dispatch(self, action):
+    def dispatch(self, action: RenderDoc) -> None:
         if not self.is_early(action):
             self.losses.add("compute dispatches")
 
-    def copy(self, action):
+    def copy(self, action: RenderDoc) -> None:
         if self.is_early(action):
             return
         onto = self.frame.copied_onto(action) == self.target
@@ -98,20 +110,20 @@ class Gatherer:
             name = self.frame.name(action)
             self.lay(action.eventId, name, f"{action.eventId} {name}")
 
-    def lay(self, event, name, label):
+    def lay(self, event: int, name: str, label: str) -> None:
         """What is on the target after an event, as a picture."""
         self.frame.go(event)
         if self.wanted.with_colours:
             self.records.append(PictureRecord(event, name, zlib.compress(self.frame.picture(self.target), 1), label))
         self.touched = True
 
-    def lay_what_was_there(self, action):
+    def lay_what_was_there(self, action: RenderDoc) -> None:
         if not self.touched:
             self.lay(self.before, BEFORE, f"the picture before {action.eventId}")
 
     # Clears.
 
-    def clear(self, action):
+    def clear(self, action: RenderDoc) -> None:
         if not self.is_here(action):
             if not self.is_early(action):
                 self.losses.add("clears of other targets")
@@ -120,7 +132,7 @@ class Gatherer:
         for record in self.cleared(action):
             self.keep_clear(action, record)
 
-    def keep_clear(self, action, record):
+    def keep_clear(self, action: RenderDoc, record: ClearRecord) -> None:
         is_whole = record.rectangle is None and record.mask == 15
         if self.is_early(action):
             record.colour = None
@@ -137,14 +149,14 @@ class Gatherer:
         self.carried = self.carried or not self.is_early(action)
         self.records.append(record)
 
-    def cleared(self, action):
+    def cleared(self, action: RenderDoc) -> list[ClearRecord]:
         """What a clear does, for each rectangle that holds a pixel."""
         colour, depth, boxes, mask = self.frame.clears(action, self.width, self.height)
         some = [box for box in boxes if not box or (box[0] < box[2] and box[1] < box[3])]
         records = [self.cleared_in(action, box, (colour, depth, mask)) for box in some]
         return [record for record in records if record.colour is not None or record.depth is not None]
 
-    def cleared_in(self, action, box, what):
+    def cleared_in(self, action: RenderDoc, box: Rectangle | None, what: tuple[bool, bool, int]) -> ClearRecord:
         colour, depth, mask = what
         x, y = box[:2] if box else (0, 0)
         record = ClearRecord(action.eventId, self.frame.name(action), rectangle=box, mask=mask)
@@ -157,7 +169,7 @@ class Gatherer:
 
     # Draws.
 
-    def draw(self, action):
+    def draw(self, action: RenderDoc) -> None:
         early = self.is_early(action)
         if not self.is_here(action):
             if not early:
@@ -184,20 +196,20 @@ class Gatherer:
             self.take_pictures(record)
         self.records.append(record)
 
-    def count(self, action):
+    def count(self, action: RenderDoc) -> None:
         if len(self.frame.targets(action)) > 1:
             self.losses.add("further colour targets of draws", count=len(self.frame.targets(action)) - 1)
         if self.frame.reads_textures(action):
             self.losses.add(READS_TEXTURES)
 
-    def take_pictures(self, record):
+    def take_pictures(self, record: DrawRecord) -> None:
         blend = record.state.blend
         if self.wanted.with_colours and blend["mask"]:
             record.after = self.reel.put(self.frame.picture(self.target))
             if blend["enable"] and self.wanted.with_alone:
                 self.take_source(record)
 
-    def take_source(self, record):
+    def take_source(self, record: DrawRecord) -> None:
         """What tells of a blended draw's own colours and alpha: the draw alone, its histories, or the draw
         unblended."""
         if self.frame.can_draw_alone():
@@ -208,7 +220,7 @@ class Gatherer:
             own = self.frame.unblended(self.target)
             record.own = self.own_reel.put(own) if own else None
 
-    def asked(self, record):
+    def asked(self, record: DrawRecord) -> dict[tuple[int, int], dict[int, Colour]]:
         """What the draw's shader gave at some pixels."""
         after = self.frame.picture(self.target)
         self.frame.go(self.before)

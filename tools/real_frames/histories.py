@@ -1,10 +1,21 @@
 """Pixel histories, by RenderDoc and by framedbg, in the same words: (RenderDoc's event, primitive or None, verdict,
 colour after)."""
+from collections.abc import Sequence
+from typing import TYPE_CHECKING, Any
+
 import renderdoc as rd
 
+from framedbg_client import Client
+
+from .frame import RenderDoc
 from .names import BEFORE
 from .pictures import WHOLE
 from .states import byte
+
+if TYPE_CHECKING:
+    from .replay import ReplayedFrame
+
+Entry = tuple[int, int | None, str, tuple[int, ...]]
 
 VERDICTS = (
     ("backfaceCulled", "culled"),
@@ -18,7 +29,7 @@ VERDICTS = (
 )
 
 
-def by_renderdoc(frame, target, x, y):
+def by_renderdoc(frame: "ReplayedFrame", target: int, x: int, y: int) -> list[Entry]:
     entries = frame.controller.PixelHistory(frame.textures[target].resourceId, x, y, WHOLE, rd.CompType.Typeless)
     return [
         (entry.eventId, entry.primitiveID, verdict(entry), tuple(byte(v) for v in entry.postMod.col.floatValue))
@@ -26,12 +37,12 @@ def by_renderdoc(frame, target, x, y):
     ]
 
 
-def verdict(entry):
+def verdict(entry: RenderDoc) -> str:
     return next((word for failed, word in VERDICTS if getattr(entry, failed)), "drawn")
 
 
-def by_framedbg(session, capture, x, y):
-    found = []
+def by_framedbg(session: Client, capture: dict[str, Any], x: int, y: int) -> list[Entry]:
+    found: list[Entry] = []
     for told in session.history(x, y):
         source = capture["events"][told.event - 1].get("source", {})
         if source.get("name") == BEFORE:
@@ -46,7 +57,7 @@ def by_framedbg(session, capture, x, y):
     return found
 
 
-def compared(theirs, ours):
+def compared(theirs: Sequence[Entry], ours: Sequence[Entry]) -> dict[str, bool]:
     """{what: whether it is the same}"""
     a, b = [entry for entry in theirs if entry[2] == "drawn"], [entry for entry in ours if entry[2] == "drawn"]
     return {

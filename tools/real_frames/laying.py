@@ -1,8 +1,14 @@
 """How a draw lays a texture over its target, by what its vertices carry beside their places: straight, where a pixel
 reads the texel at its own place, as a share of both sizes, or upside down."""
 import struct
+from collections.abc import Iterable, Sequence
 
 import renderdoc as rd
+
+from .frame import RenderDoc
+from .viewport import Viewport
+
+Corners = Sequence[tuple[tuple[float, float], tuple[float, ...]]]  # the place of each, and what it carries
 
 STRAIGHT, UPSIDE_DOWN = "straight", "upside down"
 NEAR = 1e-4  # of the whole, by which a place may be off
@@ -11,7 +17,7 @@ FLOATS = struct.Struct("<2f")
 PLACE = struct.Struct("<4f")
 
 
-def offsets(parameters, is_aligned):
+def offsets(parameters: Sequence[RenderDoc], is_aligned: bool) -> tuple[list[int], int]:
     """Where each of a shader's outputs of two floats or more lies in a vertex: the position comes first, the others in
     their order. And how many bytes a vertex has."""
     first = [one for one in parameters if one.systemValue == rd.ShaderBuiltin.Position]
@@ -26,7 +32,7 @@ def offsets(parameters, is_aligned):
     return found, at
 
 
-def shares(controller, viewport, size):
+def shares(controller: RenderDoc, viewport: Viewport, size: tuple[int, int]) -> list[Corners]:
     """[[((x, y), (u, v)) of each corner] for each output of two floats or more]: a corner's place as a share of the
     target's size from above, and what it carries; empty where that isn't known."""
     pipe = controller.GetPipelineState()
@@ -47,14 +53,14 @@ def shares(controller, viewport, size):
     return [[(place, FLOATS.unpack_from(content, start + at)) for place, start in zip(shown, starts)] for at in places]
 
 
-def laid(carried, is_from_below):
+def laid(carried: Iterable[Corners], is_from_below: bool) -> str | None:
     """STRAIGHT or UPSIDE_DOWN, where what the corners carry says one of them; else None. `is_from_below`: v grows
     upward over the picture of the texture."""
     found = {kind for corners in carried for kind in (STRAIGHT, UPSIDE_DOWN) if fits(corners, kind, is_from_below)}
     return found.pop() if len(found) == 1 else None
 
 
-def fits(corners, kind, is_from_below):
+def fits(corners: Corners, kind: str, is_from_below: bool) -> bool:
     for (x, y), (u, v) in corners:
         down = 1 - v if is_from_below else v
         if abs(u - x) > NEAR or abs(down - (y if kind == STRAIGHT else 1 - y)) > NEAR:
@@ -62,7 +68,7 @@ def fits(corners, kind, is_from_below):
     return spread(corners)
 
 
-def spread(corners):
+def spread(corners: Corners) -> bool:
     """Whether the corners lie apart in both ways, so that they tell anything of the texture's ways."""
     columns, rows = zip(*(place for place, _ in corners))
     return max(columns) - min(columns) > NEAR and max(rows) - min(rows) > NEAR

@@ -4,6 +4,8 @@ import os
 import signal
 import sys
 import traceback
+from collections.abc import Callable
+from typing import NoReturn
 
 from writing import ending
 
@@ -14,7 +16,7 @@ ENDED = "RenderDoc or the driver ended the process"
 MISSING = "RenderDoc's Python module isn't here; on Debian: apt install renderdoc python3-renderdoc"
 
 
-def is_here():
+def is_here() -> bool:
     try:
         import renderdoc  # noqa: F401
     except ImportError:
@@ -22,7 +24,7 @@ def is_here():
     return True
 
 
-def run_by_its_python():
+def run_by_its_python() -> bool:
     """Where this Python lacks the module, goes on in the system's own; returns whether the module is here."""
     if is_here():
         return True
@@ -35,7 +37,7 @@ def run_by_its_python():
     return False
 
 
-def guarded(tool, main):
+def guarded(tool: str, main: Callable[[], int | None]) -> NoReturn:
     """Runs a tool in a process of its own, so that a line tells where RenderDoc or a driver ended it; ends with its
     status."""
     ending.hear_interrupts()
@@ -52,7 +54,7 @@ def guarded(tool, main):
     sys.exit(os.waitstatus_to_exitcode(status))
 
 
-def kept_apart(main):
+def kept_apart(main: Callable[[], int | None]) -> int | None:
     """Runs a tool whose standard output is its own: what RenderDoc, a driver or its compiler of shaders prints there
     goes to standard error."""
     sys.stdout.flush()
@@ -61,7 +63,7 @@ def kept_apart(main):
     return main()
 
 
-def status_of(tool, main):
+def status_of(tool: str, main: Callable[[], int | None]) -> int:
     """The status that a tool ends with, after it has written all."""
     try:
         return ending.status_of(tool, main)

@@ -11,7 +11,7 @@ from .planes import Table, fit, mean
 from .raster import Span, pixels
 from .records import DrawRecord
 
-Fitted = tuple[Piece, float, float]  # a piece with its colours, how far off they are, and of how many samples
+Fitted = tuple[Piece, float, int]  # a piece with its colours, how far off they are, and of how many samples
 
 GREY = (128, 128, 128, 255)
 STRAYS = "pixels that change where no triangle of the draw passes"
@@ -29,7 +29,7 @@ class Painter:
     def __init__(self, width: int, height: int, losses: Losses, detail: Detail, passes: Mapping[Root, int]) -> None:
         self.width, self.height, self.losses, self.detail = width, height, losses, detail
         self.passes = passes  # how many draws with the depth test have a triangle at a place
-        self.faults: list[tuple[int, str, float, float]] = []  # (event, name, pixels, how far off) of each draw
+        self.faults: list[tuple[int, str, int, float]] = []  # (event, name, pixels, how far off) of each draw
 
     def paint(self, record: DrawRecord, pieces: Sequence[Piece], before: bytes) -> list[Piece]:
         """The pieces with their colours, cut into smaller ones where detail asks for it."""

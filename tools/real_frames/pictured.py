@@ -2,6 +2,8 @@
 pixel, as far as they can be had. What comes out of framedbg after each draw is the frame's own picture, byte for
 byte: a pixel for which no source is found is replaced by a draw behind."""
 import zlib
+from collections.abc import Iterable, Mapping, Sequence
+from typing import Any
 
 import captures
 from captures import FARTHEST, MOST_TRIANGLES, PIXEL
@@ -11,6 +13,8 @@ from .discards import LEFT_OUT
 from .gather import READS_TEXTURES
 from .layers import Layers
 from .painter import STRAYS
+from .pieces import Piece
+from .records import Colour, DrawRecord, PictureRecord
 from .shown import SOURCE, Shown, words_of
 from .writer import Writer
 
@@ -19,10 +23,10 @@ OVER_ALL = (states.raster("none", False, False), states.plain(), states.depth(Fa
 
 
 class PicturedWriter(Writer):
-    def capture(self):
+    def capture(self) -> dict[str, Any]:
         return super().capture() | {"version": 3}
 
-    def lay(self, record):
+    def lay(self, record: PictureRecord) -> None:
         """Of the picture that was there what differs from what is here."""
         picture = zlib.decompress(record.picture)
         sources = differing(self.picture, picture, self.width)
@@ -30,13 +34,13 @@ class PicturedWriter(Writer):
         if sources and not self.is_painted_over():
             self.replace(sources, self.begin_picture(record))
 
-    def note(self):
+    def note(self) -> None:
         if READS_TEXTURES in self.losses.counts:
             self.losses.notes[READS_TEXTURES] = "what they gave is told pixel by pixel"
         for what in [what for what, note in self.losses.notes.items() if note == LEFT_OUT]:
             self.losses.notes[what] = "what fails it is a hole where the picture is as it was"
 
-    def draw(self, record):
+    def draw(self, record: DrawRecord) -> None:
         if record.depth_alone or not record.after or self.is_distinct:
             super().draw(record)
             return
@@ -69,13 +73,13 @@ class PicturedWriter(Writer):
             self.replace(strays, {**source, "baked": "after"})
         self.picture = after
 
-    def leave(self, kept, holes):
+    def leave(self, kept: Sequence[Sequence[int]], holes: Iterable[int]) -> None:
         """What is discarded leaves the depth as it was."""
         for at in holes:
             y, x = divmod(at, self.width)
             self.depth.writable(y)[x] = kept[y][x]
 
-    def put_shown(self, pieces, shown, source):
+    def put_shown(self, pieces: Sequence[Piece], shown: Shown, source: dict[str, Any]) -> None:
         """The triangles of a draw with the source of each pixel that has one, the others being holes. One source at
         all of them is a flat draw."""
         count, flat = shown.sources()
@@ -88,7 +92,7 @@ class PicturedWriter(Writer):
                 pieces, captures.picture(left, top, right - left, bottom - top, shown.texels.tobytes(), holes), source
             )
 
-    def put(self, pieces, box, source, flat=None):
+    def put(self, pieces: Sequence[Piece], box: Any, source: dict[str, Any], flat: Colour | None = None) -> None:
         """The triangles of a draw with a picture, or in one colour."""
         for start in range(0, len(pieces), MOST_TRIANGLES):
             part = pieces[start : start + MOST_TRIANGLES]
@@ -104,7 +108,7 @@ class PicturedWriter(Writer):
             )
             self.add(made, {**source, "primitives": [list(piece.number) for piece in part]})
 
-    def replace(self, sources, source):
+    def replace(self, sources: Mapping[int, bytes | Colour], source: dict[str, Any]) -> None:
         """Some pixels become what they are given, whatever was there."""
         for event in OVER_ALL:
             self.log.set(event, source)
@@ -120,11 +124,12 @@ class PicturedWriter(Writer):
         self.add(captures.picture_draw(corners, box, [0, 1, 3, 1, 2, 3]), source)
 
 
-def differing(before, after, width, counts=None):
+def differing(before: bytes, after: bytes, width: int, counts: bytearray | None = None) -> dict[int, bytes]:
     """{place: colour} of the pixels that changed where no triangle passes."""
     if wide.numpy:
         return {at: after[4 * at : 4 * at + 4] for at in wide.differing(before, after, counts)}
-    found, was, now = {}, words_of(before), words_of(after)
+    found: dict[int, bytes] = {}
+    was, now = words_of(before), words_of(after)
     for start in range(0, len(now), width):
         row = now[start : start + width]
         if was[start : start + width] != row:
@@ -136,7 +141,7 @@ def differing(before, after, width, counts=None):
     return found
 
 
-def picture_of(sources, width):
+def picture_of(sources: Mapping[int, bytes | Colour], width: int) -> dict[str, Any]:
     """The picture with a source for some pixels of the target, and holes at all others of its box."""
     rows, columns = {at // width for at in sources}, {at % width for at in sources}
     left, top, right, bottom = min(columns), min(rows), max(columns) + 1, max(rows) + 1

@@ -1,10 +1,12 @@
 """Pictures of a frame: targets as bytes, depths, RenderDoc's overlays as sets of pixels, and draws alone."""
 import struct
+from collections.abc import Mapping
 
 import renderdoc as rd
 
 from . import states
 from .fault import Fault
+from .frame import RenderDoc
 
 WHOLE = rd.Subresource(0, 0, 0)
 COVERED, PASSES = "covered", "passes"
@@ -14,27 +16,29 @@ WINDOW = 16, 16  # pixels of the window that RenderDoc shows overlays in: what i
 
 
 class Pictures:
-    def __init__(self, controller, textures, lowest_row_first):
+    output: RenderDoc
+
+    def __init__(self, controller: RenderDoc, textures: Mapping[int, RenderDoc], lowest_row_first: bool) -> None:
         self.controller, self.textures, self.lowest_row_first = controller, textures, lowest_row_first
         self.is_gl = lowest_row_first  # of OpenGL, whatever the target that is followed has first
         self.output = None
 
-    def Shutdown(self):  # as RenderDoc's own objects have it
+    def Shutdown(self) -> None:  # as RenderDoc's own objects have it
         if self.output:
             self.output.Shutdown()
 
-    def of(self, target):
+    def of(self, target: int) -> bytes:
         """The bytes of a colour target at the event that was gone to: RGBA, rows from the top."""
         texture = self.textures[target]
         content = decoded(self.controller.GetTextureData(texture.resourceId, WHOLE), texture)
         return self.upright(content, texture.width * 4)
 
-    def upright(self, content, row):
+    def upright(self, content: bytes, row: int) -> bytes:
         if not self.lowest_row_first:
             return content
         return b"".join(content[at : at + row] for at in range(len(content) - row, -1, -row))
 
-    def depth_value(self, depth_target, x, y):
+    def depth_value(self, depth_target: RenderDoc, x: int, y: int) -> float:
         """The depth at a pixel, 0 to 1. PickPixel ends the process on lavapipe's depths of 16 bits (RenderDoc 1.24),
         so those are read whole."""
         if self.is_gl:
@@ -53,7 +57,7 @@ class Pictures:
             return struct.unpack_from("<f", content, at * 8)[0]
         raise Fault(f"depth targets of {texture.format.Name()} aren't read")
 
-    def marked(self, target, kind):
+    def marked(self, target: int, kind: str) -> bytes:
         """The pixels that an overlay marks, as a byte of 0 or 1 for each: those that the draw covers, or at which it
         passes."""
         texture = self.textures[target]
@@ -72,7 +76,7 @@ class Pictures:
         both = int.from_bytes(first, "little") & int.from_bytes(other, "little")
         return self.upright(both.to_bytes(size, "little"), texture.width)
 
-    def alone(self, target):
+    def alone(self, target: int) -> bytes:
         """What the draw that was gone to gives on a target cleared to zeros: the overlay draws that on the very
         target."""
         self.show(target, rd.DebugOverlay.ClearBeforeDraw)
@@ -80,12 +84,12 @@ class Pictures:
         self.show_nothing(target)
         return result
 
-    def show_nothing(self, target):
+    def show_nothing(self, target: int) -> None:
         """Takes the overlay away: an output that keeps one draws it anew at each step, on the very target that is
         read afterward."""
         self.show(target, rd.DebugOverlay.NoOverlay)
 
-    def show(self, target, overlay):
+    def show(self, target: int, overlay: RenderDoc) -> None:
         texture = self.textures[target]
         if self.output is None:
             window = rd.CreateHeadlessWindowingData(*WINDOW)
@@ -103,7 +107,7 @@ class Pictures:
             self.output.Display()
 
 
-def decoded(content, texture):
+def decoded(content: bytes, texture: RenderDoc) -> bytes:
     """Bytes of a texture as RGBA; a Fault for a format that isn't known here."""
     kind = texture.format
     unknown = Fault(f"targets of {kind.Name()} aren't carried over")
@@ -124,7 +128,7 @@ def decoded(content, texture):
     return bytes(result)
 
 
-def turned_round(content):
+def turned_round(content: bytes) -> bytes:
     """Bytes in which red and blue of each pixel have changed their places."""
     result = bytearray(content)
     result[0::4], result[2::4] = content[2::4], content[0::4]

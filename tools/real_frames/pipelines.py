@@ -1,14 +1,19 @@
 """The pipeline state at an event, of OpenGL, Vulkan and Direct3D, in framedbg's words. That of Direct3D is read by
 RenderDoc's documented types: no frame of it was at hand."""
+from collections.abc import Callable, Mapping, Sequence
 from dataclasses import dataclass
 
 import renderdoc as rd
 
+from captures import Event
+
 from . import states
 from .discards import LEFT_OUT
+from .frame import RenderDoc
+from .losses import Losses
 from .placing import Bias
 from .shaders import may_discard
-from .viewport import Viewport, meet, rectangle
+from .viewport import Rectangle, Viewport, meet, rectangle
 
 
 @dataclass
@@ -16,17 +21,17 @@ class Read:
     """What differs between the two: words as the API has them."""
 
     viewport: Viewport
-    scissor: list
-    raster: object
+    scissor: Rectangle
+    raster: RenderDoc
     front_ccw: bool
-    blend_factor: object
-    depth: tuple  # enable, write, function
+    blend_factor: Sequence[float]
+    depth: tuple[bool, bool, RenderDoc]  # enable, write, function
     clip_depth: bool
     stencil: bool
-    bias: tuple  # constant, slope, most
+    bias: tuple[float, float, float]  # constant, slope, most
 
 
-def of_gl(controller, pipe, height, from_above):
+def of_gl(controller: RenderDoc, pipe: RenderDoc, height: int, from_above: bool) -> Read:
     """`from_above`: the target's lowest row is the picture's upper one, so that rows are as OpenGL counts them."""
     own = controller.GetGLPipelineState()
     view, cut = pipe.GetViewport(0), pipe.GetScissor(0)
@@ -57,7 +62,7 @@ def of_gl(controller, pipe, height, from_above):
     )
 
 
-def of_vulkan(controller, pipe, *_):
+def of_vulkan(controller: RenderDoc, pipe: RenderDoc, *_: object) -> Read:
     own = controller.GetVulkanPipelineState()
     view, cut = pipe.GetViewport(0), pipe.GetScissor(0)
     viewport = Viewport(
@@ -87,7 +92,7 @@ def of_vulkan(controller, pipe, *_):
     )
 
 
-def of_direct3d(own, pipe):
+def of_direct3d(own: RenderDoc, pipe: RenderDoc) -> Read:
     """Of Direct3D 11 and 12, whose states have the same members."""
     view, cut = pipe.GetViewport(0), pipe.GetScissor(0)
     raster, output = own.rasterizer.state, own.outputMerger
@@ -116,7 +121,7 @@ def of_direct3d(own, pipe):
     )
 
 
-READERS = {
+READERS: dict[RenderDoc, Callable[[RenderDoc, RenderDoc, int, bool], Read]] = {
     rd.GraphicsAPI.OpenGL: of_gl,
     rd.GraphicsAPI.Vulkan: of_vulkan,
     rd.GraphicsAPI.D3D11: lambda controller, pipe, *_: of_direct3d(controller.GetD3D11PipelineState(), pipe),
@@ -124,7 +129,13 @@ READERS = {
 }
 
 
-def read(controller, textures, size, from_above, losses):
+def read(
+    controller: RenderDoc,
+    textures: Mapping[int, RenderDoc],
+    size: tuple[int, int],
+    from_above: bool,
+    losses: Losses,
+) -> states.State:
     """The state at the event that was gone to, for a target of this size."""
     pipe = controller.GetPipelineState()
     own = READERS[controller.GetAPIProperties().pipelineType](controller, pipe, size[1], from_above)
@@ -151,7 +162,7 @@ def read(controller, textures, size, from_above, losses):
         states.raster(states.CULLS.get(cull, "none"), own.front_ccw, box != whole),
         blend,
         factor,
-        states.depth(enable and target, write, states.COMPARES[function.name]),
+        states.depth(bool(enable and target), write, states.COMPARES[function.name]),
         own.clip_depth,
         Bias(*own.bias, step=depth_step(target)),
         width_of(pipe, own.raster),
@@ -159,20 +170,20 @@ def read(controller, textures, size, from_above, losses):
     )
 
 
-def discards_of(pipe):
+def discards_of(pipe: RenderDoc) -> bool:
     """Whether the pixel shader may discard fragments."""
     own = pipe.GetShaderReflection(rd.ShaderStage.Pixel)
     return bool(own) and may_discard(own.encoding.name, own.rawBytes)
 
 
-def width_of(pipe, raster):
+def width_of(pipe: RenderDoc, raster: RenderDoc) -> float:
     """Of lines, or of points where the state has it; a shader's own sizes of points aren't told."""
     if pipe.GetPrimitiveTopology() == rd.Topology.PointList:
         return getattr(raster, "pointSize", 0.0) or 1.0
     return getattr(raster, "lineWidth", 1.0)
 
 
-def blending(pipe, constant, losses):
+def blending(pipe: RenderDoc, constant: Sequence[float], losses: Losses) -> tuple[Event, Event]:
     blends = pipe.GetColorBlends()
     first = blends[0] if len(blends) else rd.ColorBlend()
     if first.logicOperationEnabled:
@@ -184,7 +195,7 @@ def blending(pipe, constant, losses):
     return state, states.factor(constant, colour, losses)
 
 
-def depth_step(target):
+def depth_step(target: RenderDoc) -> float:
     """The least step of a depth target of whole numbers; zero for floats."""
     if not target:
         return 0.0

@@ -1,12 +1,21 @@
 """Triangles, lines and points of a draw, from clip space onto the target in 1/65536 pixel, all as triangles."""
 import math
+from collections.abc import Iterable, Sequence
 from dataclasses import dataclass
+from typing import TYPE_CHECKING
 
-from captures import PIXEL
+from captures import PIXEL, Event
 from rules.coverage import CENTRE, cross, culled_turn
 from rules.snapping import snap
 
-from .clipping import GUARD, clip, clip_line, planes
+from .clipping import GUARD, Plane, Vertex, clip, clip_line, planes
+from .losses import Losses
+
+if TYPE_CHECKING:
+    from .records import Shape
+    from .states import State
+
+Place = tuple[float, float, float]  # x and y in pixels, and depth
 
 WHOLE = 256  # a pixel after snapping
 STEP = PIXEL // WHOLE
@@ -21,7 +30,7 @@ class Bias:
     most: float = 0.0  # zero: as much as it is
     step: float = 0.0  # the depth target's; zero: that of a float as large as the triangle's farthest depth
 
-    def of(self, corners):
+    def of(self, corners: Sequence[Place]) -> float:
         if not (self.constant or self.slope):
             return 0.0
         farthest = max(z for _, _, z in corners)
@@ -32,7 +41,7 @@ class Bias:
         return amount
 
 
-def steepness(corners):
+def steepness(corners: Sequence[Place]) -> float:
     """The larger of a triangle's two rises of depth a pixel; zero where it has no area."""
     (ax, ay, az), (bx, by, bz), (cx, cy, cz) = corners
     area = cross(*corners)
@@ -43,9 +52,12 @@ def steepness(corners):
     return max(abs(along_x), abs(along_y))
 
 
-def placed(primitives, state, losses):
+def placed(
+    primitives: Iterable[tuple[tuple[int, int], Sequence[Vertex]]], state: "State", losses: Losses
+) -> "list[Shape]":
     """Gives ((instance, primitive), three corners (x, y, depth)) of each triangle that is left after clipping."""
-    shapes, kept = [], planes(state.viewport, state.clip_depth)
+    shapes: "list[Shape]" = []
+    kept = planes(state.viewport, state.clip_depth)
     for number, corners in primitives:
         if not all(math.isfinite(value) for corner in corners for value in corner):
             losses.add("triangles, lines and points with a corner that is no number", "left out")
@@ -56,11 +68,11 @@ def placed(primitives, state, losses):
     return lowered(shapes) if state.viewport.rows_from_below else shapes
 
 
-def lowered(shapes):
+def lowered(shapes: "list[Shape]") -> "list[Shape]":
     """OpenGL counts rows from below: where an edge runs along the middles of a row, that row belongs to what lies
     over the edge, and in framedbg to what lies below it. The ends of such edges are moved down by the least step, in
     each triangle that has them."""
-    ends = set()
+    ends: set[tuple[int, int]] = set()
     for _, corners in shapes:
         for (ax, ay, _), (bx, by, _) in zip(corners, corners[1:] + corners[:1]):
             if snap(ay) == snap(by) and snap(ay) % WHOLE == CENTRE:
@@ -70,7 +82,9 @@ def lowered(shapes):
     return [(number, [(x, y + STEP * ((x, y) in ends), z) for x, y, z in corners]) for number, corners in shapes]
 
 
-def triangles(corners, state, kept, losses):
+def triangles(
+    corners: Sequence[Vertex], state: "State", kept: Sequence[Plane], losses: Losses
+) -> list[list[Place]]:
     """A primitive on the target, as triangles of three places (x, y, depth) in pixels."""
     if len(corners) < 3:
         losses.add("lines and points", "drawn as quads of their width")
@@ -89,7 +103,7 @@ def triangles(corners, state, kept, losses):
     return [[state.viewport.place(corner) for corner in piece] for piece in pieces]
 
 
-def quad(ends, width=1):
+def quad(ends: Sequence[Place], width: int = 1) -> tuple[list[Place], list[Place]]:
     """Two triangles along a line, so many pixels wide across its longer way; round a point, a square of so many."""
     half = width / 2
     if len(ends) == 1:
@@ -106,13 +120,13 @@ def quad(ends, width=1):
     return [a, b, c], [a, c, d]
 
 
-def guarded(x, y, z):
+def guarded(x: float, y: float, z: float) -> Place:
     """A corner that a line's width brings out of what a capture takes, moved to its border: both lie far beside the
     target."""
     return min(max(x, -GUARD), GUARD), min(max(y, -GUARD), GUARD), z
 
 
-def turned(corners, raster):
+def turned(corners: list[Place], raster: Event) -> list[Place]:
     """A triangle of a line, which has no back: turned so that it isn't culled."""
     culled = culled_turn(raster)
     away = raster["front_ccw"] if culled is None else culled

@@ -51,7 +51,7 @@ class Table:
 class Sums:
     """Over samples: how many they are, and sums of their places, of each channel, and of both together."""
 
-    count: float
+    count: int
     x: float
     y: float
     xx: float
@@ -68,7 +68,7 @@ class Sums:
 
     def add(self, y: int, row: Sequence[float]) -> None:
         count, x, xx = row[:3]
-        self.count += count
+        self.count += count  # type: ignore[assignment]  # whole, as the first of each row
         self.x += x
         self.xx += xx
         self.y += count * y

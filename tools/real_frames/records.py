@@ -58,3 +58,6 @@ class PictureRecord:
     name: str
     picture: bytes  # packed by zlib
     label: str  # of its marker
+
+
+Record = DrawRecord | ClearRecord | MarkerRecord | PictureRecord

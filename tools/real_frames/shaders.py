@@ -1,6 +1,7 @@
 """Whether a pixel shader may discard fragments: from its text, or from its words of SPIR-V."""
 import re
 import struct
+from collections.abc import Iterable
 
 COMMENT = re.compile(rb"//[^\n]*|/\*.*?\*/", re.S)
 DISCARD = re.compile(rb"\bdiscard\b")
@@ -8,11 +9,11 @@ HEADER = 5  # words
 ENDS = {252, 4416, 5380}  # OpKill, OpTerminateInvocation, OpDemoteToHelperInvocation
 
 
-def text_discards(content):
+def text_discards(content: bytes) -> bool:
     return bool(DISCARD.search(COMMENT.sub(b" ", content)))
 
 
-def words_discard(content):
+def words_discard(content: bytes) -> bool:
     """Each instruction begins with a word that has its length in words above, and its number below."""
     words = struct.unpack(f"<{len(content) // 4}I", content[: len(content) // 4 * 4])
     at = HEADER
@@ -29,6 +30,6 @@ def words_discard(content):
 READERS = {"GLSL": text_discards, "SPIRV": words_discard, "OpenGLSPIRV": words_discard}
 
 
-def may_discard(encoding, content):
+def may_discard(encoding: str, content: Iterable[int]) -> bool:
     """Of a shader in an encoding that isn't known, no."""
     return READERS[encoding](bytes(content)) if encoding in READERS else False

@@ -4,10 +4,12 @@ anything was put out, it was discarded."""
 import zlib
 from array import array
 from collections import Counter
+from collections.abc import Iterable
 
 from . import wide, wide_shown
 from .asked import Model
-from .layers import MOST
+from .layers import MOST, Layers
+from .records import Colour, DrawRecord
 from .solving import Undoing
 from .sources import Pixel, plainest, source_of, tells, times_drawn, with_alpha
 from .unblended import TOLD, source_at
@@ -17,16 +19,16 @@ NONE, SOURCE, OTHER = 0, 1, 2  # what a pixel has: no source, one, or what it is
 WAYS = (KNOWN, SOURCE), (WORKED_OUT, SOURCE), (REPLACED, OTHER)
 
 
-def words_of(picture):
+def words_of(picture: bytes) -> memoryview:
     """A picture as a number for each pixel."""
     return memoryview(picture).cast("I")
 
 
-def word(colour):
+def word(colour: Iterable[int]) -> int:
     return int.from_bytes(bytes(colour), "little")
 
 
-def colour(one):
+def colour(one: int) -> Colour:
     return tuple(one.to_bytes(4, "little"))
 
 
@@ -34,7 +36,13 @@ class Shown:
     """Over the box of a draw's pixels, row by row: `texels` and `kinds`. `replaced` is {place: colour}, `holes` the
     places of what was discarded."""
 
-    def __init__(self, record, layers, before, after):
+    counted: Counter[str]  # pixels by how their sources were found
+    replaced: dict[int, Colour]
+    holes: set[int]
+    texels: "array[int]"
+    known: dict[tuple[int | None, int, int, int], tuple[str, int]]
+
+    def __init__(self, record: DrawRecord, layers: Layers, before: bytes, after: bytes) -> None:
         self.record, self.layers, self.counted = record, layers, Counter()
         self.replaced, self.holes = {}, set()
         self.texels, self.kinds = array("I"), bytearray()
@@ -49,14 +57,14 @@ class Shown:
         for start, end in layers.rows():
             (self.copy if is_plain else self.look)(start, end)
 
-    def copy(self, start, end):
+    def copy(self, start: int, end: int) -> None:
         """A row of a draw that replaces: its picture is what it put out."""
         kinds = self.layers.counts[start:end].translate(bytes([NONE]) + bytes([SOURCE]) * 255)
         self.counted[KNOWN] += len(kinds) - kinds.count(NONE)
         self.kinds += kinds
         self.texels.extend(self.after[start:end])
 
-    def look(self, start, end):
+    def look(self, start: int, end: int) -> None:
         counts = self.layers.counts[start:end]
         for at, count, was, now in zip(range(start, end), counts, self.before[start:end], self.after[start:end]):
             kind, value = NONE, 0
@@ -67,7 +75,7 @@ class Shown:
             self.kinds.append(kind)
             self.texels.append(value)
 
-    def found(self, at, count, was, now):
+    def found(self, at: int, count: int, was: int, now: int) -> tuple[int, int]:
         """(kind, source) of a pixel; counts how it was found."""
         key = self.told.key(at), count, was, now
         how, value = self.known.get(key) or self.known.setdefault(key, self.solved(at, count, was, now))
@@ -76,20 +84,20 @@ class Shown:
             self.replaced[at] = colour(now)
         return dict(WAYS)[how], value
 
-    def solved(self, at, count, was, now):
-        was, now = colour(was), colour(now)
-        guess, is_known = self.told.guess(at, count, was, now)
-        made = None if count == MOST else self.blending.source(guess, was, now, count)
+    def solved(self, at: int, count: int, was: int, now: int) -> tuple[str, int]:
+        before, after = colour(was), colour(now)
+        guess, is_known = self.told.guess(at, count, before, after)
+        made = None if count == MOST else self.blending.source(guess, before, after, count)
         if made is None:
             return REPLACED, 0
         return KNOWN if made == guess and is_known else WORKED_OUT, word(made)
 
-    def may_be_discarded(self, at):
+    def may_be_discarded(self, at: int) -> bool:
         """Whether nothing speaks for it that an unchanged pixel was drawn: where the shader may discard, the draw
         alone left nothing there."""
         return self.record.state.discards and not (self.told.alone and self.told.alone[at])
 
-    def sources(self):
+    def sources(self) -> tuple[int, Colour | None]:
         """How many pixels have a source, and the one that all have, or None."""
         count = self.kinds.count(SOURCE)
         if not count:
@@ -107,7 +115,7 @@ class Told:
     """What is told of a draw's sources but by its blending: by the draw alone, by histories of some pixels, or by
     the draw unblended."""
 
-    def __init__(self, record, layers):
+    def __init__(self, record: DrawRecord, layers: Layers) -> None:
         self.record, self.layers, self.blend = record, layers, record.state.blend
         self.times = times_drawn(record.state.depth)
         self.alone = words_of(zlib.decompress(record.alone)) if record.alone else None
@@ -116,12 +124,12 @@ class Told:
         self.model = Model(self.asked) if self.asked else None
         self.last = layers.last() if self.asked else None
 
-    def key(self, at):
+    def key(self, at: int) -> int | None:
         """What tells apart two pixels of one colour before and after: nothing, the draw alone or unblended there, or
         the place itself."""
         return at if self.asked else self.alone[at] if self.alone else self.own[at] if self.own else None
 
-    def guess(self, at, count, was, now):
+    def guess(self, at: int, count: int, was: Colour, now: Colour) -> tuple[Colour, bool]:
         """(a source, whether it is known to be the shader's own)"""
         if not self.blend["enable"]:
             return now, True
@@ -135,13 +143,14 @@ class Told:
                 return rounded(found), how == TOLD
         return rounded(plainest(self.blend, was, now)), False
 
-    def by_alone(self, pixel):
+    def by_alone(self, pixel: Pixel) -> tuple[Colour, bool]:
         if not any(pixel.alone):
-            return pixel.alone, tells(self.blend, self.times, pixel)
+            return tuple(pixel.alone), tells(self.blend, self.times, pixel)
         told = source_of(self.blend, self.times, pixel)
         return rounded(told or pixel.after), bool(told) and tells(self.blend, self.times, pixel)
 
-    def by_histories(self, at, count, was, now):
+    def by_histories(self, at: int, count: int, was: Colour, now: Colour) -> tuple[Colour, bool]:
+        assert self.model and self.last is not None  # it is asked where there are histories
         y, x = divmod(at, self.layers.width)
         given = self.asked.get((x, y), {})
         if len(given) == 1 and count == 1:
@@ -151,5 +160,5 @@ class Told:
         return (0, 0, 0, 0) if is_empty else rounded(near), False
 
 
-def rounded(colour):
+def rounded(colour: Iterable[float]) -> Colour:
     return tuple(min(max(round(value), 0), 255) for value in colour)

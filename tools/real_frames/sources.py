@@ -127,9 +127,9 @@ class Pixel:
     """A pixel of a draw: how many of its triangles pass there, and the colours."""
 
     layers: int
-    alone: bytes
-    before: bytes
-    after: bytes
+    alone: Sequence[int]
+    before: Sequence[int]
+    after: Sequence[int]
 
 
 def source_of(blend: Event, times: int, pixel: "Pixel") -> Colour | None:

@@ -1,22 +1,30 @@
 """What both converters take as words, write, and tell on standard error."""
+import argparse
 import os
 import signal
 import stat
 import subprocess
 import sys
 import tempfile
+from collections.abc import Callable, Sequence
+from typing import TYPE_CHECKING, Any
 
 from captures import MOST_BYTES, compact, joined
 from framedbg_client import find_program
 from writing.counting import counted
 
 from .fault import Fault
+from .losses import Losses
 from .names import MOST_LINE, printable
+
+if TYPE_CHECKING:
+    from .replay import ReplayedFrame
+    from .writer import Writer
 
 ALL = (0, 1 << 62)
 
 
-def span(words):
+def span(words: str) -> tuple[int, int]:
     """A..B, A.. or ..B as two numbers."""
     first, dots, last = words.partition("..")
     both = int(first or ALL[0]), int(last or ALL[1])
@@ -25,7 +33,7 @@ def span(words):
     return both
 
 
-def add_words(parser):
+def add_words(parser: argparse.ArgumentParser) -> None:
     """The words on colours and on what is told."""
     parser.add_argument(
         "--colours",
@@ -45,13 +53,13 @@ def add_words(parser):
     parser.add_argument("--quiet", action="store_true", help="say no draw while it is read and written")
 
 
-def saying(quiet):
+def saying(quiet: bool) -> Callable[[str], None]:
     """Writes progress to standard error, over itself where that is a terminal."""
     end = "\r\x1b[K" if sys.stderr.isatty() else "\n"
     return (lambda line: None) if quiet else lambda line: print(line[:100], end=end, file=sys.stderr, flush=True)
 
 
-def target_of(frame):
+def target_of(frame: "ReplayedFrame") -> int:
     """The target that is shown. One of a pixel isn't what is looked for: a Fault names the one with most draws."""
     shown = frame.shown_target()
     if frame.size(shown) == (1, 1):
@@ -64,7 +72,7 @@ def target_of(frame):
     return shown
 
 
-def written(capture):
+def written(capture: dict[str, Any]) -> str:
     """A capture as text, which framedbg has read; a Fault where it is larger than one may be, or refused."""
     lines = [compact(event) for event in capture["events"]]
     made = joined(capture, lines)
@@ -75,7 +83,7 @@ def written(capture):
     return made
 
 
-def what_fits(capture, lines):
+def what_fits(capture: dict[str, Any], lines: Sequence[str]) -> str:
     """The draws up to which a frame fits, for a Fault."""
     room, ends = MOST_BYTES + 2 - len(joined(capture, []).encode()), {}
     draws = list(
@@ -90,7 +98,7 @@ def what_fits(capture, lines):
     return f"{len(fitting)} of its {len(draws)} draws fit, up to {fitting[-1]}, and --draws ..{fitting[-1]} takes these"
 
 
-def put_out(made):
+def put_out(made: str) -> None:
     """Writes to standard output. Where that is a file a Ctrl-C doesn't end it, so that the file is whole, or has
     nothing."""
     kept = signal.getsignal(signal.SIGINT)
@@ -103,7 +111,7 @@ def put_out(made):
         signal.signal(signal.SIGINT, kept)
 
 
-def have_it_read(made):
+def have_it_read(made: str) -> None:
     """Has framedbg read a capture. What it refuses is a Fault of the converter, and not written."""
     program = find_program()
     if not program:
@@ -129,7 +137,7 @@ def have_it_read(made):
         raise Fault(f"framedbg doesn't take what was made of the frame, so nothing is written: {said}")
 
 
-def tell(quiet, writer, losses, seconds):
+def tell(quiet: bool, writer: "Writer", losses: Losses, seconds: tuple[float, float]) -> None:
     """How near each draw's colours are, what was lost, and how long it took."""
     if not quiet:
         for event, name, pixels, fault in writer.painter.faults:

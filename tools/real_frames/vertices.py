@@ -6,13 +6,14 @@ import renderdoc as rd
 
 from . import topology
 from .fault import Fault
+from .frame import Primitive, RenderDoc
 from .names import printable
 
 POSITION = struct.Struct("<4f")
 INDEX = {1: "B", 2: "H", 4: "I"}
 
 
-def primitives(controller, action):
+def primitives(controller: RenderDoc, action: RenderDoc) -> tuple[list[Primitive], str]:
     """[((instance, primitive), its corners (x, y, z, w): three, two or one)], and what was in the way, or an empty
     text."""
     pipe = controller.GetPipelineState()
@@ -20,7 +21,8 @@ def primitives(controller, action):
         pipe.GetShader(stage) != rd.ResourceId.Null() for stage in (rd.ShaderStage.Geometry, rd.ShaderStage.Tess_Eval)
     )
     stage = rd.MeshDataStage.GSOut if late else rd.MeshDataStage.VSOut
-    found, trouble = [], ""
+    found: list[Primitive] = []
+    trouble = ""
     for instance in range(max(action.numInstances, 1)):
         data = controller.GetPostVSData(instance, 0, stage)
         if data.vertexResourceId == rd.ResourceId.Null():
@@ -32,11 +34,14 @@ def primitives(controller, action):
     return found, trouble
 
 
-def of_instance(controller, pipe, data, instance, found):
+def of_instance(
+    controller: RenderDoc, pipe: RenderDoc, data: RenderDoc, instance: int, found: list[Primitive]
+) -> str:
     """Adds the primitives of one instance; gives what was in the way."""
     content = controller.GetBufferData(data.vertexResourceId, data.vertexByteOffset, 0)
     have = (len(content) - POSITION.size) // data.vertexByteStride + 1 if len(content) >= POSITION.size else 0
-    corners, trouble = {}, ""
+    corners: dict[int, tuple[float, ...]] = {}
+    trouble = ""
     for primitive, names in topology.primitives(data.topology.name, *indices(controller, pipe, data)):
         if max(names) + data.baseVertex >= have or min(names) + data.baseVertex < 0:
             trouble = "indices beyond the vertices"
@@ -48,7 +53,7 @@ def of_instance(controller, pipe, data, instance, found):
     return trouble
 
 
-def indices(controller, pipe, data):
+def indices(controller: RenderDoc, pipe: RenderDoc, data: RenderDoc) -> tuple[list[int], int | None]:
     """The indices of a draw, and the one that begins a new strip, or None."""
     width = data.indexByteStride
     if data.indexResourceId == rd.ResourceId.Null() or width == 0:

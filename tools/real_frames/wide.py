@@ -1,24 +1,33 @@
 """Pictures pixel by pixel, many at once, where numpy is there (Debian: python3-numpy). What comes out is what comes
 out without it, byte for byte."""
+from array import array
+from typing import Any
+
+from captures import Bytes
+
+from .layers import Layers
+
 try:
     import numpy
 except ImportError:
     numpy = None  # type: ignore[assignment]
 
+Array = Any  # one of numpy's, which may be missing; the rules of one pixel take it for a number
 
-def box_of(words, layers):
+
+def box_of(words: Bytes, layers: Layers) -> Array:
     """The numbers of a picture's pixels within a draw's box, row by row."""
     left, top, right, bottom = layers.box
     return numpy.asarray(memoryview(words)).reshape(-1, layers.width)[top:bottom, left:right].ravel()
 
 
-def places_of(layers):
+def places_of(layers: Layers) -> Array:
     """The places of the pixels within a draw's box."""
     left, top, right, bottom = layers.box
     return (numpy.arange(top, bottom)[:, None] * layers.width + numpy.arange(left, right)).ravel()
 
 
-def alike(some, *keys):
+def alike(some: Array, *keys: Array) -> tuple[Array, Array]:
     """Of places that are alike in their keys the first, for each kind, and for each place the number of its kind."""
     if not len(some):
         return some, some
@@ -30,7 +39,7 @@ def alike(some, *keys):
     return some[order[is_new]], kinds
 
 
-def differing(before, after, counts):
+def differing(before: bytes, after: bytes, counts: bytearray | None) -> list[int]:
     """The places of pixels that changed where no triangle passes."""
     was, now = (numpy.frombuffer(picture, "<u4") for picture in (before, after))
     changed = was != now
@@ -39,7 +48,7 @@ def differing(before, after, counts):
     return numpy.flatnonzero(changed).tolist()
 
 
-def are_one(texels, kinds, kind):
+def are_one(texels: "array[int]", kinds: bytearray, kind: int) -> bool:
     """Whether all texels of a kind are alike."""
     values = numpy.asarray(memoryview(texels))[numpy.frombuffer(kinds, "u1") == kind]
     return bool((values == values[0]).all())

@@ -1,14 +1,21 @@
 """What shown.Shown finds row by row, over all of a draw's box at once, by numpy: pixels that are alike in all that is
 known of them are solved once."""
+from collections.abc import Sequence
+from typing import TYPE_CHECKING
+
 from .layers import MOST
-from .wide import alike, box_of, numpy, places_of
+from .wide import Array, alike, box_of, numpy, places_of
 from .wide_solving import Pixels, WideBlending
 from .wide_sources import Alone, channels, words
 
+if TYPE_CHECKING:
+    from .shown import Shown, Told
+
+Ways = Sequence[tuple[str, int]]
 KNOWN, WORKED_OUT, NONE = 0, 1, 2  # how a source was found
 
 
-def look(shown, ways):
+def look(shown: "Shown", ways: Ways) -> None:
     """`ways` are the name and the kind of pixels whose sources are known, worked out, and replaced."""
     layers, told = shown.layers, shown.told
     counts, was, now = (box_of(one, layers) for one in (layers.counts, shown.before, shown.after))
@@ -26,7 +33,7 @@ def look(shown, ways):
     keep(shown, ways, (some, hows, values), (places, now))
 
 
-def keep(shown, ways, found, pictures):
+def keep(shown: "Shown", ways: Ways, found: tuple[Array, Array, Array], pictures: tuple[Array, Array]) -> None:
     """What was found, as Shown has it: its counts in the order in which each kind comes first."""
     (some, hows, values), (places, now) = found, pictures
     _, first, counts = numpy.unique(hows, return_index=True, return_counts=True)
@@ -40,7 +47,7 @@ def keep(shown, ways, found, pictures):
     shown.texels.frombytes(texels.tobytes())
 
 
-def solved(shown, places, pixels):
+def solved(shown: "Shown", places: Array, pixels: Pixels) -> tuple[Array, Array]:
     """What Shown.solved gives at some places, whose pixels are numbers: (how each source was found, the sources)."""
     wide = Pixels(None, channels(pixels.before), channels(pixels.after), pixels.layers.astype("i4"))
     wide.guess, is_known = guesses(shown.told, places, pixels, wide)
@@ -51,7 +58,7 @@ def solved(shown, places, pixels):
     return numpy.where(found, hows, NONE), numpy.where(found, words(made), 0)
 
 
-def guesses(told, places, pixels, wide):
+def guesses(told: "Told", places: Array, pixels: Pixels, wide: Pixels) -> tuple[Array, Array]:
     """What told.guess says of each: (sources as four rows, whether they are known to be the shader's own)."""
     if not told.blend["enable"]:
         return wide.after, numpy.ones(len(places), bool)

@@ -1,9 +1,11 @@
 """Which side of an edge a pixel lies on, to whom it belongs on the edge itself, and which triangles are culled.
 Places are in 1/256 pixel."""
 from collections.abc import Mapping, Sequence
-from typing import Any
+from typing import Any, TypeVar
 
 CENTRE = 128  # of a pixel, from its upper left corner
+
+Number = TypeVar("Number", int, float)
 
 
 def centre(x: int, y: int) -> tuple[int, int]:
@@ -11,7 +13,7 @@ def centre(x: int, y: int) -> tuple[int, int]:
     return 256 * x + CENTRE, 256 * y + CENTRE
 
 
-def cross(a: Sequence[int], b: Sequence[int], c: Sequence[int]) -> int:
+def cross(a: Sequence[Number], b: Sequence[Number], c: Sequence[Number]) -> Number:
     """Twice the area of a triangle, above zero where it runs clockwise."""
     return (b[0] - a[0]) * (c[1] - a[1]) - (b[1] - a[1]) * (c[0] - a[0])
 
