@@ -2,6 +2,8 @@
 import os
 import pathlib
 import tempfile
+from collections.abc import Iterable, Sequence
+from typing import Any
 
 from debugger.contents import Contents
 from debugger.differing import differences, steps_through, tell_pictures
@@ -15,24 +17,34 @@ from .session import Ended, Session
 
 MOST_TOLD = 10_000  # events that differ; the rest is counted
 REFUSED = 2  # framedbg's status for a capture
+Words = tuple[str, str, int]  # of a session: the program, the capture, the number of threads
 
 
 class Beside:
     """`words` are the program, the capture that is shown, and the number of threads; `path` is the other's, whose file
     may lie in a room of its own."""
 
-    def __init__(self, words, path, name=None, room=None):
+    told: dict[str, Any] | None
+    first: list[str] | None
+
+    def __init__(
+        self,
+        words: Words,
+        path: str | os.PathLike[str],
+        name: str | None = None,
+        room: "tempfile.TemporaryDirectory[str] | None" = None,
+    ) -> None:
         program, self.shown, workers = words
         self.path, self.name, self.room = os.path.abspath(path), name or pathlib.Path(path).name, room
         self.session = Session(program, self.path, workers, Capture(path).boxes_between)
         self.told = self.first = None
 
-    def close(self):
+    def close(self) -> None:
         self.session.close()
         if self.room:
             self.room.cleanup()
 
-    def differs(self):
+    def differs(self) -> dict[str, Any]:
         """What the page shows of both: {name, last, size, steps, told, left_out, counts}, found once."""
         if self.told is None:
             with self.frames() as (frames, contents):
@@ -49,7 +61,7 @@ class Beside:
                 }
         return self.told
 
-    def pictures(self):
+    def pictures(self) -> list[str]:
         """Where the pictures first differ, and by how much there and at the end, in the words of fdb --diff."""
         if self.first is None:
             with self.frames() as (frames, contents):
@@ -62,17 +74,19 @@ class Beside:
                     self.first = tell_pictures(frames, steps, same)
         return self.first
 
-    def frames(self):
+    def frames(self) -> "Frames":
         return Frames(self.session.words[0], [self.shown, self.path], self.session.words[2])
 
 
 class Frames:
     """Runs of both captures for as long as they are compared, so that none that is shown is moved."""
 
-    def __init__(self, program, paths, workers):
+    clients: list[Client]
+
+    def __init__(self, program: str, paths: Sequence[str], workers: int) -> None:
         self.words, self.paths, self.clients = (program, workers), paths, []
 
-    def __enter__(self):
+    def __enter__(self) -> tuple[list[DebuggedFrame], list[Contents]]:
         try:
             self.clients += [Client(path, *self.words) for path in self.paths]
             return [DebuggedFrame(client) for client in self.clients], [Contents(path) for path in self.paths]
@@ -80,7 +94,7 @@ class Frames:
             self.__exit__(type(fault), fault)
             raise
 
-    def __exit__(self, kind, fault, *_):
+    def __exit__(self, kind: type[BaseException] | None, fault: BaseException | None, *_: object) -> None:
         for client in self.clients:
             client.connection.end(at_once=True)
         if isinstance(fault, MemoryError):
@@ -89,7 +103,7 @@ class Frames:
             raise Refused(400, f"the captures can't be compared: {fault}") from None
 
 
-def sent(words, capture, name):
+def sent(words: Words, capture: bytes, name: str) -> Beside:
     """A Beside of a capture that the page sent, or Refused in the words of framedbg-explain."""
     room = tempfile.TemporaryDirectory(prefix="framedbg-view-")
     path = pathlib.Path(room.name) / "beside.json"
@@ -104,10 +118,10 @@ def sent(words, capture, name):
         raise Refused(400, explained(capture)[2] if is_refused else str(fault)) from None
 
 
-def runs_of(steps):
+def runs_of(steps: Iterable[Sequence[int]]) -> list[list[int]]:
     """Steps through both frames as runs: [number in the one, number in the other, how many]; 0 where it goes over none.
     Steps follow one another in both, so those of one sort are a run."""
-    runs = []
+    runs: list[list[int]] = []
     for i, j in steps:
         if runs and [bool(at) for at in runs[-1][:2]] == [bool(i), bool(j)]:
             runs[-1][2] += 1

@@ -7,6 +7,8 @@ import subprocess
 import sys
 import tempfile
 import threading
+from collections.abc import Container, Iterable
+from typing import Any
 
 from blaming.faults import Fault
 from blaming.frame import CaptureFrame, read_capture
@@ -22,11 +24,13 @@ INTERRUPTED = 130
 
 
 class Blame:
-    def __init__(self, program, capture):
+    run: "subprocess.Popen[bytes] | None"
+
+    def __init__(self, program: str, capture: str) -> None:
         self.program, self.capture = program, os.path.abspath(capture)
         self.lock, self.run, self.is_stopped = threading.Lock(), None, False
 
-    def answer(self, picture, tolerance, off):
+    def answer(self, picture: bytes, tolerance: Iterable[int], off: set[int]) -> tuple[dict[str, Any], bytes]:
         """What is found, with the size of the picture after the best change, and that picture's samples. Events that
         are off are none for it, and keep their numbers."""
         if not self.lock.acquire(blocking=False):
@@ -41,13 +45,16 @@ class Blame:
             self.run = None
             self.lock.release()
 
-    def stop(self):
+    def stop(self) -> None:
         """Ends the search, if there is one: it is answered with "stopped"."""
         self.is_stopped, run = True, self.run
         if run and run.poll() is None:
             run.terminate()
 
-    def _answer(self, folder, picture, tolerance, off):
+    def _answer(
+        self, folder: pathlib.Path, picture: bytes, tolerance: Iterable[int], off: set[int]
+    ) -> tuple[dict[str, Any], bytes]:
+        capture: str | pathlib.Path
         wanted, mended, capture = folder / "wanted.pam", folder / "mended.json", self.capture
         wanted.write_bytes(picture)
         if off:
@@ -81,7 +88,7 @@ class Blame:
         told = json.loads(out)
         return told, self.drawn(mended) if mended.exists() else b""
 
-    def drawn(self, capture):
+    def drawn(self, capture: pathlib.Path) -> bytes:
         return read_pam(
             subprocess.run(
                 [self.program, "image", str(capture)], stdin=subprocess.DEVNULL, capture_output=True, check=False
@@ -89,7 +96,7 @@ class Blame:
         ).samples
 
 
-def without(capture, off):
+def without(capture: dict[str, Any], off: Container[int]) -> str:
     """A capture whose events of some numbers do nothing."""
     events = [marker("off") if number in off else event for number, event in enumerate(capture["events"], 1)]
     return CaptureFrame(capture).text(events)

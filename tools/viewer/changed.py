@@ -1,9 +1,11 @@
 """What if an event were another one, or stood elsewhere: the capture changed so, its picture, and its text to be
 kept."""
 import json
+import os
 import pathlib
 import subprocess
 import tempfile
+from collections.abc import Container
 
 import captures
 from debugger.changing import Wrong, changed, without
@@ -16,17 +18,17 @@ REFUSED = 2  # framedbg's status for a capture
 
 
 class Changed:
-    def __init__(self, program, capture):
+    def __init__(self, program: str, capture: str | os.PathLike[str]) -> None:
         self.program, self.capture = program, pathlib.Path(capture)
 
-    def file(self):
+    def file(self) -> bytes:
         """The capture as it is."""
         try:
             return self.capture.read_bytes()
         except OSError as fault:
             raise Refused(400, fault.strerror) from None
 
-    def text(self, change, off):
+    def text(self, change: bytes, off: Container[int]) -> bytes:
         """The capture with a change, {"set": event, "members": {..}} or {"move": event, "to": its number
         then}; events that are off are none in it."""
         try:
@@ -39,7 +41,7 @@ class Changed:
         except (ValueError, KeyError, TypeError, RecursionError):
             raise Refused(400, "no change of this capture") from None
 
-    def picture(self, change, off):
+    def picture(self, change: bytes, off: Container[int]) -> tuple[int, int, bytes]:
         """Width, height and samples of its image at the end."""
         text = self.text(change, off)
         with tempfile.TemporaryDirectory(prefix="framedbg-view-") as folder:

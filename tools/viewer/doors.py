@@ -1,6 +1,7 @@
 """What a request must be, to be answered: the page's own, of this run, and of a bounded length."""
 import hmac
 import json
+from email.message import Message
 
 from framedbg_client.connection import MOST_LINE
 
@@ -26,12 +27,12 @@ HEADERS = {
 
 
 class Refused(Exception):
-    def __init__(self, status, why):
+    def __init__(self, status: int, why: str) -> None:
         super().__init__(why)
         self.status = status
 
 
-def check_caller(headers, host, origin):
+def check_caller(headers: Message, host: str, origin: str) -> None:
     """Its Host is exactly the address that was printed, and its Origin, where there is one, the page's own."""
     if headers.get_all("Host", []) != [host]:
         raise Refused(403, "another host")
@@ -39,16 +40,16 @@ def check_caller(headers, host, origin):
         raise Refused(403, "another origin")
 
 
-def check_token(headers, token):
+def check_token(headers: Message, token: str) -> None:
     """It comes from this site, and carries the run's token exactly once."""
     if headers.get("Sec-Fetch-Site", "same-origin") not in ("same-origin", "none"):
         raise Refused(403, "another site")
-    tokens = headers.get_all("X-Token", [])
+    tokens: list[str] = headers.get_all("X-Token", [])
     if len(tokens) != 1 or not hmac.compare_digest(tokens[0].encode("utf-8", "replace"), token.encode()):
         raise Refused(403, "no token")
 
 
-def body_length(headers, most=MAX_BODY):
+def body_length(headers: Message, most: int = MAX_BODY) -> int:
     length = headers.get("Content-Length", "")
     if not length.isascii() or not length.isdigit() or len(length) > MAX_NUMBER:
         raise Refused(411, "a length is wanted")
@@ -57,7 +58,7 @@ def body_length(headers, most=MAX_BODY):
     return int(length)
 
 
-def commands(body):
+def commands(body: bytes) -> list[bytes]:
     """The lines of a call. A line that is no command is framedbg's to answer; `quit` is the launcher's."""
     lines = body.splitlines()
     if not 1 <= len(lines) <= MAX_COMMANDS:
@@ -70,7 +71,7 @@ def commands(body):
     return lines
 
 
-def beside(headers):
+def beside(headers: Message) -> str | None:
     """The run beside that is to answer, or None; such a call switches nothing."""
     name = headers.get("X-Run")
     if name is not None and name not in BESIDE:
@@ -78,7 +79,7 @@ def beside(headers):
     return name
 
 
-def name(headers):
+def name(headers: Message) -> str:
     """A file's name, which is shown and nothing else."""
     try:
         told = json.loads(headers.get("X-Name", '""'))
@@ -89,7 +90,7 @@ def name(headers):
     return told or "the other capture"
 
 
-def numbers(text, *counts):
+def numbers(text: str, *counts: int) -> tuple[int, ...]:
     words = text.split()
     if len(words) not in counts or not all(
         word.isascii() and word.isdigit() and len(word) <= MAX_NUMBER for word in words

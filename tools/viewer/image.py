@@ -2,15 +2,19 @@
 where it is too large."""
 import fcntl
 import math
+from collections.abc import Sequence
+from typing import IO
 
 from framedbg_client.image import fields_of
 
 MOST_PIXELS = 1 << 22  # of an image that are kept: those of 2048 by 2048
 PIECE = 1 << 20  # bytes that are read at once
 HEADER_LINES = 7
+Pixels = bytes | bytearray
+Part = dict[str, int]  # of a target, that is kept
 
 
-def widen(pipe):
+def widen(pipe: IO[bytes]) -> None:
     """Lets the pipe hold more, where the system can: then an image goes through it with fewer turns."""
     try:
         fcntl.fcntl(pipe, fcntl.F_SETPIPE_SZ, PIECE)
@@ -18,7 +22,9 @@ def widen(pipe):
         pass
 
 
-def read_image(stream, size, window=None):
+def read_image(
+    stream: IO[bytes], size: int, window: Sequence[int] | None = None
+) -> tuple[dict[str, int], Pixels] | None:
     """What is kept of a PAM of `size` bytes, and its pixels: (a description, a bytes-like object); None where the
     stream ends before. The window is (left, top, right, bottom) in pixels of the target, and perhaps every how many
     of them one is kept at most.
@@ -32,7 +38,7 @@ def read_image(stream, size, window=None):
     return None if pixels is None else ({**part, "bytes": len(pixels)}, pixels)
 
 
-def kept_part(width, height, window):
+def kept_part(width: int, height: int, window: Sequence[int] | None) -> Part:
     """The window cut to the target, and every how many pixels one is kept."""
     left, top, right, bottom, *wanted = window or (0, 0, width, height)
     left, top = min(left, width - 1), min(top, height - 1)
@@ -52,11 +58,11 @@ def kept_part(width, height, window):
     }
 
 
-def kept(length, every):
+def kept(length: int, every: int) -> int:
     return -(-length // every)
 
 
-def read_part(stream, part):
+def read_part(stream: IO[bytes], part: Part) -> Pixels | None:
     """The kept pixels, row by row, and the rest of the image read and dropped; None where the stream ends before."""
     width, height, top, every = (part[name] for name in ("width", "height", "top", "every"))
     if every == 1 and part["columns"] == width and part["rows"] == height:

@@ -1,14 +1,21 @@
 """The image that a page was sent last: of the next one only the rows that are others go through the air."""
 import threading
+from collections.abc import Iterable, Sequence
+from typing import Any
+
+from .image import Pixels
 
 NUMBER = 0  # of an image that is nobody's
+Image = tuple[dict[str, Any], Pixels]  # its description, and its bytes
 
 
 class Sent:
-    def __init__(self):
+    last: tuple[int, Any, Any]  # its number, its description and its bytes
+
+    def __init__(self) -> None:
         self.lock, self.last, self.count = threading.Lock(), (NUMBER, None, None), NUMBER
 
-    def shortened(self, images, base):
+    def shortened(self, images: Iterable[Image], base: int) -> list[Image]:
         """The descriptions of some images and their bytes, and of those that follow on the base, or on the one
         before them, their changed rows alone."""
         with self.lock:
@@ -16,7 +23,7 @@ class Sent:
                 self._shortened(image, data, base if i == 0 else self.count) for i, (image, data) in enumerate(images)
             ]
 
-    def _shortened(self, image, data, base):
+    def _shortened(self, image: dict[str, Any], data: Pixels, base: int) -> Image:
         number, part, old = self.last
         made_of, rows = image.get("since", (None, None))
         image = {name: value for name, value in image.items() if name != "since"}
@@ -35,15 +42,18 @@ class Sent:
         )
 
 
-def whole(images):
+def whole(images: Iterable[Image]) -> list[Image]:
     """The same where nothing follows on anything, and nothing is to follow on these."""
     return [({name: value for name, value in image.items() if name != "since"}, data) for image, data in images]
 
 
-def changed_rows(new, old, stride, rows=None):
+def changed_rows(
+    new: Pixels, old: Pixels | memoryview, stride: int, rows: Sequence[int] | None = None
+) -> list[list[int]]:
     """Bands of rows that differ, of all rows or of some: (the first, how many)."""
     if new is old or rows is None and new == old:
         return []
+    bands: list[list[int]]
     bands, old = [], memoryview(old)
     for row in range(len(new) // stride) if rows is None else rows:
         at = stride * row

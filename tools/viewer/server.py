@@ -44,17 +44,21 @@ import http.server
 import json
 import pathlib
 import secrets
+from collections.abc import Callable
+from typing import Any
 
 from captures import MOST_BYTES
 
 from . import beside, doors
 from .blame import Blame
+from .capture import Capture
 from .card import Card
 from .changed import Changed
 from .doors import Refused
+from .image import Pixels
 from .runs import OTHER, Runs
 from .sent import Sent, whole
-from .session import Ended, Stopped
+from .session import Ended, Session, Stopped
 
 PAGE = pathlib.Path(__file__).parent / "page"
 TYPES = {
@@ -72,7 +76,11 @@ FILES = {
 class Server(http.server.ThreadingHTTPServer):
     daemon_threads = True
 
-    def __init__(self, session, capture, port=0, on_first_call=lambda: None):
+    tabs: dict[str, Any] | None
+
+    def __init__(
+        self, session: Session, capture: Capture, port: int = 0, on_first_call: Callable[[], None] = lambda: None
+    ) -> None:
         self.card = Card(session.words[0])
         self.blame = Blame(*session.words[:2])  # which server_close() asks, also where the port isn't to be had
         super().__init__(("127.0.0.1", port), Handler)
@@ -84,33 +92,34 @@ class Server(http.server.ThreadingHTTPServer):
         self.origin = f"http://{self.host}"
         self.address = f"{self.origin}/#{self.token}"  # a fragment stays in the browser, and in no log
 
-    def server_close(self):
+    def server_close(self) -> None:
         super().server_close()
         self.blame.stop()
         self.card.end()
 
-    def handle_error(self, request, client_address):
+    def handle_error(self, request: Any, client_address: Any) -> None:
         pass  # a browser that went away in the middle of an answer
 
-    def differs(self):
-        return self.runs.other and self.runs.other.differs()
+    def differs(self) -> dict[str, Any] | None:
+        return self.runs.other.differs() if self.runs.other else None
 
-    def called(self):
+    def called(self) -> None:
         told, self.on_first_call = self.on_first_call, lambda: None
         told()
 
 
 class Handler(http.server.BaseHTTPRequestHandler):
+    server: Server
     timeout = 30  # seconds for a request to arrive
     server_version, sys_version = "framedbg-view", ""
 
-    def do_GET(self):
+    def do_GET(self) -> None:
         self.attempt(self.get)
 
-    def do_POST(self):
+    def do_POST(self) -> None:
         self.attempt(self.post)
 
-    def attempt(self, answer):
+    def attempt(self, answer: Callable[[], None]) -> None:
         try:
             doors.check_caller(self.headers, self.server.host, self.server.origin)
             answer()
@@ -120,11 +129,11 @@ class Handler(http.server.BaseHTTPRequestHandler):
         except Ended as ended:
             self.send_json({"ended": str(ended), "stopped": isinstance(ended, Stopped)}, 410)
 
-    def check_token(self):
+    def check_token(self) -> None:
         doors.check_token(self.headers, self.server.token)
         self.server.called()
 
-    def get(self):
+    def get(self) -> None:
         if self.path == "/capture":
             self.check_token()
             return self.send_json({"name": self.server.capture.name})
@@ -144,7 +153,7 @@ class Handler(http.server.BaseHTTPRequestHandler):
             raise Refused(404, "no such page")
         self.send(200, *FILES[self.path])
 
-    def post(self):
+    def post(self) -> None:
         self.check_token()
         calls = {
             "/commands": self.commands,
@@ -170,7 +179,7 @@ class Handler(http.server.BaseHTTPRequestHandler):
         )
         calls[self.path](self.rfile.read(doors.body_length(self.headers, most)))
 
-    def commands(self, body):
+    def commands(self, body: bytes) -> None:
         window = self.headers.get("X-Window")
         window = None if window is None else doors.numbers(window, 4, 5)
         base = doors.numbers(self.headers.get("X-Base", "0"), 1)[0]
@@ -187,7 +196,7 @@ class Handler(http.server.BaseHTTPRequestHandler):
         told = json.dumps({"switches": switches, "replies": replies}, separators=(",", ":"))
         self.send(200, "application/octet-stream", told.encode() + b"\n", *(data for _, data in sent))
 
-    def depths(self, body):
+    def depths(self, body: bytes) -> None:
         position, *part = doors.numbers(body.decode("latin-1"), 6)
         if not 1 <= part[-1] * part[-2] <= doors.MAX_DEPTHS:
             raise Refused(400, f"from 1 to {doors.MAX_DEPTHS} depths are wanted")
@@ -196,38 +205,38 @@ class Handler(http.server.BaseHTTPRequestHandler):
             raise Refused(400, "no such depths")
         self.send(200, "application/octet-stream", depths)
 
-    def triangle(self, body):
+    def triangle(self, body: bytes) -> None:
         self.send_json(self.server.capture.triangle(*doors.numbers(body.decode("latin-1"), 2)))
 
-    def draw(self, body):
+    def draw(self, body: bytes) -> None:
         self.send_json(self.server.capture.draw(*doors.numbers(body.decode("latin-1"), 1)))
 
-    def blame(self, picture):
+    def blame(self, picture: bytes) -> None:
         tolerance = doors.numbers(self.headers.get("X-Tolerance", "0 0 0 0"), 4)
         told, samples = self.server.blame.answer(
             picture, [min(by, 255) for by in tolerance], set(self.server.runs.session.off)
         )
         self.send(200, "application/octet-stream", json.dumps(told).encode() + b"\n", samples)
 
-    def stop_blame(self, _):
+    def stop_blame(self, _: bytes) -> None:
         self.server.blame.stop()
         self.send_json({})
 
-    def changed(self, change):
+    def changed(self, change: bytes) -> None:
         width, height, samples = self.server.changed.picture(change, set(self.server.runs.session.off))
         self.send(
             200, "application/octet-stream", json.dumps({"width": width, "height": height}).encode() + b"\n", samples
         )
 
-    def changed_capture(self, change):
+    def changed_capture(self, change: bytes) -> None:
         self.send(200, "application/json", self.server.changed.text(change, set(self.server.runs.session.off)))
 
-    def card(self, capture):
+    def card(self, capture: bytes) -> None:
         self.send_json({"run": self.server.card.start(capture)})
 
-    def card_commands(self, body):
+    def card_commands(self, body: bytes) -> None:
         replies, images = self.server.card.answer(
-            *doors.numbers(self.headers.get("X-Card", ""), 1), doors.commands(body)
+            doors.numbers(self.headers.get("X-Card", ""), 1)[0], doors.commands(body)
         )
         self.send(
             200,
@@ -236,32 +245,32 @@ class Handler(http.server.BaseHTTPRequestHandler):
             *images,
         )
 
-    def end_card(self, number):
+    def end_card(self, number: bytes) -> None:
         self.server.card.end(*doors.numbers(number.decode("latin-1"), 1))
         self.send_json({})
 
-    def put_beside(self, capture):
+    def put_beside(self, capture: bytes) -> None:
         runs = self.server.runs
         runs.put_beside(beside.sent(runs.session.words, capture, doors.name(self.headers)) if capture else None)
         self.send_json(self.server.differs())
 
-    def pictures(self, _):
+    def pictures(self, _: bytes) -> None:
         if not self.server.runs.other:
             raise Refused(400, "no other capture")
         self.send_json(self.server.runs.other.pictures())
 
-    def restart(self, _):
+    def restart(self, _: bytes) -> None:
         self.server.runs.start()
         self.send_json({})
 
-    def stop(self, _):
+    def stop(self, _: bytes) -> None:
         self.server.runs.stop()
         self.send_json({})
 
-    def send_json(self, told, status=200):
+    def send_json(self, told: Any, status: int = 200) -> None:
         self.send(status, "application/json", json.dumps(told).encode())
 
-    def send(self, status, kind, *pieces):
+    def send(self, status: int, kind: str, *pieces: Pixels) -> None:
         self.send_response(status)
         self.send_header("Content-Type", kind)
         self.send_header("Content-Length", str(sum(map(len, pieces))))
@@ -271,5 +280,5 @@ class Handler(http.server.BaseHTTPRequestHandler):
         for piece in pieces:
             self.wfile.write(piece)
 
-    def log_message(self, *_):
+    def log_message(self, *_: object) -> None:
         pass

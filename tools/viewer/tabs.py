@@ -1,11 +1,16 @@
 """The captures of a frame's targets, each shown by a server of its own: a tab of a page leads to the page of another
 target."""
 import threading
+from collections.abc import Iterable, Mapping
+from typing import TYPE_CHECKING, Any
 
 import targets
 
+if TYPE_CHECKING:
+    from .server import Server
 
-def joined(servers, frame):
+
+def joined(servers: "Mapping[int, Server]", frame: dict[str, Any]) -> None:
     """Tells each server, by target, of the others, and which of its draws read what they show (targets.py). Targets are
     told as texts: RenderDoc's numbers may be larger than a page's are exact."""
     for own, server in servers.items():
@@ -33,14 +38,14 @@ def joined(servers, frame):
         server.tabs = {"tabs": tabs, "reads": reads}
 
 
-def laid(frame, read):
+def laid(frame: dict[str, Any], read: dict[str, Any]) -> list[Any] | None:
     """[how the target that is read lies over the one that reads it, the size of this, the other's], or None where that
     isn't told."""
     sizes = targets.sizes_of(frame, read)
     return [read["laid"], *sizes] if read.get("laid") in targets.LAID and all(sizes) else None
 
 
-def serve_beside(servers):
+def serve_beside(servers: "Iterable[Server]") -> None:
     """Those but the first answer in threads of their own."""
     for server in list(servers)[1:]:
         threading.Thread(target=server.serve_forever, daemon=True).start()
