@@ -64,7 +64,8 @@ pub fn perform<T: Threads + Sync, R: Source, W: Sink, E: Sink>(
     ensures performs { let seen = devices_shown R.Source W.Sink.own E.Sink.own in
         Performs request capture.now (seen devices.old) (seen devices.new) (R.has_ended devices.new.source) result }
     // Before each read all lines that ended were answered, and the answers passed on.
-    ensures waits { WaitsAbout (record { contents = W.contents; is_flushed = W.is_flushed }) capture.now devices.old.sink devices.old.source devices.new.source }
+    ensures waits { WaitsAbout (record { contents = W.contents; is_flushed = W.is_flushed }) capture.now
+        devices.old.sink devices.old.source devices.new.source }
 {
     let ending = do_request(
         rt,

@@ -4,7 +4,7 @@ use Rattle.std.proofs.Common.{◌∙◌, arith, inl, inr, ◌⊎◌, ◌/◌, �
 use Rattle.std.specs.List.{range_with_len}
 use Rattle.std.proofs.lemmas.List.{get_or_append_left}
 use Rattle.std.proofs.lemmas.List.FromFn.{get_or-map-range_with_len, length-map-range_with_len}
-use Rattle.std.specs.Prelude.{Some, not, ◌&&◌}
+use Rattle.std.specs.Prelude.{Option, Some, None, not, ◌&&◌}
 use Rattle.std.proofs.lemmas.Bool.{eq-eqb, ne_eqb, cases_eq}
 use Rattle.std.proofs.lemmas.Bool.Decides.{nat_tests}
 use Rattle.std.proofs.lemmas.Nat.{pow-add}
@@ -12,6 +12,7 @@ use Rattle.std.proofs.Math.Nat.{div-div-eq-div-mul}
 use Rattle.fd_blend.specs.declared.channel.Colour.{Colour}
 use Rattle.fd_blend.specs.Channel.{fresh}
 use Rattle.fd_cover.specs.declared.triangle.Tri.{Tri}
+use Rattle.fd_cover.specs.Covers.{covers}
 use Rattle.fd_cover.specs.Depth.{depth_at, passes}
 use Rattle.fd_events.specs.declared.pipeline.Pipeline.{Pipeline}
 use Rattle.fd_events.specs.Draw.{Triangle}
@@ -25,7 +26,8 @@ use Rattle.fd_tile.proofs.Pixels.{length-row_of, with_row_left_is, IsTileImage-w
 use borrow.Rule.Slice.PartMut.{put_mid}
 use Rattle.fd_undo.specs.Undo.{Undo}
 use Rattle.fd_tile.specs.declared.place.Place.{Place}
-use Rattle.fd_draw.specs.Demand.{is_reached, pixels_in}
+use Rattle.fd_events.specs.Picture.{Painting, is_on}
+use Rattle.fd_draw.specs.Demand.{is_reached, is_tested, pixels_in}
 use Rattle.fd_draw.proofs.Counts.{pixels_in-row, written_in_row-span}
 use Rattle.fd_draw.specs.declared.clear.Clear.{Clear}
 use Rattle.fd_draw.specs.declared.clear.Clear.TheVariants.{Colours, Depths}
@@ -33,7 +35,7 @@ use Rattle.fd_draw.specs.Written.{as_it_is, cleared, with_cleared}
 use Rattle.fd_tile.proofs.Cut.{FillsPlace-flat}
 use Rattle.fd_undo.proofs.Pixelwise.{value_in-flat}
 use Rattle.fd_draw.specs.declared.primitive.Primitive.{Primitive}
-use Rattle.fd_draw.specs.Primitive.{DrawsAll, blended_by, kept_of, painted_by, reached_by, triangle_of}
+use Rattle.fd_draw.specs.Primitive.{DrawsAll, IsReady, ReachesRun, blended_by, kept_of, painted_by, picture_of, reached_by, triangle_of}
 use Rattle.fd_draw.specs.Mask.{has_bit}
 use Rattle.fd_draw.specs.declared.run.Run.{Run}
 use Rattle.fd_draw.specs.Run.{EachColumn, ends_of}
@@ -188,6 +190,26 @@ module _ (written : ℕ → ℕ → Bool) {p : Place} {y : ℕ} (run : Run) (cro
 
 -- ---- with the depth test off
 
+-- its picture lies where it is reached
+pub reached_on : (p : Primitive) (x y : ℕ) → reached_by p x y ≡ true → is_on (picture_of p) x y ≡ true
+reached_on p x y reached = second (covers p.corners x y) (is_on (picture_of p) x y) _ reached
+  where
+    second : (a b c : Bool) → ((a && b) && c) ≡ true → b ≡ true
+    second true true c is = refl
+    second true false c is = absurd (cc)
+    second false b c is = absurd (cc)
+
+-- where it isn't tested, it is drawn at all that it reaches
+pub draws_all : (p : Primitive) (run : Run) → IsReady p → p.tested ≡ false → ReachesRun p run → DrawsAll p run
+draws_all p run ready untested reached = record {
+  untested = depth_off (picture_of p) (sym ready.tested ∙ untested);
+  filled = λ column low high. ready.filled untested column run.y (reached_on p column run.y (reached column low high));
+}
+  where
+    depth_off : (picture : Option Painting) → is_tested p.state picture ≡ false → p.state.depth.enable ≡ false
+    depth_off None off = off
+    depth_off (Some picture) off = grind arith
+
 -- a triangle that isn't discarded is drawn wherever it is reached, and leaves the depth
 pub Paints-untested : (p : Primitive) (run : Run) {t t' : TileImage} {u u' : Undo} → DrawsAll p run
     → EachColumn run (λ c. reached_by p c run.y ≡ true)
@@ -200,6 +222,18 @@ Paints-untested p run {t} all reached = Paints-same
     drawn c r here = let at = run_columns run c r here in
         drawn_reached (triangle_of p) p.state c r (depth_in t c r)
         ∙ rw (at.2, reached c at.0 at.1, all.untested, all.filled c at.0 at.1) refl
+
+-- where it is drawn and stores no depth, it leaves the depth too
+pub Paints-shallow : (p : Primitive) (run : Run) {t t' : TileImage} {u u' : Undo}
+    → EachColumn run (λ c. is_drawn (triangle_of p) p.state c run.y (depth_in t c run.y) ≡ true)
+    → (p.state.depth.enable && p.state.depth.write) ≡ false
+    → PaintsIn (in_run run) (blended_by p) keep_each t u t' u' → PaintsIn (in_run run) (painted_by p) (kept_of p) t u t' u'
+Paints-shallow p run {t} drawn off = Paints-same
+    (λ c r held. cond_at (in_run run c r) _ _ _ (λ here. rw (drawn_at c r here, off) refl))
+    (λ c r held. cond_at (in_run run c r) _ _ _ (λ here. rw (drawn_at c r here) refl))
+  where
+    drawn_at : (c r : ℕ) → in_run run c r ≡ true → is_drawn (triangle_of p) p.state c r (depth_in t c r) ≡ true
+    drawn_at c r here = let at = run_columns run c r here in rw at.2 (drawn c at.0 at.1)
 
 -- ---- pixels that are kept
 

@@ -26,7 +26,7 @@ use Rattle.fd_draw.specs.declared.primitive.Primitive.{Primitive}
 use Rattle.fd_draw.specs.Demand.{total, written_in_row, pixels_in, spans_in, region_spans}
 use Rattle.fd_draw.specs.declared.found.Found.{Found}
 use Rattle.fd_draw.specs.Plan.{IsFoundOn}
-use Rattle.fd_draw.specs.Primitive.{DrawsAll, DrawsRows, blended_by, kept_of, painted_by, reached_by, triangle_of}
+use Rattle.fd_draw.specs.Primitive.{DrawsAll, DrawsRows, IsReady, blended_by, kept_of, painted_by, reached_by, triangle_of}
 use Rattle.fd_draw.specs.declared.run.Run.{Run}
 use Rattle.fd_draw.specs.Run.{across, ends_of}
 use Rattle.fd_draw.specs.Span.{IsRowSpan}
@@ -35,7 +35,7 @@ use Rattle.fd_draw.specs.Writing.{ChangesRegion, HasRoom, HasRows, WritesRegion,
 use Rattle.fd_draw.proofs.Areas.{drawn_reached}
 use Rattle.fd_draw.proofs.Counts.{pixels_in-all, spans_in-all, total_constant, total_more, total_same, total_split, written_in_row-span}
 use Rattle.fd_draw.proofs.Painting.{above, PaintsIn, Paints-both, Paints-same}
-use Rattle.fd_draw.proofs.PixelTests.{cond_at}
+use Rattle.fd_draw.proofs.PixelTests.{cond_at, draws_all}
 use Rattle.fd_draw.proofs.RowByRow.{AreRowsDone, row_spans_of}
 
 -- ---- rows that are kept
@@ -233,20 +233,28 @@ module _ {tested : Bool} {written : ℕ → ℕ → Bool} {paint : ℕ → ℕ �
 module _ (p : Primitive) (place : Place) {f : Found} {y row : ℕ} (run : Run) (is : IsFoundOn (triangle_of p) p.state place f)
     (from_top : f.area.top ≤ y) (low : y ≤ row) (high : row < f.area.bottom)
     (span : IsRowSpan (λ x. covers p.corners x row) f.area.left f.area.right (Some (ends_of run)))
-    (left : run.left ≤ place.left) (right : place.left + place.width ≤ run.right) where
+    (left : run.left ≤ place.left) (right : place.left + place.width ≤ run.right) (ready : IsReady p) (untested : p.tested ≡ false) where
   row_covered : (x : ℕ) → Holds place x row → covers p.corners x row ≡ true
   row_covered x held = grind (arith, nat_tests, span.bounds, span.same x (omega (arith, span.bounds.0, left, held.from_left)), left, right, held)
 
   row_reached : (x : ℕ) → Holds place x row → reached_by p x row ≡ true
   row_reached x held = grind (arith, nat_tests, span.bounds, is.reached x row held, row_covered x held, left, right, held, from_top, low, high)
 
-  pub drawn_next : DrawsRows p place y row → DrawsAll p (across place row) → DrawsRows p place y (row + 1)
-  drawn_next before all = record {
+  all_row : DrawsAll p (across place row)
+  all_row = draws_all p (across place row) ready untested (λ x from to. row_reached x (record {
+    from_left = from;
+    to_right = to;
+    from_top = omega (arith, is.inside.from_top, from_top, low);
+    to_bottom = omega (arith, is.inside.to_bottom, high);
+  }))
+
+  pub drawn_next : DrawsRows p place y row → DrawsRows p place y (row + 1)
+  drawn_next before = record {
     covered = λ x z held from to. by_row (λ k. covers p.corners x k ≡ true) z (λ same. row_covered x (subst (λ k. Holds place x k) same held))
         (λ less. before.covered x z held from less) to;
     reached = λ x z held from to. by_row (λ k. reached_by p x k ≡ true) z (λ same. row_reached x (subst (λ k. Holds place x k) same held))
         (λ less. before.reached x z held from less) to;
-    all = λ z from to. by_row (λ k. DrawsAll p (across place k)) z (λ same. all) (λ less. before.all z from less) to;
+    all = λ z from to. by_row (λ k. DrawsAll p (across place k)) z (λ same. all_row) (λ less. before.all z from less) to;
   }
     where
       by_row : (P : ℕ → Type 0) (z : ℕ) → (z ≡ row → P row) → (z < row → P z) → z < row + 1 → P z

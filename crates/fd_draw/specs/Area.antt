@@ -1,5 +1,5 @@
 -- Working. Boxes of pixels in a tile's place.
-use Rattle.std.specs.Prelude.{◌≡◌, ℕ, ◌+◌, ◌-◌, ◌≤◌, ◌<◌, Bool, not, ◌&&◌}
+use Rattle.std.specs.Prelude.{◌≡◌, ℕ, ◌+◌, ◌-◌, ◌≤◌, ◌<◌, Bool, not, ◌&&◌, Option}
 use Rattle.fd_cover.specs.declared.bounds.Bounds.{Bounds}
 use Rattle.fd_snap.specs.Limits.{most_pixels}
 use Rattle.fd_cover.specs.declared.triangle.Tri.{Tri}
@@ -8,6 +8,8 @@ use Rattle.fd_cover.specs.declared.verdict.Rect.{Rect}
 use Rattle.fd_cover.specs.Bounds.{is_within}
 use Rattle.fd_cover.specs.Covers.{covers}
 use Rattle.fd_cover.specs.Verdict.{holds, is_culled}
+use Rattle.fd_events.specs.declared.pipeline.Pipeline.{Pipeline}
+use Rattle.fd_events.specs.Picture.{Painting, is_on}
 use Rattle.fd_tile.specs.declared.place.Place.{Place}
 use Rattle.fd_tile.specs.declared.place.TheConstants.{TILE_SIDE}
 use Rattle.fd_tile.specs.Place.{Holds}
@@ -54,6 +56,10 @@ place_of_box box = record { left = box.left; top = box.top; width = box.right - 
 -- of the place's pixels, the box holds those that the scissor leaves
 abbrev pub IsOpen : Bounds → Raster → Rect → Place → Type 0
 IsOpen box raster rect p = (x y : ℕ) → Holds p x y → is_closed raster rect x y ≡ not (is_within box x y)
+
+-- of the place's pixels, the box holds those that the scissor leaves and on which a picture lies, if there is one
+abbrev pub IsWindow : Bounds → Option Painting → Pipeline → Place → Type 0
+IsWindow box picture s p = (x y : ℕ) → Holds p x y → is_within box x y ≡ (is_on picture x y && not (is_closed s.raster s.scissor x y))
 
 -- whether a triangle is drawn at pixel (x, y), where a box holds the pixels that the scissor leaves
 abbrev pub is_drawn_in : Bounds → Raster → Tri → ℕ → ℕ → Bool

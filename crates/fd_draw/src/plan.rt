@@ -8,13 +8,14 @@ ghost use Rattle.fd_events.specs.Draw.{triangles_of};
 ghost use Rattle.fd_events.specs.declared.pipeline.Pipeline.{Pipeline};
 ghost use Rattle.fd_tile.specs.Place.{IsTilePlace};
 ghost use Rattle.fd_tile.specs.declared.place.TheConstants.{TILE_SIDE};
-ghost use Rattle.fd_draw.specs.Area.{LiesIn, IsOpen, box_of_place};
-ghost use Rattle.fd_draw.specs.Demand.{is_tested, pixels_in, spans_in, triangle_pixels, triangle_spans, event_pixels, event_spans};
+ghost use Rattle.fd_draw.specs.Area.{LiesIn, IsOpen, IsWindow, box_of_place};
+ghost use Rattle.fd_draw.specs.Demand.{pixels_in, spans_in, triangle_pixels, triangle_spans, event_pixels, event_spans};
 ghost use Rattle.fd_draw.specs.declared.plan.TheConstants.{MOST_PLANNED};
 ghost use Rattle.arrayvec.specs.ArrayVec.{array_vec_len};
 ghost use Rattle.fd_draw.specs.Plan.{ArePlanned, IsPlan, MayBeginAt};
 
 use crate::found::{Found, find};
+use crate::primitive::is_tested;
 use crate::room::{Demand, NOTHING};
 use arrayvec::ArrayVec;
 use fd_cover::{Bounds, Raster, Rect};
@@ -94,18 +95,11 @@ impl Plan {
     }
 }
 
-/// Whether a draw writes nothing, as the scissor leaves no pixel or every triangle is culled.
+/// Whether a draw writes nothing, as its window has no pixel or every triangle is culled.
 fn is_idle(draw: &Draw, raster: &Raster, window: Bounds) -> bool
     ensures { IsTrue result → IsTrue (is_empty window) ⊎ AreCulled raster.now.cull raster.now.front_ccw (triangles_of draw.now) }
 {
     window.is_empty() || draw.is_culled(raster)
-}
-
-/// Whether pixels that a draw's triangles reach may not be drawn.
-fn is_tested(draw: &Draw, state: &Pipeline) -> bool
-    ensures { result ≡ is_tested state.now draw.now.picture }
-{
-    draw.picture().is_some() || state.depth.enable
 }
 
 /// The plan of a draw, of whose triangles none before this one covers a pixel of the place.
@@ -118,7 +112,7 @@ fn plan_draw(draw: &Draw, state: &Pipeline, place: Place, first: u32) -> Plan
     ensures planned { ArePlanned draw.now state.now place 0 result.planned.items result.rest }
 {
     let count = draw.triangles();
-    let window = open_area(&state.raster, &state.scissor, place);
+    let window = window_of(draw, state, place);
     let mut plan = Plan::without_triangles(NOTHING, count);
     let tested = is_tested(draw, state);
     if is_idle(draw, &state.raster, window) {
@@ -167,15 +161,15 @@ pub fn first_listed(event: &Event, place: Place) -> Option<u32>
     }
 }
 
-/// Whether an event is seen to write nothing on a place in a state: a draw of which the scissor leaves nothing there, or whose triangles are all
-/// culled.
+/// Whether an event is seen to write nothing on a place in a state: a draw of which the scissor leaves nothing there, whose picture lies elsewhere, or
+/// whose triangles are all culled.
 pub fn draws_nothing(event: &Event, state: &Pipeline, place: Place) -> bool
     requires { IsTilePlace place }
     ensures { IsTrue result → (event_spans event.now state.now place ≡ 0) × (event_pixels event.now state.now place ≡ 0) }
 {
     match event {
         Event::Draw(draw) => {
-            let window = open_area(&state.raster, &state.scissor, place);
+            let window = window_of(draw, state, place);
             is_idle(draw, &state.raster, window)
         }
         _ => false,
@@ -195,8 +189,26 @@ pub fn box_of(place: Place) -> Bounds
     }
 }
 
+/// The box of a tile's pixels that the scissor leaves and on which a draw's picture lies, if it has one.
+pub(crate) fn window_of(draw: &Draw, state: &Pipeline, place: Place) -> Bounds
+    requires { IsTilePlace place }
+    ensures inside { LiesIn result place }
+    ensures window { IsWindow result draw.now.picture state.now place }
+{
+    let open = open_area(&state.raster, &state.scissor, place);
+    let window = draw.clip(open);
+    if window.is_empty() {
+        return Bounds {
+            right: open.left,
+            bottom: open.top,
+            ..open
+        };
+    }
+    window
+}
+
 /// The box of a tile's pixels that the scissor leaves.
-pub(crate) fn open_area(raster: &Raster, rect: &Rect, place: Place) -> Bounds
+fn open_area(raster: &Raster, rect: &Rect, place: Place) -> Bounds
     requires { IsTilePlace place }
     ensures inside { LiesIn result place }
     ensures left_open { IsOpen result raster.now rect.now place }

@@ -70,6 +70,7 @@ pub(crate) fn draw_strip(
 /// Up to which row, from row y on, a triangle is seen to be drawn at all pixels of a place.
 pub(crate) fn strip_end(primitive: &Primitive<'_>, found: &Found, y: u32, place: Place) -> u32
     requires placed { IsTilePlace place }
+    requires ready { IsReady primitive.now }
     requires found { IsFoundOn (triangle_of primitive.now) primitive.now.state place found.now }
     requires from_top { found.now.area.top ≤ y }
     requires to_bottom { y ≤ found.now.area.bottom }
@@ -79,19 +80,14 @@ pub(crate) fn strip_end(primitive: &Primitive<'_>, found: &Found, y: u32, place:
 {
     let (left, right) = (place.left, place.left + place.width);
     // mostly no row can be as wide as the place
-    if found.area.left > left || found.area.right < right {
+    if primitive.tested || found.area.left > left || found.area.right < right {
         return y;
     }
     for row in y..found.area.bottom {
         let Some(run) = found.span(&primitive.corners, row) else {
             return row;
         };
-        let whole = Run {
-            left,
-            right,
-            y: row,
-        };
-        if run.left > whole.left || run.right < whole.right || !primitive.draws_all(whole) {
+        if run.left > left || run.right < right {
             return row;
         }
     }

@@ -2,7 +2,7 @@
 ghost use Rattle.std.specs.Prelude.{◌≡◌, ℕ, ◌+◌, ◌-◌, ◌<◌, ◌≤◌, ◌^◌, true, length, slice_index, is_some};
 ghost use Rattle.fd_snap.specs.Limits.{most_pixels};
 ghost use Rattle.fd_events.specs.Image.{depth_of as source_depth, is_drawn};
-ghost use Rattle.fd_events.specs.Picture.{texel};
+ghost use Rattle.fd_events.specs.Picture.{is_inside, texel};
 ghost use Rattle.fd_tile.specs.Tile.{depth_in};
 ghost use Rattle.fd_draw.specs.Mask.{has_bit};
 ghost use Rattle.fd_draw.specs.Primitive.{CoversRun, IsReady, ReachesRun, is_tested_by, kept_of, painted_by, triangle_of};
@@ -85,14 +85,15 @@ fn test_span(primitive: &Primitive<'_>, depths: &[u16; WIDEST], run: Run, tile: 
     }
 }
 
-/// A bit for each pixel of a run that tells whether a picture has a colour for it.
+/// A bit for each pixel of a run on a picture that tells whether this has a colour for it.
 fn mask_of(picture: &Picture, run: Run) -> u64
     requires columns { run.left ≤ run.right }
     requires few { run.right ≤ run.left + 32 }
+    requires inside { EachColumn run (λ column. is_inside picture.now column run.y ≡ true) }
     ensures bits { (k : ℕ) → k < run.right - run.left → has_bit result k ≡ is_some (texel picture.now (run.left + k) run.y) }
     ensures bound { result < 2 ^ 32 }
 {
-    if picture.fills(run.left, run.y, run.count()) {
+    if picture.is_whole() {
         return 0xffff_ffff;
     }
     let mut mask: u64 = 0;
@@ -172,7 +173,7 @@ pub(crate) fn draw_span(primitive: &Primitive<'_>, run: Run, tile: &mut Tile, un
     ensures { WritesRun (run_spans (is_tested_by primitive.now) run) run (painted_by primitive.now) (kept_of primitive.now)
         tile.old undo.old tile.new undo.new }
 {
-    if primitive.draws_all(run) {
+    if !primitive.tested {
         write_span(primitive, run, tile, undo);
         return;
     }

@@ -1,9 +1,9 @@
 ghost use Rattle.std.specs.Prelude.{◌≤◌};
 
-use crate::{Demand, Plan, box_of, clear_alike, draw, first_listed};
+use crate::{Demand, Plan, box_of, clear_alike, draw, draws_nothing, first_listed};
 use fd_blend::Colour;
 use fd_cover::{Bounds, Cull, Depth, Func, Interp, Raster, Rect};
-use fd_events::{Draw, Event, Pipeline, Vertex};
+use fd_events::{Draw, Event, Picture, Pipeline, Vertex};
 use fd_snap::Pos;
 use fd_tile::{Place, Tile};
 use fd_undo::UndoStack;
@@ -43,6 +43,34 @@ fn triangles(alloc: Global, triangles: &[Triangle]) -> Result<Event, Fail> {
         }
     }
     Ok(Event::Draw(Draw::new(vertices, None, Interp::Flat)?))
+}
+
+/// A draw of a triangle over a tile of four by four pixels, whose colours come from a picture of two texels at (1, 1) and (2, 1), with such holes.
+fn painted(alloc: Global, holes: Option<u8>) -> Result<Event, Fail> {
+    let mut vertices = Vec::new(alloc);
+    for at in [(0, 0), (16, 0), (0, 16)] {
+        let pos = position(at)?;
+        vertices.push(Vertex {
+            pos,
+            colour: grey(9),
+            z: 0,
+        })?;
+    }
+    let mut texels = Vec::new(alloc);
+    for level in [3, 3, 3, 3, 5, 5, 5, 5] {
+        texels.push(level)?;
+    }
+    let holes = match holes {
+        Some(bits) => {
+            let mut bytes = Vec::new(alloc);
+            bytes.push(bits)?;
+            Some(bytes)
+        }
+        None => None,
+    };
+    let picture = Picture::new(1, 1, 2, 1, texels, holes)?;
+    let picture = fd_memory::boxed(alloc, picture)?;
+    Ok(Event::Draw(Draw::painted(vertices, None, picture)?))
 }
 
 /// The colour and the depth of a pixel.
@@ -465,5 +493,57 @@ fn culled_and_scissored_pixels_are_left_alone(rt: HostRuntime) -> Result<(), Fai
     expect_demand(&rt, &canvas, 1, 2);
     expect_pixel(&rt, &canvas.tile, (1, 0), 5, 65535);
     expect_pixel(&rt, &canvas.tile, (0, 1), 0, 65535);
+    Ok(())
+}
+
+const FOUR: Place = Place {
+    left: 0,
+    top: 0,
+    width: 4,
+    height: 4,
+};
+
+/// Without holes its row is one span, and with them each of its pixels may be one of its own.
+#[test]
+fn a_picture_is_drawn_where_it_lies(rt: HostRuntime) -> Result<(), Fail> {
+    let state = Pipeline::default();
+    let mut canvas = canvas_of(rt.alloc(), Tile::fresh(rt.alloc(), FOUR)?);
+    let event = painted(rt.alloc(), None)?;
+    draw_with_room(&mut canvas, &event, &state)?;
+    expect_demand(&rt, &canvas, 1, 2);
+    expect_recorded(&rt, &canvas.undo, 2);
+    for (at, level) in [
+        ((0, 1), 0),
+        ((1, 1), 3),
+        ((2, 1), 5),
+        ((3, 1), 0),
+        ((1, 0), 0),
+    ] {
+        expect_pixel(&rt, &canvas.tile, at, level, 65535);
+    }
+    let event = painted(rt.alloc(), Some(0b01))?;
+    draw_with_room(&mut canvas, &event, &state)?;
+    expect_demand(&rt, &canvas, 2, 2);
+    expect_recorded(&rt, &canvas.undo, 3);
+    expect_kept(&rt, &canvas.undo, 1, (1, 1), &[]);
+    expect_kept(&rt, &canvas.undo, 1, (2, 1), &[5]);
+    Ok(())
+}
+
+/// Where no picture lies nothing is planned, though the triangle covers the tile.
+#[test]
+fn a_picture_elsewhere_asks_for_nothing(rt: HostRuntime) -> Result<(), Fail> {
+    let place = Place {
+        top: 2,
+        height: 2,
+        ..FOUR
+    };
+    let state = Pipeline::default();
+    let event = painted(rt.alloc(), None)?;
+    assert!(rt; draws_nothing(&event, &state, place));
+    assert!(rt; !draws_nothing(&event, &state, FOUR));
+    let first = first_listed(&event, place).ok_or("listed")?;
+    let plan = Plan::of(&event, &state, place, first);
+    assert_eq!(rt; (plan.demand.spans, plan.demand.pixels), (0, 0));
     Ok(())
 }

@@ -16,7 +16,7 @@ ghost use Rattle.fd_draw.specs.Writing.{ChangesRun, HasRoom, HasRun, WritesRegio
 
 use crate::clear::{Clear, clear_tile};
 use crate::found::{Found, find};
-use crate::plan::{Plan, Planned, open_area};
+use crate::plan::{Plan, Planned, window_of};
 use crate::primitive::{Ink, Primitive};
 use crate::run::Run;
 use crate::strip::{draw_strip, strip_end};
@@ -79,7 +79,8 @@ fn find_sources(primitive: &Primitive<'_>, x: u32, y: u32, out: &mut [Colour])
     }
 }
 
-/// Keeps the pixels of a run.
+/// Keeps the pixels of a run. It stands in its caller, as runs of a pixel or two are common under the depth test.
+#[inline(always)]
 pub(crate) fn keep_span(run: Run, tile: &Tile, undo: &mut UndoStack)
     requires run { HasRun run tile.now }
     requires room { HasRoom 1 (run.right - run.left) undo.old }
@@ -97,7 +98,8 @@ pub(crate) fn keep_span(run: Run, tile: &Tile, undo: &mut UndoStack)
     );
 }
 
-/// Blends a triangle's sources with the pixels of a run, all of which it covers.
+/// Blends a triangle's sources with the pixels of a run, all of which it covers. It stands in its caller too.
+#[inline(always)]
 pub(crate) fn blend_span(primitive: &Primitive<'_>, run: Run, tile: &mut Tile)
     requires run { HasRun run tile.old }
     requires ready { IsReady primitive.now }
@@ -189,7 +191,7 @@ fn draw_triangles(draw: &Draw, state: &Pipeline, plan: &Plan, tile: &mut Tile, u
     if plan.rest == count {
         return;
     }
-    let window = open_area(&state.raster, &state.scissor, place);
+    let window = window_of(draw, state, place);
     let mut triangle = draw.next_listed(plan.rest, window);
     while triangle < count {
         if let Some(found) = find(&draw.tri(triangle), &state.raster, window) {

@@ -1,6 +1,7 @@
 -- Boxes round triangles.
 use Rattle.std.proofs.Common.{◌≡◌, Bool, ℕ, zero, suc, ◌+◌, ◌-◌, ◌*◌, ◌<◌, ◌≤◌, min, true, false, IsTrue, ◌⊎◌, inl, inr, List, [], ◌∷◌}
-use Rattle.std.proofs.Common.{◌++◌, length, take, drop, Some, slice_get, option_map, arith, refl, sym, ap, ◌∙◌}
+use Rattle.std.proofs.Common.{◌++◌, length, take, drop, Option, Some, None, slice_get, option_map, arith, refl, sym, ap, ◌∙◌}
+use Rattle.std.specs.Prelude.{◌&&◌}
 use Rattle.std.proofs.lemmas.Bool.{both_ways, false_from_ne_true, or_left, or_right}
 use Rattle.std.proofs.lemmas.Option.{slice_get_within}
 use Rattle.std.proofs.lemmas.Bool.Decides.{nat_tests}
@@ -9,15 +10,16 @@ use Rattle.fd_cover.specs.declared.shading.Interp.{Interp}
 use Rattle.fd_cover.specs.declared.triangle.Tri.{Tri}
 use Rattle.fd_cover.specs.Bounds.{is_within, HoldsCovered, HoldsBoth, bounds_of, joined_box}
 use Rattle.fd_cover.specs.Covers.{covers}
-use Rattle.fd_cover.proofs.BoundsLemmas.{missed_outside, bounds_of-holds}
+use Rattle.fd_cover.proofs.BoundsLemmas.{bounds_of-holds}
 use Rattle.fd_events.specs.declared.pipeline.Pipeline.{Pipeline}
 use Rattle.fd_events.specs.Limits.{group_size}
 use Rattle.fd_events.specs.Bounds.{HoldsTriangles, HoldsGroup, IsTriangleBox, triangles_between}
-use Rattle.fd_events.specs.Bounds.{joined_with, bounds_of_triangles, IsRound, CoverNone}
-use Rattle.fd_events.specs.Draw.{Triangle}
-use Rattle.fd_cover.specs.Verdict.{unless_discarded}
-use Rattle.fd_cover.specs.declared.verdict.Verdict.TheVariants.{Missed}
-use Rattle.fd_events.specs.Image.{is_discarded, Pixel, is_drawn_by, is_drawn, pixel_after_triangles, kept_by_triangles}
+use Rattle.fd_events.specs.Bounds.{joined_with, bounds_of_triangles, may_colour, IsRound, CoverNone}
+use Rattle.fd_events.specs.Draw.{DrawList, Triangle, triangles_of}
+use Rattle.fd_cover.specs.Verdict.{verdict_at}
+use Rattle.fd_events.specs.Image.{is_discarded, Pixel, is_drawn, pixel_after_triangles, kept_by_triangles}
+use Rattle.fd_events.specs.Picture.{Painting, clipped_to, is_inside, is_on, texel}
+use Rattle.fd_events.proofs.Triangles.{picture_at}
 
 -- ---- the box round triangles holds what they cover
 
@@ -112,35 +114,60 @@ pub IsTriangleBox-own : (ts : List Triangle) (number : ℕ) (corners : Tri) (box
     → box ≡ bounds_of corners → HoldsCovered box corners → IsTriangleBox box number ts
 IsTriangleBox-own ts number corners box is value covered = λ t at. let same : t.corners ≡ corners = cc in rw same (value, covered)
 
--- ---- a pixel outside the box
+-- ---- a pixel at which no triangle may have a colour
+
+-- outside of a picture there is no texel
+texel-outside : (picture : Painting) (x y : ℕ) → is_inside picture x y ≡ false → texel picture x y ≡ None
+unfolding texel
+texel-outside picture x y outside = rw outside refl
+
+pub discarded_outside : (picture : Option Painting) (x y : ℕ) → is_on picture x y ≡ false → is_discarded picture x y ≡ true
+discarded_outside None x y outside = absurd (cc)
+discarded_outside (Some picture) x y outside = rw (texel-outside picture x y outside) refl
 
 -- nothing is drawn there
-pub is_drawn-outside : (t : Triangle) (s : Pipeline) (box : Bounds) (x y stored : ℕ) → HoldsCovered box t.corners → is_within box x y ≡ false
-    → is_drawn t s x y stored ≡ false
-is_drawn-outside t s box x y stored holds outside =
-    ap (λ v. is_drawn_by (unless_discarded (is_discarded t.picture x y) v))
-    (missed_outside t.corners t.depths s.raster s.scissor s.depth stored box x y holds outside) ∙ missed (is_discarded t.picture x y)
+pub is_drawn-uncoloured : (t : Triangle) (s : Pipeline) (x y stored : ℕ) → may_colour t x y ≡ false → is_drawn t s x y stored ≡ false
+unfolding verdict_at
+is_drawn-uncoloured t s x y stored none = by_picture (is_on t.picture x y) refl
   where
-    missed : (discarded : Bool) → is_drawn_by (unless_discarded discarded Missed) ≡ false
-    missed discarded = grind arith
+    by_picture : (on : Bool) → is_on t.picture x y ≡ on → is_drawn t s x y stored ≡ false
+    by_picture false outside = let discarded = discarded_outside t.picture x y outside in grind arith
+    by_picture true inside = grind arith
 
 -- it stays as it is
-pub pixel_after_triangles-outside : (ts : List Triangle) (interp : Interp) (s : Pipeline) (box : Bounds) (x y : ℕ) (before : Pixel) → HoldsTriangles box ts
-    → is_within box x y ≡ false
+pub pixel_after_triangles-uncoloured : (ts : List Triangle) (interp : Interp) (s : Pipeline) (x y : ℕ) (before : Pixel)
+    → ((i : ℕ) (t : Triangle) → slice_get ts i ≡ Some t → may_colour t x y ≡ false)
     → pixel_after_triangles ts interp s x y before ≡ before
-pixel_after_triangles-outside [] interp s box x y before holds outside = refl
-pixel_after_triangles-outside (t ∷ ts) interp s box x y before holds outside =
-    rw (is_drawn-outside t s box x y before.1 (holds zero t refl) outside)
-    (pixel_after_triangles-outside ts interp s box x y before (λ i u at. holds (suc i) u at) outside)
+pixel_after_triangles-uncoloured [] interp s x y before none = refl
+pixel_after_triangles-uncoloured (t ∷ ts) interp s x y before none =
+    rw (is_drawn-uncoloured t s x y before.1 (none zero t refl)) (pixel_after_triangles-uncoloured ts interp s x y before (λ i u at. none (suc i) u at))
 
 -- nothing is kept of it
-pub kept_by_triangles-outside : (ts : List Triangle) (interp : Interp) (s : Pipeline) (box : Bounds) (x y : ℕ) (before : Pixel) → HoldsTriangles box ts
-    → is_within box x y ≡ false
+pub kept_by_triangles-uncoloured : (ts : List Triangle) (interp : Interp) (s : Pipeline) (x y : ℕ) (before : Pixel)
+    → ((i : ℕ) (t : Triangle) → slice_get ts i ≡ Some t → may_colour t x y ≡ false)
     → kept_by_triangles ts interp s x y before ≡ []
-kept_by_triangles-outside [] interp s box x y before holds outside = refl
-kept_by_triangles-outside (t ∷ ts) interp s box x y before holds outside =
-    rw (is_drawn-outside t s box x y before.1 (holds zero t refl) outside)
-    (kept_by_triangles-outside ts interp s box x y before (λ i u at. holds (suc i) u at) outside)
+kept_by_triangles-uncoloured [] interp s x y before none = refl
+kept_by_triangles-uncoloured (t ∷ ts) interp s x y before none =
+    rw (is_drawn-uncoloured t s x y before.1 (none zero t refl)) (kept_by_triangles-uncoloured ts interp s x y before (λ i u at. none (suc i) u at))
+
+-- the part of a box that lies on a picture
+pub within_clipped : (picture : Option Painting) (box : Bounds) (x y : ℕ) → is_within (clipped_to picture box) x y ≡ (is_within box x y && is_on picture x y)
+within_clipped None box x y = grind arith
+within_clipped (Some picture) box x y = grind (arith, nat_tests)
+
+-- outside of it no triangle of a draw may have a colour
+pub uncoloured_outside : (d : DrawList) (box : Bounds) (x y : ℕ) → HoldsTriangles box (triangles_of d) → is_within (clipped_to d.picture box) x y ≡ false
+    → (i : ℕ) (t : Triangle) → slice_get (triangles_of d) i ≡ Some t → may_colour t x y ≡ false
+uncoloured_outside d box x y holds outside i t at = by_cover (covers t.corners x y) refl
+  where
+    by_cover : (b : Bool) → covers t.corners x y ≡ b → (b && is_on t.picture x y) ≡ false
+    by_cover false out = refl
+    by_cover true covered =
+        let within : is_within box x y ≡ true = holds i t at x y covered in
+        let its = picture_at d i t at in
+        rw its (rw within at (sym (within_clipped d.picture box x y) ∙ outside))
+
+-- ---- triangles that miss a window
 
 -- a box that holds what they cover has none of the window's pixels
 pub CoverNone-apart : (box window : Bounds) (ts : List Triangle) (first last : ℕ) → ((x y : ℕ) → IsTrue (is_within window x y) → is_within box x y ≡ false)

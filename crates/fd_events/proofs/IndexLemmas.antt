@@ -10,11 +10,9 @@ use Rattle.std.proofs.lemmas.Option.{slice_get_within}
 use Rattle.fd_cover.specs.declared.bounds.Bounds.{Bounds}
 use Rattle.fd_cover.specs.Bounds.{is_within}
 use Rattle.fd_cover.specs.Covers.{covers}
-use Rattle.fd_cover.proofs.BoundsLemmas.{uncovered_outside}
 use Rattle.fd_events.specs.declared.event.Event.{Event}
 use Rattle.fd_events.specs.declared.event.Event.TheVariants.{Clear, DepthClear, Draw}
 use Rattle.fd_events.specs.declared.index.EventIndex.{EventIndex}
-use Rattle.fd_events.specs.Bounds.{bounds_of_triangles}
 use Rattle.fd_events.specs.Draw.{triangles_of}
 use Rattle.fd_events.specs.Reach.{reach_of, may_write, may_write_at}
 use Rattle.fd_events.specs.Table.{Table, is_set, event_at, active_event}
@@ -24,10 +22,9 @@ use Rattle.fd_events.specs.Cells.{HasCell, cell_at, cell_count}
 use Rattle.fd_events.specs.Index.{ListsPixel, ListsEvent, ListEvents, IsIndex, IsUnlisted, IsPassedOver}
 use Rattle.fd_events.specs.Numbers.{AreOrdered, Grow, listed_at}
 use Rattle.fd_events.specs.Packed.{listed_in}
-use Rattle.fd_events.specs.Far.{LeavesAlone, IsFar, AreFar}
-use Rattle.fd_events.proofs.BoundsLemmas.{bounds_of_triangles-holds}
+use Rattle.fd_events.specs.Far.{LeavesAlone, PassesBy, IsFar, ArePassedBy}
 use Rattle.fd_events.proofs.Images.{at_number-next}
-use Rattle.fd_events.proofs.ReachLemmas.{outside_clipped, in_whole}
+use Rattle.fd_events.proofs.ReachLemmas.{outside_reach}
 
 -- ---- lists that grow keep what they list
 
@@ -73,48 +70,40 @@ packed_events grid lists (Some packed) count events are ordered all = record {
   lists = λ number event at. ListsEvent-same grid (listed_at lists) (listed_in packed) number event are (all number event at);
 }
 
--- ---- what the index passes over can't write in the window
+-- ---- what the index passes over has nothing to do with the window
 
-alone : (grid : Grid) (listed : ℕ → List ℕ) (number : ℕ) (event : Event) (x y : ℕ) → ListsEvent grid listed number event → HasCell grid x y
-    → (Contains (listed (cell_at grid x y)) number → ⊥) → (Contains (listed (cell_count grid)) number → ⊥) → LeavesAlone event x y
-alone grid listed number (Clear colour) x y lists has unlisted unwide = unwide lists
-alone grid listed number (DepthClear depth) x y lists has unlisted unwide = unwide lists
-alone grid listed number (Draw draw) x y lists has unlisted unwide = λ i t at.
+passed : (grid : Grid) (listed : ℕ → List ℕ) (number : ℕ) (event : Event) (x y : ℕ) → ListsEvent grid listed number event → HasCell grid x y
+    → (Contains (listed (cell_at grid x y)) number → ⊥) → (Contains (listed (cell_count grid)) number → ⊥) → PassesBy event x y
+passed grid listed number (Clear colour) x y lists has unlisted unwide = unwide lists
+passed grid listed number (DepthClear depth) x y lists has unlisted unwide = unwide lists
+passed grid listed number (Draw draw) x y lists has unlisted unwide = λ i t at.
     false_from_ne_true (covers t.corners x y) (λ covered. elim (lists i t (slice_get_within (triangles_of draw) i t at) at x y covered has) [
       | inl cell ↦ unlisted cell
       | inr wide ↦ unwide wide
     ])
-alone grid listed number other x y lists has unlisted unwide = tt
+passed grid listed number other x y lists has unlisted unwide = tt
 
-unlisted_alone : (grid : Grid) (lists : Option Packed) (events : List Event) (k : ℕ) (event : Event) (x y : ℕ)
+unlisted_passed : (grid : Grid) (lists : Option Packed) (events : List Event) (k : ℕ) (event : Event) (x y : ℕ)
     → IfSome lists (λ packed. ListEvents grid (listed_in packed) events) → slice_get events k ≡ Some event → IsUnlisted grid lists k x y
-    → LeavesAlone event x y
-unlisted_alone grid None events k event x y is at unlisted = absurd unlisted
-unlisted_alone grid (Some packed) events k event x y is at unlisted =
-    alone grid (listed_in packed) k event x y (is.lists k event at) unlisted.0 unlisted.1.0 unlisted.1.1
+    → PassesBy event x y
+unlisted_passed grid None events k event x y is at unlisted = absurd unlisted
+unlisted_passed grid (Some packed) events k event x y is at unlisted =
+    passed grid (listed_in packed) k event x y (is.lists k event at) unlisted.0 unlisted.1.0 unlisted.1.1
 
-far_by : (on : Bool) (found : Option Event) (width height : ℕ) (window : Bounds)
-    → ((event : Event) → found ≡ Some event → (x y : ℕ) → IsTrue (is_within window x y) → x < width → y < height → LeavesAlone event x y)
-    → IfSome (cond on found None) (λ event. (x y : ℕ) → IsTrue (is_within window x y) → x < width → y < height → LeavesAlone event x y)
-far_by true None width height window away = tt
-far_by true (Some event) width height window away = away event refl
-far_by false found width height window away = tt
+passed_by : (on : Bool) (found : Option Event) (width height : ℕ) (window : Bounds)
+    → ((event : Event) → found ≡ Some event → (x y : ℕ) → IsTrue (is_within window x y) → PassesBy event x y)
+    → IfSome (cond on found None) (λ event. (x y : ℕ) → IsTrue (is_within window x y) → x < width → y < height → PassesBy event x y)
+passed_by true None width height window away = tt
+passed_by true (Some event) width height window away = λ x y within column row. away event refl x y within
+passed_by false found width height window away = tt
 
-pub far_from : (t : Table) (index : EventIndex) (from to : ℕ) (window : Bounds) → IsIndex index t.events
-    → IsPassedOver index window from to → AreFar t from to window
-far_from t index from to window is passed k above below =
-    far_by (is_set t.flags (suc k)) (slice_get t.events k) t.width t.height window (λ event there x y within column row.
-    unlisted_alone index.grid index.lists t.events k event x y is.listed there (passed k x y above below within))
+pub passed_from : (t : Table) (index : EventIndex) (from to : ℕ) (window : Bounds) → IsIndex index t.events
+    → IsPassedOver index window from to → ArePassedBy t from to window
+passed_from t index from to window is unlisted k above below =
+    passed_by (is_set t.flags (suc k)) (slice_get t.events k) t.width t.height window (λ event there x y within.
+    unlisted_passed index.grid index.lists t.events k event x y is.listed there (unlisted k x y above below within))
 
--- what lies outside the box of an event is left alone by it
-pub outside_reach : (width height : ℕ) (event : Event) (x y : ℕ) → x < width → y < height → is_within (reach_of width height event) x y ≡ false
-    → LeavesAlone event x y
-outside_reach width height (Clear colour) x y column row out = let inside = in_whole width height x y column row in cc (inside, out)
-outside_reach width height (DepthClear depth) x y column row out = let inside = in_whole width height x y column row in cc (inside, out)
-outside_reach width height (Draw draw) x y column row out = λ i t at.
-    uncovered_outside t.corners (bounds_of_triangles (triangles_of draw)) x y (bounds_of_triangles-holds (triangles_of draw) i t at)
-    (outside_clipped (bounds_of_triangles (triangles_of draw)) width height x y column row out)
-outside_reach width height other x y column row out = tt
+-- ---- what lies outside the box of an event is left alone by it
 
 far_outside : (found : Option Event) (width height : ℕ) (window : Bounds)
     → IfSome found (λ event. (x y : ℕ) → IsTrue (is_within window x y) → is_within (reach_of width height event) x y ≡ false)

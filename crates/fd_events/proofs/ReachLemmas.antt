@@ -1,6 +1,6 @@
 -- What an event leaves outside its reach.
-use Rattle.std.proofs.Common.{◌≡◌, ◌≢◌, ℕ, suc, ◌<◌, ◌&&◌, Bool, true, false, ◌⊎◌, inl, inr, List, length, get_or, replicate, slice_get, Option, Some}
-use Rattle.std.proofs.Common.{None, option_map, sym, ap, ◌∙◌, subst, arith}
+use Rattle.std.proofs.Common.{◌≡◌, ◌≢◌, ℕ, suc, ◌<◌, ◌&&◌, Bool, true, false, ◌⊎◌, inl, inr, List, [], length, get_or, replicate, slice_get, Option, Some}
+use Rattle.std.proofs.Common.{None, option_map, refl, sym, ap, ◌∙◌, subst, arith}
 use Rattle.std.specs.Prelude.{IfSome, not, map, slice_set}
 use Rattle.std.proofs.lemmas.Bool.{cases_eq}
 use Rattle.std.proofs.lemmas.Bool.Decides.{nat_tests}
@@ -9,12 +9,17 @@ use Rattle.std.proofs.lemmas.Option.{slice_get-map, slice_get-get_or, unwrap_or-
 use Rattle.fd_cover.specs.declared.bounds.Bounds.{Bounds}
 use Rattle.fd_cover.specs.Bounds.{is_within, is_empty}
 use Rattle.fd_events.specs.declared.event.Event.{Event}
-use Rattle.fd_events.specs.declared.event.Event.TheVariants.{Draw}
+use Rattle.fd_events.specs.declared.event.Event.TheVariants.{Clear, DepthClear, Draw}
+use Rattle.fd_events.specs.declared.pipeline.Pipeline.{Pipeline}
 use Rattle.fd_events.specs.Bounds.{bounds_of_triangles}
+use Rattle.fd_events.specs.Draw.{triangles_of}
+use Rattle.fd_events.specs.Far.{LeavesAlone}
+use Rattle.fd_events.specs.Image.{Pixel, pixel_after, kept_by}
+use Rattle.fd_events.specs.Picture.{clipped_to}
 use Rattle.fd_events.specs.declared.reach.Reach.{Reach}
 use Rattle.fd_events.specs.Reach.{clipped_box, reach_of, box_of, nowhere, may_write, AreReaches, AreWriters, HoldsWritten}
 use Rattle.fd_events.specs.Table.{is_set}
-use Rattle.fd_events.proofs.BoundsLemmas.{bounds_of_triangles-holds, pixel_after_triangles-outside, kept_by_triangles-outside}
+use Rattle.fd_events.proofs.BoundsLemmas.{bounds_of_triangles-holds, pixel_after_triangles-uncoloured, kept_by_triangles-uncoloured, uncoloured_outside}
 
 -- a pixel of the target that the clipped box leaves out
 pub outside_clipped : (box : Bounds) (width height x y : ℕ) → x < width → y < height → is_within (clipped_box width height box) x y ≡ false
@@ -25,10 +30,30 @@ outside_clipped box width height x y column row outside = grind (arith, nat_test
 pub in_whole : (width height x y : ℕ) → x < width → y < height → is_within (record { left = 0; top = 0; right = width; bottom = height }) x y ≡ true
 in_whole width height x y column row = grind (arith, nat_tests)
 
+-- what lies outside the box of an event is left alone by it
+pub outside_reach : (width height : ℕ) (event : Event) (x y : ℕ) → x < width → y < height → is_within (reach_of width height event) x y ≡ false
+    → LeavesAlone event x y
+outside_reach width height (Clear colour) x y column row out = let inside = in_whole width height x y column row in cc (inside, out)
+outside_reach width height (DepthClear depth) x y column row out = let inside = in_whole width height x y column row in cc (inside, out)
+outside_reach width height (Draw draw) x y column row out =
+    let box = bounds_of_triangles (triangles_of draw) in
+    uncoloured_outside draw box x y (bounds_of_triangles-holds (triangles_of draw)) (outside_clipped (clipped_to draw.picture box) width height x y column row out)
+outside_reach width height other x y column row out = tt
+
+-- what is left alone stays as it is, and nothing of it is kept
+alone-unwritten : (event : Event) (state : Pipeline) (x y : ℕ) (before : Pixel) → LeavesAlone event x y
+    → (pixel_after event state x y before ≡ before) × (kept_by event state x y before ≡ [])
+alone-unwritten (Clear colour) state x y before alone = absurd alone
+alone-unwritten (DepthClear depth) state x y before alone = absurd alone
+alone-unwritten (Draw draw) state x y before alone = (
+  pixel_after_triangles-uncoloured (triangles_of draw) draw.interp state x y before alone,
+  kept_by_triangles-uncoloured (triangles_of draw) draw.interp state x y before alone,
+)
+alone-unwritten other state x y before alone = (refl, refl)
+
 pub reach-holds : (width height : ℕ) (event : Event) → HoldsWritten (reach_of width height event) width height event
-reach-holds width height (Draw draw) state x y before column row outside =
-    grind (arith, bounds_of_triangles, outside_clipped, pixel_after_triangles-outside, bounds_of_triangles-holds, kept_by_triangles-outside)
-reach-holds width height event state x y before column row outside = grind arith
+reach-holds width height event state x y before column row outside =
+    alone-unwritten event state x y before (outside_reach width height event x y column row outside)
 
 -- one box is kept for each event
 pub length-reaches : (width height : ℕ) (events : List Event) (reaches : List Reach) → AreReaches width height events reaches → length reaches ≡ length events

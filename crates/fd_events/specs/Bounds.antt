@@ -1,10 +1,15 @@
 -- Working. The box round the triangles of a draw.
-use Rattle.std.specs.Prelude.{◌≡◌, ℕ, ◌+◌, ◌-◌, ◌*◌, ◌<◌, ◌≤◌, ◌⊎◌, min, false, IsTrue, List, [], ◌∷◌, length, Some, slice_get, take, drop}
+use Rattle.std.specs.Prelude.{◌≡◌, ℕ, ◌+◌, ◌-◌, ◌*◌, ◌<◌, ◌≤◌, ◌⊎◌, ◌&&◌, min, Bool, false, IsTrue, List, [], ◌∷◌, length, Some, slice_get, take, drop}
 use Rattle.fd_cover.specs.declared.bounds.Bounds.{Bounds}
 use Rattle.fd_cover.specs.Bounds.{is_within, HoldsCovered, bounds_of, joined_box}
 use Rattle.fd_cover.specs.Covers.{covers}
 use Rattle.fd_events.specs.Limits.{group_size}
 use Rattle.fd_events.specs.Draw.{Triangle}
+use Rattle.fd_events.specs.Picture.{is_on}
+
+-- whether a triangle covers pixel (x, y) and may have a colour there: elsewhere it is drawn in no state
+abbrev pub may_colour : Triangle → ℕ → ℕ → Bool
+may_colour t x y = covers t.corners x y && is_on t.picture x y
 
 -- the box holds every pixel that one of the triangles covers
 abbrev pub HoldsTriangles : Bounds → List Triangle → Type 0

@@ -3,6 +3,8 @@
 use Rattle.std.specs.Prelude.{ℕ, ◌+◌, ◌-◌, ◌*◌, ◌/◌, ◌%◌, ◌^◌, Bool, true, false, not, ◌&&◌, ◌==◌, nat_le, nat_lt, List, ◌∷◌, length, drop}
 use Rattle.std.specs.Prelude.{Option, Some, None, slice_index_or, unwrap_or, Result, Ok, Err, if◌then◌else◌}
 use Rattle.fd_blend.specs.declared.channel.Colour.{Colour}
+use Rattle.fd_cover.specs.declared.bounds.Bounds.{Bounds}
+use Rattle.fd_cover.specs.Bounds.{shared_box}
 use Rattle.fd_events.specs.Limits.{most_side}
 use Rattle.fd_events.specs.declared.picture.PictureFault.{PictureFault}
 use Rattle.fd_events.specs.declared.picture.PictureFault.TheVariants.{Place, Texels, Holes}
@@ -47,6 +49,16 @@ is_among first count at = nat_le first at && nat_lt at (first + count)
 
 abbrev pub is_inside : Painting → ℕ → ℕ → Bool
 is_inside p x y = is_among p.left p.width x && is_among p.top p.height y
+
+-- whether a triangle may have a colour there: everywhere, or where its picture lies
+abbrev pub is_on : Option Painting → ℕ → ℕ → Bool
+is_on None x y = true
+is_on (Some picture) x y = is_inside picture x y
+
+-- what of a box lies on a picture, or all of it where there is none
+abbrev pub clipped_to : Option Painting → Bounds → Bounds
+clipped_to None box = box
+clipped_to (Some p) box = shared_box box (record { left = p.left; top = p.top; right = p.left + p.width; bottom = p.top + p.height })
 
 -- the number of the texel on pixel (x, y) of the box
 abbrev pub texel_number : Painting → ℕ → ℕ → ℕ

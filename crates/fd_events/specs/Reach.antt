@@ -9,17 +9,18 @@ use Rattle.fd_events.specs.declared.reach.Reach.{Reach}
 use Rattle.fd_events.specs.Bounds.{bounds_of_triangles}
 use Rattle.fd_events.specs.Draw.{triangles_of}
 use Rattle.fd_events.specs.Image.{Pixel, pixel_after, kept_by}
+use Rattle.fd_events.specs.Picture.{clipped_to}
 use Rattle.fd_events.specs.Table.{Table, is_set, event_at}
 
 -- the part of a box that lies on a target of this size
 abbrev pub clipped_box : ℕ → ℕ → Bounds → Bounds
 clipped_box width height box = record { left = min box.left width; top = min box.top height; right = min box.right width; bottom = min box.bottom height }
 
--- a clear writes the whole target, a draw only what lies in the box round its triangles, and any other event nothing
+-- a clear writes the whole target, a draw only what lies in the box round its triangles and on its picture, and any other event nothing
 abbrev pub reach_of : ℕ → ℕ → Event → Bounds
 reach_of width height (Clear colour) = record { left = 0; top = 0; right = width; bottom = height }
 reach_of width height (DepthClear depth) = record { left = 0; top = 0; right = width; bottom = height }
-reach_of width height (Draw draw) = clipped_box width height (bounds_of_triangles (triangles_of draw))
+reach_of width height (Draw draw) = clipped_box width height (clipped_to draw.picture (bounds_of_triangles (triangles_of draw)))
 reach_of width height other = record { left = 0; top = 0; right = 0; bottom = 0 }
 
 -- outside the box the event leaves every pixel of a target of this size as it is, in any state, and keeps nothing of it

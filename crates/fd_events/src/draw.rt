@@ -1,4 +1,5 @@
-ghost use Rattle.std.specs.Prelude.{◌≡◌, ◌+◌, ◌-◌, ◌*◌, ◌/◌, ◌<◌, ◌≤◌, length, IsTrue, Some, IfSome, option_map, slice_get, OnErr};
+ghost use Rattle.std.specs.Prelude.{◌≡◌, ◌+◌, ◌-◌, ◌*◌, ◌/◌, ◌<◌, ◌≤◌, ◌&&◌, ℕ, length, IsTrue, Some, IfSome, option_map, slice_get, OnErr};
+ghost use Rattle.fd_cover.specs.Bounds.{is_within};
 ghost use Rattle.fd_memory.specs.Wanting.{Wanted};
 
 use crate::culled::Culled;
@@ -74,6 +75,7 @@ impl Draw {
     ghost use Rattle.fd_events.specs.Culled.{AreCulled};
     ghost use Rattle.fd_events.specs.Limits.{group_size, most_triangles};
     ghost use Rattle.fd_events.specs.Draw.{made, made_with, triangles_of};
+    ghost use Rattle.fd_events.specs.Picture.{clipped_to, is_on};
     ghost use Rattle.fd_cover.specs.declared.shading.Interp.TheVariants.{Flat};
 
     /// A draw of these vertices and indices, which are dropped on a refusal.
@@ -152,6 +154,17 @@ impl Draw {
         ensures { option_map (λ p. p.now) result ≡ self.now.picture }
     {
         self.list.picture()
+    }
+
+    /// What of a box lies on the draw's picture, or all of it where there is none: elsewhere nothing is drawn.
+    pub fn clip(&self, bounds: Bounds) -> Bounds
+        ensures value { result ≡ clipped_to self.now.picture bounds }
+        ensures holds { (x y : ℕ) → is_within result x y ≡ (is_within bounds x y && is_on self.now.picture x y) }
+    {
+        match self.picture() {
+            Some(picture) => picture.clip(bounds),
+            None => bounds,
+        }
     }
 
     /// Whether a table that was started with the draw tells that a raster state culls every triangle.

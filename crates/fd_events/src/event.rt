@@ -1,4 +1,5 @@
-ghost use Rattle.std.specs.Prelude.{◌≡◌, ◌≤◌, OnErr};
+ghost use Rattle.std.specs.Prelude.{◌≡◌, ◌≤◌, ℕ, IsTrue, OnErr, true};
+ghost use Rattle.fd_cover.specs.Bounds.{is_within};
 ghost use Rattle.fd_snap.specs.Limits.{most_pixels};
 ghost use Rattle.fd_events.specs.StateList.{is_state_event};
 ghost use Rattle.fd_memory.specs.Wanting.{Wanted};
@@ -7,7 +8,7 @@ use crate::draw::Draw;
 use crate::label::Label;
 use crate::reach::Reach;
 use fd_blend::{BlendState, Colour};
-use fd_cover::{Depth, Raster, Rect};
+use fd_cover::{Bounds, Depth, Raster, Rect};
 use std::alloc::{AllocError, Global};
 
 /// One step of a frame. A state event replaces its whole part of the pipeline state.
@@ -34,6 +35,7 @@ pub enum Event {
 }
 
 impl Event {
+    ghost use Rattle.fd_events.specs.Far.{PassesBy};
     ghost use Rattle.fd_events.specs.Reach.{box_of, reach_of};
 
     /// The box of the pixels that the event can write on a target of this size.
@@ -45,13 +47,30 @@ impl Event {
         match self {
             Event::Clear(_) => Reach::whole(width, height),
             Event::DepthClear(_) => Reach::whole(width, height),
-            Event::Draw(draw) => Reach::clipped(draw.bounds(), width, height),
+            Event::Draw(draw) => Reach::clipped(draw.clip(draw.bounds()), width, height),
             Event::SetRaster(_)
             | Event::SetScissor(_)
             | Event::SetBlend(_)
             | Event::SetFactor(_)
             | Event::SetDepth(_)
             | Event::Marker(_) => Reach::nowhere(),
+        }
+    }
+
+    /// Whether the event is seen to have nothing to do with a window: it is a draw whose triangles lie elsewhere, or neither a draw nor a clear.
+    pub(crate) fn passes_by(&self, window: Bounds) -> bool
+        ensures { result ≡ true → (x y : ℕ) → IsTrue (is_within window x y) → PassesBy self.now x y }
+    {
+        match self {
+            Event::Clear(_) => false,
+            Event::DepthClear(_) => false,
+            Event::Draw(draw) => !draw.bounds().meets(window),
+            Event::SetRaster(_)
+            | Event::SetScissor(_)
+            | Event::SetBlend(_)
+            | Event::SetFactor(_)
+            | Event::SetDepth(_)
+            | Event::Marker(_) => true,
         }
     }
 

@@ -1,8 +1,10 @@
-ghost use Rattle.std.specs.Prelude.{◌≡◌, ◌+◌, ◌*◌, ◌/◌, ◌<◌, ◌≤◌, ◌^◌, ◌%◌, ◌==◌, ℕ, Some, IfSome, slice_index_or, unwrap_or, is_some, length, drop, map, true};
+ghost use Rattle.std.specs.Prelude.{◌≡◌, ◌+◌, ◌*◌, ◌/◌, ◌<◌, ◌≤◌, ◌^◌, ◌%◌, ◌==◌, ◌&&◌, ℕ, Some, IfSome, slice_index_or, unwrap_or, is_none, is_some, length, drop, map, true};
 ghost use Rattle.std.specs.Prelude.{option_map};
 ghost use Rattle.std.specs.List.{range_with_len};
+ghost use Rattle.fd_cover.specs.Bounds.{is_within};
 
 use fd_blend::Colour;
+use fd_cover::Bounds;
 use std::marker::Model;
 use thiserror::Error;
 
@@ -148,7 +150,7 @@ fn copy_colours(bytes: &[u8], out: &mut [Colour])
 }
 
 impl Picture {
-    ghost use Rattle.fd_events.specs.Picture.{made_painting, texel, texel_or_none};
+    ghost use Rattle.fd_events.specs.Picture.{clipped_to, is_inside, made_painting, texel, texel_or_none};
 
     /// A picture whose first texel lies on the pixel of column `left` and row `top`: four bytes of each texel, red, green, blue and alpha, in
     /// rows from the top; bit n % 8 of byte n / 8 of the holes belongs to texel n, and left-over bits are ignored. On a refusal all is dropped.
@@ -182,6 +184,27 @@ impl Picture {
         })
     }
 
+    /// What of a box lies on the picture.
+    pub fn clip(&self, bounds: Bounds) -> Bounds
+        ensures value { result ≡ clipped_to (Some self.now) bounds }
+        ensures holds { (x y : ℕ) → is_within result x y ≡ (is_within bounds x y && is_inside self.now x y) }
+    {
+        bounds.meet(Bounds {
+            left: self.left,
+            top: self.top,
+            right: self.left + self.width,
+            bottom: self.top + self.height,
+        })
+    }
+
+    /// Whether it has no holes, so that each pixel of its box has a texel.
+    pub fn is_whole(&self) -> bool
+        ensures value { result ≡ is_none self.now.holes }
+        ensures filled { result ≡ true → (x y : ℕ) → is_inside self.now x y ≡ true → is_some (texel self.now x y) ≡ true }
+    {
+        self.holes.is_none()
+    }
+
     /// The colour on a pixel, or none outside of the box and on a hole.
     #[tactic(auto, unfolding(crate::specs::Picture::texel))]
     pub fn texel(&self, x: u32, y: u32) -> Option<Colour>
@@ -213,17 +236,6 @@ impl Picture {
         }
         let first = (y - self.top) as usize * self.width as usize + (x - self.left) as usize;
         bytes_of(&self.texels, first, count)
-    }
-
-    /// Whether each of so many neighbouring pixels of row y from column x on is seen to have a texel.
-    pub fn fills(&self, x: u32, y: u32, count: usize) -> bool
-        requires { x + count < 2 ^ 32 }
-        ensures { result ≡ true → (k : ℕ) → k < count → is_some (texel self.now (x + k) y) ≡ true }
-    {
-        match self.row_bytes(x, y, count) {
-            Some(_bytes) => true,
-            None => false,
-        }
     }
 
     /// The texels on neighbouring pixels of row y from column x on, with 0 0 0 0 in place of none.

@@ -141,9 +141,9 @@ impl Model for EventTable {
 }
 
 impl EventTable {
-    ghost use Rattle.std.specs.Prelude.{◌≡◌, ◌<◌, ◌≤◌, ◌+◌, ◌-◌, length, true, IsTrue, not, Some, Err, IfSome, IfOk, OnErr, option_map};
+    ghost use Rattle.std.specs.Prelude.{◌≡◌, ℕ, ◌<◌, ◌≤◌, ◌+◌, ◌-◌, length, true, IsTrue, not, Some, Err, IfSome, IfOk, OnErr, option_map};
     ghost use Rattle.fd_events.specs.Reach.{reach_of, may_write_at, HoldsWritten};
-    ghost use Rattle.fd_events.specs.Far.{IsFar, AreFar};
+    ghost use Rattle.fd_events.specs.Far.{IsFar, AreFar, IsPassedBy, ArePassedBy};
     ghost use Rattle.fd_events.specs.Table.{IsTable, IsVersion, all_on, started, UnlessMemory, event_at, flag_at, state_at, with_flag};
 
     /// A table of these events, all switched on. They are dropped on a refusal. Memory is the reason only where it was wanted.
@@ -246,8 +246,8 @@ impl EventTable {
         self.states.is_on(number as usize - 1)
     }
 
-    /// The box of the pixels that the event of this number can write: for a clear the whole target, for a draw the box round its
-    /// triangles, for any other event none.
+    /// The box of the pixels that the event of this number can write: for a clear the whole target, for a draw what lies in the box round its
+    /// triangles and on its picture, for any other event none.
     pub fn reach(&self, number: u32) -> Bounds
         requires first { 1 ≤ number }
         requires last { number ≤ length self.now.events }
@@ -283,15 +283,42 @@ impl EventTable {
         near
     }
 
+    /// The first position from `from` on, and `to` at most, whose next event is switched on and may cover a pixel of a window, whether or not its picture
+    /// has a texel there. No event that is passed over has anything to do with the window.
+    pub fn next_over(&self, from: u32, to: u32, window: Bounds) -> u32
+        requires order { from ≤ to }
+        requires last { to ≤ length self.now.events }
+        ensures from { from ≤ result }
+        ensures last { result ≤ to }
+        ensures over { result < to → flag_at self.now (result + 1) ≡ Some true }
+        ensures passed { ArePassedBy self.now from result window }
+    {
+        let mut over = self.next_indexed(from, to, window);
+        while over < to && !self.is_over(over + 1, window) {
+            over = self.next_indexed(over + 1, to, window);
+        }
+        over
+    }
+
     /// The same as far as the cells tell, where an event that is switched off counts as well.
     fn next_indexed(&self, from: u32, to: u32, window: Bounds) -> u32
         requires order { from ≤ to }
         requires last { to ≤ length self.now.events }
         ensures from { from ≤ result }
         ensures last { result ≤ to }
-        ensures far { AreFar self.now from result window }
+        ensures passed { ArePassedBy self.now from result window }
     {
         self.index.next(from, to, window)
+    }
+
+    /// Whether the event of this number is switched on and isn't seen to have nothing to do with a window.
+    fn is_over(&self, number: u32, window: Bounds) -> bool
+        requires first { 1 ≤ number }
+        requires last { number ≤ length self.now.events }
+        ensures over { IsTrue result → flag_at self.now number ≡ Some true }
+        ensures passed { IsTrue (not result) → (position : ℕ) → number ≡ position + 1 → IsPassedBy self.now position window }
+    {
+        self.is_on(number) && !self.event(number).passes_by(window)
     }
 
     /// Whether the event after a position is switched on and has a box that meets a window. The event itself is not looked at.

@@ -633,6 +633,66 @@ fn texels_of_a_picture(rt: HostRuntime) -> Result<(), Fail> {
     Ok(())
 }
 
+/// A draw of a triangle over the whole target, whose colours come from a picture of two by two texels in the last cell.
+fn painted(alloc: Global) -> Result<Draw, Fail> {
+    let picture = Picture::new(40, 41, 2, 2, texels(alloc, 4)?, None)?;
+    let mut vertices = Vec::new(alloc);
+    push_triangle(&mut vertices, LARGE_CORNERS)?;
+    Ok(Draw::painted(vertices, None, fd_memory::boxed(alloc, picture)?)?)
+}
+
+/// The box of that picture.
+const PAINTED: Bounds = Bounds {
+    left: 40,
+    top: 41,
+    right: 42,
+    bottom: 43,
+};
+
+#[test]
+fn a_draw_ends_where_its_picture_does(rt: HostRuntime) -> Result<(), Fail> {
+    let draw = painted(rt.alloc())?;
+    assert_eq!(rt; draw.clip(square(0, 0, 64)), PAINTED);
+    assert_eq!(rt;
+        draw.clip(square(0, 9, 33)),
+        Bounds {
+            left: 40,
+            top: 41,
+            right: 33,
+            bottom: 42
+        }
+    );
+    let mut vertices = Vec::new(rt.alloc());
+    push_triangle(&mut vertices, LARGE_CORNERS)?;
+    let plain = Draw::new(vertices, None, Interp::Flat)?;
+    assert_eq!(rt; plain.clip(square(0, 9, 33)), square(0, 9, 33));
+    let mut holes = Vec::new(rt.alloc());
+    holes.push(0)?;
+    let picture = Picture::new(0, 0, 2, 1, texels(rt.alloc(), 2)?, Some(holes))?;
+    assert!(rt; !picture.is_whole());
+    let picture = Picture::new(0, 0, 2, 1, texels(rt.alloc(), 2)?, None)?;
+    assert!(rt; picture.is_whole());
+    Ok(())
+}
+
+/// Tiles are asked for it where its picture lies, and histories wherever its triangles do.
+#[test]
+fn a_draw_is_near_its_picture_and_over_more(rt: HostRuntime) -> Result<(), Fail> {
+    let mut events = Vec::new(rt.alloc());
+    events.push(Event::Draw(painted(rt.alloc())?))?;
+    events.push(Event::SetFactor(grey(1)))?;
+    let mut table = EventTable::start(rt.alloc(), 3, 64, 64, events)?;
+    assert!(rt; table.len() == 2);
+    assert_eq!(rt; table.reach(1), PAINTED);
+    assert_eq!(rt; table.next_near(0, 2, square(0, 0, 32)), 2);
+    assert_eq!(rt; table.next_near(0, 2, square(32, 32, 32)), 0);
+    assert_eq!(rt; table.next_over(0, 2, square(0, 0, 32)), 0);
+    assert_eq!(rt; table.next_over(1, 2, square(0, 0, 32)), 2);
+    table.set_on(1, false);
+    assert_eq!(rt; table.next_over(0, 2, square(0, 0, 32)), 2);
+    Ok(())
+}
+
 #[test]
 fn refused_pictures_and_their_faults(rt: HostRuntime) -> Result<(), Fail> {
     for (left, top, width, height, number, fault) in [

@@ -76,10 +76,10 @@ pub fn history(
     let mut pixels = Vec::new(alloc);
     let to = owner.position();
     let window = pixel_at(x, y);
-    let mut passed = table.next_near(0, to, window);
+    let mut passed = table.next_over(0, to, window);
     while passed < to {
         pass_number(&mut gather, &mut pixels, table, owner, passed + 1)?;
-        passed = table.next_near(passed + 1, to, window);
+        passed = table.next_over(passed + 1, to, window);
     }
     let shown = (owner.pixel(x, y), owner.depth(x, y));
     fd_memory::push(&mut pixels, shown)?;

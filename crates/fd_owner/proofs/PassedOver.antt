@@ -5,12 +5,12 @@ use Rattle.std.specs.Prelude.{IsTrue, IfSome}
 use Rattle.std.proofs.lemmas.Bool.{cases_lt}
 use Rattle.fd_cover.specs.Bounds.{is_within}
 use Rattle.fd_cover.specs.declared.bounds.Bounds.{Bounds}
-use Rattle.fd_cover.specs.Covers.{covers}
 use Rattle.fd_tile.specs.declared.place.Place.{Place}
 use Rattle.fd_tile.specs.Place.{Holds, IsTilePlace}
 use Rattle.fd_events.specs.declared.event.Event.{Event}
 use Rattle.fd_events.specs.declared.event.Event.TheVariants.{Clear, DepthClear, Draw}
 use Rattle.fd_events.specs.declared.pipeline.Pipeline.{Pipeline}
+use Rattle.fd_events.specs.Bounds.{may_colour}
 use Rattle.fd_events.specs.Draw.{Triangle, triangles_of}
 use Rattle.fd_events.specs.Far.{LeavesAlone, AreFar}
 use Rattle.fd_events.specs.Table.{Table, active_event, event_at, is_set, state_at}
@@ -39,7 +39,7 @@ module _ (place : Place) (width height : ℕ) (placed : IsTilePlace place) (righ
   first_held = record { from_left = omega arith; to_right = omega (arith, placed.wide); from_top = omega arith; to_bottom = omega (arith, placed.high) }
 
   unreached : (ts : List Triangle) (s : Pipeline)
-      → ((x y : ℕ) → Holds place x y → (i : ℕ) (t : Triangle) → slice_get ts i ≡ Some t → covers t.corners x y ≡ false)
+      → ((x y : ℕ) → Holds place x y → (i : ℕ) (t : Triangle) → slice_get ts i ≡ Some t → may_colour t x y ≡ false)
       → AreUnreached ts s place 0 (length ts)
   unreached ts s alone i t from to at x y held = rw (alone x y held i t at) refl
 

@@ -124,11 +124,14 @@ impl<'a> Estimate<'a> {
         let groups = draw.triangles().div_ceil(GROUP_LEN);
         if groups as usize <= self.area.tiles {
             for triangle in 0..draw.triangles() {
-                self.add_pixels(draw.triangle_bounds(triangle), TRIANGLE_WORK);
+                self.add_pixels(draw.clip(draw.triangle_bounds(triangle)), TRIANGLE_WORK);
             }
         } else {
             for group in 0..groups {
-                self.add_pixels(draw.group_bounds(group), GROUP_LEN as usize * PASSED_WORK);
+                self.add_pixels(
+                    draw.clip(draw.group_bounds(group)),
+                    GROUP_LEN as usize * PASSED_WORK,
+                );
             }
         }
     }

@@ -12,7 +12,7 @@ returns-in-Draw c = λ yes.
     let state = c.args.state.now in
     let place = c.args.place in
     let nowhere : AreUnreached ts state place 0 (length ts) = elim (c.is_idle.ensures yes) [
-      | inl empty ↦ unreached_closed ts state place c.open_area-window.result c.open_area-window.ensures.left_open empty
+      | inl empty ↦ unreached_closed c.in-Draw.draw state place c.window_of-window.result c.window_of-window.ensures.window empty
       | inr culled ↦ unreached_culled ts state place culled
     ] in (
       ap (λ event. event_spans event state place) c.in-Draw.is ∙ no_spans ts state place nowhere,

@@ -14,7 +14,7 @@ use Rattle.fd_draw.proofs.plan.plan_draw.Goals.{in-Some, in_default}
 -- the scissor leaves nothing, or every triangle is culled
 idle : (c : goal.Then-is_idle) → AreUnreached (triangles_of c.args.draw.now) c.args.state.now c.args.place 0 (length (triangles_of c.args.draw.now))
 idle c = elim (c.is_idle.ensures c.if-is_idle.true) [
-  | inl empty ↦ unreached_closed _ c.args.state.now c.args.place c.open_area-window.result c.open_area-window.ensures.left_open empty
+  | inl empty ↦ unreached_closed c.args.draw.now c.args.state.now c.args.place c.window_of-window.result c.window_of-window.ensures.window empty
   | inr culled ↦ unreached_culled _ c.args.state.now c.args.place culled
 ]
 
@@ -25,6 +25,11 @@ returns-then-is_idle-clause-spans c = ap (λ (d : Demand). d.spans) c.without_tr
 pub returns-then-is_idle-clause-pixels : goal.returns-then-is_idle-clause-pixels
 returns-then-is_idle-clause-pixels c = ap (λ (d : Demand). d.pixels) c.without_triangles-plan.ensures.demand
     ∙ sym (no_pixels (triangles_of c.args.draw.now) c.args.state.now c.args.place (idle c))
+
+pub returns-then-is_idle-clause-planned : goal.returns-then-is_idle-clause-planned
+returns-then-is_idle-clause-planned c =
+    let plan = c.without_triangles-plan.ensures in
+    rw (plan.planned, plan.rest, c.triangles-count.ensures.value) (omega arith, omega arith, idle c)
 
 pub loop-triangle-init : goal.loop-triangle-init
 loop-triangle-init c =
@@ -57,21 +62,21 @@ loop-triangle-preserved c =
     let s = c.args.state.now in
     let p = c.args.place in
     let inv = c.loop-triangle.invariant in
-    let window = c.open_area-window in
+    let window = c.window_of-window in
     let near = c.next_listed-triangle in
     let below : i < length ts = omega (arith, c.loop-triangle-test.true, c.triangles-count.ensures.value) in
     let spans = sum_more (triangle_spans s p) ts i below in
     let pixels = sum_more (triangle_pixels s p) ts i below in
-    let none = unreached_missed ts s p window.result (i + 1) near.result window.ensures.left_open near.ensures.missed in
+    let none = unreached_missed d s p window.result (i + 1) near.result window.ensures.window near.ensures.missed in
     let past_spans = spans-passed ts s p (i + 1) near.result near.ensures.from none in
     let past_pixels = pixels-passed ts s p (i + 1) near.result near.ensures.from none in
     elim c.match-find.branch [
       | in-Some w ↦
           let it = w.in-Some.ensures in
-          let on = found_here d i s window.ensures.inside window.ensures.left_open c.tri.ensures it.found it.part it.drawn in
+          let on = found_here d i s window.ensures.inside window.ensures.window c.tri.ensures it.found it.part it.drawn in
           let its_spans = spans_found (triangle_at d i) s p w.in-Some.found on
           ∙ ap (λ b. cond b w.in-Some.found.demand.pixels w.in-Some.found.demand.spans)
-          (ap (is_tested s) (picture_at_number d i below) ∙ sym c.is_tested-tested.ensures) in
+          (ap (is_tested s) (picture_at_number d i below) ∙ sym c.is_tested-tested.ensures.tested) in
           let its_pixels = pixels_found (triangle_at d i) s p w.in-Some.found on in
           let few_spans = spans_few (triangle_at d i) s p w.in-Some.found on in
           let add = w.add.ensures in
@@ -84,7 +89,7 @@ loop-triangle-preserved c =
             kept = planned_more near.result inv.kept below near.ensures.from near.ensures.last none _ on add.room add.full;
           })
       | in_default w ↦
-          let unreached = unreached_here d i s window.ensures.inside window.ensures.left_open c.tri.ensures w.in_default.ensures.none in
+          let unreached = unreached_here d i s window.ensures.inside window.ensures.window c.tri.ensures w.in_default.ensures.none in
           let its_spans = none_spans (triangle_at d i) s p unreached in
           let its_pixels = none_pixels (triangle_at d i) s p unreached in
           rw w.plan-is (record {

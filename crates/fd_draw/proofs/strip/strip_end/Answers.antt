@@ -6,8 +6,8 @@ use Rattle.fd_draw.proofs.strip.strip_end.Goals as goal
 pub loop-row-preserved : goal.loop-row-preserved
 loop-row-preserved c =
     drawn_next c.args.primitive.now c.args.place c.in-Some.run' c.requires.found c.requires.from_top c.loop-row.auto.row c.loop-row-test.true
-    c.in-Some.ensures.span (omega (arith, c.if-run-whole.false)) (omega (arith, c.if-run-whole-2.false)) c.loop-row.invariant
-    (c.draws_all.ensures.all c.if-not-draws_all.false)
+    c.in-Some.ensures.span (omega (arith, c.if-run-left.false)) (omega (arith, c.if-run-right.false)) c.requires.ready c.if-primitive.false
+    c.loop-row.invariant
 
 pub returns-clause-drawn : goal.returns-clause-drawn
 returns-clause-drawn c =

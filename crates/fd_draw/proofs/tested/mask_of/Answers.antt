@@ -33,6 +33,6 @@ loop-x-preserved c =
       bound = rw same at (bound_grown c.loop-x.mask x c.args.run.right 0 (omega (arith, c.loop-x-test.true)) inv.to_right (omega arith) inv.bound);
     }
 
-pub returns-then-fills-clause-bits : goal.returns-then-fills-clause-bits
-returns-then-fills-clause-bits c = λ k low. ones_set k (omega (arith, low, c.requires.few))
-    ∙ sym (c.fills.ensures c.if-fills.true k (omega (arith, low, c.count.ensures)))
+pub returns-then-is_whole-clause-bits : goal.returns-then-is_whole-clause-bits
+returns-then-is_whole-clause-bits c = λ k low. ones_set k (omega (arith, low, c.requires.few))
+    ∙ sym (c.is_whole.ensures.filled c.if-is_whole.true (c.args.run.left + k) c.args.run.y (c.requires.inside (c.args.run.left + k) (omega arith) (omega (arith, low))))

@@ -12,7 +12,7 @@ use Rattle.fd_draw.specs.Primitive.{picture_of, triangle_of}
 use Rattle.fd_draw.specs.Run.{EachColumn}
 use Rattle.fd_draw.proofs.Masks.{both_set}
 use Rattle.fd_draw.proofs.Painting.{part_at, part_len}
-use Rattle.fd_draw.proofs.PixelTests.{drawn_as_tested}
+use Rattle.fd_draw.proofs.PixelTests.{drawn_as_tested, reached_on}
 use Rattle.fd_draw.proofs.tested.test_span.Goals as goal
 use Rattle.fd_draw.proofs.tested.test_span.Goals.{After-test_row-passed}
 
@@ -42,6 +42,12 @@ passed c column low high =
     ∙ get_or_default (depth_row_of t y) (column - t.place.left) 0 65535 (omega (arith, wide, low, high, is.from_left, is.to_right)) in
     c.test_row-passed.ensures.bits k (omega (arith, low, high, long))
     ∙ ap (λ d. passes c.args.primitive.now.state.depth (get_or c.args.depths.now k 0) d) stored
+
+pub mask_of-requires-clause-inside : goal.mask_of-requires-clause-inside
+mask_of-requires-clause-inside c = λ column low high.
+    let there : picture_of c.args.primitive.now ≡ Some c.in-Some.picture.now = rw c.in-Some.is refl in
+    let on = reached_on c.args.primitive.now column c.args.run.y (c.requires.reached column low high) in
+    rw there at on
 
 pub returns-in-None-clause-passed : goal.returns-in-None-clause-passed
 returns-in-None-clause-passed c = λ column low high.

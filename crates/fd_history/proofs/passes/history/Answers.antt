@@ -31,15 +31,15 @@ loop-passed-init c =
     let placed = c.place-place.ensures.filled.placed in
     let column : x < t.width = omega (arith, c.requires.pixel.to_right, c.requires.inside.right) in
     let row : y < t.height = omega (arith, c.requires.pixel.to_bottom, c.requires.inside.bottom) in
-    let far = c.next_near-passed.ensures.far in
+    let far = c.next_over-passed.ensures.passed in
     record {
-      last = c.next_near-passed.ensures.last;
+      last = c.next_over-passed.ensures.last;
       gathered =
           ap (λ (es : List Entry). record { x = x; y = y; depth = 65535; entries = es }) c.new.ensures.items
-          ∙ sym (gathered_past t x y column row c.pixel_at-window.result c.pixel_at-window.ensures 0 c.next_near-passed.result (omega arith) far);
+          ∙ sym (gathered_past t x y column row c.pixel_at-window.result c.pixel_at-window.ensures 0 c.next_over-passed.result (omega arith) far);
       kept =
           c.new-pixels.ensures.items
-          ∙ sym (kept_past t x y column row c.pixel_at-window.result c.pixel_at-window.ensures 0 c.next_near-passed.result (omega arith) far);
+          ∙ sym (kept_past t x y column row c.pixel_at-window.result c.pixel_at-window.ensures 0 c.next_over-passed.result (omega arith) far);
       few = omega arith;
     }
 
@@ -52,16 +52,16 @@ loop-passed-preserved c =
     let is = c.loop-passed.invariant.gathered in
     let column : x < t.width = omega (arith, c.requires.pixel.to_right, c.requires.inside.right) in
     let row : y < t.height = omega (arith, c.requires.pixel.to_bottom, c.requires.inside.bottom) in
-    let next = c.next_near-passed-in-loop-passed in
+    let next = c.next_over-passed-in-loop-passed in
     record {
       last = next.ensures.last;
       gathered =
           next_event t k (k + 1) x y c.loop-passed.gather c.pass_number.new.gather refl is c.in_ok-pass_number.ensures.entries
-          ∙ sym (gathered_past t x y column row c.pixel_at-window.result c.pixel_at-window.ensures (k + 1) next.result next.ensures.from next.ensures.far);
+          ∙ sym (gathered_past t x y column row c.pixel_at-window.result c.pixel_at-window.ensures (k + 1) next.result next.ensures.from next.ensures.passed);
       kept =
           next_kept t k (k + 1) x y c.loop-passed.pixels.items c.pass_number.new.kept.items refl c.loop-passed.invariant.kept
           (rw (ap (λ (g : Gathering). g.x) is, ap (λ (g : Gathering). g.y) is) at c.in_ok-pass_number.ensures.kept)
-          ∙ sym (kept_past t x y column row c.pixel_at-window.result c.pixel_at-window.ensures (k + 1) next.result next.ensures.from next.ensures.far);
+          ∙ sym (kept_past t x y column row c.pixel_at-window.result c.pixel_at-window.ensures (k + 1) next.result next.ensures.from next.ensures.passed);
       few = omega (arith, c.loop-passed.invariant.few, c.in_ok-pass_number.ensures.few, next.ensures.from);
     }
 
