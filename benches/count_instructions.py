@@ -42,16 +42,31 @@ def to_the_end(capture, unit, count):
     return Scene(capture, f"goto {events}\n", unit, count)
 
 
-def pictures(side, count):
-    """Blended pictures over one another, each in two triangles."""
+def picture(side, colour):
+    """A picture of one colour."""
+    texels = bytes(colour) * (side * side)
+    return {"left": 0, "top": 0, "width": side, "height": side, "texels": base64.b64encode(texels).decode()}
+
+
+def squares(side, count, are_pictures):
+    """Blended squares over one another, each in two triangles: pictures, or flat ones of the same colours."""
     draws = []
     for number in range(count):
-        texels = bytes([(40 * number) % 256, 128, (90 * number) % 256, 128]) * (side * side)
-        picture = {"left": 0, "top": 0, "width": side, "height": side, "texels": base64.b64encode(texels).decode()}
+        colour = [(40 * number) % 256, 128, (90 * number) % 256, 128]
         corners = [(0, 0), (side, 0), (0, side), (side, 0), (side, side), (0, side)]
-        vertices = [{"x": x * captures.PIXEL, "y": y * captures.PIXEL, "z": 0} for x, y in corners]
-        draws.append(captures.compact({"kind": "draw", "interp": "picture", "vertices": vertices, "picture": picture}))
+        draw = captures.draw([captures.vertex(x * captures.PIXEL, y * captures.PIXEL, colour, 0) for x, y in corners])
+        if are_pictures:
+            draw = {**draw, "interp": "picture", "picture": picture(side, colour)}
+        draws.append(captures.compact(draw))
     return scenes.frame(side, side, [scenes.BLENDED, *draws], 3)
+
+
+def small_pictures(side, count):
+    """Draws of a triangle over the whole target, of which a small picture lies in the first tile."""
+    corners = [(0, 0), (2 * side, 0), (0, 2 * side)]
+    vertices = [captures.vertex(x * captures.PIXEL, y * captures.PIXEL, [9, 9, 9, 9], 0) for x, y in corners]
+    draw = {**captures.draw(vertices), "interp": "picture", "picture": picture(8, [9, 9, 9, 9])}
+    return scenes.frame(side, side, [captures.compact(draw)] * count, 3)
 
 
 def undrawn(side, count, states):
@@ -82,7 +97,9 @@ SCENES = {
     "tested": lambda: to_the_end(
         scenes.tested(512, 512, 10, "alternate", "linear").capture(), "pixel tested", 10 * 512 * 512
     ),
-    "pictures": lambda: to_the_end(pictures(256, 8), "pixel", 8 * 256 * 256),
+    "pictures": lambda: to_the_end(squares(256, 8, True), "pixel", 8 * 256 * 256),
+    "flat_squares": lambda: to_the_end(squares(256, 8, False), "pixel", 8 * 256 * 256),
+    "small_pictures": lambda: to_the_end(small_pictures(1024, 10), "draw and tile", 10 * 32 * 32),
     "cleared": lambda: clear_of_what_was_drawn(512),
     "small": lambda: to_the_end(scenes.small(512, 512, 4000, True).capture(25), "triangle", 4000),
     "small_far_apart": lambda: to_the_end(scenes.small(2048, 2048, 32000, True).capture(8), "triangle", 32000),

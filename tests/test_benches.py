@@ -113,10 +113,21 @@ class CountedScenes(unittest.TestCase):
             self.assertEqual({entry[2] for entry in entries(capture)}, {verdict})
             self.assertEqual(len(entries(capture)), 3)
 
-    def test_pictures_cover_each_pixel_once(self):
-        capture = count_instructions.pictures(4, 2)
+    def test_squares_cover_each_pixel_once_and_look_alike(self):
+        shown = []
+        for are_pictures in (True, False):
+            capture = count_instructions.squares(4, 2, are_pictures)
+            self.assertIsNone(fault(capture))
+            self.assertEqual([entry[2] for entry in entries(capture)], ["drawn", "drawn"])
+            shown.append([Frame(json.loads(capture)).replay(3, x, y)[0] for x in range(4) for y in range(4)])
+        self.assertEqual(*shown)
+
+    def test_a_small_picture_lies_in_the_first_tile(self):
+        capture = count_instructions.small_pictures(24, 3)
         self.assertIsNone(fault(capture))
-        self.assertEqual([entry[2] for entry in entries(capture)], ["drawn", "drawn"])
+        self.assertEqual([entry[2] for entry in entries(capture)], ["discarded"] * 3)
+        corner = Frame(json.loads(capture)).replay(3, 7, 7)[1]
+        self.assertEqual([entry[2] for entry in corner], ["drawn"] * 3)
 
     def test_a_clear_is_counted_where_a_draw_left_no_two_pixels_alike(self):
         scene = count_instructions.clear_of_what_was_drawn(8)

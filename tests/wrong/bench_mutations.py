@@ -8,6 +8,7 @@ import folders
 from wrong_versions import Version, try_all
 
 TOWN, TURNS, BENCH, FEW, SCENES, MEASURE, TABLE = "town.py", "turns.py", "bench.py", "few_tiles.py", "scenes.py", "measure.py", "table.py"
+COUNT = "count_instructions.py"
 MUTATIONS = [   # name, file, text, what stands there instead, test
     ("town: by a chance of its own", TOWN, "random.Random(seed)", "random.Random()", "Towns.test_the_same_words_write_the_same_bytes"),
     ("town: a piece loses its last triangle", TOWN, "self.triangles[start : start + size]", "self.triangles[start : start + size - 1]", "Towns.test_pieces_draw_the_same"),
@@ -25,6 +26,9 @@ MUTATIONS = [   # name, file, text, what stands there instead, test
     ("asked: more is less", BENCH, "else 1 / self.times", "else self.times", "Turns.test_what_is_asked"),
     ("counted: with what goes before", TURNS, "self.run(words, most) - self.run(words, least)", "self.run(words, most)", "Counting.test_what_goes_before_is_taken_off"),
     ("counted: what isn't counted", TURNS, "if ran.returncode or not found:", "if ran.returncode:", "Counting.test_where_it_is_not_there"),
+    ("counted: half a square", COUNT, "(0, side), (side, 0), (side, side), (0, side)]", "(0, side)]",
+     "CountedScenes.test_squares_cover_each_pixel_once_and_look_alike"),
+    ("counted: a small picture over all", COUNT, '"picture": picture(8, [', '"picture": picture(side, [', "CountedScenes.test_a_small_picture_lies_in_the_first_tile"),
     ("table: a row stands where another one stood", TABLE, "if row in measured else old", "if row in measured else []", "Tables.test_what_is_measured_first_goes_to_its_place"),
     ("table: half a row is written", TABLE, "if all(name in figures for name in row.names())]", "if any(name in figures for name in row.names())]",
      "Tables.test_half_a_row_is_not_written"),
