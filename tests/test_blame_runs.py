@@ -8,6 +8,7 @@ import signal
 import subprocess
 import sys
 import tempfile
+import threading
 import time
 import unittest
 from unittest import mock
@@ -464,6 +465,31 @@ class Called(Folder):
             out, errors = run.communicate(timeout=30)
             self.assertEqual((run.returncode, out, errors), (130, b"", b"framedbg-blame: interrupted\n"))
             self.assertEqual(list(pathlib.Path(room).iterdir()), [])
+
+    def test_a_run_that_begins_as_it_is_broken_off(self):
+        """It is ended too, though nobody knew of it yet, and none begins where a Ctrl-C comes."""
+        begun, runs, threads = threading.Event(), [], []
+
+        class Late(subprocess.Popen):
+            def __init__(self, *words, **given):
+                super().__init__(*words, **given)
+                runs.append(self)
+                threads.append(threading.current_thread())
+                begun.set()
+                trials.broken_off.wait(30)
+
+        with mock.patch.object(trying.subprocess, "Popen", Late):
+            with self.assertRaises(KeyboardInterrupt), trying.Trials("", 1, 0, None) as trials:
+                asked = threading.Thread(target=trials.answer, args=(["sleep", "30"],))
+                asked.start()
+                begun.wait(30)
+                raise KeyboardInterrupt
+            asked.join()
+            self.assertEqual(runs[0].returncode, -signal.SIGKILL)
+            with trying.Trials("", 1, 0, None) as trials:
+                trials.broken_off.set()
+                trials.answer(["true"])
+        self.assertNotIn(threading.main_thread(), threads)
 
     def test_progress_on_a_terminal(self):
         ours, theirs = pty.openpty()

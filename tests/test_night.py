@@ -30,6 +30,7 @@ import slurm_testing
 from blame_testing import PROGRAM, TOOLS, blend, box, capture, clear, painted, pam
 
 from framedbg_client import read_pam
+from nights import local
 
 SKY, RED, GLASS = (10, 20, 30, 255), (200, 40, 30, 255), (220, 210, 90, 120)
 RIGHT = [clear(*SKY), box(2, 2, 14, 12, RED), blend(), box(6, 5, 20, 16, GLASS)]
@@ -314,6 +315,16 @@ class Here(Reports, Night):
             )
             for process in map(int, running.read_text().split()):
                 self.assertTrue(soon(lambda process=process: has_ended(process)), process)
+
+    def test_what_a_job_leaves(self):
+        """A program that goes on when the job has ended is ended with it."""
+        left = self.room / "left"
+        jobs = local.Jobs()
+        job = jobs.start(["sh", "-c", f"sleep 60 & echo $! > '{left}.new'; mv '{left}.new' '{left}'; wait"])
+        self.assertTrue(soon(left.exists))
+        jobs.end()
+        job.stderr.close()
+        self.assertTrue(soon(lambda: has_ended(int(left.read_text())), seconds=20))
 
     def test_elsewhere(self):
         status, lines, _ = self.night("--results", self.room / "elsewhere")

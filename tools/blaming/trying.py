@@ -5,6 +5,7 @@ import os
 import pathlib
 import subprocess
 import tempfile
+import threading
 import time
 from collections.abc import Iterable
 from dataclasses import dataclass
@@ -64,12 +65,15 @@ class Trials:
         self.best: int | None = None
         self.known: dict[int, tuple[View, dict[bytes, Measured | None]]] = {}
         self.runs: set[subprocess.Popen[bytes]] = set()
+        self.broken_off = threading.Event()
 
     def __enter__(self) -> "Trials":
         return self
 
     def __exit__(self, fault: object, *_: object) -> None:
         """Where it was broken off the pictures that are drawn still are too, as a program may be silent for long."""
+        if fault:
+            self.broken_off.set()
         for run in list(self.runs) if fault else ():
             run.kill()
         self.pool.shutdown(wait=True, cancel_futures=True)
@@ -89,10 +93,19 @@ class Trials:
             pathlib.Path(name).unlink()
 
     def answer(self, words: list[str]) -> bytes | None:
+        """What a run of framedbg gives. None begins in the main thread: a Ctrl-C could come there when the run has
+        begun and isn't among those yet that are ended."""
+        if threading.current_thread() is threading.main_thread():
+            return self.pool.submit(self.run, words).result()
+        return self.run(words)
+
+    def run(self, words: list[str]) -> bytes | None:
         with subprocess.Popen(
             words, stdin=subprocess.DEVNULL, stdout=subprocess.PIPE, stderr=subprocess.DEVNULL
         ) as run:
             self.runs.add(run)
+            if self.broken_off.is_set():
+                run.kill()
             try:
                 out, _ = run.communicate(timeout=LONGEST)
                 return read_pam(out).samples if run.returncode == 0 else None

@@ -2,6 +2,8 @@
 it."""
 import argparse
 import concurrent.futures
+import contextlib
+import os
 import signal
 import subprocess
 import threading
@@ -54,12 +56,15 @@ class Jobs:
 
 
 def end(job: Job) -> None:
-    """Ends a job that was told to end, and ends what doesn't hear it."""
+    """Ends a job that was told to end, if it doesn't hear it, and what it leaves behind: a program that it began when
+    it was told."""
     try:
         job.wait(GRACE)
     except subprocess.TimeoutExpired:
         job.kill()
         job.wait()
+    with contextlib.suppress(ProcessLookupError):
+        os.killpg(job.pid, signal.SIGKILL)
 
 
 def run_all(
