@@ -67,7 +67,8 @@ class Wine:
 
     def run(self, *words):
         """(status, the lines on standard output, those on standard error) of a program. It is tried once more where
-        a signal ended it. Files stand for pipes, which Wine's server would hold open."""
+        a signal ended it, or where it failed and said nothing: then Wine did. Files stand for pipes, which Wine's
+        server would hold open."""
         for _ in range(TRIES):
             with open(self.folder / "out", "wb") as out, open(self.folder / "errors", "wb") as errors:
                 ran = subprocess.run(
@@ -80,7 +81,8 @@ class Wine:
                     timeout=SECONDS,
                     check=False,
                 )
-            if 0 <= ran.returncode < 128:
+                has_said = out.seek(0, os.SEEK_END) + errors.seek(0, os.SEEK_END) > 0
+            if 0 <= ran.returncode < 128 and (ran.returncode == 0 or has_said):
                 break
         out, errors = (
             (self.folder / name).read_text(errors="replace").replace("\r", "").splitlines()
