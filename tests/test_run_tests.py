@@ -7,16 +7,23 @@ pass over is told.
 import os
 import pathlib
 import re
+import runpy
 import shutil
 import signal
 import subprocess
+import sys
 import tempfile
 import unittest
-import unittest.mock
 
 from folders import CHECKS, TESTS, TOP
 
 NOTES = "checks/passed_over.py stars clouds"
+MINUTES = "== minutes, and those of processors"
+
+
+def setUpModule():
+    """All processors, where this is run beside others on one of them."""
+    os.sched_setaffinity(0, range(os.cpu_count()))
 
 
 class RunsTests(unittest.TestCase):
@@ -29,30 +36,44 @@ class RunsTests(unittest.TestCase):
             shutil.copy(CHECKS / name, self.checks)
 
     def ran(self, *lines, words=(), ci=None):
+        """Its status, what it prints, with N in the place of minutes, and its errors."""
         (self.checks / "test_parts.txt").write_text("# a list\n\n" + "".join(f"{line}\n" for line in lines))
         environment = {name: value for name, value in os.environ.items() if name != "CI"} | ({"CI": ci} if ci else {})
         done = subprocess.run(
             [self.checks / "run_tests", *words], env=environment, capture_output=True, text=True, check=False
         )
-        return done.returncode, re.sub(r"^ +\d+\.\d  ", "N  ", done.stdout, flags=re.M).splitlines(), done.stderr
+        said = re.sub(r"^ +\d+\.\d +\d+\.\d  ", "N  ", done.stdout, flags=re.M)
+        return done.returncode, said.splitlines(), done.stderr
 
     def test_the_first_that_fails_is_the_last(self):
-        for wrong in ("false", "nowhere to be found"):
-            status, said, errors = self.ran("true", wrong, "echo after")
-            self.assertEqual(status, 1)
+        for after in ("echo after", "\necho after", "\n| echo after"):
+            status, said, errors = self.ran("true", "false", after)
             self.assertEqual(
-                said,
-                [
-                    "== true",
-                    f"== {wrong}",
-                    "== minutes",
-                    "N  true",
-                    f"N  {wrong}  FAILED",
-                    "N  in all",
-                    "nothing was passed over",
-                ],
+                (status, said, errors),
+                (
+                    1,
+                    [
+                        "== true",
+                        "== false",
+                        MINUTES,
+                        "N  true",
+                        "N  false  FAILED",
+                        "N  in all",
+                        "nothing was passed over",
+                    ],
+                    "false: status 1\n",
+                ),
             )
-            self.assertIn(f"{wrong}: status 1", errors)
+
+    def test_a_command_that_is_not_there(self):
+        status, said, errors = self.ran("nowhere to be found", "echo after")
+        self.assertEqual(said[1], "run_tests: [Errno 2] No such file or directory: 'nowhere'")
+        self.assertEqual((status, errors), (1, "nowhere to be found: status 1\n"))
+        status, said, errors = self.ran("| nowhere", "\necho after")
+        self.assertEqual(
+            said[1:3], ["taskset: failed to execute nowhere: No such file or directory", "run_tests: nowhere: FAILED"]
+        )
+        self.assertEqual((status, errors), (1, "nowhere: status 127\n"))
 
     def test_an_interrupt_is_heard_in_the_background(self):
         """There a shell has it ignored, and what a part starts would ignore it too."""
@@ -67,68 +88,83 @@ class RunsTests(unittest.TestCase):
         status, said, _ = self.ran(NOTES, "true", ci="true")
         self.assertEqual((status, said[-3:]), (1, [f"N  {NOTES}  FAILED", "N  in all", "nothing was passed over"]))
 
-    def test_all_at_once_end_where_one_fails(self):
-        status, said, errors = self.ran("& false", "& echo second", "& nowhere", "echo after")
-        self.assertEqual(
-            (status, sorted(said[:7])),
-            (
-                1,
-                [
-                    "== echo second",
-                    "== false",
-                    "== nowhere",
-                    "run_tests: [Errno 2] No such file or directory: 'nowhere'",
-                    "run_tests: false: FAILED",
-                    "run_tests: nowhere: FAILED",
-                    "second",
-                ],
-            ),
+    def part(self, name, *lines):
+        """A part of its own, a script that finds itself in checks/."""
+        path = self.checks / name
+        path.write_text("\n".join(["#!/bin/sh", f"cd {self.checks}", *lines, ""]))
+        path.chmod(0o755)
+        return str(path)
+
+    def meeting(self, first="0 0", second="0 0"):
+        """Two parts, of which neither ends before the other has begun. Each then takes the seconds, and ends with the
+        status, that it is given."""
+        part = self.part(
+            "meets",
+            "touch is_$1",
+            "for i in $(seq 200); do [ -e is_$2 ] && echo met && sleep $3 && exit $4; sleep 0.1; done",
         )
-        self.assertEqual(
-            said[7:],
-            [
-                "== minutes",
-                "N  false  FAILED",
-                "N  echo second",
-                "N  nowhere  FAILED",
-                "N  in all",
-                "nothing was passed over",
-            ],
-        )
-        self.assertEqual(errors, "false: status 1\nnowhere: status 1\n")
+        for name in ("one", "other"):
+            (self.checks / f"is_{name}").unlink(missing_ok=True)
+        return f"{part} one other {first}", f"{part} other one {second}"
 
     def test_one_beside_another_fails(self):
         """The other ends, and no more is run."""
-        status, said, errors = self.ran("| false", "| echo second", "echo other", "echo after")
-        self.assertEqual((status, errors), (1, "false: status 1\n"))
-        self.assertEqual(sorted(said[:4]), ["== echo other", "== false", "other", "run_tests: false: FAILED"])
+        first, second = self.meeting("0 1", "1 0")
+        status, said, errors = self.ran(f"| {first}", "| echo more", second, "echo other", "", "echo after")
+        self.assertEqual((status, errors), (1, f"{first}: status 1\n"))
         self.assertEqual(
-            said[4:], ["== minutes", "N  echo other", "N  false  FAILED", "N  in all", "nothing was passed over"]
+            sorted(said[:5]), sorted([f"== {first}", f"== {second}", "met", "met", f"run_tests: {first}: FAILED"])
         )
+        self.assertEqual(said[5], MINUTES)
 
     def test_the_other_fails(self):
-        self.assertEqual(self.ran("| true", "nowhere", "echo after")[0], 1)
-        self.assertEqual(self.ran("| true", "false", "echo after")[2], "false: status 1\n")
+        first, second = self.meeting("1 0", "0 1")
+        status, said, errors = self.ran(f"| {first}", "| echo more", second, "", "echo after")
+        self.assertEqual((status, errors), (1, f"{second}: status 1\n"))
+        self.assertEqual(sorted(said[:4]), sorted([f"== {first}", f"== {second}", "met", "met"]))
+        self.assertEqual(said[4], MINUTES)
 
-    def test_beside_nothing(self):
-        """They have all processors."""
+    @unittest.skipIf(os.cpu_count() == 1, "there is one processor")
+    def test_as_many_as_there_are_processors(self):
+        """Once there is nothing that takes all of them."""
+        for alone in ("true", ""):
+            status, said, _ = self.ran(alone, *(f"| {part}" for part in self.meeting()))
+            self.assertEqual((status, said.count("met")), (0, 2))
+
+    def test_one_beside_another(self):
+        """In turn, however many processors there are, as long as one takes all."""
+        slow, waits = self.part("slow", "sleep 0.5"), self.part("waits", "while [ ! -e two ]; do sleep 0.1; done")
+        status, said, _ = self.ran(f"| {slow}", f"| touch {self.checks}/two", waits)
+        self.assertEqual((status, said[:4]), (0, [f"== {waits}", f"== {slow}", f"== touch {self.checks}/two", MINUTES]))
+
+    def test_one_processor(self):
+        self.assertEqual(self.ran("| nproc")[1][1], "1")
+        self.assertEqual(self.ran("nproc")[1][1], str(len(os.sched_getaffinity(0))))
+
+    def test_paragraphs(self):
+        """Each begins when the one before has ended, and comments are none of them."""
+        slow = self.part("slow", "sleep 0.5")
+        status, said, _ = self.ran(f"| {slow}", "", "# two", "echo two", "", "", "| echo three")
         self.assertEqual(
-            self.ran("| echo one", "| nproc")[1][:4],
-            ["== echo one", "one", "== nproc", str(len(os.sched_getaffinity(0)))],
+            (status, said[:6]), (0, [f"== {slow}", "== echo two", "two", "== echo three", "three", MINUTES])
         )
 
     def test_quick(self):
-        lines = ("echo one", "-| echo two", "& echo three", "&- echo four")
-        self.assertEqual(
-            self.ran(*lines, words=["--quick"])[1][:5], ["== echo one", "one", "== echo three", "three", "== minutes"]
-        )
-        self.assertEqual(len(self.ran(*lines)[1]), 8 + 7)
+        lines = ("echo one", "-  echo two", "|- echo four")
+        self.assertEqual(self.ran(*lines, words=["--quick"])[1][:3], ["== echo one", "one", MINUTES])
+        self.assertEqual(len(self.ran(*lines)[1]), 6 + 6)
 
     def test_words(self):
         self.assertEqual(self.ran("echo one", "echo two", words=["two"])[1][:2], ["== echo two", "two"])
         self.assertEqual(self.ran("echo one", words=["three"])[0], 1)
         self.assertEqual(self.ran("echo one", words=["--frob"])[0], 2)
         self.assertEqual(self.ran("echo one", words=["--help"])[0], 0)
+
+    def test_processors_are_counted(self):
+        """Of what a part starts too."""
+        busy = f"{sys.executable} -c 'import time\nwhile time.process_time() < 0.5: pass'; true"
+        ended = runpy.run_path(str(CHECKS / "run_tests"))["run"](["sh", "-c", busy], subprocess.DEVNULL)
+        self.assertEqual((ended.status, 0.5 < ended.used < 30), (0, True), ended)
 
     def test_each_part_is_there(self):
         """Each check and test is a part, or belongs to one, and each part can be run."""
@@ -137,10 +173,10 @@ class RunsTests(unittest.TestCase):
         for path in sorted([*CHECKS.glob("check_*"), *TESTS.glob("test_*.py")]):
             if os.access(path, os.X_OK):
                 is_part = re.search(
-                    rf"^(?:\t|[&| -]+)?{re.escape(path.relative_to(TOP).as_posix())}\b", lines + made, re.M
+                    rf"^(?:\t|[| -]+)?{re.escape(path.relative_to(TOP).as_posix())}\b", lines + made, re.M
                 )
                 self.assertTrue(is_part, f"{path.name} is no part of make test")
-        for line in [line.lstrip("&|- ") for line in lines.splitlines()]:
+        for line in [line.lstrip("|- ") for line in lines.splitlines()]:
             if line.startswith(("checks/", "tests/")):
                 self.assertTrue(os.access(TOP / line.split()[0], os.X_OK), line)
 
