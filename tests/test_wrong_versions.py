@@ -37,6 +37,15 @@ class Never(unittest.TestCase):
     def test_never(self):
         self.fail("never")
 
+for number in range(8):
+    setattr(Never, f"test_{number}", lambda self: self.assertEqual(tool.ONE, 1))
+
+class Once(unittest.TestCase):
+    def test_once(self):
+        mark = folders.TOP / "marks/once"
+        is_there, _ = mark.exists(), mark.touch()
+        self.assertEqual((is_there, tool.ONE), (True, 1))
+
 class Set(unittest.TestCase):
     @classmethod
     def setUpClass(cls):
@@ -93,7 +102,7 @@ class Lists(unittest.TestCase):
         )
         return run.returncode, re.sub(r"in \d+\.\d minutes", "in N minutes", run.stdout).splitlines(), run.stderr
 
-    def end(self, seen, of, at_once=len(os.sched_getaffinity(0))):
+    def end(self, seen, of, at_once=2 * len(os.sched_getaffinity(0))):
         return f"tool_mutations: {seen} of {of} wrong versions were seen, in N minutes, {at_once} at once"
 
     def test_all_are_seen(self):
@@ -121,10 +130,19 @@ class Lists(unittest.TestCase):
             self.assertIn(why, "\n".join(said))
 
     def test_what_fails_as_it_is(self):
-        """Then nothing says anything of a wrong version."""
-        status, said, errors = self.ran((*ONE[:3], "Never.test_never"), TWO)
-        self.assertEqual((status, said), (1, []))
-        self.assertIn("tool_mutations: Never of test_tool.py fails on what is there as it is", errors)
+        """Then nothing says anything of a wrong version. Tests of a class are run eight at a time."""
+        for before in (0, 8):
+            lines = [(f"one {number}", *ONE[1:3], f"Never.test_{number}") for number in range(before)]
+            status, said, errors = self.ran(*lines, (*ONE[:3], "Never.test_never"), TWO)
+            self.assertEqual((status, said), (1, []))
+            self.assertIn("tool_mutations: Never of test_tool.py fails on what is there as it is", errors)
+
+    def test_what_fails_once_as_it_is(self):
+        """A machine may be late once."""
+        (self.top / "marks").mkdir()
+        self.assertEqual(
+            self.ran((*ONE[:3], "Once.test_once"), words=["--at-once", "1"])[1], ["one: seen", self.end(1, 1, 1)]
+        )
 
     def test_what_is_stale_stops_it_at_once(self):
         for line, why in (

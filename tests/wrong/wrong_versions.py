@@ -18,6 +18,9 @@ import passed_over
 import wrong_copies
 
 TOP = wrong_copies.TOP
+AS_IT_IS = ("MISSED", "skipped")  # what tests say where nothing is wrong
+TOGETHER = 8  # tests of a class that are run together on what is there
+EACH = 2  # versions that are tried at once, for each processor: some of them wait for what doesn't come
 
 
 def exchanged(text, old, new):
@@ -91,23 +94,31 @@ class List:
         for why, count in collections.Counter(reasons).items():
             passed_over.note(f"{self.tool}, {count} wrong versions", why)
 
-    def as_it_is(self, pool):
-        """Ends it where a test fails on what is there. Those of a class are run together."""
+    def groups(self):
+        """The tests, each group with its file: some of a class, which are run together."""
         classes = collections.defaultdict(dict)
         for version in self.versions:
             if not version.missing:
                 classes[version.tests, version.test.partition(".")[0]][version.test] = True
-        for (file, name), (found, said) in zip(
-            classes, pool.map(lambda one: wrong_copies.tried(one[0][0], one[1], {}), classes.items())
-        ):
-            if found not in ("MISSED", "skipped"):
+        for (file, _), tests in classes.items():
+            yield from ((file, [*tests][at : at + TOGETHER]) for at in range(0, len(tests), TOGETHER))
+
+    @staticmethod
+    def whole(group):
+        """The verdict of tests on what is there. What fails is run once more, as a busy machine may be late."""
+        found = wrong_copies.tried(*group, {})
+        return found if found[0] in AS_IT_IS else wrong_copies.tried(*group, {})
+
+    def check_whole(self, groups, runs):
+        """Ends it where a test fails on what is there."""
+        for (file, tests), (found, said) in zip(groups, runs):
+            if found not in AS_IT_IS:
+                name = tests[0].partition(".")[0]
                 sys.exit(f"{said}{self.tool}: {name} of {file} fails on what is there as it is")
 
-    def run(self, pool):
+    def told(self, runs):
         """The verdicts in the order of the list, told one by one."""
-        for version, (found, said) in zip(
-            self.versions, pool.map(lambda version: version.tried(self.more), self.versions)
-        ):
+        for version, (found, said) in zip(self.versions, runs):
             print(f"{version.name}: {found}\n{said if found == 'BROKEN' else ''}", end="", flush=True)
             yield version, found
 
@@ -117,9 +128,13 @@ class List:
         began = time.monotonic()
         with concurrent.futures.ThreadPoolExecutor(at_once) as pool:
             try:
-                self.as_it_is(pool)
-                verdicts = list(self.run(pool))
+                groups = [*self.groups()]
+                whole = pool.map(self.whole, groups)
+                runs = pool.map(lambda version: version.tried(self.more), self.versions)
+                self.check_whole(groups, whole)
+                verdicts = list(self.told(runs))
             except BaseException:  # nobody waits for those that have begun; the others don't begin
+                pool.shutdown(wait=False, cancel_futures=True)
                 wrong_copies.end_all()
                 raise
         seen = sum(found == "seen" for _, found in verdicts)
@@ -157,7 +172,7 @@ def try_all(about, versions, more=None):
     asked.add_argument(
         "--at-once",
         type=at_least_one,
-        default=len(os.sched_getaffinity(0)),
+        default=EACH * len(os.sched_getaffinity(0)),
         metavar="N",
         help="how many are tried at once [%(default)s]",
     )
