@@ -14,6 +14,7 @@ import kit
 
 LOGS = TOP / "out/build"
 ENOUGH = 2.5e9  # bytes, which no check of a library here was seen to take; rt guesses more than twice as much for some
+LONG = 0.75  # of the longest chain of crates
 
 
 class NotBuilt(Exception):
@@ -40,14 +41,17 @@ def memory(crate):
     return min(guess, max(guess / 2, ENOUGH))
 
 
-def longest_chain(crates):
-    """The names of the crates, of which each uses the one before, that have the most lines. Whatever is built beside
-    them, they end last."""
-    chains = {}
-    for crate in crates:
-        most, names = max((chains[low.name] for low in crate.below()), default=(0, []))
-        chains[crate.name] = most + lines(crate), [*names, crate.name]
-    return max(chains.values())[1]
+def long_chains(crates):
+    """The names of the crates that are on a chain, of which each uses the one before, that has at least three quarters
+    of the lines of the longest. Whatever is built beside them, they end last."""
+    below, behind = {}, {crate.name: 0 for crate in crates}
+    for crate in crates:  # behind those that it uses
+        below[crate.name] = lines(crate) + max((below[low.name] for low in crate.below()), default=0)
+    for crate in reversed(crates):
+        for low in crate.below():
+            behind[low.name] = max(behind[low.name], behind[crate.name] + lines(crate))
+    most = max(below.values())
+    return {name for name in below if below[name] + behind[name] >= LONG * most}
 
 
 class Build:
@@ -56,7 +60,7 @@ class Build:
     def __init__(self, crates, total):
         self.crates, self.total, self.done, self.failed = crates, total, 0, ""
         self.telling = threading.Lock()
-        self.last = [] if "RT_JOBS" in os.environ else longest_chain(crates)
+        self.last = () if "RT_JOBS" in os.environ else long_chains(crates)
 
     def one(self, crate, jobs):
         """Builds the library of a crate, unless another couldn't be built. For those that end last rt chooses how many

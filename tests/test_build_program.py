@@ -8,9 +8,11 @@ The crates are made up, and so is the toolchain.
 """
 import os
 import re
+import types
 
 import folders  # noqa: F401
 import kit_testing
+import libraries
 import passed_over
 
 USES = {"low": "", "left": "low", "right": "low", "top": "left right", "framedbg": "top", "aside": "low"}
@@ -54,6 +56,19 @@ class BuildsProgram(kit_testing.Checkout):
         os.utime(self.write("crates/left/src/lib.rt", "fn other() {}\n"), (later, later))
         begun = [line for line in self.built()[3] if line.startswith(("begins", "links"))]
         self.assertEqual(sorted(begun), ["begins left", "begins top", f"links {self.top}/crates/framedbg"])
+
+    def test_those_on_long_chains_end_last(self):
+        """Of the longest three quarters are enough."""
+        for lines, others in ((15, {"right"}), (14, set())):
+            sizes = {"low": 10, "left": 30, "right": lines, "top": 20, "aside": 34}
+            crates = {}
+            for name, size in sizes.items():
+                below = [crates[low] for low in USES[name].split()]
+                below += [low for one in below for low in one.below() if low not in below]
+                crates[name] = types.SimpleNamespace(
+                    name=name, below=lambda below=below: below, count=lambda _, size=size: size
+                )
+            self.assertEqual(libraries.long_chains([*crates.values()]), {"low", "left", "top"} | others)
 
     def test_one_is_not_built(self):
         """No other begins after it, and the program isn't linked."""

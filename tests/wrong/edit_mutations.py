@@ -49,6 +49,8 @@ MUTATIONS = [   # name, tool, text, what stands there instead, test
     ("build: a fault is no fault", LIBRARIES, "            raise NotBuilt(self.failed)", "            pass", "BuildsProgram.test_one_is_not_built"),
     ("build: a program that isn't linked is no fault", PROGRAM, "    if status:", "    if False:", "BuildsProgram.test_the_program_is_not_linked"),
     ("build: never again", PROGRAM, " and not kit.is_older(program, BUILT)", "", "BuildsProgram.test_a_source_is_newer"),
+    ("build: only the longest chain ends last", LIBRARIES, ">= LONG * most", ">= most", "BuildsProgram.test_those_on_long_chains_end_last"),
+    ("build: chains without what is built later", LIBRARIES, "if below[name] + behind[name] >=", "if below[name] >=", "BuildsProgram.test_those_on_long_chains_end_last"),
     ("build: any toolchain", KIT, "    if lacking:", "    if False:", "BuildsProgram.test_another_toolchain"),
 ]
 
