@@ -37,7 +37,8 @@ outside_reach width height (Clear colour) x y column row out = let inside = in_w
 outside_reach width height (DepthClear depth) x y column row out = let inside = in_whole width height x y column row in cc (inside, out)
 outside_reach width height (Draw draw) x y column row out =
     let box = bounds_of_triangles (triangles_of draw) in
-    uncoloured_outside draw box x y (bounds_of_triangles-holds (triangles_of draw)) (outside_clipped (clipped_to draw.picture box) width height x y column row out)
+    uncoloured_outside draw box x y (bounds_of_triangles-holds (triangles_of draw))
+    (outside_clipped (clipped_to draw.picture box) width height x y column row out)
 outside_reach width height other x y column row out = tt
 
 -- what is left alone stays as it is, and nothing of it is kept

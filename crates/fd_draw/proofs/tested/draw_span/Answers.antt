@@ -12,8 +12,9 @@ at_least_one false run some = omega arith
 
 pub returns-then-not-primitive : goal.returns-then-not-primitive
 returns-then-not-primitive c = record {
-  painted = Paints-untested c.args.primitive.now c.args.run (draws_all c.args.primitive.now c.args.run c.requires.ready c.if-not-primitive.true c.requires.reached)
-      c.requires.reached c.write_span.ensures.painted;
+  painted = Paints-untested c.args.primitive.now c.args.run
+      (draws_all c.args.primitive.now c.args.run c.requires.ready c.if-not-primitive.true c.requires.reached) c.requires.reached
+      c.write_span.ensures.painted;
   spans = omega (arith, at_least_one (is_tested_by c.args.primitive.now) c.args.run c.requires.run.some, c.write_span.ensures.spans);
   pixels = c.write_span.ensures.pixels;
 }

@@ -35,4 +35,5 @@ loop-x-preserved c =
 
 pub returns-then-is_whole-clause-bits : goal.returns-then-is_whole-clause-bits
 returns-then-is_whole-clause-bits c = λ k low. ones_set k (omega (arith, low, c.requires.few))
-    ∙ sym (c.is_whole.ensures.filled c.if-is_whole.true (c.args.run.left + k) c.args.run.y (c.requires.inside (c.args.run.left + k) (omega arith) (omega (arith, low))))
+    ∙ sym (c.is_whole.ensures.filled c.if-is_whole.true (c.args.run.left + k) c.args.run.y
+    (c.requires.inside (c.args.run.left + k) (omega arith) (omega (arith, low))))
