@@ -43,6 +43,14 @@ document.body.append(made);
 """
 
 
+def pauses():
+    """Seconds between looks at a page: more and more, as what hasn't come soon may be long in coming."""
+    pause = 0.02
+    while True:
+        yield pause
+        pause = min(1.1 * pause, 0.1)
+
+
 def is_installed():
     return shutil.which("chromedriver") is not None and shutil.which("chromium") is not None
 
@@ -120,11 +128,13 @@ class Browser:
     def until(self, script, *arguments, seconds=PATIENCE):
         """What the script gives as soon as that is true."""
         end = time.time() + seconds
-        while time.time() < end:
+        for pause in pauses():
             found = self.run(script, *arguments)
             if found:
                 return found
-            time.sleep(0.02)
+            if time.time() > end:
+                break
+            time.sleep(pause)
         raise AssertionError(f"not within {seconds} s: {script} {arguments}")
 
     def click_at(self, x, y):

@@ -65,8 +65,10 @@ class Hands(unittest.TestCase):
     def comes(self, read, expected, seconds=browser.PATIENCE):
         """What the page shows as soon as it has caught up with what was done to it."""
         end = time.time() + seconds
-        while read() != expected and time.time() < end:
-            time.sleep(0.02)
+        for pause in browser.pauses():
+            if read() == expected or time.time() > end:
+                break
+            time.sleep(pause)
         self.assertEqual(read(), expected)
 
     def at(self, position):
