@@ -237,13 +237,14 @@ class Meshes(unittest.TestCase):
                 read(as_glb(folder, "changed.glb", **changed))
 
     def converted(self, path, *words):
-        """A run of the tool, with 2 GiB of memory, which ends within a minute."""
-        limits = lambda: resource.setrlimit(resource.RLIMIT_AS, (2 << 30, 2 << 30))
+        """A run of the tool, with 2 GiB of memory and a minute of a processor, which others may want too."""
+
+        def limit():
+            resource.setrlimit(resource.RLIMIT_AS, (2 << 30, 2 << 30))
+            resource.setrlimit(resource.RLIMIT_CPU, (60, 60))
+
         return subprocess.run(
-            [sys.executable, TOOLS / "mesh_to_capture", *words, path],
-            capture_output=True,
-            timeout=60,
-            preexec_fn=limits,
+            [sys.executable, TOOLS / "mesh_to_capture", *words, path], capture_output=True, timeout=600, preexec_fn=limit
         )
 
     def refused(self, path, why):
