@@ -244,7 +244,10 @@ class Meshes(unittest.TestCase):
             resource.setrlimit(resource.RLIMIT_CPU, (60, 60))
 
         return subprocess.run(
-            [sys.executable, TOOLS / "mesh_to_capture", *words, path], capture_output=True, timeout=600, preexec_fn=limit
+            [sys.executable, TOOLS / "mesh_to_capture", *words, path],
+            capture_output=True,
+            timeout=600,
+            preexec_fn=limit,
         )
 
     def refused(self, path, why):
