@@ -6,7 +6,7 @@
 # make wheel    makes out/framedbg-VERSION-..whl, which pip and pipx install without the network
 # make deb      makes out/framedbg_VERSION_amd64.deb, which apt installs and takes away
 # make d3d11    makes out/play_d3d11.exe, which draws captures by Direct3D 11 on Windows and compares them with what is right
-# make test     checks documents and examples beside the gate: every proof from nothing, the edits that must fail, the tests, the programs; and then
+# make test     checks documents, and examples beside the gate: every proof from nothing, the edits that must fail, the tests, the programs; and then
 #               what only the built program shows: its endings, its threads, its limits, each of its allocations refused, viewer, page, tools, its
 #               installation. checks/test_parts.txt has the parts; at the end stand their minutes, and what was passed over since something isn't there;
 #               with QUICK=1 what to run before a push, without wrong versions, the edits of edits/ and the second browser

@@ -13,6 +13,7 @@ import signal
 import subprocess
 import sys
 import tempfile
+import time
 import unittest
 
 from folders import CHECKS, TESTS, TOP
@@ -81,6 +82,22 @@ class RunsTests(unittest.TestCase):
         part.write_text("import signal\nprint(signal.getsignal(signal.SIGINT))\n")
         self.addCleanup(signal.signal, signal.SIGINT, signal.signal(signal.SIGINT, signal.SIG_IGN))
         self.assertIn("default_int_handler", self.ran(f"python3 {part}")[1][1])
+
+    def test_an_interrupt_ends_what_runs(self):
+        part = self.part("long", "echo $$ > begun", "mv begun number", "exec sleep 60")
+        (self.checks / "test_parts.txt").write_text(f"{part}\necho after\n")
+        number = self.checks / "number"
+        with subprocess.Popen([self.checks / "run_tests"], stdout=subprocess.PIPE, text=True) as run:
+            until = time.monotonic() + 30
+            while not number.exists() and time.monotonic() < until:
+                time.sleep(0.1)
+            run.send_signal(signal.SIGINT)
+            said = run.communicate(timeout=30)[0]
+        self.assertEqual((run.returncode, said), (130, f"== {part}\n"))
+        with self.assertRaises(ProcessLookupError):
+            while time.monotonic() < until:
+                os.kill(int(number.read_text()), 0)
+                time.sleep(0.1)
 
     def test_what_was_passed_over_is_listed_last(self):
         for _ in range(2):  # what was passed over before is forgotten
