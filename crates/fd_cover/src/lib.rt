@@ -22,7 +22,5 @@ mod point;
 mod reciprocal;
 mod rows;
 mod shading;
-#[cfg(test)]
-mod tests;
 mod triangle;
 mod verdict;

@@ -9,5 +9,3 @@ mod fence;
 mod lane;
 pub mod laws;
 mod part;
-#[cfg(test)]
-mod tests;

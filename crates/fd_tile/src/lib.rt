@@ -10,6 +10,4 @@ mod filling;
 mod grid;
 mod part;
 mod place;
-#[cfg(test)]
-mod tests;
 mod tile;

@@ -16,6 +16,4 @@ mod entries;
 mod events;
 mod lines;
 mod request;
-#[cfg(test)]
-mod tests;
 mod text;

@@ -1,0 +1,718 @@
+ghost use Rattle.std.specs.Prelude.{◌≡◌, length};
+
+use fd_blend::{BlendOp, BlendState, Colour, Factor, Mask, Part};
+use fd_cover::{Bounds, Cull, Depth, Func, Interp, Raster, Rect};
+use fd_events::{
+    Draw, DrawFault, Event, EventTable, Label, LabelFault, Picture, PictureFault, Pipeline,
+    TableFault, Vertex,
+};
+use fd_snap::Pos;
+use std::alloc::Global;
+use std::test::Fail;
+
+fn grey(level: u8) -> Colour {
+    Colour {
+        r: level,
+        g: level,
+        b: level,
+        a: level,
+    }
+}
+
+fn clears(alloc: Global, number: usize) -> Result<Vec<Event>, Fail> {
+    let mut events = Vec::new(alloc);
+    for _ in 0..number {
+        events.push(Event::Clear(grey(9)))?;
+    }
+    Ok(events)
+}
+
+#[test]
+fn events_start_switched_on(rt: HostRuntime) -> Result<(), Fail> {
+    for (width, height, number) in [(1, 16_384, 1_000_000), (16_384, 1, 2)] {
+        let table = EventTable::start(rt.alloc(), 3, width, height, clears(rt.alloc(), number)?)?;
+        assert_eq!(rt;
+            (table.width(), table.height(), table.version()),
+            (width, height, 3)
+        );
+        assert_eq!(rt; table.len() as usize, number);
+        assert!(rt; table.len() >= 2);
+        assert!(rt; matches!(table.event(2), Event::Clear(colour) if *colour == grey(9)));
+        assert!(rt; table.is_on(2));
+        assert_eq!(rt; *table.state_before(1), Pipeline::default());
+    }
+    Ok(())
+}
+
+#[test]
+fn refused_tables_and_their_faults(rt: HostRuntime) -> Result<(), Fail> {
+    for (width, height, number, fault) in [
+        (0, 1, 0, TableFault::Size),
+        (1, 0, 0, TableFault::Size),
+        (16_385, 1, 0, TableFault::Size),
+        (1, 16_385, 1_000_001, TableFault::Size),
+        (1, 1, 1_000_001, TableFault::TooMany),
+    ] {
+        let refused = EventTable::start(rt.alloc(), 3, width, height, clears(rt.alloc(), number)?);
+        assert_eq!(rt;
+            refused.err(),
+            Some(fault),
+            "{width} by {height}, {number} events"
+        );
+    }
+    Ok(())
+}
+
+#[test]
+fn a_table_of_version_one(rt: HostRuntime) -> Result<(), Fail> {
+    let table = EventTable::start(rt.alloc(), 1, 3, 2, Vec::new(rt.alloc()))?;
+    assert_eq!(rt; (table.version(), table.len()), (1, 0));
+    assert_eq!(rt; *table.state_before(1), Pipeline::default());
+    Ok(())
+}
+
+/// The nearer fragment passes, and stores its depth.
+const NEARER: Depth = Depth {
+    enable: true,
+    write: true,
+    func: Func::Less,
+};
+
+/// A blend, a raster, a scissor, a factor and a depth event, with a clear between them.
+fn states(
+    alloc: Global,
+    blend: BlendState,
+    raster: Raster,
+    rect: Rect,
+) -> Result<EventTable, Fail> {
+    let mut events = Vec::new(alloc);
+    events.push(Event::SetBlend(blend))?;
+    events.push(Event::SetRaster(raster))?;
+    events.push(Event::Clear(grey(9)))?;
+    events.push(Event::SetScissor(rect))?;
+    events.push(Event::SetFactor(grey(5)))?;
+    events.push(Event::SetDepth(NEARER))?;
+    Ok(EventTable::start(alloc, 3, 1, 1, events)?)
+}
+
+#[test]
+fn a_blend_event_switched_off_and_on(rt: HostRuntime) -> Result<(), Fail> {
+    let part = Part {
+        src: Factor::SrcAlpha,
+        dst: Factor::Zero,
+        op: BlendOp::Add,
+    };
+    let mask = Mask::from_bits(15).ok_or("a mask")?;
+    let blend = BlendState::new(true, part, part, mask)?;
+    let raster = Raster {
+        cull: Cull::None,
+        front_ccw: true,
+        scissor: true,
+    };
+    let rect = Rect {
+        left: 1,
+        top: 2,
+        right: 3,
+        bottom: 4,
+    };
+    let mut table = states(rt.alloc(), blend, raster, rect)?;
+    assert_eq!(rt; table.len(), 6);
+    let defaults = Pipeline::default();
+    assert_eq!(rt; *table.state_before(1), defaults);
+    assert_eq!(rt; table.state_before(6).blend, blend);
+    assert_eq!(rt; table.state_before(4).scissor, defaults.scissor);
+    table.set_on(1, false);
+    assert!(rt; !table.is_on(1));
+    assert!(rt; table.is_on(2));
+    assert_eq!(rt; table.state_before(2).blend, defaults.blend);
+    assert_eq!(rt; table.state_before(6).blend, defaults.blend);
+    assert_eq!(rt; table.state_before(6).raster, raster);
+    assert_eq!(rt; table.state_before(6).scissor, rect);
+    table.set_on(1, true);
+    assert_eq!(rt; table.state_before(6).blend, blend);
+    assert_eq!(rt; table.state_before(6).factor, grey(5));
+    assert_eq!(rt; table.state_before(6).depth, defaults.depth);
+    assert_eq!(rt; table.state_before(7).depth, NEARER);
+    Ok(())
+}
+
+/// A grey vertex at a position in 1/65536 pixel.
+fn vertex(x: i32, y: i32, level: u8, z: u16) -> Result<Vertex, Fail> {
+    let Some(pos) = Pos::new(x, y) else {
+        return Err(Fail::from("a position"));
+    };
+    let colour = grey(level);
+    Ok(Vertex { pos, colour, z })
+}
+
+/// Vertices at (1/256, -1/512) pixels, rounded to (1/256, 0); the first three are darker and nearer.
+fn vertices(alloc: Global, number: u32) -> Result<Vec<Vertex>, Fail> {
+    let near = vertex(256, -128, 1, 0)?;
+    let far = vertex(256, -128, 2, 65_535)?;
+    let mut vertices = Vec::new(alloc);
+    for place in 0..number {
+        vertices.push(if place < 3 { near } else { far })?;
+    }
+    Ok(vertices)
+}
+
+#[test]
+fn left_over_vertices_are_dropped(rt: HostRuntime) -> Result<(), Fail> {
+    let draw = Draw::new(vertices(rt.alloc(), 8)?, None, Interp::Flat)?;
+    assert_eq!(rt; draw.triangles(), 2);
+    assert_eq!(rt; draw.colours(1), [grey(2), grey(2), grey(2)]);
+    assert_eq!(rt; draw.depths(1), [65_535, 65_535, 65_535]);
+    let triangle = draw.tri(1);
+    assert_eq!(rt; (triangle.b.x(), triangle.b.y()), (1, 0));
+    let indices = vec![in rt.alloc(); 7, 0, 7, 1]?;
+    let draw = Draw::new(vertices(rt.alloc(), 8)?, Some(indices), Interp::Linear)?;
+    assert_eq!(rt; (draw.triangles(), draw.interp()), (1, Interp::Linear));
+    assert_eq!(rt; draw.colours(0), [grey(2), grey(1), grey(2)]);
+    assert_eq!(rt; draw.depths(0), [65_535, 0, 65_535]);
+    Ok(())
+}
+
+#[test]
+fn refused_draws_and_their_faults(rt: HostRuntime) -> Result<(), Fail> {
+    for (count, index, number, fault) in [
+        (196_608, 196_607, 196_608, None),
+        (196_609, 0, 196_609, Some(DrawFault::Vertices)),
+        (3, 3, 196_609, Some(DrawFault::Indices)),
+        (3, 3, 4, Some(DrawFault::IndexRange)),
+    ] {
+        let indices = vec![in rt.alloc(); index; number]?;
+        let draw = Draw::new(vertices(rt.alloc(), count)?, Some(indices), Interp::Flat);
+        assert_eq!(rt; draw.err(), fault, "{count} vertices, {number} indices");
+    }
+    Ok(())
+}
+
+/// A triangle with these corners, in 1/65536 pixel.
+fn push_triangle(vertices: &mut Vec<Vertex>, corners: [(i32, i32); 3]) -> Result<(), Fail> {
+    for (x, y) in corners {
+        vertices.push(vertex(x, y, 1, 0)?)?;
+    }
+    Ok(())
+}
+
+/// From pixel (1, 0) to before (3, 2).
+const NEAR_CORNERS: [(i32, i32); 3] = [(65_536, 0), (196_608, 0), (65_536, 131_072)];
+
+const NEAR: Bounds = Bounds {
+    left: 1,
+    top: 0,
+    right: 3,
+    bottom: 2,
+};
+
+/// From pixel (6, 4) to before (7, 8).
+const FAR_CORNERS: [(i32, i32); 3] = [(393_216, 262_144), (458_752, 262_144), (393_216, 524_288)];
+
+const FAR: Bounds = Bounds {
+    left: 6,
+    top: 4,
+    right: 7,
+    bottom: 8,
+};
+
+/// The box round both.
+const BOTH: Bounds = Bounds {
+    left: 1,
+    top: 0,
+    right: 7,
+    bottom: 8,
+};
+
+#[test]
+fn the_bounds_go_round_all_triangles(rt: HostRuntime) -> Result<(), Fail> {
+    let empty = Draw::new(Vec::new(rt.alloc()), None, Interp::Flat)?;
+    assert!(rt; empty.bounds().is_empty());
+    let mut vertices = Vec::new(rt.alloc());
+    push_triangle(&mut vertices, NEAR_CORNERS)?;
+    push_triangle(&mut vertices, FAR_CORNERS)?;
+    let draw = Draw::new(vertices, None, Interp::Flat)?;
+    assert_eq!(rt; draw.bounds(), BOTH);
+    Ok(())
+}
+
+#[test]
+fn each_group_has_a_box_once_a_table_starts(rt: HostRuntime) -> Result<(), Fail> {
+    let mut vertices = Vec::new(rt.alloc());
+    for _ in 0..32 {
+        push_triangle(&mut vertices, NEAR_CORNERS)?;
+    }
+    push_triangle(&mut vertices, FAR_CORNERS)?;
+    let draw = Draw::new(vertices, None, Interp::Flat)?;
+    assert_eq!(rt; (draw.group_bounds(0), draw.group_bounds(1)), (BOTH, BOTH));
+    assert_eq!(rt; draw.triangle_bounds(32), FAR);
+    let mut events = Vec::new(rt.alloc());
+    events.push(Event::Draw(draw))?;
+    let table = EventTable::start(rt.alloc(), 3, 8, 8, events)?;
+    assert!(rt; table.len() == 1);
+    let Event::Draw(draw) = table.event(1) else {
+        return Err("a draw".into());
+    };
+    assert_eq!(rt; (draw.group_bounds(0), draw.group_bounds(1)), (NEAR, FAR));
+    assert_eq!(rt;
+        (draw.triangle_bounds(31), draw.triangle_bounds(32)),
+        (NEAR, FAR)
+    );
+    Ok(())
+}
+
+/// So many clockwise triangles, and one more with these corners.
+fn clockwise_and(alloc: Global, count: u32, corners: [(i32, i32); 3]) -> Result<Vec<Vertex>, Fail> {
+    let mut vertices = Vec::new(alloc);
+    for _ in 0..count {
+        push_triangle(&mut vertices, NEAR_CORNERS)?;
+    }
+    push_triangle(&mut vertices, corners)?;
+    Ok(vertices)
+}
+
+const EACH_CULLING: [(Cull, bool); 5] = [
+    (Cull::None, false),
+    (Cull::Front, false),
+    (Cull::Front, true),
+    (Cull::Back, false),
+    (Cull::Back, true),
+];
+
+/// Three triangles, or four; but a fourth that is turned round is drawn where the others are culled.
+#[test]
+fn a_draw_is_culled_where_all_its_triangles_are(rt: HostRuntime) -> Result<(), Fail> {
+    let [a, b, c] = NEAR_CORNERS;
+    let none = [false, false, false, false, false];
+    for (vertices, culled) in [
+        (
+            clockwise_and(rt.alloc(), 2, NEAR_CORNERS)?,
+            [false, true, false, false, true],
+        ),
+        (
+            clockwise_and(rt.alloc(), 3, NEAR_CORNERS)?,
+            [false, true, false, false, true],
+        ),
+        (clockwise_and(rt.alloc(), 3, [a, c, b])?, none),
+        (
+            clockwise_and(rt.alloc(), 3, [a, a, b])?,
+            [false, false, false, false, true],
+        ),
+    ] {
+        let table = table_of(rt.alloc(), 64, vertices)?;
+        assert!(rt; table.len() == 1);
+        let Event::Draw(draw) = table.event(1) else {
+            return Err("a draw".into());
+        };
+        for ((cull, front_ccw), culled) in EACH_CULLING.into_iter().zip(culled) {
+            let raster = Raster {
+                cull,
+                front_ccw,
+                scissor: true,
+            };
+            assert_eq!(rt; draw.is_culled(&raster), culled, "{raster:?}");
+        }
+    }
+    Ok(())
+}
+
+/// A triangle in the cell of 32 pixels that is right of the first one and below it.
+const NEXT_CELL_CORNERS: [(i32, i32); 3] = [
+    (2_621_440, 2_621_440),
+    (2_752_512, 2_621_440),
+    (2_621_440, 2_752_512),
+];
+
+/// Its box is the target of 256 by 256 pixels.
+const LARGE_CORNERS: [(i32, i32); 3] = [(0, 0), (16_777_216, 0), (0, 16_777_216)];
+
+fn square(left: u32, top: u32, side: u32) -> Bounds {
+    Bounds {
+        left,
+        top,
+        right: left.saturating_add(side),
+        bottom: top.saturating_add(side),
+    }
+}
+
+/// A table with one draw.
+fn table_of(alloc: Global, side: u32, vertices: Vec<Vertex>) -> Result<EventTable, Fail> {
+    let mut events = Vec::new(alloc);
+    events.push(Event::Draw(Draw::new(vertices, None, Interp::Flat)?))?;
+    Ok(EventTable::start(alloc, 3, side, side, events)?)
+}
+
+/// So many triangles, in turn in the first cell and in the one right of it and below.
+fn in_two_cells(alloc: Global, count: u32) -> Result<Vec<Vertex>, Fail> {
+    let mut vertices = Vec::new(alloc);
+    for number in 0..count {
+        if number % 2 == 0 {
+            push_triangle(&mut vertices, NEAR_CORNERS)?;
+        } else {
+            push_triangle(&mut vertices, NEXT_CELL_CORNERS)?;
+        }
+    }
+    Ok(vertices)
+}
+
+#[test]
+fn a_window_is_shown_the_triangles_of_its_cell(rt: HostRuntime) -> Result<(), Fail> {
+    let alone = Draw::new(in_two_cells(rt.alloc(), 40)?, None, Interp::Flat)?;
+    assert_eq!(rt; alone.next_listed(0, square(32, 32, 32)), 0);
+    let table = table_of(rt.alloc(), 64, in_two_cells(rt.alloc(), 40)?)?;
+    assert!(rt; table.len() == 1);
+    let Event::Draw(draw) = table.event(1) else {
+        return Err("a draw".into());
+    };
+    assert!(rt; draw.triangles() == 40);
+    for (from, window, next) in [
+        (0, square(0, 0, 32), 0),
+        (1, square(0, 0, 32), 2),
+        (39, square(0, 0, 32), 40),
+        (0, square(32, 32, 32), 1),
+        (2, square(40, 40, 8), 3),
+        (39, square(32, 32, 32), 39),
+        (40, square(32, 32, 32), 40),
+        (0, square(32, 0, 32), 40),
+        (0, square(0, 0, 64), 0),
+    ] {
+        assert_eq!(rt;
+            draw.next_listed(from, window),
+            next,
+            "from {from} in {window:?}"
+        );
+    }
+    Ok(())
+}
+
+/// So many small triangles, with large ones behind the first one.
+fn with_large_ones(alloc: Global, small: u32, large: u32) -> Result<Vec<Vertex>, Fail> {
+    let mut vertices = Vec::new(alloc);
+    push_triangle(&mut vertices, NEAR_CORNERS)?;
+    for _ in 0..large {
+        push_triangle(&mut vertices, LARGE_CORNERS)?;
+    }
+    for _ in 1..small {
+        push_triangle(&mut vertices, NEAR_CORNERS)?;
+    }
+    Ok(vertices)
+}
+
+#[test]
+fn few_triangles_are_in_no_cells_and_large_ones_in_large_cells(
+    rt: HostRuntime,
+) -> Result<(), Fail> {
+    // a large one reaches 36 of 64 cells of 32 pixels, those above a diagonal; 10 among 40 do so, 60 among 80 are too many, and cells of 64 are taken for them
+    for (side, vertices, (left, top), next) in [
+        (256, with_large_ones(rt.alloc(), 2, 5)?, (160, 160), 1),
+        (256, with_large_ones(rt.alloc(), 2, 6)?, (160, 160), 8),
+        (64, in_two_cells(rt.alloc(), 7)?, (32, 32), 1),
+        (64, in_two_cells(rt.alloc(), 8)?, (32, 32), 1),
+        (256, with_large_ones(rt.alloc(), 30, 10)?, (32, 32), 1),
+        (256, with_large_ones(rt.alloc(), 30, 10)?, (96, 96), 1),
+        (256, with_large_ones(rt.alloc(), 30, 10)?, (160, 96), 40),
+        (256, with_large_ones(rt.alloc(), 30, 10)?, (128, 128), 40),
+        (256, with_large_ones(rt.alloc(), 20, 60)?, (32, 32), 1),
+        (256, with_large_ones(rt.alloc(), 20, 60)?, (160, 96), 1),
+        (256, with_large_ones(rt.alloc(), 20, 60)?, (128, 128), 80),
+    ] {
+        let table = table_of(rt.alloc(), side, vertices)?;
+        assert!(rt; table.len() == 1);
+        let Event::Draw(draw) = table.event(1) else {
+            return Err("a draw".into());
+        };
+        assert_eq!(rt;
+            draw.next_listed(0, square(left, top, 32)),
+            next,
+            "{} triangles, from {left}, {top} on",
+            draw.triangles()
+        );
+    }
+    Ok(())
+}
+
+#[test]
+fn triangles_of_few_vertices_are_in_no_cells(rt: HostRuntime) -> Result<(), Fail> {
+    for (vertices, next) in [(26, 1), (28, 2)] {
+        let mut corners = in_two_cells(rt.alloc(), 10)?;
+        corners.truncate(vertices);
+        let mut indices = vec![in rt.alloc(); 0; 0]?;
+        for number in 0..81 {
+            let corner: u32 = if number % 2 == 0 { 0 } else { 3 };
+            for index in [corner, corner.saturating_add(1), corner.saturating_add(2)] {
+                indices.push(index)?;
+            }
+        }
+        let mut events = Vec::new(rt.alloc());
+        events.push(Event::Draw(Draw::new(corners, Some(indices), Interp::Flat)?))?;
+        let table = EventTable::start(rt.alloc(), 3, 64, 64, events)?;
+        assert!(rt; table.len() == 1);
+        let Event::Draw(draw) = table.event(1) else {
+            return Err("a draw".into());
+        };
+        assert!(rt; draw.triangles() == 81);
+        assert_eq!(rt;
+            draw.next_listed(1, square(0, 0, 32)),
+            next,
+            "{vertices} vertices"
+        );
+        assert_eq!(rt; draw.triangle_bounds(80), NEAR);
+    }
+    Ok(())
+}
+
+#[test]
+fn labels_and_their_faults(rt: HostRuntime) -> Result<(), Fail> {
+    for (text, fault) in [
+        ("", None),
+        ("a name", None),
+        ("a\nname", Some(LabelFault::Control)),
+        ("a\u{7f}", Some(LabelFault::Control)),
+        (
+            "\n123456789012345678901234567890123456789012345678901234567890123",
+            Some(LabelFault::Control),
+        ),
+        (
+            "\n1234567890123456789012345678901234567890123456789012345678901234",
+            Some(LabelFault::TooLong),
+        ),
+    ] {
+        let label = Label::new(String::from_str(rt.alloc(), text)?);
+        assert_eq!(rt; label.err(), fault, "{text}");
+    }
+    let label = Label::new(String::from_str(rt.alloc(), "a name")?)?;
+    assert_eq!(rt; label.as_str(), "a name");
+    Ok(())
+}
+
+#[test]
+fn the_reach_of_each_event_lies_on_the_target(rt: HostRuntime) -> Result<(), Fail> {
+    let mut vertices = Vec::new(rt.alloc());
+    push_triangle(&mut vertices, NEAR_CORNERS)?;
+    push_triangle(&mut vertices, FAR_CORNERS)?;
+    let mut events = Vec::new(rt.alloc());
+    events.push(Event::Draw(Draw::new(vertices, None, Interp::Flat)?))?;
+    events.push(Event::SetFactor(grey(5)))?;
+    events.push(Event::DepthClear(7))?;
+    let table = EventTable::start(rt.alloc(), 3, 4, 3, events)?;
+    assert!(rt; table.len() == 3);
+    let cut = Bounds {
+        right: 4,
+        bottom: 3,
+        ..BOTH
+    };
+    assert_eq!(rt; table.reach(1), cut);
+    assert!(rt; table.reach(2).is_empty());
+    let whole = Bounds {
+        left: 0,
+        top: 0,
+        ..cut
+    };
+    assert_eq!(rt; table.reach(3), whole);
+    Ok(())
+}
+
+/// A draw of one triangle.
+fn one_triangle(alloc: Global, corners: [(i32, i32); 3]) -> Result<Event, Fail> {
+    let mut vertices = Vec::new(alloc);
+    push_triangle(&mut vertices, corners)?;
+    Ok(Event::Draw(Draw::new(vertices, None, Interp::Flat)?))
+}
+
+/// The factor's level in the state before each of five events, and after the last.
+fn factors(table: &EventTable) -> [u8; 6]
+    requires { length table.now.events ≡ 5 }
+{
+    [
+        table.state_before(1).factor.r,
+        table.state_before(2).factor.r,
+        table.state_before(3).factor.r,
+        table.state_before(4).factor.r,
+        table.state_before(5).factor.r,
+        table.state_before(6).factor.r,
+    ]
+}
+
+#[test]
+fn markers_and_draws_share_the_state_before_them(rt: HostRuntime) -> Result<(), Fail> {
+    let mut events = Vec::new(rt.alloc());
+    events.push(Event::Marker(Label::new(String::new(rt.alloc()))?))?;
+    events.push(Event::SetFactor(grey(1)))?;
+    events.push(one_triangle(rt.alloc(), NEAR_CORNERS)?)?;
+    events.push(Event::SetFactor(grey(2)))?;
+    events.push(Event::DepthClear(7))?;
+    let mut table = EventTable::start(rt.alloc(), 3, 64, 64, events)?;
+    assert!(rt; table.len() == 5);
+    let all = [255, 255, 1, 1, 2, 2];
+    assert_eq!(rt; factors(&table), all);
+    table.set_on(1, false);
+    table.set_on(3, false);
+    assert_eq!(rt; factors(&table), all);
+    table.set_on(2, false);
+    assert_eq!(rt; factors(&table), [255, 255, 255, 255, 2, 2]);
+    table.set_on(4, false);
+    assert_eq!(rt; factors(&table), [255, 255, 255, 255, 255, 255]);
+    table.set_on(2, true);
+    assert_eq!(rt; factors(&table), [255, 255, 1, 1, 1, 1]);
+    table.set_on(4, true);
+    assert_eq!(rt; factors(&table), all);
+    Ok(())
+}
+
+#[test]
+fn the_next_event_near_a_window(rt: HostRuntime) -> Result<(), Fail> {
+    let mut events = Vec::new(rt.alloc());
+    events.push(Event::Marker(Label::new(String::new(rt.alloc()))?))?;
+    events.push(one_triangle(rt.alloc(), NEAR_CORNERS)?)?;
+    events.push(one_triangle(rt.alloc(), NEXT_CELL_CORNERS)?)?;
+    events.push(Event::Clear(grey(9)))?;
+    let mut table = EventTable::start(rt.alloc(), 3, 64, 64, events)?;
+    assert!(rt; table.len() == 4);
+    assert_eq!(rt; table.next_near(0, 4, square(0, 0, 32)), 1);
+    assert_eq!(rt; table.next_near(2, 4, square(0, 0, 32)), 3);
+    assert_eq!(rt; table.next_near(2, 3, square(0, 0, 32)), 3);
+    assert_eq!(rt; table.next_near(0, 4, square(32, 32, 32)), 2);
+    assert_eq!(rt; table.next_near(0, 4, square(32, 0, 32)), 3);
+    assert_eq!(rt; table.next_near(0, 4, square(0, 32, 32)), 3);
+    table.set_on(4, false);
+    assert_eq!(rt; table.next_near(2, 4, square(0, 0, 32)), 4);
+    table.set_on(2, false);
+    assert_eq!(rt; table.next_near(0, 4, square(0, 0, 32)), 4);
+    table.set_on(4, true);
+    assert_eq!(rt; table.next_near(0, 4, square(0, 0, 32)), 3);
+    Ok(())
+}
+
+#[test]
+fn far_events_are_passed_over_by_thousands(rt: HostRuntime) -> Result<(), Fail> {
+    for number in [63usize, 64, 65, 4_095, 4_096, 4_097, 10_000] {
+        let mut events = Vec::new(rt.alloc());
+        for _ in 0..number {
+            events.push(one_triangle(rt.alloc(), NEXT_CELL_CORNERS)?)?;
+        }
+        events.push(one_triangle(rt.alloc(), NEAR_CORNERS)?)?;
+        let table = EventTable::start(rt.alloc(), 3, 64, 64, events)?;
+        assert!(rt; table.len() as usize == number.saturating_add(1));
+        let len = table.len();
+        assert_eq!(rt; table.next_near(0, len, square(0, 0, 32)) as usize, number);
+        assert_eq!(rt; table.next_near(0, len, square(0, 32, 32)), len);
+    }
+    Ok(())
+}
+
+/// The bytes of so many texels, whose levels count up from 1.
+fn texels(alloc: Global, number: u8) -> Result<Vec<u8>, Fail> {
+    let mut bytes = Vec::new(alloc);
+    for texel in 0..number {
+        for _ in 0..4 {
+            bytes.push(texel.wrapping_add(1))?;
+        }
+    }
+    Ok(bytes)
+}
+
+/// A picture of two by two texels, of which the third is a hole.
+#[test]
+fn texels_of_a_picture(rt: HostRuntime) -> Result<(), Fail> {
+    let mut holes = Vec::new(rt.alloc());
+    holes.push(0b1111_0100)?;
+    let picture = Picture::new(5, 7, 2, 2, texels(rt.alloc(), 4)?, Some(holes))?;
+    for (x, y, texel) in [
+        (5, 7, Some(grey(1))),
+        (6, 7, Some(grey(2))),
+        (5, 8, None),
+        (6, 8, Some(grey(4))),
+        (4, 7, None),
+        (7, 7, None),
+        (5, 6, None),
+        (5, 9, None),
+    ] {
+        assert_eq!(rt; picture.texel(x, y), texel, "{x} {y}");
+        assert_eq!(rt;
+            picture.texel_or_none(x, y),
+            texel.unwrap_or(grey(0)),
+            "{x} {y}"
+        );
+    }
+    Ok(())
+}
+
+/// A draw of a triangle over the whole target, whose colours come from a picture of two by two texels in the last cell.
+fn painted(alloc: Global) -> Result<Draw, Fail> {
+    let picture = Picture::new(40, 41, 2, 2, texels(alloc, 4)?, None)?;
+    let mut vertices = Vec::new(alloc);
+    push_triangle(&mut vertices, LARGE_CORNERS)?;
+    Ok(Draw::painted(vertices, None, fd_memory::boxed(alloc, picture)?)?)
+}
+
+/// The box of that picture.
+const PAINTED: Bounds = Bounds {
+    left: 40,
+    top: 41,
+    right: 42,
+    bottom: 43,
+};
+
+#[test]
+fn a_draw_ends_where_its_picture_does(rt: HostRuntime) -> Result<(), Fail> {
+    let draw = painted(rt.alloc())?;
+    assert_eq!(rt; draw.clip(square(0, 0, 64)), PAINTED);
+    assert_eq!(rt;
+        draw.clip(square(0, 9, 33)),
+        Bounds {
+            left: 40,
+            top: 41,
+            right: 33,
+            bottom: 42
+        }
+    );
+    let mut vertices = Vec::new(rt.alloc());
+    push_triangle(&mut vertices, LARGE_CORNERS)?;
+    let plain = Draw::new(vertices, None, Interp::Flat)?;
+    assert_eq!(rt; plain.clip(square(0, 9, 33)), square(0, 9, 33));
+    let mut holes = Vec::new(rt.alloc());
+    holes.push(0)?;
+    let picture = Picture::new(0, 0, 2, 1, texels(rt.alloc(), 2)?, Some(holes))?;
+    assert!(rt; !picture.is_whole());
+    let picture = Picture::new(0, 0, 2, 1, texels(rt.alloc(), 2)?, None)?;
+    assert!(rt; picture.is_whole());
+    Ok(())
+}
+
+/// Tiles are asked for it where its picture lies, and histories wherever its triangles do.
+#[test]
+fn a_draw_is_near_its_picture_and_over_more(rt: HostRuntime) -> Result<(), Fail> {
+    let mut events = Vec::new(rt.alloc());
+    events.push(Event::Draw(painted(rt.alloc())?))?;
+    events.push(Event::SetFactor(grey(1)))?;
+    let mut table = EventTable::start(rt.alloc(), 3, 64, 64, events)?;
+    assert!(rt; table.len() == 2);
+    assert_eq!(rt; table.reach(1), PAINTED);
+    assert_eq!(rt; table.next_near(0, 2, square(0, 0, 32)), 2);
+    assert_eq!(rt; table.next_near(0, 2, square(32, 32, 32)), 0);
+    assert_eq!(rt; table.next_over(0, 2, square(0, 0, 32)), 0);
+    assert_eq!(rt; table.next_over(1, 2, square(0, 0, 32)), 2);
+    table.set_on(1, false);
+    assert_eq!(rt; table.next_over(0, 2, square(0, 0, 32)), 2);
+    Ok(())
+}
+
+#[test]
+fn refused_pictures_and_their_faults(rt: HostRuntime) -> Result<(), Fail> {
+    for (left, top, width, height, number, fault) in [
+        (16_383, 16_383, 1, 2, 2, None),
+        (16_384, 0, 1, 2, 2, Some(PictureFault::Place)),
+        (0, 16_384, 1, 2, 2, Some(PictureFault::Place)),
+        (0, 0, 0, 2, 2, Some(PictureFault::Place)),
+        (0, 0, 1, 0, 2, Some(PictureFault::Place)),
+        (0, 0, 16_385, 1, 2, Some(PictureFault::Place)),
+        (0, 0, 2, 1, 1, Some(PictureFault::Texels)),
+        (0, 0, 2, 1, 3, Some(PictureFault::Texels)),
+    ] {
+        let picture = Picture::new(left, top, width, height, texels(rt.alloc(), number)?, None);
+        assert_eq!(rt; picture.err(), fault, "{left} {top} {width} {height}");
+    }
+    let holes = Some(Vec::new(rt.alloc()));
+    let picture = Picture::new(0, 0, 2, 1, texels(rt.alloc(), 2)?, holes);
+    assert_eq!(rt; picture.err(), Some(PictureFault::Holes));
+    Ok(())
+}

@@ -1,0 +1,3 @@
+mod cover;
+mod draw;
+mod tile;
