@@ -1,3 +1,2 @@
 mod captures;
-mod events;
 mod words;

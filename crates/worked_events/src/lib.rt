@@ -1,0 +1,6 @@
+//! Worked examples of events: their tables, their reach, and what they draw. They stand in a crate of their own, since a crate with tests is
+//! proved twice.
+#![tactic(auto)]
+
+#[cfg(test)]
+mod tests;
