@@ -5,6 +5,7 @@ ghost use Rattle.fd_events.specs.Image.{stored_at};
 ghost use Rattle.fd_events.specs.Table.{active_event, state_at};
 ghost use Rattle.fd_owner.specs.History.{position, drawn_history};
 ghost use Rattle.fd_owner.specs.Shown.{IsInside};
+ghost use Rattle.fd_owner.specs.Untouched.{IsUnchanged, IsUntouched};
 ghost use Rattle.fd_history.specs.Gathered.{past_number};
 ghost use Rattle.fd_history.specs.History.{history_at};
 ghost use Rattle.fd_history.specs.Settled.{overwritten_past};
@@ -27,8 +28,8 @@ fn pass_number(
     number: u32,
 ) -> Result<(), AllocError>
     requires first { 1 ≤ number }
-    requires last { number ≤ position owner.now.history }
-    requires within { position owner.now.history ≤ length table.now.events }
+    requires last { number ≤ length table.now.events }
+    requires untouched { position owner.now.history < number → IsUntouched table.now (number - 1) owner.now.place }
     requires pixel { Holds owner.now.place gather.old.x gather.old.y }
     requires depth { gather.old.depth ≡ stored_at table.now (number - 1) gather.old.x gather.old.y }
     requires follows { owner.now.history ≡ drawn_history table.now owner.now.place (position owner.now.history) }
@@ -43,6 +44,9 @@ fn pass_number(
     let event = table.event(number);
     let before = gather.entries.len();
     gather.pass(number, event, table.state_before(number))?;
+    if number > owner.position() {
+        return Ok(());
+    }
     let drawn = count_drawn(&gather.entries[before..]);
     owner.add_kept(number, gather.x, gather.y, drawn, kept)
 }
@@ -66,6 +70,27 @@ pub fn history(
     ensures few { IfOk result (λ entries. length entries.items ≤ most_triangles * position owner.now.history) }
     ensures wanted { OnErr result Wanted }
 {
+    history_near(alloc, table, owner, owner.position(), x, y)
+}
+
+/// The same up to a position at which the owner's tile is as where the owner stands.
+pub fn history_near(
+    alloc: Global,
+    table: &EventTable,
+    owner: &Owner,
+    to: u32,
+    x: u32,
+    y: u32,
+) -> Result<Vec<Entry>, AllocError>
+    requires pixel { Holds owner.now.place x y }
+    requires inside { IsInside owner.now.place table.now }
+    requires follows { owner.now.history ≡ drawn_history table.now owner.now.place (position owner.now.history) }
+    requires within { to ≤ length table.now.events }
+    requires alike { IsUnchanged table.now (position owner.now.history) to owner.now.place }
+    ensures exact { IfOk result (λ entries. entries.items ≡ history_at table.now to x y) }
+    ensures few { IfOk result (λ entries. length entries.items ≤ most_triangles * to) }
+    ensures wanted { OnErr result Wanted }
+{
     let _place = owner.place();
     let mut gather = Gather {
         x,
@@ -74,7 +99,6 @@ pub fn history(
         entries: Vec::new(alloc),
     };
     let mut pixels = Vec::new(alloc);
-    let to = owner.position();
     let window = pixel_at(x, y);
     let mut passed = table.next_over(0, to, window);
     while passed < to {

@@ -1,6 +1,6 @@
 -- Events whose reach misses a place, or whose state lets them draw nothing there, write nothing there.
 use Rattle.std.proofs.Common.{◌≡◌, ℕ, suc, ◌+◌, ◌<◌, ◌≤◌, Bool, true, false, cond, add-one, ◌∙◌, ap, sym, inl, inr, List, length, Option, Some, None, refl}
-use Rattle.std.proofs.Common.{arith, slice_get}
+use Rattle.std.proofs.Common.{arith, slice_get, option_map, subst}
 use Rattle.std.specs.Prelude.{IsTrue, IfSome}
 use Rattle.std.proofs.lemmas.Bool.{cases_lt}
 use Rattle.fd_cover.specs.Bounds.{is_within}
@@ -13,7 +13,9 @@ use Rattle.fd_events.specs.declared.pipeline.Pipeline.{Pipeline}
 use Rattle.fd_events.specs.Bounds.{may_colour}
 use Rattle.fd_events.specs.Draw.{Triangle, triangles_of}
 use Rattle.fd_events.specs.Far.{LeavesAlone, AreFar}
+use Rattle.fd_events.specs.Reach.{reach_of}
 use Rattle.fd_events.specs.Table.{Table, active_event, event_at, is_set, state_at}
+use Rattle.fd_events.proofs.ReachLemmas.{outside_reach}
 use Rattle.fd_draw.specs.Area.{box_of_place}
 use Rattle.fd_draw.specs.Demand.{event_spans, event_pixels}
 use Rattle.fd_draw.proofs.Areas.{within_from}
@@ -67,6 +69,24 @@ untouched_from table from to window place placed inside is far k above below =
     let none = demands-none place table.width table.height placed inside.right inside.bottom window is (active_event table (suc k)) (state_at table k)
     (far k above below) in
     record { spans = none.0; pixels = none.1 }
+
+-- ---- an event whose box holds no pixel of a place
+
+module _ (table : Table) (place : Place) (box : Bounds) (misses : Misses box place) (placed : IsTilePlace place) (inside : IsInside place table) where
+  missed : (on : Bool) (event : Option Event) (s : Pipeline) → option_map (reach_of table.width table.height) event ≡ Some box
+      → (spans_of (cond on event None) s place ≡ 0) × (pixels_written (cond on event None) s place ≡ 0)
+  missed false event s is = (refl, refl)
+  missed true None s is = (refl, refl)
+  missed true (Some event) s is =
+      let same : reach_of table.width table.height event ≡ box = cc in
+      event_demands-none place table.width table.height placed inside.right inside.bottom event s (λ x y held.
+      let on = in_target place table.width table.height placed inside.right inside.bottom x y held in
+      outside_reach table.width table.height event x y on.0 on.1 (subst (λ (b : Bounds). is_within b x y ≡ false) (sym same) (misses x y held)))
+
+  pub untouched_missed : (k : ℕ) → option_map (reach_of table.width table.height) (event_at table (suc k)) ≡ Some box → IsUntouched table k place
+  untouched_missed k is =
+      let none = missed (is_set table.flags (suc k)) (event_at table (suc k)) (state_at table k) is in
+      record { spans = none.0; pixels = none.1 }
 
 -- ---- an event that writes nothing in the state before it
 

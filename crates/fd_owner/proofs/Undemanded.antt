@@ -1,6 +1,6 @@
 -- An event that demands no pixel of a place draws nothing there.
 use Rattle.std.proofs.Common.{◌≡◌, ℕ, zero, suc, ◌+◌, ◌<◌, ◌≤◌, inl, inr, Bool, true, false, cond, List, [], ◌∷◌, Option, Some, None}
-use Rattle.std.proofs.Common.{refl, sym, ap, arith, length, slice_get}
+use Rattle.std.proofs.Common.{refl, sym, ap, ◌∙◌, arith, length, slice_get}
 use Rattle.std.specs.List.{sum_by}
 use Rattle.std.proofs.lemmas.Bool.{cases_lt}
 use Rattle.std.proofs.lemmas.List.Sums.{sum_by-cons}
@@ -12,7 +12,7 @@ use Rattle.fd_events.specs.declared.event.Event.{Event}
 use Rattle.fd_events.specs.declared.event.Event.TheVariants.{Clear, DepthClear, Draw}
 use Rattle.fd_events.specs.declared.pipeline.Pipeline.{Pipeline}
 use Rattle.fd_events.specs.Draw.{Triangle, triangles_of}
-use Rattle.fd_events.specs.Image.{pixel_after, kept_by, pixel_after_event, kept_by_event}
+use Rattle.fd_events.specs.Image.{pixel_after, kept_by, pixel_after_event, kept_by_event, pixel_at}
 use Rattle.fd_events.specs.Table.{Table, active_event, state_at}
 use Rattle.fd_draw.specs.Demand.{is_reached, total, written_in_row, pixels_in, triangle_pixels, event_pixels}
 use Rattle.fd_draw.specs.Paints.{Paints}
@@ -21,6 +21,7 @@ use Rattle.fd_draw.specs.Plan.{AreUnreached, IsUnreached}
 use Rattle.fd_draw.proofs.Triangles.{pixel_after_triangles-unreached, kept_by_triangles-unreached}
 use Rattle.fd_owner.specs.History.{pixel_past, kept_past}
 use Rattle.fd_owner.specs.Step.{pixels_written, pixels_past}
+use Rattle.fd_owner.specs.Untouched.{AreUntouched, IsUnchanged}
 
 -- numbers that add up to nothing are each nothing
 each_nothing : (f : ℕ → ℕ) (a n k : ℕ) → total f a n ≡ 0 → a ≤ k → k < a + n → f k ≡ 0
@@ -70,11 +71,33 @@ module _ (s : Pipeline) (p : Place) (x y : ℕ) (before : Pixel) (held : Holds p
   by_any None none = (refl, refl)
   by_any (Some event) none = by_event event none
 
+-- so does each pixel past an event of a table
+pub pixel_undemanded : (table : Table) (k : ℕ) (place : Place) (x y : ℕ) (before : Pixel) → Holds place x y → pixels_past table k place ≡ 0
+    → (pixel_past table k x y before ≡ before) × (kept_past table k x y before ≡ [])
+pixel_undemanded table k place x y before held none = by_any (state_at table k) place x y before held (active_event table (suc k)) none
+
 -- drawing nothing is drawing it
 pub Paints-undemanded : (table : Table) (k : ℕ) (t : TileImage) (u : Undo) → IsTileImage t → u.frame_left ≡ false → pixels_past table k t.place ≡ 0
     → Paints (pixel_past table k) (kept_past table k) t u t u
 Paints-undemanded table k t u filled begun none =
     Paints-same
-    (λ x y held. sym (by_any (state_at table k) t.place x y _ held (active_event table (suc k)) none).0)
-    (λ x y held. sym (by_any (state_at table k) t.place x y _ held (active_event table (suc k)) none).1)
+    (λ x y held. sym (pixel_undemanded table k t.place x y _ held none).0)
+    (λ x y held. sym (pixel_undemanded table k t.place x y _ held none).1)
     (Paints-nothing filled begun)
+
+-- so each pixel is the same at two positions between which nothing is written
+pixel_passed : (table : Table) (place : Place) (x y a b : ℕ) → Holds place x y → a ≤ b → AreUntouched table a b place
+    → pixel_at table a x y ≡ pixel_at table b x y
+pixel_passed table place x y a zero held on far = let here : a ≡ zero = omega (arith, on) in rw here refl
+pixel_passed table place x y a (suc b) held on far = elim (cases_lt b a) [
+  | inl there ↦ let here : a ≡ suc b = omega (arith, on, there) in rw here refl
+  | inr before ↦
+      pixel_passed table place x y a b held before (λ k low high. far k low (omega (arith, high)))
+      ∙ sym (pixel_undemanded table b place x y (pixel_at table b x y) held (far b before (omega arith)).pixels).0
+]
+
+pub pixel_alike : (table : Table) (place : Place) (x y a b : ℕ) → Holds place x y → IsUnchanged table a b place → pixel_at table a x y ≡ pixel_at table b x y
+pixel_alike table place x y a b held is = elim (cases_lt b a) [
+  | inl back ↦ sym (pixel_passed table place x y b a held (omega (arith, back)) is.back)
+  | inr on ↦ pixel_passed table place x y a b held on is.on
+]

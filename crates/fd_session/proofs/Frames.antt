@@ -100,9 +100,6 @@ stands_less f table k to o p le together at gone =
 pub stands_from : (f g : Bool) (table : Table) (k : ℕ) (o : Shown) → Stands f table k o → StandsFrom f g table k o
 stands_from f g table k o at = record { at = k; stands = at; above = omega arith; level = λ _. refl }
 
-pub all_above : (table : Table) (k low : ℕ) (owners : List Shown) → low ≤ k → All (Stands false table k) owners → All (StandsFrom false false table low) owners
-all_above table k low owners le each n d below = record { at = k; stands = each n d below; above = le; level = λ t. absurd (cc) }
-
 pub from_lowest : (table : Table) (low lowest : ℕ) (owners : List Shown) → All (StandsFrom false false table low) owners
     → All (λ (o : Shown). lowest ≤ position o.history) owners → All (StandsFrom false false table lowest) owners
 from_lowest table low lowest owners from above n d below =
@@ -267,6 +264,20 @@ opening_at : (f : Bool) (table : Table) (k : ℕ) (owners : List Shown) → 0 < 
 opening_at f table k [] some at = absurd (omega arith)
 opening_at f table k (o ∷ owners) some at = position_stands f table k o (All-head (Stands f table k) o owners at)
 
+-- owners that were lent are given back as they are now
+module _ (size : TargetSize) (old lent new : List Shown) (n : ℕ) (is : lent ≡ old) (all : n ≡ length old)
+    (places : places_of old ≡ first_places size (tile_count size)) (left : places_of new ≡ places_of lent) where
+  pub places_given : places_of new ≡ first_places size (tile_count size)
+  places_given = left ∙ ap places_of is ∙ places
+
+  pub given_whole : take n (new ++ drop (length new) old) ≡ new
+  given_whole =
+      let long : n ≡ length new = omega (arith, all, count_placed size old places, count_placed size new places_given) in
+      cc (long, take-append_seam new (drop (length new) old))
+
+  pub long_given : n ≡ length (take n (new ++ drop (length new) old))
+  long_given = omega (arith, all, count_placed size old places, count_placed size new places_given, ap length given_whole)
+
 module _ (f : Bool) (table : Table) (size : TargetSize) (valid : IsTable table) (sized : size ≡ size_of table) where
   pub held_at : (owners : List Shown) (k : ℕ) → places_of owners ≡ first_places size (tile_count size) → All (Stands f table k) owners → k ≤ length table.events
       → HoldsAll f table size owners × (opening_position owners ≡ k)
@@ -290,20 +301,20 @@ module _ (f : Bool) (table : Table) (size : TargetSize) (valid : IsTable table) 
       → IsLeft (Stands f table k) lent new → k ≤ length table.events
       → HoldsAll f table size (take n (new ++ drop (length new) old)) × (opening_position (take n (new ++ drop (length new) old)) ≡ k)
   held_back old lent new n k is all places left within =
-      let now : places_of new ≡ first_places size (tile_count size) = left.places ∙ ap places_of is ∙ places in
-      let long : n ≡ length new = omega (arith, all, count_placed size old places, count_placed size new now) in
-      let given : take n (new ++ drop (length new) old) ≡ new = cc (long, take-append_seam new (drop (length new) old)) in
-      subst (λ (l : List Shown). HoldsAll f table size l × (opening_position l ≡ k)) (sym given) (held_at new k now left.each within)
+      subst (λ (l : List Shown). HoldsAll f table size l × (opening_position l ≡ k)) (sym (given_whole size old lent new n is all places left.places))
+      (held_at new k (places_given size old lent new n is all places left.places) left.each within)
 
 -- the owner of tile n
-module _ (size : TargetSize) (owners : List Shown) (places : places_of owners ≡ first_places size (tile_count size)) (n : ℕ) (o : Shown)
-    (within : n < tile_count size) (is : o ≡ get_or owners n o) where
-  pub owner_placed : o.place ≡ place_of size n
-  owner_placed =
-      ap (λ (s : Shown). s.place) is
-      ∙ sym (get_or-map (λ (s : Shown). s.place) owners n o (place_of size n) (omega (arith, count_placed size owners places, within)))
+module _ (size : TargetSize) (owners : List Shown) (places : places_of owners ≡ first_places size (tile_count size)) (n : ℕ) where
+  pub place_at : (d : Shown) → n < tile_count size → (get_or owners n d).place ≡ place_of size n
+  place_at d within =
+      sym (get_or-map (λ (s : Shown). s.place) owners n d (place_of size n) (omega (arith, count_placed size owners places, within)))
       ∙ ap (λ (l : List Place). get_or l n (place_of size n)) places
       ∙ get_or-map-range_with_len (place_of size) 0 (tile_count size) n n (place_of size n) within (omega arith)
 
-  pub owner_at : (P : Shown → Type 0) → All P owners → P o
-  owner_at P each = subst P (sym is) (All-get_or P owners n o (omega (arith, count_placed size owners places, within)) each)
+  module _ (o : Shown) (within : n < tile_count size) (is : o ≡ get_or owners n o) where
+    pub owner_placed : o.place ≡ place_of size n
+    owner_placed = ap (λ (s : Shown). s.place) is ∙ place_at o within
+
+    pub owner_at : (P : Shown → Type 0) → All P owners → P o
+    owner_at P each = subst P (sym is) (All-get_or P owners n o (omega (arith, count_placed size owners places, within)) each)

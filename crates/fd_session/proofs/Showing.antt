@@ -1,5 +1,5 @@
 -- What an owner shows of a pixel, and of a row of its tile.
-use Rattle.std.proofs.Common.{◌≡◌, ℕ, zero, suc, ◌+◌, ◌-◌, Bool, List, length, map, take, drop, ap, ◌∙◌, arith}
+use Rattle.std.proofs.Common.{◌≡◌, ℕ, zero, suc, ◌+◌, ◌-◌, Bool, List, All, get_or, length, map, take, drop, ap, ◌∙◌, arith}
 use Rattle.std.specs.List.{range_with_len}
 use Rattle.std.proofs.lemmas.List.{take_all, length-drop}
 use Rattle.fd_blend.specs.declared.channel.Colour.{Colour}
@@ -12,7 +12,7 @@ use Rattle.fd_owner.specs.History.{last_image, drawn_history}
 use Rattle.fd_owner.specs.Shown.{Shown}
 use Rattle.fd_owner.proofs.Drawn.{last_drawn, pixel_drawn}
 use Rattle.fd_owner.proofs.Pictures.{map_mapped, row_in-over_place}
-use Rattle.fd_session.specs.Held.{Stands}
+use Rattle.fd_session.specs.Held.{Stands, ShowsAt}
 use Rattle.fd_session.proofs.Frames.{last_kept}
 
 -- the part of a row from column x on
@@ -24,10 +24,14 @@ row_part f a n zero x m at rest =
 row_part f a zero (suc i) x m at rest = absurd (omega (arith, rest))
 row_part f a (suc n) (suc i) x m at rest = row_part f (a + 1) n i x m (omega (arith, at)) (omega (arith, rest))
 
-module _ (f : Bool) (table : Table) (k : ℕ) (o : Shown) (x y : ℕ) (stands : Stands f table k o) (holds : Holds o.place x y) where
-  shown : last_image o.history ≡ last_image (drawn_history table o.place k)
-  shown = ap last_image stands.history ∙ last_kept f o.place (drawn_history table o.place k)
+-- an owner at a position shows its image
+pub shows_there : (f : Bool) (table : Table) (k : ℕ) (o : Shown) → Stands f table k o → ShowsAt table k o
+shows_there f table k o stands = ap last_image stands.history ∙ last_kept f o.place (drawn_history table o.place k)
 
+pub all_show : (f : Bool) (table : Table) (k : ℕ) (owners : List Shown) → All (Stands f table k) owners → All (ShowsAt table k) owners
+all_show f table k owners stand n d below = shows_there f table k (get_or owners n d) (stand n d below)
+
+module _ (table : Table) (k : ℕ) (o : Shown) (x y : ℕ) (shown : ShowsAt table k o) (holds : Holds o.place x y) where
   pub owner_shows : pixel_in o.place (last_image o.history) x y ≡ pixel_at table k x y
   owner_shows = ap (λ (rows : List (List Pixel)). pixel_in o.place rows x y) shown ∙ pixel_drawn table o.place k x y holds
 

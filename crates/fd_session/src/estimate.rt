@@ -1,5 +1,10 @@
 //! An estimate of the work of events on the tiles of an area, by rows of tiles. What is drawn does not depend on it.
-ghost use Rattle.std.specs.Prelude.{◌<◌, ◌≤◌, length};
+ghost use Rattle.std.specs.Prelude.{◌≡◌, ℕ, ◌+◌, ◌-◌, ◌/◌, ◌^◌, ◌<◌, ◌≤◌, length, IfSome};
+ghost use Rattle.fd_tile.specs.Grid.{TargetSize, columns_of, place_of};
+ghost use Rattle.fd_events.specs.Table.{IsTable};
+ghost use Rattle.fd_owner.specs.Untouched.{Misses};
+ghost use Rattle.fd_session.specs.Held.{size_of};
+ghost use Rattle.fd_session.specs.Near.{IsBefore};
 
 use arrayvec::ArrayVec;
 use fd_cover::Bounds;
@@ -51,7 +56,11 @@ impl Area {
     }
 
     /// Where a box lies.
-    pub(crate) fn round(table: &EventTable, bounds: Bounds) -> Area {
+    pub(crate) fn round(table: &EventTable, bounds: Bounds) -> Area
+        ensures columns { result.columns ≡ columns_of (size_of table.now) }
+        ensures bounds { result.bounds ≡ bounds }
+        ensures valid { IsTable table.now }
+    {
         let across = tiles_between(bounds.left, bounds.right);
         let down = tiles_between(bounds.top, bounds.bottom);
         Area {
@@ -60,11 +69,44 @@ impl Area {
             bounds,
         }
     }
+
+    /// The first tile of the target that the box may meet, of those from one number up to another.
+    pub(crate) fn next_tile(&self, from: usize, past: usize) -> Option<usize>
+        requires columns { (1 ≤ self.now.columns) × (self.now.columns ≤ 134217728) }
+        requires low { from < 2 ^ 63 }
+        ensures within { IfSome result (λ n. (from ≤ n) × (n < past)) }
+        ensures missed { (size : TargetSize) (n : ℕ) → self.now.columns ≡ columns_of size → from ≤ n → n < past → IsBefore n result
+            → Misses self.now.bounds (place_of size n) }
+    {
+        let Area {
+            columns,
+            bounds,
+            ..
+        } = *self;
+        let left = (bounds.left / TILE_SIDE) as usize;
+        let right = bounds.right.div_ceil(TILE_SIDE) as usize;
+        let top = (bounds.top / TILE_SIDE) as usize;
+        let bottom = bounds.bottom.div_ceil(TILE_SIDE) as usize;
+        let from = from.max(top * columns);
+        let row = from - from % columns;
+        let column = (from % columns).max(left);
+        let found = if column < right {
+            row + column
+        } else {
+            row + columns + left
+        };
+        if left < right && found < past.min(bottom * columns) {
+            Some(found)
+        } else {
+            None
+        }
+    }
 }
 
 /// How many tiles lie between two edges, the first and the last of them perhaps in part.
 fn tiles_between(first: u32, past: u32) -> usize
-    ensures { result ≤ 134217728 }
+    ensures value { result ≡ (past + 31) / 32 - first / 32 }
+    ensures most { result ≤ 134217728 }
 {
     past.div_ceil(TILE_SIDE).saturating_sub(first / TILE_SIDE) as usize
 }

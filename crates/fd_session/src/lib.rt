@@ -11,6 +11,7 @@ mod answer;
 mod estimate;
 pub mod laws;
 mod moves;
+mod near;
 mod picture;
 mod redraw;
 mod rows;

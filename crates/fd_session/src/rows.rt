@@ -1,11 +1,12 @@
 //! What the owners of a frame show, one for each tile of its target.
-ghost use Rattle.std.specs.Prelude.{◌≡◌, ℕ, ◌<◌, ◌≤◌, ◌+◌, Bool, length, map, All};
+ghost use Rattle.std.specs.Prelude.{◌≡◌, ℕ, ◌<◌, ◌≤◌, ◌+◌, length, map, All};
 ghost use Rattle.std.specs.List.{range_with_len};
 ghost use Rattle.fd_tile.specs.Grid.{tile_count};
 ghost use Rattle.fd_tile.specs.Place.{Holds};
 ghost use Rattle.fd_events.specs.Image.{colour_at};
 ghost use Rattle.fd_events.specs.Table.{Table};
-ghost use Rattle.fd_session.specs.Held.{Stands, places_of, first_places};
+ghost use Rattle.fd_session.specs.Held.{ShowsAt, places_of, first_places};
+ghost use Rattle.fd_session.specs.Near.{StandsNear};
 
 use fd_blend::Colour;
 use fd_owner::Owner;
@@ -19,7 +20,8 @@ pub(crate) fn owner_of<'a>(grid: &Grid, owners: &'a Vec<Owner>, x: u32, y: u32) 
     ensures holds { Holds result.now.place x y }
     ensures within { result.now.place.left + result.now.place.width ≤ grid.now.width }
     ensures narrow { result.now.place.width ≤ 32 }
-    ensures stands { (forgets : Bool) (table : Table) (k : ℕ) → All (Stands forgets table k) owners.now.items → Stands forgets table k result.now }
+    ensures near { (table : Table) (k : ℕ) → All (StandsNear table k) owners.now.items → StandsNear table k result.now }
+    ensures shows { (table : Table) (k : ℕ) → All (ShowsAt table k) owners.now.items → ShowsAt table k result.now }
 {
     &owners[grid.tile_of(x, y)]
 }
@@ -32,7 +34,7 @@ pub(crate) fn row_from<'a>(grid: &Grid, owners: &'a Vec<Owner>, x: u32, y: u32) 
     ensures some { 0 < length result.now }
     ensures inside { x + length result.now ≤ grid.now.width }
     ensures short { length result.now ≤ 32 }
-    ensures colours { (forgets : Bool) (table : Table) (k : ℕ) → All (Stands forgets table k) owners.now.items
+    ensures colours { (table : Table) (k : ℕ) → All (ShowsAt table k) owners.now.items
         → result.now ≡ map (λ column. colour_at table k column y) (range_with_len x (length result.now)) }
 {
     let owner = owner_of(grid, owners, x, y);

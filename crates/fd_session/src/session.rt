@@ -3,15 +3,16 @@ ghost use Rattle.fd_memory.specs.Wanting.{Wanted};
 
 use crate::answer::{Answer, SessionFault};
 use crate::estimate::Area;
-use crate::moves::{Drive, Pace, Way, common_position, go_forward, open};
+use crate::moves::{Drive, Pace, Way, go_forward, open};
+use crate::near::{is_short, level, reach_no_tile, take_back, walk_on};
 use crate::redraw::go_again;
 use crate::rows::{owner_of, row_from};
 use fd_blend::Colour;
-use fd_crew::{Free, Gate, run_back};
+use fd_crew::{Free, Gate};
 use fd_device::{Progress, Untold};
 use fd_events::{EventTable, Pipeline};
 use fd_frame::Shows;
-use fd_history::{Entry, history};
+use fd_history::{Entry, history_near};
 use fd_owner::Owner;
 use fd_tile::Grid;
 use std::alloc::{AllocError, Global};
@@ -23,36 +24,36 @@ use std::thread::Threads;
 pub struct Session {
     table: EventTable,
     grid: Grid,
-    // one for each tile of the grid, all at one position
+    // one for each tile of the grid; an owner may stand elsewhere than the session where its tile is the same there
     owners: Vec<Owner>,
+    position: u32,
     // the most that a move starts
     workers: u32,
     alloc: Global,
 }
 
 impl Model for Session {
-    ghost use Rattle.std.specs.Prelude.{◌≤◌, false};
-    ghost use Rattle.fd_crew.specs.Lanes.{opening_position};
-    ghost use Rattle.fd_session.specs.Held.{HoldsAll};
+    ghost use Rattle.std.specs.Prelude.{◌≤◌};
+    ghost use Rattle.fd_session.specs.Near.{HoldsNear};
     ghost use Rattle.fd_frame.specs.State.{State};
 
     ghost Value = { State };
 
-    ghost view = { λ s. record { table = s.table; position = opening_position s.owners.items } };
+    ghost view = { λ s. record { table = s.table; position = s.position } };
 
-    ghost invariant = { λ s. HoldsAll false s.table s.grid s.owners.items × (1 ≤ s.workers) × (s.workers ≤ 64) };
+    ghost invariant = { λ s. HoldsNear s.table s.grid s.position s.owners.items × (1 ≤ s.workers) × (s.workers ≤ 64) };
 }
 
 impl Session {
-    ghost use Rattle.std.specs.Prelude.{◌<◌, ◌*◌};
+    ghost use Rattle.std.specs.Prelude.{◌<◌, ◌*◌, IsTrue};
     ghost use Rattle.std.specs.Result.{result_map_both, result_unwrap_or};
     ghost use Rattle.fd_tile.specs.Place.{Holds};
     ghost use Rattle.fd_tile.specs.Tile.{pixel_in};
     ghost use Rattle.fd_events.specs.Image.{pixel_at};
-    ghost use Rattle.fd_owner.specs.History.{position, last_image};
+    ghost use Rattle.fd_owner.specs.History.{last_image};
     ghost use Rattle.fd_events.specs.Limits.{most_triangles, most_events};
     ghost use Rattle.fd_events.specs.Table.{state_at, flag_at};
-    ghost use Rattle.fd_session.specs.Held.{Stands};
+    ghost use Rattle.fd_session.specs.Near.{StandsNear};
     ghost use Rattle.fd_frame.specs.State.{State, opening, at_position, with_flag_at};
     ghost use Rattle.fd_session.specs.Machine.{Steps, GoesBack, Jumps, RefusesSwitch, Switches, ShowsPixel};
     ghost use Rattle.fd_frame.specs.State.{IsState};
@@ -74,6 +75,7 @@ impl Session {
                 table,
                 grid,
                 owners,
+                position: 0,
                 workers,
                 alloc,
             }),
@@ -117,10 +119,40 @@ impl Session {
         ensures told { T.kept teller.new ≡ T.kept teller.old }
     {
         let drive = self.drive(pace, gate);
-        let from = common_position(&self.owners);
+        let from = self.position;
         let area = Area::of(&self.table);
         let way = Way { from, to, area };
-        go_forward(rt, &mut self.owners, &self.table, &way, &drive, teller)
+        level(&mut self.owners, &self.table, from);
+        let run = go_forward(rt, &mut self.owners, &self.table, &way, &drive, teller);
+        self.position = run.unwrap_or(from);
+        run
+    }
+
+    /// Whether a jump goes forward over few events, none of which reaches a tile.
+    fn walks(&self, to: u32) -> bool
+        ensures { IsTrue result → (self.now.position < to) × (to ≤ length self.now.table.events) }
+    {
+        let from = self.position;
+        if to <= from || to > self.table.len() || !is_short(&self.table, from, to) {
+            return false;
+        }
+        reach_no_tile(&self.table, from, to)
+    }
+
+    /// Goes forward to a position, event by event, taking only the owners of tiles that each reaches.
+    fn walk(&mut self, to: u32) -> Answer
+        requires ahead { self.old.position < to }
+        requires within { to ≤ length self.old.table.events }
+        ensures jumps { Jumps self.old to result self.new }
+        ensures wanted { OnWant Wanted result }
+    {
+        let from = self.position;
+        let at = walk_on(&mut self.owners, &self.table, from, to);
+        self.position = at;
+        if at < to {
+            return Answer::Stopped { at };
+        }
+        Answer::Moved { at }
     }
 
     /// Goes back to a position.
@@ -128,7 +160,8 @@ impl Session {
         requires { to ≤ self.old.position }
         ensures { self.new ≡ at_position self.old to }
     {
-        run_back(&mut self.owners, to);
+        take_back(&mut self.owners, &self.table, self.position, to);
+        self.position = to;
     }
 
     /// Jumps to a position, forward at this pace.
@@ -185,6 +218,9 @@ impl Session {
         ensures told { T.kept teller.new ≡ T.kept teller.old }
         ensures wanted { OnWant Wanted result }
     {
+        if self.walks(to) {
+            return self.walk(to);
+        }
         self.jump(rt, to, Pace::Slices, &Free, teller)
     }
 
@@ -217,13 +253,14 @@ impl Session {
         ensures switched { self.new ≡ with_flag_at self.old number on result }
         ensures wanted { result < self.old.position → Wanted }
     {
-        let position = common_position(&self.owners);
-        if number > position {
-            self.table.set_on(number, on);
-            return position;
-        }
         let drive = self.drive(Pace::Slices, &Free);
-        go_again(rt, &mut self.owners, &mut self.table, number, on, &drive)
+        level(&mut self.owners, &self.table, self.position);
+        if number > self.position {
+            self.table.set_on(number, on);
+            return self.position;
+        }
+        self.position = go_again(rt, &mut self.owners, &mut self.table, number, on, &drive);
+        self.position
     }
 
     /// Switches an event on or off. Where it was gone through, it and the ones after it are drawn anew, which may stop before the position.
@@ -259,7 +296,7 @@ impl Session {
         ensures position { result ≡ self.now.position }
         ensures valid { IsState self.now }
     {
-        common_position(&self.owners)
+        self.position
     }
 
     /// The table, with its flags as they are now.
@@ -290,8 +327,7 @@ impl Session {
     fn owner_of(&self, x: u32, y: u32) -> Result<&Owner, SessionFault>
         ensures inside { IfOk result (λ _. (x < self.now.table.width) × (y < self.now.table.height)) }
         ensures holds { IfOk result (λ owner. Holds owner.now.place x y) }
-        ensures stands { IfOk result (λ owner. Stands false self.now.table self.now.position owner.now) }
-        ensures at { IfOk result (λ owner. position owner.now.history ≡ self.now.position) }
+        ensures near { IfOk result (λ owner. StandsNear self.now.table self.now.position owner.now) }
         ensures shows { IfOk result (λ owner. pixel_in owner.now.place (last_image owner.now.history) x y ≡ pixel_at self.now.table self.now.position x y) }
         ensures err { IfErr result (λ fault. ShowsPixel self.now x y (Err fault)) }
     {
@@ -321,7 +357,14 @@ impl Session {
         ensures few { IfOk result (λ entries. length entries.items ≤ most_triangles * most_events) }
         ensures wanted { OnMemory Wanted result }
     {
-        match history(alloc, &self.table, self.owner_of(x, y)?, x, y) {
+        match history_near(
+            alloc,
+            &self.table,
+            self.owner_of(x, y)?,
+            self.position,
+            x,
+            y,
+        ) {
             Ok(entries) => Ok(entries),
             Err(_) => Err(SessionFault::Memory),
         }

@@ -1,12 +1,24 @@
-use Rattle.std.proofs.Common.{◌≡◌, ◌+◌, ◌-◌, ◌∙◌, ◌++◌, true, Some, ap, arith, length, take, drop, length-append}
+use Rattle.std.proofs.Common.{◌≡◌, ◌+◌, ◌-◌, ◌∙◌, ◌++◌, [], sym, append-nil, true, Some, ap, arith, length, take, drop, length-append}
 use Rattle.std.proofs.lemmas.List.{drop_at, take_all}
-use Rattle.fd_events.specs.Image.{kept_after}
+use Rattle.fd_events.specs.Image.{kept_after, pixel_at}
 use Rattle.fd_events.specs.Table.{flag_at}
 use Rattle.fd_owner.specs.History.{position, pixels_kept}
 use Rattle.fd_owner.proofs.Drawn.{kept_drawn}
+use Rattle.fd_owner.proofs.Undemanded.{pixel_undemanded}
 use Rattle.fd_history.specs.Gathered.{Gathering, gathered_of}
 use Rattle.fd_history.proofs.Settles.{count_event}
 use Rattle.fd_history.proofs.passes.pass_number.Goals as goal
+
+-- past the owner's own position nothing is written on its tile
+pub returns-then-number-position-clause-kept : goal.returns-then-number-position-clause-kept
+returns-then-number-position-clause-kept c =
+    let x = c.args.gather.now.x in
+    let y = c.args.gather.now.y in
+    let table = c.args.table.now in
+    let untouched = c.requires.untouched (omega (arith, c.if-number-position.true, c.position.ensures)) in
+    let none : kept_after table (c.args.number - 1) x y ≡ [] = (pixel_undemanded table (c.args.number - 1) c.args.owner.now.place x y
+    (pixel_at table (c.args.number - 1) x y) c.requires.pixel untouched.pixels).1 in
+    rw none (sym (append-nil c.args.kept.now.items))
 
 pub returns-clause-kept : goal.returns-clause-kept
 returns-clause-kept c =

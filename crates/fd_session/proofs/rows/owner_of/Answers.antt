@@ -1,7 +1,8 @@
 use Rattle.std.proofs.Common.{arith, ap}
 use Rattle.fd_tile.specs.declared.place.Place.{Place}
 use Rattle.fd_tile.specs.Place.{Holds}
-use Rattle.fd_session.specs.Held.{Stands}
+use Rattle.fd_session.specs.Held.{ShowsAt}
+use Rattle.fd_session.specs.Near.{StandsNear}
 use Rattle.fd_session.proofs.Frames.{count_placed, owner_placed, owner_at}
 use Rattle.fd_session.proofs.rows.owner_of.Goals as goal
 
@@ -20,5 +21,6 @@ returns c =
       holds = holds;
       within = omega (arith, ap (λ (p : Place). p.left) placed, ap (λ (p : Place). p.width) placed, holds.from_left, holds.to_right);
       narrow = omega (arith, ap (λ (p : Place). p.width) placed);
-      stands = λ forgets table k. owner_at _ items c.requires.places _ owner c.tile_of.ensures.below c.index.ensures (Stands forgets table k);
+      near = λ table k. owner_at _ items c.requires.places _ owner c.tile_of.ensures.below c.index.ensures (StandsNear table k);
+      shows = λ table k. owner_at _ items c.requires.places _ owner c.tile_of.ensures.below c.index.ensures (ShowsAt table k);
     }

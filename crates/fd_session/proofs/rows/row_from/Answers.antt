@@ -7,10 +7,10 @@ use Rattle.fd_session.proofs.Showing.{row_shows}
 use Rattle.fd_session.proofs.rows.row_from.Goals as goal
 
 pub returns-clause-colours : goal.returns-clause-colours
-returns-clause-colours c = λ forgets table k each.
+returns-clause-colours c = λ table k each.
     let owner = c.owner_of-owner.result.now in
     let shown : ℕ → Colour = λ column. colour_at table k column c.args.y in
-    let part = row_shows forgets table k owner c.args.x c.args.y (c.owner_of-owner.ensures.stands forgets table k each) c.owner_of-owner.ensures.holds
+    let part = row_shows table k owner c.args.x c.args.y (c.owner_of-owner.ensures.shows table k each) c.owner_of-owner.ensures.holds
     c.row.result.now c.row.ensures in
     let long = ap length part ∙ length-map-range_with_len shown c.args.x (owner.place.left + owner.place.width - c.args.x) in
     rw c.place.ensures.value (part ∙ ap (λ (n : ℕ). map shown (range_with_len c.args.x n)) (sym long))

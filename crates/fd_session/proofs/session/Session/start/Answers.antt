@@ -1,9 +1,8 @@
-use Rattle.std.proofs.Common.{ap, false}
-use Rattle.fd_frame.specs.State.{at_position, opening}
+use Rattle.std.proofs.Common.{false}
+use Rattle.fd_session.proofs.Nearby.{near_held}
 use Rattle.fd_session.proofs.session.Session.start.Goals as goal
 
 pub invariant_of-result : goal.invariant_of-result
-invariant_of-result c = ((c.in-Ok.ensures.opened false).0, c.requires.0, c.requires.1)
-
-pub returns-in-Ok-clause-ok : goal.returns-in-Ok-clause-ok
-returns-in-Ok-clause-ok c = ap (at_position (opening c.args.table)) (c.in-Ok.ensures.opened false).1
+invariant_of-result c =
+    let opened = c.in-Ok.ensures.opened false in
+    (near_held _ _ _ 0 opened.0 opened.1, c.requires.0, c.requires.1)

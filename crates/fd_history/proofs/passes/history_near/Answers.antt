@@ -1,14 +1,16 @@
-use Rattle.std.proofs.Common.{List, refl, sym, ◌<◌, ◌≡◌, ◌+◌, ◌-◌, ◌∙◌, ◌++◌, [], ◌∷◌, ap, arith}
+use Rattle.std.proofs.Common.{List, refl, sym, subst, ◌<◌, ◌≡◌, ◌+◌, ◌-◌, ◌∙◌, ◌++◌, [], ◌∷◌, ap, arith}
 use Rattle.fd_events.specs.Image.{Pixel, pixel_at, stored_at}
 use Rattle.fd_owner.specs.History.{History, position, last_image}
+use Rattle.fd_owner.specs.Untouched.{IsUntouched}
 use Rattle.fd_owner.proofs.Drawn.{pixel_drawn}
+use Rattle.fd_owner.proofs.Undemanded.{pixel_alike}
 use Rattle.fd_tile.specs.Tile.{pixel_in}
 use Rattle.fd_history.specs.declared.entry.Entry.{Entry}
 use Rattle.fd_history.specs.Gathered.{Gathering}
 use Rattle.fd_history.specs.Settled.{gathered_at, overwritten, settled}
 use Rattle.fd_history.proofs.Settles.{enough, history_settles, given_back, next_event, next_kept}
 use Rattle.fd_history.proofs.PassedBy.{gathered_past, kept_past}
-use Rattle.fd_history.proofs.passes.history.Goals as goal
+use Rattle.fd_history.proofs.passes.history_near.Goals as goal
 
 pub invariant_of-gather : goal.invariant_of-gather
 invariant_of-gather c =
@@ -22,6 +24,12 @@ pass_number-requires-clause-depth c =
     let before : c.loop-passed.passed ≡ c.loop-passed.passed + 1 - 1 = omega arith in
     rw (ap (λ (g : Gathering). g.x) is, ap (λ (g : Gathering). g.y) is)
     (ap (λ (g : Gathering). g.depth) is ∙ ap (λ n. stored_at t n c.args.x c.args.y) before)
+
+pub pass_number-requires-clause-untouched : goal.pass_number-requires-clause-untouched
+pass_number-requires-clause-untouched c = λ past.
+    let before : c.loop-passed.passed ≡ c.loop-passed.passed + 1 - 1 = omega arith in
+    subst (λ k. IsUntouched c.args.table.now k c.args.owner.now.place) before
+    (c.requires.alike.on c.loop-passed.passed (omega (arith, past)) (omega (arith, c.loop-passed-test.true)))
 
 pub loop-passed-init : goal.loop-passed-init
 loop-passed-init c =
@@ -67,9 +75,9 @@ loop-passed-preserved c =
 
 pub settle-requires : goal.settle-requires
 settle-requires c =
-    let k = position c.args.owner.now.history in
+    let k = c.args.to in
     let t = c.args.table.now in
-    let at : c.loop-passed.passed ≡ k = omega (arith, c.loop-passed-test.false, c.position-to.ensures, c.loop-passed.invariant.last) in
+    let at : c.loop-passed.passed ≡ k = omega (arith, c.loop-passed-test.false, c.loop-passed.invariant.last) in
     let entries : c.deref_mut.result.now ≡ gathered_at t k c.args.x c.args.y =
     c.deref_mut.ensures.value ∙ ap (λ (g : Gathering). g.entries) (c.gather-2.view_is ∙ c.loop-passed.invariant.gathered) ∙ rw at refl in
     let pixels : c.deref.result.now ≡ overwritten t k c.args.x c.args.y ++ (c.pixel.result, c.depth.result) ∷ [] =
@@ -79,15 +87,17 @@ settle-requires c =
 pub returns-clause-exact : goal.returns-clause-exact
 returns-clause-exact c =
     let owner = c.args.owner.now in
-    let k = position owner.history in
+    let k = c.args.to in
     let t = c.args.table.now in
     let x = c.args.x in
     let y = c.args.y in
-    let at : c.loop-passed.passed ≡ k = omega (arith, c.loop-passed-test.false, c.position-to.ensures, c.loop-passed.invariant.last) in
+    let at : c.loop-passed.passed ≡ k = omega (arith, c.loop-passed-test.false, c.loop-passed.invariant.last) in
     let gathered : c.gather-2.inside.entries.items ≡ gathered_at t k x y =
     ap (λ (g : Gathering). g.entries) (c.gather-2.view_is ∙ c.loop-passed.invariant.gathered) ∙ rw at refl in
     let image : pixel_in owner.place (last_image owner.history) x y ≡ pixel_at t k x y =
-    ap (λ (h : History). pixel_in owner.place (last_image h) x y) c.requires.follows ∙ pixel_drawn t owner.place k x y c.requires.pixel in
+    ap (λ (h : History). pixel_in owner.place (last_image h) x y) c.requires.follows
+    ∙ pixel_drawn t owner.place (position owner.history) x y c.requires.pixel
+    ∙ pixel_alike t owner.place x y (position owner.history) k c.requires.pixel c.requires.alike in
     let shown : (c.pixel.result, c.depth.result) ≡ pixel_at t k x y =
     ap (λ a. (a, c.depth.result)) (c.pixel.ensures ∙ ap (λ (p : Pixel). p.0) image)
     ∙ ap (λ a. ((pixel_at t k x y).0, a)) (c.depth.ensures ∙ ap (λ (p : Pixel). p.1) image) in

@@ -1,7 +1,7 @@
 use Rattle.std.proofs.Common.{◌≡◌, ◌≤◌, ◌-◌, ◌*◌, length}
 use Rattle.fd_history.specs.Settled.{overwritten}
 use Rattle.fd_history.proofs.Settles.{gathering_at}
-use Rattle.fd_history.proofs.passes.history.Given as goal
+use Rattle.fd_history.proofs.passes.history_near.Given as goal
 
 abbrev pub invariant-loop-passed : goal.invariant-loop-passed
 invariant-loop-passed l =

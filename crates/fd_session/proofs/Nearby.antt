@@ -1,0 +1,334 @@
+-- Owners that stand at another position than the session, at which their tile is the same.
+use Rattle.std.proofs.Common.{◌≡◌, ℕ, suc, ◌+◌, ◌-◌, ◌*◌, ◌/◌, ◌%◌, ◌<◌, ◌≤◌, max, false, IsTrue}
+use Rattle.std.proofs.Common.{List, All, length, get_or, set, take, drop, ◌++◌, Some, option_map}
+use Rattle.std.proofs.Common.{◌≢◌, ◌⊎◌, sym, ap, ◌∙◌, subst, arith, inl, inr}
+use Rattle.std.proofs.lemmas.Bool.Decides.{nat_tests}
+use Rattle.std.proofs.lemmas.Bool.{cases_lt}
+use Rattle.std.proofs.lemmas.Nat.{div-add-mod', le-div, mul-le, row_fits, mod_below, row-Below}
+use Rattle.std.proofs.Math.Seq.{map-set_same}
+use Rattle.std.proofs.lemmas.List.{get_or-set_same, get_or-set_other, length-set}
+use Rattle.fd_cover.specs.declared.bounds.Bounds.{Bounds}
+use Rattle.fd_cover.specs.Bounds.{is_within}
+use Rattle.fd_tile.specs.declared.place.Place.{Place}
+use Rattle.fd_tile.specs.Place.{Holds, IsTilePlace}
+use Rattle.fd_tile.proofs.Pixels.{over_place_same}
+use Rattle.fd_tile.specs.Grid.{TargetSize, columns_of, rows_of_tiles, tile_count, place_of}
+use Rattle.fd_events.specs.Image.{pixel_at}
+use Rattle.fd_events.specs.Reach.{reach_of}
+use Rattle.fd_events.specs.Table.{Table, IsTable, event_at}
+use Rattle.fd_owner.specs.History.{position, fresh_history}
+use Rattle.fd_owner.specs.Shown.{Shown, IsInside, gone_forward, gone_on_to, gone_back_to, refused}
+use Rattle.fd_owner.specs.Untouched.{IsUntouched, Misses}
+use Rattle.fd_owner.proofs.Drawn.{last_drawn, drawn_more}
+use Rattle.fd_owner.proofs.Histories.{extend_to_on}
+use Rattle.fd_owner.proofs.PassedOver.{untouched_missed}
+use Rattle.fd_owner.proofs.Undemanded.{pixel_alike}
+use Rattle.fd_crew.specs.Lanes.{opening_position}
+use Rattle.fd_session.specs.Held.{Stands, ShowsAt, places_of, first_places, size_of, HoldsAll, IsLeft}
+use Rattle.fd_session.specs.Near.{StandsNear, HoldsNear, Between}
+use Rattle.fd_session.proofs.Frames.{position_stands, stands_less, count_placed, place_at, places_given, given_whole}
+use Rattle.fd_session.proofs.Showing.{shows_there}
+
+-- ---- one owner
+
+-- where it stands
+pub near_at : (table : Table) (k : ℕ) (o : Shown) → k ≤ length table.events → Stands false table k o → StandsNear table k o
+near_at table k o within stands = record {
+  at = k;
+  stands = stands;
+  within = within;
+  alike = record { on = λ j low high. absurd (omega (arith, low, high)); back = λ j low high. absurd (omega (arith, low, high)) };
+}
+
+pub position_near : (table : Table) (k : ℕ) (o : Shown) (n : StandsNear table k o) → position o.history ≡ n.at
+position_near table k o n = position_stands false table n.at o n.stands
+
+-- past one event more that writes nothing on its tile
+pub near_more : (table : Table) (k : ℕ) (o : Shown) → IsUntouched table k o.place → StandsNear table k o → StandsNear table (suc k) o
+near_more table k o here n = record {
+  at = n.at;
+  stands = n.stands;
+  within = n.within;
+  alike = record {
+    on = λ j low high. elim (cases_lt j k) [
+      | inl before ↦ n.alike.on j low before
+      | inr there ↦ let same : k ≡ j = omega (arith, there, high) in subst (λ (i : ℕ). IsUntouched table i o.place) same here
+    ];
+    back = λ j low high. n.alike.back j (omega (arith, low)) high;
+  };
+}
+
+-- before it
+pub near_less : (table : Table) (k : ℕ) (o : Shown) → IsUntouched table k o.place → StandsNear table (suc k) o → StandsNear table k o
+near_less table k o here n = record {
+  at = n.at;
+  stands = n.stands;
+  within = n.within;
+  alike = record {
+    on = λ j low high. n.alike.on j low (omega (arith, high));
+    back = λ j low high. elim (cases_lt k j) [
+      | inl past ↦ n.alike.back j (omega (arith, past)) high
+      | inr there ↦ let same : k ≡ j = omega (arith, there, low) in subst (λ (i : ℕ). IsUntouched table i o.place) same here
+    ];
+  };
+}
+
+-- at an earlier position where it doesn't stand above that
+pub near_down : (table : Table) (k to : ℕ) (o : Shown) → to ≤ k → (n : StandsNear table k o) → n.at ≤ to → StandsNear table to o
+near_down table k to o le n below = record {
+  at = n.at;
+  stands = n.stands;
+  within = n.within;
+  alike = record {
+    on = λ j low high. n.alike.on j low (omega (arith, high, le));
+    back = λ j low high. absurd (omega (arith, low, high, below));
+  };
+}
+
+-- and where it goes back to it
+pub near_back : (table : Table) (k to : ℕ) (o p : Shown) → to ≤ k → (n : StandsNear table k o) → to ≤ n.at → p ≡ gone_back_to to o → StandsNear table to p
+near_back table k to o p le n above gone = near_at table to p (omega (arith, above, n.within))
+    (stands_less false table n.at to o p above (λ t. absurd (cc)) n.stands gone)
+
+-- what it shows
+pub near_shows : (table : Table) (k : ℕ) (o : Shown) → StandsNear table k o → ShowsAt table k o
+near_shows table k o n =
+    shows_there false table n.at o n.stands
+    ∙ last_drawn table o.place n.at
+    ∙ over_place_same o.place (λ x y. pixel_at table n.at x y) (λ x y. pixel_at table k x y)
+    (λ x y held. pixel_alike table o.place x y n.at k held n.alike)
+    ∙ sym (last_drawn table o.place k)
+
+pub all_near_show : (table : Table) (k : ℕ) (owners : List Shown) → All (StandsNear table k) owners → All (ShowsAt table k) owners
+all_near_show table k owners near n d below = near_shows table k (get_or owners n d) (near n d below)
+
+within_of : (box : Bounds) (x y : ℕ) → IsTrue (is_within box x y) → ((box.left ≤ x) × (x < box.right)) × ((box.top ≤ y) × (y < box.bottom))
+within_of box x y within = grind (arith, nat_tests)
+
+-- ---- the tiles that a box meets, in the order of their numbers: tile n is one of them
+
+module _ (columns from n left right top bottom : ℕ) (some : 0 < columns) (across : (left ≤ n % columns) × (n % columns < right))
+    (down : (top ≤ n / columns) × (n / columns < bottom)) where
+  here : n / columns * columns + n % columns ≡ n
+  here = div-add-mod' n columns
+
+  pub not_above : top * columns ≤ n
+  not_above = let rows : top * columns ≤ n / columns * columns = mul-le top columns (n / columns) columns down.0 (omega arith) in omega (arith, rows, here)
+
+  pub not_below : n < bottom * columns
+  not_below =
+      let rows : n / columns * columns + columns ≤ bottom * columns = row_fits (n / columns) columns bottom columns down.1 (omega arith) in
+      omega (arith, rows, here, mod_below n columns some)
+
+  there : from / columns * columns + from % columns ≡ from
+  there = div-add-mod' from columns
+
+  row_from : from ≤ n → from / columns ≤ n / columns
+  row_from on = le-div (from / columns) n columns some (omega (arith, there, on))
+
+  in_row : from ≤ n → from - from % columns + max (from % columns) left ≤ n
+  in_row on = elim (cases_lt (from / columns) (n / columns)) [
+    | inl above ↦
+        let rows : from / columns * columns + columns ≤ n / columns * columns = row_fits (from / columns) columns (n / columns) columns above (omega arith) in
+        omega (arith, rows, here, there, across.0, mod_below from columns some, mod_below n columns some)
+    | inr le ↦
+        let same : n / columns ≡ from / columns = omega (arith, le, row_from on) in
+        let rows : n / columns * columns ≡ from / columns * columns = ap (λ (k : ℕ). k * columns) same in
+        omega (arith, rows, here, there, on, across.0)
+  ]
+
+  -- where those of its row are passed
+  past_row : from ≤ n → right ≤ max (from % columns) left → from - from % columns + columns + left ≤ n
+  past_row on passed = elim (cases_lt (from / columns) (n / columns)) [
+    | inl above ↦
+        let rows : from / columns * columns + columns ≤ n / columns * columns = row_fits (from / columns) columns (n / columns) columns above (omega arith) in
+        omega (arith, rows, here, there, across.0)
+    | inr le ↦
+        let same : n / columns ≡ from / columns = omega (arith, le, row_from on) in
+        let rows : n / columns * columns ≡ from / columns * columns = ap (λ (k : ℕ). k * columns) same in
+        absurd (omega (arith, rows, here, there, on, across.0, across.1, passed))
+  ]
+
+  -- so the first of them from there on isn't past it
+  pub found_low : (column found : ℕ) → from ≤ n → column ≡ max (from % columns) left
+      → ((column < right) × (found ≡ from - from % columns + column)) ⊎ ((right ≤ column) × (found ≡ from - from % columns + columns + left)) → found ≤ n
+  found_low column found on at (inl here) = omega (arith, at, here.1, in_row on)
+  found_low column found on at (inr next) = omega (arith, next.1, past_row on (omega (arith, at, next.0)))
+
+-- a pixel of a tile that a box holds: by columns and rows of tiles
+pub met_by : (size : TargetSize) (box : Bounds) (n x y : ℕ) → Holds (place_of size n) x y → IsTrue (is_within box x y)
+    → ((box.left / 32 ≤ n % columns_of size) × (n % columns_of size < (box.right + 31) / 32))
+    × ((box.top / 32 ≤ n / columns_of size) × (n / columns_of size < (box.bottom + 31) / 32))
+met_by size box n x y held within =
+    let in_box = within_of box x y within in (
+      (omega (arith, held.from_left, held.to_right, in_box.0.0), omega (arith, held.from_left, held.to_right, in_box.0.1)),
+      (omega (arith, held.from_top, held.to_bottom, in_box.1.0), omega (arith, held.from_top, held.to_bottom, in_box.1.1)),
+    )
+
+-- a tile of the target is a place
+pub tile_placed : (table : Table) (n : ℕ) → IsTable table → n < tile_count (size_of table) → IsTilePlace (place_of (size_of table) n)
+tile_placed table n valid below =
+    let columns : ℕ = columns_of (size_of table) in
+    let some : 0 < columns = omega (arith, valid.min_width) in
+    let column : n % columns < columns = mod_below n columns some in
+    let row : n / columns < rows_of_tiles (size_of table) = (row-Below n columns columns (rows_of_tiles (size_of table)) below (omega arith)).1 in
+    record {
+      wide = omega (arith, column);
+      at_most_wide = omega arith;
+      high = omega (arith, row);
+      at_most_high = omega arith;
+      right = omega (arith, column, valid.max_width);
+      bottom = omega (arith, row, valid.max_height);
+    }
+
+-- ---- one owner that is taken
+pub brought_on : (table : Table) (to : ℕ) (o p : Shown) (n : StandsNear table to o) → n.at ≤ to → p ≡ gone_on_to table to o → Stands false table to p
+brought_on table to o p n on gone = record {
+  history = cc (gone, n.stands.history, extend_to_on table o.place n.at to (fresh_history o.place) (omega arith) on);
+  inside = subst (λ (q : Place). IsInside q table) (sym (ap (λ (s : Shown). s.place) gone)) n.stands.inside;
+}
+
+pub brought_back : (table : Table) (to : ℕ) (o p : Shown) (n : StandsNear table to o) → to ≤ n.at → p ≡ gone_back_to to o → Stands false table to p
+brought_back table to o p n back gone = stands_less false table n.at to o p back (λ t. absurd (cc)) n.stands gone
+
+pub stands_forward : (table : Table) (k : ℕ) (o p : Shown) → Stands false table k o → p ≡ gone_forward table o → Stands false table (suc k) p
+stands_forward table k o p stands gone = record {
+  history = cc (gone, stands.history, drawn_more table o.place k);
+  inside = subst (λ (q : Place). IsInside q table) (sym (ap (λ (s : Shown). s.place) gone)) stands.inside;
+}
+
+-- ---- an event of this number, whose box is known
+
+module _ (table : Table) (number : ℕ) (first : 1 ≤ number) (last : number ≤ length table.events) where
+  is : number ≡ suc (number - 1)
+  is = omega (arith, first)
+
+  -- past it and before it where it writes nothing on the tile
+  pub over_missed : (o : Shown) → IsUntouched table (number - 1) o.place → StandsNear table (number - 1) o → StandsNear table number o
+  over_missed o here n = subst (λ (k : ℕ). StandsNear table k o) (sym is) (near_more table (number - 1) o here n)
+
+  pub before_missed : (o : Shown) → IsUntouched table (number - 1) o.place → StandsNear table number o → StandsNear table (number - 1) o
+  before_missed o here n = near_less table (number - 1) o here (subst (λ (k : ℕ). StandsNear table k o) is n)
+
+  -- the owner that goes through it
+  pub over_drawn : (o p : Shown) → Stands false table (number - 1) o → p ≡ gone_forward table o → StandsNear table number p
+  over_drawn o p stands gone =
+      near_at table number p last (subst (λ (k : ℕ). Stands false table k p) (sym is) (stands_forward table (number - 1) o p stands gone))
+
+  -- the owner that refuses it
+  pub over_refused : (o p : Shown) → Stands false table (number - 1) o → p ≡ refused o → StandsNear table (number - 1) p
+  over_refused o p stands gone = near_at table (number - 1) p (omega (arith, last)) (record {
+    history = cc (gone, stands.history);
+    inside = subst (λ (q : Place). IsInside q table) (sym (ap (λ (s : Shown). s.place) gone)) stands.inside;
+  })
+
+  module _ (box : Bounds) (reach : option_map (reach_of table.width table.height) (event_at table number) ≡ Some box) (valid : IsTable table)
+      (owners : List Shown) (places : places_of owners ≡ first_places (size_of table) (tile_count (size_of table))) (n : ℕ) (d : Shown)
+      (within : n < length owners) (misses : Misses box (place_of (size_of table) n)) where
+    at_place : (get_or owners n d).place ≡ place_of (size_of table) n
+    at_place = place_at (size_of table) owners places n d (omega (arith, within, count_placed (size_of table) owners places))
+
+    pub tile_missed : IsInside (get_or owners n d).place table → IsUntouched table (number - 1) (get_or owners n d).place
+    tile_missed inside =
+        untouched_missed table (get_or owners n d).place box (subst (Misses box) (sym at_place) misses)
+        (subst IsTilePlace (sym at_place) (tile_placed table n valid (omega (arith, within, count_placed (size_of table) owners places)))) inside (number - 1)
+        (subst (λ (k : ℕ). option_map (reach_of table.width table.height) (event_at table k) ≡ Some box) is reach)
+
+    pub passed_over : StandsNear table (number - 1) (get_or owners n d) → StandsNear table number (get_or owners n d)
+    passed_over near = over_missed (get_or owners n d) (tile_missed near.stands.inside) near
+
+    pub passed_back : StandsNear table number (get_or owners n d) → StandsNear table (number - 1) (get_or owners n d)
+    passed_back near = before_missed (get_or owners n d) (tile_missed near.stands.inside) near
+
+-- there are not many
+pub few_tiles : (table : Table) → IsTable table → tile_count (size_of table) ≤ 262144
+few_tiles table valid =
+    let columns : columns_of (size_of table) ≤ 512 = omega (arith, valid.max_width) in
+    let rows : rows_of_tiles (size_of table) ≤ 512 = omega (arith, valid.max_height) in
+    mul-le (columns_of (size_of table)) (rows_of_tiles (size_of table)) 512 512 columns rows
+
+-- an owner that stays on its tile takes the place of what it was
+pub places_set : (owners : List Shown) (n : ℕ) (d p : Shown) → p.place ≡ (get_or owners n d).place → places_of (set owners n p) ≡ places_of owners
+places_set owners n d p placed = map-set_same (λ (s : Shown). s.place) owners n p d placed
+
+-- ---- some of the owners
+module _ (P Q : Shown → Type 0) (a b : ℕ) (owners : List Shown) (m : ℕ) (o : Shown) (from : a ≤ m) (below : m < b) (within : m < length owners)
+    (done : Q o) (skipped : (n : ℕ) (d : Shown) → a ≤ n → n < m → n < length owners → P (get_or owners n d) → Q (get_or owners n d)) where
+  -- one more is done, and those before it that needn't be
+  pub between_next : Between P Q a b owners → Between P Q (m + 1) b (set owners m o)
+  between_next s = record {
+    ahead = λ n d low high inside.
+        let other : n ≢ m = λ e. absurd (omega (arith, e, low)) in
+        rw (get_or-set_other owners m n o d other) (s.ahead n d (omega (arith, low, from)) high (omega (arith, inside, length-set owners m o)));
+    before = λ n d low inside. at n d low (omega (arith, inside, length-set owners m o)) (cases_lt n m);
+    past = λ n d high inside.
+        let other : n ≢ m = λ e. absurd (omega (arith, e, high, below)) in
+        rw (get_or-set_other owners m n o d other) (s.past n d high (omega (arith, inside, length-set owners m o)));
+  }
+    where
+      at : (n : ℕ) (d : Shown) → n < m + 1 → n < length owners → (n < m) ⊎ (m ≤ n) → Q (get_or (set owners m o) n d)
+      at n d low inside (inr there) = let same : n ≡ m = omega (arith, low, there) in rw (same, get_or-set_same owners m o d within) done
+      at n d low inside (inl before) =
+          let other : n ≢ m = λ e. absurd (omega (arith, e, before)) in
+          rw (get_or-set_other owners m n o d other) (elim (cases_lt n a) [
+            | inl first ↦ s.before n d first inside
+            | inr later ↦ skipped n d later before inside (s.ahead n d later (omega (arith, before, below)) inside)
+          ])
+
+-- where this one can't be done those before it are to be undone
+pub between_turned : (P Q : Shown → Type 0) (a b : ℕ) (owners : List Shown) (m : ℕ) (o : Shown) → a ≤ m → m < length owners → length owners ≤ b → P o
+    → ((n : ℕ) (d : Shown) → a ≤ n → n < m → n < length owners → P (get_or owners n d) → Q (get_or owners n d)) → Between P Q a b owners
+    → Between Q P 0 m (set owners m o)
+between_turned P Q a b owners m o from within all refused skipped s = record {
+  ahead = λ n d low high inside.
+      let other : n ≢ m = λ e. absurd (omega (arith, e, high)) in
+      let long = length-set owners m o in
+      rw (get_or-set_other owners m n o d other) (elim (cases_lt n a) [
+        | inl first ↦ s.before n d first (omega (arith, inside, long))
+        | inr later ↦ skipped n d later high (omega (arith, inside, long)) (s.ahead n d later (omega (arith, high, within, all)) (omega (arith, inside, long)))
+      ]);
+  before = λ n d low inside. absurd (omega (arith, low));
+  past = λ n d high inside. at n d high (omega (arith, inside, length-set owners m o)) (cases_lt m n);
+}
+  where
+    at : (n : ℕ) (d : Shown) → m ≤ n → n < length owners → (m < n) ⊎ (n ≤ m) → P (get_or (set owners m o) n d)
+    at n d high inside (inr there) = let same : n ≡ m = omega (arith, high, there) in rw (same, get_or-set_same owners m o d within) refused
+    at n d high inside (inl after) =
+        let other : n ≢ m = λ e. absurd (omega (arith, e, after)) in
+        rw (get_or-set_other owners m n o d other) (s.ahead n d (omega (arith, from, high)) (omega (arith, inside, all)) inside)
+
+-- all are done once none is left
+pub between_end : (P Q : Shown → Type 0) (a b : ℕ) (owners : List Shown) → Between P Q a b owners
+    → ((n : ℕ) (d : Shown) → a ≤ n → n < b → n < length owners → P (get_or owners n d) → Q (get_or owners n d)) → All Q owners
+between_end P Q a b owners s skipped n d within = elim (cases_lt n a) [
+  | inl before ↦ s.before n d before within
+  | inr from ↦ elim (cases_lt n b) [
+    | inl below ↦ skipped n d from below within (s.ahead n d from below within)
+    | inr past ↦ s.past n d past within
+  ]
+]
+
+-- ---- all owners
+
+pub near_held : (table : Table) (size : TargetSize) (owners : List Shown) (k : ℕ) → HoldsAll false table size owners → opening_position owners ≡ k
+    → HoldsNear table size k owners
+near_held table size owners k held at = record {
+  valid = held.valid;
+  sized = held.sized;
+  places = held.places;
+  stand = subst (λ (j : ℕ). All (StandsNear table j) owners) at (λ n d below. near_at table (opening_position owners) (get_or owners n d) held.reached
+      (held.stand n d below));
+  reached = omega (arith, held.reached, at);
+}
+
+-- owners that were lent, and given back at a position
+pub near_back_at : (table : Table) (size : TargetSize) (j k : ℕ) (old lent new : List Shown) (n : ℕ) → HoldsNear table size j old → lent ≡ old → n ≡ length old
+    → IsLeft (StandsNear table k) lent new → k ≤ length table.events → HoldsNear table size k (take n (new ++ drop (length new) old))
+near_back_at table size j k old lent new n held is all left within =
+    subst (HoldsNear table size k) (sym (given_whole size old lent new n is all held.places left.places)) (record {
+      valid = held.valid;
+      sized = held.sized;
+      places = places_given size old lent new n is all held.places left.places;
+      stand = left.each;
+      reached = within;
+    })

@@ -1,0 +1,28 @@
+use Rattle.std.proofs.Common.{◌≡◌, ◌≤◌, ap, arith, length, subst}
+use Rattle.fd_tile.specs.Grid.{TargetSize, tile_count}
+use Rattle.fd_frame.specs.State.{State}
+use Rattle.fd_session.specs.Held.{places_of, first_places}
+use Rattle.fd_session.proofs.Nearby.{near_back_at}
+use Rattle.fd_session.proofs.session.Session.walk.Goals as goal
+
+pub walk_on-at-requires-clause-places : goal.walk_on-at-requires-clause-places
+walk_on-at-requires-clause-places c =
+    let lent = c.deref_mut.result.now in
+    subst (λ (s : TargetSize). places_of lent ≡ first_places s (tile_count s)) c.self.invariant.0.sized (rw c.deref_mut.ensures.value c.self.invariant.0.places)
+
+pub walk_on-at-requires-clause-near : goal.walk_on-at-requires-clause-near
+walk_on-at-requires-clause-near c = rw c.deref_mut.ensures.value c.self.invariant.0.stand
+
+pub invariant_of-self : goal.invariant_of-self
+invariant_of-self c =
+    let held = c.self.invariant.0 in
+    let within : c.walk_on-at.result ≤ length c.self.inside.table.events = omega (
+      arith,
+      c.requires.within,
+      c.walk_on-at.ensures.most,
+      ap (λ (s : State). length s.table.events) c.self.view_is,
+    ) in (
+      near_back_at _ _ _ _ _ _ _ _ held c.deref_mut.ensures.value c.self.inside.owners.ok.0 c.walk_on-at.ensures.left within,
+      c.self.invariant.1,
+      c.self.invariant.2,
+    )
