@@ -15,6 +15,7 @@ import re
 import subprocess
 import tempfile
 from dataclasses import dataclass
+from functools import partial
 
 import folders
 
@@ -85,10 +86,28 @@ def clear_of_what_was_drawn(side):
     return Scene(scenes.frame(side, side, events), "step\n", "pixel", side * side, "goto 2\n")
 
 
-def step_over_a_marker(side):
-    return Scene(scenes.markers(side, side, 9), "step\n", "step", 1, "goto 4\n")
+def small_draw():
+    """Eight pixels in the first tile, in two triangles."""
+    corners = [(1, 1), (5, 1), (1, 3), (5, 1), (5, 3), (1, 3)]
+    return captures.draw([captures.vertex(x * captures.PIXEL, y * captures.PIXEL, [9, 9, 9, 9]) for x, y in corners])
 
 
+def over_one_event(command, event, side):
+    """A step, or a step back, from between nine events that are alike."""
+    return Scene(scenes.frame(side, side, [event] * 9), f"{command}\n", command, 1, "goto 4\n")
+
+
+SMALL_EVENTS = {
+    "marker": scenes.MARKER,
+    "state": captures.compact(captures.factor(1, 2, 3, 4)),
+    "small_draw": captures.compact(small_draw()),
+}
+STEPS = {
+    f"{command}_{name}_{side}": partial(over_one_event, command, event, side)
+    for command in ("step", "back")
+    for name, event in SMALL_EVENTS.items()
+    for side in (64, 2048, 16384)
+}
 CULLED = [captures.raster("front")]
 SHUT = [captures.raster("none", scissor=True), captures.scissor(9, 9, 9, 9)]
 SCENES = {
@@ -106,8 +125,7 @@ SCENES = {
     "largest_target": lambda: to_the_end(scenes.small(16384, 16384, 16384, True).capture(), "draw", 16384),
     "culled": lambda: to_the_end(undrawn(2048, 1000, CULLED), "draw", 1000),
     "empty_scissor": lambda: to_the_end(undrawn(2048, 1000, SHUT), "draw", 1000),
-    "marker_on_64": lambda: step_over_a_marker(64),
-    "marker_on_2048": lambda: step_over_a_marker(2048),
+    **STEPS,
 }
 
 

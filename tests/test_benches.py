@@ -136,6 +136,14 @@ class CountedScenes(unittest.TestCase):
         self.assertEqual(len(set(map(tuple, row))), 8)
         self.assertEqual((scene.before, scene.commands), ("goto 2\n", "step\n"))
 
+    def test_a_small_draw_has_eight_pixels_and_a_step_goes_over_it(self):
+        scene = count_instructions.SCENES["back_small_draw_64"]()
+        self.assertIsNone(fault(scene.capture))
+        frame = Frame(json.loads(scene.capture))
+        drawn = [frame.replay(5, x, y)[1] for x in range(8) for y in range(8)]
+        self.assertEqual([len(entries) for entries in drawn if entries], [5] * 8)
+        self.assertEqual((len(frame.events), scene.before, scene.commands), (9, "goto 4\n", "back\n"))
+
     def test_a_scene_ends_at_its_last_event(self):
         scene = count_instructions.SCENES["small"]()
         self.assertEqual(scene.commands, f"goto {len(json.loads(scene.capture)['events'])}\n")

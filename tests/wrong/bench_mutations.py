@@ -28,6 +28,8 @@ MUTATIONS = [   # name, file, text, what stands there instead, test
     ("counted: what isn't counted", TURNS, "if ran.returncode or not found:", "if ran.returncode:", "Counting.test_where_it_is_not_there"),
     ("counted: half a square", COUNT, "(0, side), (side, 0), (side, side), (0, side)]", "(0, side)]",
      "CountedScenes.test_squares_cover_each_pixel_once_and_look_alike"),
+    ("counted: a small draw without its second triangle", COUNT, "(1, 3), (5, 1), (5, 3), (1, 3)]", "(1, 3)]",
+     "CountedScenes.test_a_small_draw_has_eight_pixels_and_a_step_goes_over_it"),
     ("counted: a small picture over all", COUNT, '"picture": picture(8, [', '"picture": picture(side, [', "CountedScenes.test_a_small_picture_lies_in_the_first_tile"),
     ("table: a row stands where another one stood", TABLE, "if row in measured else old", "if row in measured else []", "Tables.test_what_is_measured_first_goes_to_its_place"),
     ("table: half a row is written", TABLE, "if all(name in figures for name in row.names())]", "if any(name in figures for name in row.names())]",
