@@ -1,14 +1,16 @@
 -- Owners that stand at another position than the session, at which their tile is the same.
-use Rattle.std.proofs.Common.{◌≡◌, ℕ, suc, ◌+◌, ◌-◌, ◌*◌, ◌/◌, ◌%◌, ◌<◌, ◌≤◌, max, false, IsTrue}
+use Rattle.std.proofs.Common.{◌≡◌, ℕ, suc, ◌+◌, ◌-◌, ◌*◌, ◌/◌, ◌%◌, ◌<◌, ◌≤◌, min, max, Bool, ◌||◌, true, false, IsTrue}
 use Rattle.std.proofs.Common.{List, All, length, get_or, set, take, drop, ◌++◌, Some, option_map}
-use Rattle.std.proofs.Common.{◌≢◌, ◌⊎◌, sym, ap, ◌∙◌, subst, arith, inl, inr}
+use Rattle.std.proofs.Common.{◌≢◌, ◌⊎◌, refl, sym, ap, ◌∙◌, subst, arith, inl, inr}
 use Rattle.std.proofs.lemmas.Bool.Decides.{nat_tests}
 use Rattle.std.proofs.lemmas.Bool.{cases_lt}
 use Rattle.std.proofs.lemmas.Nat.{div-add-mod', le-div, mul-le, row_fits, mod_below, row-Below}
 use Rattle.std.proofs.Math.Seq.{map-set_same}
-use Rattle.std.proofs.lemmas.List.{get_or-set_same, get_or-set_other, length-set}
+use Rattle.std.proofs.lemmas.List.{get_or-set_same, get_or-set_other, length-set, get_or-take, get_or-drop, length-take, length-take-le, length-drop}
+use Rattle.std.proofs.lemmas.List.{map-append, take-append-drop}
+use Rattle.std.proofs.lemmas.List.Elements.{All-append}
 use Rattle.fd_cover.specs.declared.bounds.Bounds.{Bounds}
-use Rattle.fd_cover.specs.Bounds.{is_within}
+use Rattle.fd_cover.specs.Bounds.{is_within, HoldsBoth}
 use Rattle.fd_tile.specs.declared.place.Place.{Place}
 use Rattle.fd_tile.specs.Place.{Holds, IsTilePlace}
 use Rattle.fd_tile.proofs.Pixels.{over_place_same}
@@ -17,9 +19,9 @@ use Rattle.fd_events.specs.Image.{pixel_at}
 use Rattle.fd_events.specs.Reach.{reach_of}
 use Rattle.fd_events.specs.Table.{Table, IsTable, event_at}
 use Rattle.fd_owner.specs.History.{position, fresh_history}
-use Rattle.fd_owner.specs.Shown.{Shown, IsInside, gone_forward, gone_on_to, gone_back_to, refused}
-use Rattle.fd_owner.specs.Untouched.{IsUntouched, Misses}
-use Rattle.fd_owner.proofs.Drawn.{last_drawn, drawn_more}
+use Rattle.fd_owner.specs.Shown.{Shown, IsInside, gone_on_to, gone_back_to}
+use Rattle.fd_owner.specs.Untouched.{IsUntouched, AreUntouched, Misses}
+use Rattle.fd_owner.proofs.Drawn.{last_drawn}
 use Rattle.fd_owner.proofs.Histories.{extend_to_on}
 use Rattle.fd_owner.proofs.PassedOver.{untouched_missed}
 use Rattle.fd_owner.proofs.Undemanded.{pixel_alike}
@@ -42,6 +44,29 @@ near_at table k o within stands = record {
 
 pub position_near : (table : Table) (k : ℕ) (o : Shown) (n : StandsNear table k o) → position o.history ≡ n.at
 position_near table k o n = position_stands false table n.at o n.stands
+
+-- at a later position, past events that write nothing on its tile
+pub near_further : (table : Table) (from to k : ℕ) (o : Shown) → from ≤ k → k ≤ to → AreUntouched table from to o.place → StandsNear table from o
+    → StandsNear table k o
+near_further table from to k o on most untouched n = record {
+  at = n.at;
+  stands = n.stands;
+  within = n.within;
+  alike = record {
+    on = λ j low high. elim (cases_lt j from) [
+      | inl before ↦ n.alike.on j low before
+      | inr past ↦ untouched j past (omega (arith, high, most))
+    ];
+    back = λ j low high. n.alike.back j (omega (arith, low, on)) high;
+  };
+}
+
+-- the same of the owner of tile n
+pub near_beside : (table : Table) (from to k n : ℕ) (o : Shown) → o.place ≡ place_of (size_of table) n → from ≤ k → k ≤ to
+    → (IsInside (place_of (size_of table) n) table → AreUntouched table from to (place_of (size_of table) n)) → StandsNear table from o → StandsNear table k o
+near_beside table from to k n o placed on most untouched near =
+    near_further table from to k o on most
+    (subst (λ (p : Place). AreUntouched table from to p) (sym placed) (untouched (subst (λ (p : Place). IsInside p table) placed near.stands.inside))) near
 
 -- past one event more that writes nothing on its tile
 pub near_more : (table : Table) (k : ℕ) (o : Shown) → IsUntouched table k o.place → StandsNear table k o → StandsNear table (suc k) o
@@ -102,6 +127,26 @@ near_shows table k o n =
 pub all_near_show : (table : Table) (k : ℕ) (owners : List Shown) → All (StandsNear table k) owners → All (ShowsAt table k) owners
 all_near_show table k owners near n d below = near_shows table k (get_or owners n d) (near n d below)
 
+pub untrue : (b : Bool) → (IsTrue b → ⊥) → b ≡ false
+untrue false never = refl
+untrue true never = absurd (never refl)
+
+either : (a b : Bool) → b ≡ true → (a || b) ≡ true
+either true b is = refl
+either false b is = is
+
+-- what a box misses, those that it holds miss
+module _ (all a b : Bounds) (both : HoldsBoth all a b) (place : Place) (misses : Misses all place) where
+  pub missed_first : Misses a place
+  missed_first x y held = untrue (is_within a x y) (λ within.
+      let here : is_within all x y ≡ true = both x y (ap (λ (t : Bool). t || is_within b x y) within) in
+      absurd (cc (here, misses x y held)))
+
+  pub missed_second : Misses b place
+  missed_second x y held = untrue (is_within b x y) (λ within.
+      let here : is_within all x y ≡ true = both x y (either (is_within a x y) (is_within b x y) within) in
+      absurd (cc (here, misses x y held)))
+
 within_of : (box : Bounds) (x y : ℕ) → IsTrue (is_within box x y) → ((box.left ≤ x) × (x < box.right)) × ((box.top ≤ y) × (y < box.bottom))
 within_of box x y within = grind (arith, nat_tests)
 
@@ -119,6 +164,12 @@ module _ (columns from n left right top bottom : ℕ) (some : 0 < columns) (acro
   not_below =
       let rows : n / columns * columns + columns ≤ bottom * columns = row_fits (n / columns) columns bottom columns down.1 (omega arith) in
       omega (arith, rows, here, mod_below n columns some)
+
+  -- nor past the last one
+  pub not_past : n < (bottom - 1) * columns + right
+  not_past =
+      let rows : n / columns * columns ≤ (bottom - 1) * columns = mul-le (n / columns) columns (bottom - 1) columns (omega (arith, down.1)) (omega arith) in
+      omega (arith, rows, here, across.1)
 
   there : from / columns * columns + from % columns ≡ from
   there = div-add-mod' from columns
@@ -191,17 +242,17 @@ brought_on table to o p n on gone = record {
 pub brought_back : (table : Table) (to : ℕ) (o p : Shown) (n : StandsNear table to o) → to ≤ n.at → p ≡ gone_back_to to o → Stands false table to p
 brought_back table to o p n back gone = stands_less false table n.at to o p back (λ t. absurd (cc)) n.stands gone
 
-pub stands_forward : (table : Table) (k : ℕ) (o p : Shown) → Stands false table k o → p ≡ gone_forward table o → Stands false table (suc k) p
-stands_forward table k o p stands gone = record {
-  history = cc (gone, stands.history, drawn_more table o.place k);
-  inside = subst (λ (q : Place). IsInside q table) (sym (ap (λ (s : Shown). s.place) gone)) stands.inside;
-}
-
 -- ---- an event of this number, whose box is known
 
 module _ (table : Table) (number : ℕ) (first : 1 ≤ number) (last : number ≤ length table.events) where
   is : number ≡ suc (number - 1)
   is = omega (arith, first)
+
+  pub missed_place : (box : Bounds) → option_map (reach_of table.width table.height) (event_at table number) ≡ Some box → (place : Place) → IsTilePlace place
+      → IsInside place table → Misses box place → IsUntouched table (number - 1) place
+  missed_place box reach place tile inside misses =
+      untouched_missed table place box misses tile inside (number - 1)
+      (subst (λ (k : ℕ). option_map (reach_of table.width table.height) (event_at table k) ≡ Some box) is reach)
 
   -- past it and before it where it writes nothing on the tile
   pub over_missed : (o : Shown) → IsUntouched table (number - 1) o.place → StandsNear table (number - 1) o → StandsNear table number o
@@ -209,18 +260,6 @@ module _ (table : Table) (number : ℕ) (first : 1 ≤ number) (last : number �
 
   pub before_missed : (o : Shown) → IsUntouched table (number - 1) o.place → StandsNear table number o → StandsNear table (number - 1) o
   before_missed o here n = near_less table (number - 1) o here (subst (λ (k : ℕ). StandsNear table k o) is n)
-
-  -- the owner that goes through it
-  pub over_drawn : (o p : Shown) → Stands false table (number - 1) o → p ≡ gone_forward table o → StandsNear table number p
-  over_drawn o p stands gone =
-      near_at table number p last (subst (λ (k : ℕ). Stands false table k p) (sym is) (stands_forward table (number - 1) o p stands gone))
-
-  -- the owner that refuses it
-  pub over_refused : (o p : Shown) → Stands false table (number - 1) o → p ≡ refused o → StandsNear table (number - 1) p
-  over_refused o p stands gone = near_at table (number - 1) p (omega (arith, last)) (record {
-    history = cc (gone, stands.history);
-    inside = subst (λ (q : Place). IsInside q table) (sym (ap (λ (s : Shown). s.place) gone)) stands.inside;
-  })
 
   module _ (box : Bounds) (reach : option_map (reach_of table.width table.height) (event_at table number) ≡ Some box) (valid : IsTable table)
       (owners : List Shown) (places : places_of owners ≡ first_places (size_of table) (tile_count (size_of table))) (n : ℕ) (d : Shown)
@@ -230,9 +269,9 @@ module _ (table : Table) (number : ℕ) (first : 1 ≤ number) (last : number �
 
     pub tile_missed : IsInside (get_or owners n d).place table → IsUntouched table (number - 1) (get_or owners n d).place
     tile_missed inside =
-        untouched_missed table (get_or owners n d).place box (subst (Misses box) (sym at_place) misses)
-        (subst IsTilePlace (sym at_place) (tile_placed table n valid (omega (arith, within, count_placed (size_of table) owners places)))) inside (number - 1)
-        (subst (λ (k : ℕ). option_map (reach_of table.width table.height) (event_at table k) ≡ Some box) is reach)
+        missed_place box reach (get_or owners n d).place
+        (subst IsTilePlace (sym at_place) (tile_placed table n valid (omega (arith, within, count_placed (size_of table) owners places)))) inside
+        (subst (Misses box) (sym at_place) misses)
 
     pub passed_over : StandsNear table (number - 1) (get_or owners n d) → StandsNear table number (get_or owners n d)
     passed_over near = over_missed (get_or owners n d) (tile_missed near.stands.inside) near
@@ -275,28 +314,6 @@ module _ (P Q : Shown → Type 0) (a b : ℕ) (owners : List Shown) (m : ℕ) (o
             | inr later ↦ skipped n d later before inside (s.ahead n d later (omega (arith, before, below)) inside)
           ])
 
--- where this one can't be done those before it are to be undone
-pub between_turned : (P Q : Shown → Type 0) (a b : ℕ) (owners : List Shown) (m : ℕ) (o : Shown) → a ≤ m → m < length owners → length owners ≤ b → P o
-    → ((n : ℕ) (d : Shown) → a ≤ n → n < m → n < length owners → P (get_or owners n d) → Q (get_or owners n d)) → Between P Q a b owners
-    → Between Q P 0 m (set owners m o)
-between_turned P Q a b owners m o from within all refused skipped s = record {
-  ahead = λ n d low high inside.
-      let other : n ≢ m = λ e. absurd (omega (arith, e, high)) in
-      let long = length-set owners m o in
-      rw (get_or-set_other owners m n o d other) (elim (cases_lt n a) [
-        | inl first ↦ s.before n d first (omega (arith, inside, long))
-        | inr later ↦ skipped n d later high (omega (arith, inside, long)) (s.ahead n d later (omega (arith, high, within, all)) (omega (arith, inside, long)))
-      ]);
-  before = λ n d low inside. absurd (omega (arith, low));
-  past = λ n d high inside. at n d high (omega (arith, inside, length-set owners m o)) (cases_lt m n);
-}
-  where
-    at : (n : ℕ) (d : Shown) → m ≤ n → n < length owners → (m < n) ⊎ (n ≤ m) → P (get_or (set owners m o) n d)
-    at n d high inside (inr there) = let same : n ≡ m = omega (arith, high, there) in rw (same, get_or-set_same owners m o d within) refused
-    at n d high inside (inl after) =
-        let other : n ≢ m = λ e. absurd (omega (arith, e, after)) in
-        rw (get_or-set_other owners m n o d other) (s.ahead n d (omega (arith, from, high)) (omega (arith, inside, all)) inside)
-
 -- all are done once none is left
 pub between_end : (P Q : Shown → Type 0) (a b : ℕ) (owners : List Shown) → Between P Q a b owners
     → ((n : ℕ) (d : Shown) → a ≤ n → n < b → n < length owners → P (get_or owners n d) → Q (get_or owners n d)) → All Q owners
@@ -307,6 +324,49 @@ between_end P Q a b owners s skipped n d within = elim (cases_lt n a) [
     | inr past ↦ s.past n d past within
   ]
 ]
+
+-- ---- those of some numbers, one after the other
+
+module _ (first count : ℕ) (owners : List Shown) where
+  pub part_of : (P : Shown → Type 0) → All P owners → All P (take count (drop first owners))
+  part_of P all n d below =
+      let some : n < min count (length owners - first) = omega (arith, below, length-take count (drop first owners), length-drop first owners) in
+      rw (get_or-take count (drop first owners) n d (omega (arith, some)), get_or-drop first owners n d) (all (first + n) d (omega (arith, some)))
+
+  -- they are left so, and the others stay
+  pub parts_left : (Q : Shown → Type 0) (new : List Shown) → first + count ≤ length owners → IsLeft Q (take count (drop first owners)) new
+      → ((n : ℕ) (d : Shown) → n < length owners → (n < first) ⊎ (first + count ≤ n) → Q (get_or owners n d))
+      → IsLeft Q owners (take first owners ++ (new ++ drop count (drop first owners)))
+  parts_left Q new within left others = record {
+    places =
+        map-append place (take first owners) (new ++ drop count (drop first owners))
+        ∙ ap (λ (l : List Place). places_of (take first owners) ++ l)
+        (map-append place new (drop count (drop first owners))
+        ∙ ap (λ (l : List Place). l ++ places_of (drop count (drop first owners))) left.places
+        ∙ sym (map-append place (take count (drop first owners)) (drop count (drop first owners)))
+        ∙ ap places_of (take-append-drop count (drop first owners)))
+        ∙ sym (map-append place (take first owners) (drop first owners))
+        ∙ ap places_of (take-append-drop first owners);
+    each = All-append Q (take first owners) (new ++ drop count (drop first owners)) before (All-append Q new (drop count (drop first owners)) left.each past);
+  }
+    where
+      place : Shown → Place
+      place s = s.place
+
+      before : All Q (take first owners)
+      before n d below =
+          let some : n < first = omega (arith, below, length-take-le first owners (omega (arith, within))) in
+          rw (get_or-take first owners n d some) (others n d (omega (arith, some, within)) (inl some))
+
+      past : All Q (drop count (drop first owners))
+      past n d below =
+          let some : first + (count + n) < length owners = omega (
+            arith,
+            below,
+            length-drop count (drop first owners),
+            length-drop first owners,
+          ) in
+          rw (get_or-drop count (drop first owners) n d, get_or-drop first owners (count + n) d) (others (first + (count + n)) d some (inr (omega arith)))
 
 -- ---- all owners
 

@@ -38,6 +38,8 @@ pub(crate) type Firsts = ArrayVec<usize, MOST_FIRSTS>;
 #[derive(Clone, Copy, Debug)]
 pub(crate) struct Area {
     pub tiles: usize,
+    /// How many tiles of the target come before the first that is to be shared out.
+    pub skipped: usize,
     /// The tiles of a row of the whole target.
     pub columns: usize,
     pub bounds: Bounds,
@@ -65,6 +67,7 @@ impl Area {
         let down = tiles_between(bounds.top, bounds.bottom);
         Area {
             tiles: across * down,
+            skipped: 0,
             columns: tiles_between(0, table.width()),
             bounds,
         }
@@ -100,6 +103,16 @@ impl Area {
         } else {
             None
         }
+    }
+
+    /// One past the last tile of the target that the box may meet.
+    pub(crate) fn past_tile(&self) -> usize
+        requires columns { (1 ≤ self.now.columns) × (self.now.columns ≤ 134217728) }
+        ensures missed { (size : TargetSize) (n : ℕ) → self.now.columns ≡ columns_of size → result ≤ n → Misses self.now.bounds (place_of size n) }
+    {
+        let right = self.bounds.right.div_ceil(TILE_SIDE) as usize;
+        let bottom = self.bounds.bottom.div_ceil(TILE_SIDE) as usize;
+        bottom.saturating_sub(1) * self.columns + right
     }
 }
 
@@ -197,27 +210,30 @@ impl<'a> Estimate<'a> {
         }
     }
 
-    /// The tile of the target in whose work there is as much as this before it.
+    /// The tile, of those that are shared out, in whose work there is as much as this before it.
     fn tile_behind(&self, work: usize) -> usize {
         let Area {
             columns,
             bounds,
+            skipped,
             ..
         } = *self.area;
         let across = tiles_between(bounds.left, bounds.right);
-        let past = bounds.bottom.div_ceil(TILE_SIDE);
+        let first = (bounds.top / TILE_SIDE) as usize;
+        let past = bounds.bottom.div_ceil(TILE_SIDE) as usize;
         let mut left = work;
-        for (row, here) in self.rows.iter().take(past as usize).enumerate() {
+        for (row, here) in self.rows.iter().enumerate().take(past).skip(first) {
             if left < *here {
                 let column = left.saturating_mul(across) / *here;
                 return row
                     .saturating_mul(columns)
                     .saturating_add((bounds.left / TILE_SIDE) as usize)
-                    .saturating_add(column);
+                    .saturating_add(column)
+                    .saturating_sub(skipped);
             }
             left -= *here;
         }
-        columns.saturating_mul(past as usize)
+        columns.saturating_mul(past).saturating_sub(skipped)
     }
 
     /// Where so many workers begin, each of whom has then about as much work as any other.

@@ -1,14 +1,26 @@
 //! Moves over events that reach few tiles. The owners of all other tiles stay where they stand, and are neither read nor written.
-ghost use Rattle.std.specs.Prelude.{◌≡◌, ℕ, ◌+◌, ◌-◌, ◌<◌, ◌≤◌, All, OnErr, OnOk, false, length};
+ghost use Rattle.std.specs.Prelude.{◌≡◌, ℕ, ◌-◌, ◌<◌, ◌≤◌, ◌⊎◌, All, MatchResult, false, true, length};
+ghost use Rattle.std.specs.Result.{result_unwrap_or};
+ghost use Rattle.fd_tile.specs.declared.place.Place.{Place};
+ghost use Rattle.fd_tile.specs.Place.{IsTilePlace};
+ghost use Rattle.fd_tile.specs.Grid.{tile_count, place_of};
 ghost use Rattle.fd_events.specs.Table.{Table};
-ghost use Rattle.fd_tile.specs.Grid.{tile_count};
+ghost use Rattle.fd_memory.specs.Wanting.{Wanted};
+ghost use Rattle.fd_owner.specs.Shown.{IsInside};
+ghost use Rattle.fd_owner.specs.Untouched.{AreUntouched, Misses};
 ghost use Rattle.fd_session.specs.Held.{Stands, IsLeft, places_of, first_places, size_of};
 ghost use Rattle.fd_session.specs.Near.{StandsNear, IsBrought, IsTakenBack, Between};
-ghost use Rattle.fd_memory.specs.Wanting.{Wanted};
+ghost use Rattle.fd_session.specs.Moves.{Comes};
 
 use crate::estimate::Area;
+use crate::moves::{Drive, Way, go_forward};
+use fd_cover::Bounds;
+use fd_crew::Gate;
+use fd_device::Progress;
 use fd_events::{Event, EventTable, GROUP_LEN};
-use fd_owner::{Owner, Refused};
+use fd_owner::Owner;
+use std::alloc::AllocError;
+use std::thread::Threads;
 
 /// The most events of such a move.
 const MOST_EVENTS: u32 = 64;
@@ -106,56 +118,6 @@ pub(crate) fn take_back(owners: &mut [Owner], table: &EventTable, from: u32, to:
     }
 }
 
-/// Takes owners through the event of this number, of the tiles that it reaches. Where one refuses, all are as before it.
-pub(crate) fn draw_near(
-    owners: &mut [Owner],
-    table: &EventTable,
-    number: u32,
-) -> Result<(), Refused>
-    requires first { 1 ≤ number }
-    requires last { number ≤ length table.now.events }
-    requires places { places_of owners.old ≡ first_places (size_of table.now) (tile_count (size_of table.now)) }
-    requires near { All (StandsNear table.now (number - 1)) owners.old }
-    ensures drawn { OnOk result (IsLeft (StandsNear table.now number) owners.old owners.new) }
-    ensures refused { OnErr result (IsLeft (StandsNear table.now (number - 1)) owners.old owners.new) }
-    ensures wanted { OnErr result Wanted }
-{
-    let area = Area::round(table, table.reach(number));
-    let mut from = 0;
-    while let Some(n) = area.next_tile(from, owners.len()) {
-        let owner = &mut owners[n];
-        bring(owner, table, number - 1);
-        match owner.forward(table) {
-            Ok(()) => from = n + 1,
-            Err(refused) => {
-                take_event_back(owners, table, number, n);
-                return Err(refused);
-            }
-        }
-    }
-    Ok(())
-}
-
-/// Takes owners forward from one position to another, event by event, or to the one before the first event that one of them refuses. Gives the position
-/// to which all have come.
-pub(crate) fn walk_on(owners: &mut [Owner], table: &EventTable, from: u32, to: u32) -> u32
-    requires order { from ≤ to }
-    requires within { to ≤ length table.now.events }
-    requires places { places_of owners.old ≡ first_places (size_of table.now) (tile_count (size_of table.now)) }
-    requires near { All (StandsNear table.now from) owners.old }
-    ensures on { from ≤ result }
-    ensures most { result ≤ to }
-    ensures left { IsLeft (StandsNear table.now result) owners.old owners.new }
-    ensures wanted { result < to → Wanted }
-{
-    for at in from..to {
-        if draw_near(owners, table, at + 1).is_err() {
-            return at;
-        }
-    }
-    to
-}
-
 /// How often an event makes a tile look at it and at what it draws.
 fn looks(table: &EventTable, number: u32) -> usize
     requires first { 1 ≤ number }
@@ -170,17 +132,89 @@ fn looks(table: &EventTable, number: u32) -> usize
         .saturating_mul(each as usize)
 }
 
-/// Whether no event from one position up to another reaches a tile. What a tile is to draw is the crew's.
-pub(crate) fn reach_no_tile(table: &EventTable, from: u32, to: u32) -> bool
+/// A box round the pixels that the events from one position up to another reach.
+fn reach_between(table: &EventTable, from: u32, to: u32) -> Bounds
     requires order { from ≤ to }
     requires within { to ≤ length table.now.events }
+    ensures { (place : Place) → IsTilePlace place → IsInside place table.now → Misses result place → AreUntouched table.now from to place }
 {
+    let mut bounds = Bounds::empty();
     for at in from..to {
-        if Area::round(table, table.reach(at + 1)).tiles > 0 {
-            return false;
-        }
+        bounds = bounds.join(table.reach(at + 1));
     }
-    true
+    bounds
+}
+
+/// The owners that a move takes, by their numbers from `first` up to `past`, and the area in which they draw.
+#[derive(Clone, Copy)]
+struct Taken {
+    first: usize,
+    past: usize,
+    area: Area,
+}
+
+/// The owners, of so many, whose tiles the events from one position up to another may reach: all, where the events are many.
+fn reached(table: &EventTable, from: u32, to: u32, count: usize) -> Taken
+    requires order { from ≤ to }
+    requires within { to ≤ length table.now.events }
+    ensures order { (result.first ≤ result.past) × (result.past ≤ count) }
+    ensures untouched { (n : ℕ) → n < count → n < tile_count (size_of table.now) → (n < result.first) ⊎ (result.past ≤ n)
+        → IsInside (place_of (size_of table.now) n) table.now → AreUntouched table.now from to (place_of (size_of table.now) n) }
+{
+    if to - from > MOST_EVENTS {
+        let area = Area::of(table);
+        return Taken {
+            first: 0,
+            past: count,
+            area,
+        };
+    }
+    let area = Area::round(table, reach_between(table, from, to));
+    match area.next_tile(0, count) {
+        Some(first) => Taken {
+            first,
+            past: area.past_tile().clamp(first, count),
+            area: Area {
+                skipped: first,
+                ..area
+            },
+        },
+        None => Taken {
+            first: 0,
+            past: 0,
+            area,
+        },
+    }
+}
+
+/// Takes the owners of the tiles that the events of a way reach forward over it, as `go_forward` does. All others stay where they stand.
+pub(crate) fn draw_reached<R: Threads + Sync, G: Gate, T: Progress>(
+    rt: &R,
+    owners: &mut [Owner],
+    table: &EventTable,
+    way: &Way,
+    drive: &Drive<'_, G>,
+    teller: &mut T,
+) -> Result<u32, AllocError>
+    requires order { way.now.from ≤ way.now.to }
+    requires within { way.now.to ≤ length table.now.events }
+    requires places { places_of owners.old ≡ first_places (size_of table.now) (tile_count (size_of table.now)) }
+    requires near { All (StandsNear table.now way.now.from) owners.old }
+    requires whole { drive.now.forgets ≡ false }
+    requires together { drive.now.together ≡ true }
+    requires workers { (1 ≤ drive.now.workers) × (drive.now.workers ≤ 64) }
+    ensures comes { Comes (StandsNear table.now) way.now.from way.now.to (result_unwrap_or result way.now.from) owners.old owners.new }
+    ensures wanted { MatchResult result (λ at. at < way.now.to → Wanted) (λ _. Wanted) }
+    ensures told { T.kept teller.new ≡ T.kept teller.old }
+{
+    let Taken { first, past, area } = reached(table, way.from, way.to, owners.len());
+    if first == past {
+        return Ok(way.to);
+    }
+    let (_, above) = owners.split_at_mut(first);
+    let (lanes, _) = above.split_at_mut(past - first);
+    level(lanes, table, way.from);
+    go_forward(rt, lanes, table, &Way { area, ..*way }, drive, teller)
 }
 
 /// Whether the events from one position up to another are few, and reach few tiles.

@@ -4,7 +4,7 @@ ghost use Rattle.fd_memory.specs.Wanting.{Wanted};
 use crate::answer::{Answer, SessionFault};
 use crate::estimate::Area;
 use crate::moves::{Drive, Pace, Way, go_forward, open};
-use crate::near::{is_short, level, reach_no_tile, take_back, walk_on};
+use crate::near::{draw_reached, level, take_back};
 use crate::redraw::go_again;
 use crate::rows::{owner_of, row_from};
 use fd_blend::Colour;
@@ -54,6 +54,7 @@ impl Session {
     ghost use Rattle.fd_events.specs.Limits.{most_triangles, most_events};
     ghost use Rattle.fd_events.specs.Table.{state_at, flag_at};
     ghost use Rattle.fd_session.specs.Near.{StandsNear};
+    ghost use Rattle.fd_session.specs.declared.moves.Pace.TheVariants.{Whole};
     ghost use Rattle.fd_frame.specs.State.{State, opening, at_position, with_flag_at};
     ghost use Rattle.fd_session.specs.Machine.{Steps, GoesBack, Jumps, RefusesSwitch, Switches, ShowsPixel};
     ghost use Rattle.fd_frame.specs.State.{IsState};
@@ -100,13 +101,24 @@ impl Session {
         }
     }
 
-    /// Goes forward at this pace to a position, or to the one before the first event that is refused, and gives that position.
-    fn forward<R: Threads + Sync, G: Gate, T: Progress>(
+    /// A way forward to a position, by any tiles.
+    fn way(&self, to: u32) -> Way
+        ensures from { result.from ≡ self.now.position }
+        ensures to { result.to ≡ to }
+    {
+        Way {
+            from: self.position,
+            to,
+            area: Area::of(&self.table),
+        }
+    }
+
+    /// Goes forward to a position, or to the one before the first event that is refused, and gives that position. It takes the owners of tiles that the
+    /// events reach, slice by slice.
+    fn forward<R: Threads + Sync, T: Progress>(
         &mut self,
         rt: &R,
         to: u32,
-        pace: Pace,
-        gate: &G,
         teller: &mut T,
     ) -> Result<u32, AllocError>
         requires ahead { self.old.position ≤ to }
@@ -115,44 +127,36 @@ impl Session {
         ensures within { result_unwrap_or result self.old.position ≤ to }
         ensures moved { self.new ≡ at_position self.old (result_unwrap_or result self.old.position) }
         ensures wanted { MatchResult result (λ at. at < to → Wanted) (λ _. Wanted) }
-        ensures passed { Passes (G.opened gate.now) self.old self.new }
         ensures told { T.kept teller.new ≡ T.kept teller.old }
     {
-        let drive = self.drive(pace, gate);
-        let from = self.position;
-        let area = Area::of(&self.table);
-        let way = Way { from, to, area };
-        level(&mut self.owners, &self.table, from);
-        let run = go_forward(rt, &mut self.owners, &self.table, &way, &drive, teller);
-        self.position = run.unwrap_or(from);
+        let drive = self.drive(Pace::Slices, &Free);
+        let way = self.way(to);
+        let run = draw_reached(rt, &mut self.owners, &self.table, &way, &drive, teller);
+        self.position = run.unwrap_or(way.from);
         run
     }
 
-    /// Whether a jump goes forward over few events, none of which reaches a tile.
-    fn walks(&self, to: u32) -> bool
-        ensures { IsTrue result → (self.now.position < to) × (to ≤ length self.now.table.events) }
-    {
-        let from = self.position;
-        if to <= from || to > self.table.len() || !is_short(&self.table, from, to) {
-            return false;
-        }
-        reach_no_tile(&self.table, from, to)
-    }
-
-    /// Goes forward to a position, event by event, taking only the owners of tiles that each reaches.
-    fn walk(&mut self, to: u32) -> Answer
-        requires ahead { self.old.position < to }
+    /// The same with all owners at once, each of which passes the gate before each event.
+    fn forward_gated<R: Threads + Sync, G: Gate>(
+        &mut self,
+        rt: &R,
+        to: u32,
+        gate: &G,
+    ) -> Result<u32, AllocError>
+        requires ahead { self.old.position ≤ to }
         requires within { to ≤ length self.old.table.events }
-        ensures jumps { Jumps self.old to result self.new }
-        ensures wanted { OnWant Wanted result }
+        ensures on { self.old.position ≤ result_unwrap_or result self.old.position }
+        ensures within { result_unwrap_or result self.old.position ≤ to }
+        ensures moved { self.new ≡ at_position self.old (result_unwrap_or result self.old.position) }
+        ensures wanted { MatchResult result (λ at. at < to → Wanted) (λ _. Wanted) }
+        ensures passed { Passes (G.opened gate.now) self.old self.new }
     {
-        let from = self.position;
-        let at = walk_on(&mut self.owners, &self.table, from, to);
-        self.position = at;
-        if at < to {
-            return Answer::Stopped { at };
-        }
-        Answer::Moved { at }
+        let drive = self.drive(Pace::Whole, gate);
+        let way = self.way(to);
+        level(&mut self.owners, &self.table, way.from);
+        let run = go_forward(rt, &mut self.owners, &self.table, &way, &drive, &mut Untold);
+        self.position = run.unwrap_or(way.from);
+        run
     }
 
     /// Goes back to a position.
@@ -174,7 +178,7 @@ impl Session {
         teller: &mut T,
     ) -> Answer
         ensures jumps { Jumps self.old to result self.new }
-        ensures passed { Passes (G.opened gate.now) self.old self.new }
+        ensures passed { pace ≡ Whole → Passes (G.opened gate.now) self.old self.new }
         ensures told { T.kept teller.new ≡ T.kept teller.old }
         ensures wanted { OnWant Wanted result }
     {
@@ -185,7 +189,11 @@ impl Session {
             self.back_to(to);
             return Answer::Moved { at: to };
         }
-        match self.forward(rt, to, pace, gate, teller) {
+        let run = match pace {
+            Pace::Whole => self.forward_gated(rt, to, gate),
+            Pace::Slices => self.forward(rt, to, teller),
+        };
+        match run {
             Ok(at) if at < to => Answer::Stopped { at },
             Ok(at) => Answer::Moved { at },
             Err(_) => Answer::Refused(SessionFault::Memory),
@@ -218,9 +226,6 @@ impl Session {
         ensures told { T.kept teller.new ≡ T.kept teller.old }
         ensures wanted { OnWant Wanted result }
     {
-        if self.walks(to) {
-            return self.walk(to);
-        }
         self.jump(rt, to, Pace::Slices, &Free, teller)
     }
 

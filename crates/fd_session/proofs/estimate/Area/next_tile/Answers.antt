@@ -1,12 +1,8 @@
-use Rattle.std.proofs.Common.{◌≡◌, ◌+◌, ◌/◌, ◌<◌, ◌≤◌, inl, inr, Bool, true, false, IsTrue, refl, arith}
-use Rattle.fd_session.proofs.Nearby.{met_by, not_above, not_below, found_low}
+use Rattle.std.proofs.Common.{◌≡◌, ◌+◌, ◌/◌, ◌<◌, ◌≤◌, inl, inr, arith}
+use Rattle.fd_session.proofs.Nearby.{untrue, met_by, not_above, not_below, found_low}
 use Rattle.fd_session.proofs.estimate.Area.next_tile.Goals as goal
 use Rattle.fd_session.proofs.estimate.Area.next_tile.Goals.{then-column-right, else-column-right, else-left-right-via-then-left-right+else-found-min}
 use Rattle.fd_session.proofs.estimate.Area.next_tile.Goals.{else-left-right-via-else-left-right}
-
-untrue : (b : Bool) → (IsTrue b → ⊥) → b ≡ false
-untrue false never = refl
-untrue true never = absurd (never refl)
 
 pub returns-then-found-min-clause-missed : goal.returns-then-found-min-clause-missed
 returns-then-found-min-clause-missed c = λ size n is on below before x y held. untrue _ (λ within.

@@ -1,25 +1,37 @@
-use Rattle.std.proofs.Common.{◌≡◌, ℕ, ◌∙◌, ap, length, arith, false}
+use Rattle.std.proofs.Common.{◌≡◌, ℕ, ◌≤◌, All, ap, arith, length, subst}
 use Rattle.std.specs.Result.{result_unwrap_or}
+use Rattle.fd_tile.specs.Grid.{TargetSize, tile_count}
 use Rattle.fd_frame.specs.State.{State}
-use Rattle.fd_tile.specs.Grid.{tile_count}
-use Rattle.fd_session.proofs.Frames.{count_placed, places_given, given_whole}
-use Rattle.fd_session.proofs.Gated.{passed_tiles}
+use Rattle.fd_session.specs.Held.{places_of, first_places}
+use Rattle.fd_session.specs.Near.{StandsNear}
+use Rattle.fd_session.proofs.Nearby.{near_back_at}
 use Rattle.fd_session.proofs.session.Session.forward.Goals as goal
 
-pub returns-clause-passed : goal.returns-clause-passed
-returns-clause-passed g c tile event within above under =
-    let held = c.self.invariant.0 in
+pub draw_reached-run-requires-clause-places : goal.draw_reached-run-requires-clause-places
+draw_reached-run-requires-clause-places g c κs outlives =
+    let lent = c.deref_mut.result.now in
+    subst (λ (s : TargetSize). places_of lent ≡ first_places s (tile_count s)) c.self.invariant.0.sized (rw c.deref_mut.ensures.value c.self.invariant.0.places)
+
+pub draw_reached-run-requires-clause-near : goal.draw_reached-run-requires-clause-near
+draw_reached-run-requires-clause-near g c κs outlives =
     let inside = c.self.inside in
-    let moved = c.go_forward-run in
-    let lent : c.deref_mut-2.result.now ≡ c.level.new.owners = c.deref_mut-2.ensures.value ∙ given_whole inside.grid inside.owners.items c.deref_mut.result.now
-    c.level.new.owners inside.owners.len c.deref_mut.ensures.value inside.owners.ok.0 held.places c.level.ensures.left.places in
-    let places = places_given inside.grid inside.owners.items c.deref_mut.result.now c.level.new.owners inside.owners.len c.deref_mut.ensures.value
-    inside.owners.ok.0 held.places c.level.ensures.left.places in
-    let count : State → ℕ = λ s. tile_count (record { width = s.table.width; height = s.table.height }) in
-    let many : length c.deref_mut-2.result.now ≡ count c.args.self.now = ap length lent ∙ count_placed inside.grid c.level.new.owners places
-    ∙ ap tile_count held.sized ∙ ap count c.self.view_is in
     let from : inside.position ≡ c.args.self.now.position = ap (λ (s : State). s.position) c.self.view_is in
-    let left = rw c.drive-drive.ensures.whole at moved.ensures.comes.left in
-    passed_tiles false inside.table (g.G.Gate.opened c.args.gate.now) c.deref_mut-2.result.now moved.new.owners inside.position
-    (result_unwrap_or moved.result inside.position) tile event (rw c.drive-drive.ensures.gate at moved.ensures.passed) (rw lent c.level.ensures.left.each)
-    left.each (omega (arith, within, many)) (omega (arith, above, from)) (omega (arith, under, c.unwrap_or-self-inside.ensures))
+    rw (c.deref_mut.ensures.value, c.way-way.ensures.from)
+    (subst (λ (k : ℕ). All (StandsNear inside.table k) inside.owners.items) from c.self.invariant.0.stand)
+
+pub invariant_of-self : goal.invariant_of-self
+invariant_of-self g c =
+    let held = c.self.invariant.0 in
+    let comes = c.draw_reached-run.ensures.comes in
+    let within : result_unwrap_or c.draw_reached-run.result c.way-way.result.from ≤ length c.self.inside.table.events = omega (
+      arith,
+      c.requires.within,
+      comes.within,
+      c.way-way.ensures.to,
+      ap (λ (s : State). length s.table.events) c.self.view_is,
+    ) in
+    rw c.unwrap_or-self-inside.ensures (
+      near_back_at _ _ _ _ _ _ _ _ held c.deref_mut.ensures.value c.self.inside.owners.ok.0 comes.left within,
+      c.self.invariant.1,
+      c.self.invariant.2,
+    )

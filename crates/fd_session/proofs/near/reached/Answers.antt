@@ -1,0 +1,31 @@
+use Rattle.std.proofs.Common.{inl, inr, arith, subst}
+use Rattle.fd_cover.specs.declared.bounds.Bounds.{Bounds}
+use Rattle.fd_owner.specs.Untouched.{Misses}
+use Rattle.fd_tile.specs.Grid.{place_of}
+use Rattle.fd_session.specs.Held.{size_of}
+use Rattle.fd_session.proofs.Nearby.{tile_placed}
+use Rattle.fd_session.proofs.near.reached.Goals as goal
+
+pub returns-then-to-from-gt-MOST_EVENTS-clause-untouched : goal.returns-then-to-from-gt-MOST_EVENTS-clause-untouched
+returns-then-to-from-gt-MOST_EVENTS-clause-untouched c = λ n below tile others inside. elim others [
+  | inl low ↦ absurd (omega (arith, low))
+  | inr high ↦ absurd (omega (arith, high, below))
+]
+
+pub returns-in-Some-clause-untouched : goal.returns-in-Some-clause-untouched
+returns-in-Some-clause-untouched c = λ n below tile others inside.
+    let table = c.args.table.now in
+    let place = place_of (size_of table) n in
+    c.reach_between.ensures place (tile_placed table n c.round-area.ensures.valid tile) inside
+    (subst (λ (box : Bounds). Misses box place) c.round-area.ensures.bounds (elim others [
+      | inl low ↦ c.in-Some.ensures.missed (size_of table) n c.round-area.ensures.columns (omega arith) below low
+      | inr high ↦ c.past_tile.ensures.missed (size_of table) n c.round-area.ensures.columns (omega (arith, high, below, c.clamp.ensures))
+    ]))
+
+pub returns-in-None-clause-untouched : goal.returns-in-None-clause-untouched
+returns-in-None-clause-untouched c = λ n below tile others inside.
+    let table = c.args.table.now in
+    let place = place_of (size_of table) n in
+    c.reach_between.ensures place (tile_placed table n c.round-area.ensures.valid tile) inside
+    (subst (λ (box : Bounds). Misses box place) c.round-area.ensures.bounds
+    (c.in-None.ensures.missed (size_of table) n c.round-area.ensures.columns (omega arith) below tt))
