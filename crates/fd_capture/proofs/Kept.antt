@@ -1,21 +1,37 @@
 -- What an event stands for is the same from the members that are kept and from all that were found.
-use Rattle.std.proofs.Common.{arith, ◌≡◌, ℕ, List, Option, Some, None, Bool, true, false, ◌==◌, ◌&&◌, cond, codes, option_map, option_and_then, refl}
-use Rattle.std.proofs.Common.{ap, ◌∙◌, eqb-true}
+use Rattle.std.proofs.Common.{arith, ◌≡◌, ℕ, List, Option, Some, None, Bool, true, false, ◌==◌, ◌&&◌, cond, codes, bytes_eq, option_map, option_and_then, refl}
+use Rattle.std.proofs.Common.{Result, Err, ap, ◌∙◌, eqb-true}
 use Rattle.std.specs.Prelude.{ok_or}
+use Rattle.std.specs.Result.{result_ok}
 use Rattle.serde_json.specs.Data.{Data, object, Members}
 use Rattle.serde_json.specs.Find.{get_member, as_bool, as_str, as_i64}
+use Rattle.fd_blend.specs.declared.equation.Part.{Part}
+use Rattle.fd_blend.specs.declared.mask.Mask.{Mask}
+use Rattle.fd_blend.specs.Equation.{has_colour_factor}
+use Rattle.fd_blend.specs.Mask.{mask_of}
+use Rattle.fd_cover.specs.declared.shading.Interp.TheVariants.{Flat, Linear}
+use Rattle.fd_events.specs.declared.event.Event.{Event}
+use Rattle.fd_events.specs.declared.event.Event.TheVariants.{SetBlend, Marker}
+use Rattle.fd_events.specs.Label.{labelled}
 use Rattle.fd_json.specs.Clipped.{clipped}
-use Rattle.fd_capture.specs.Field.{between, number_between, colour_of_data, rect_of_data, part_of_data, indices_of, text_member, unsigned_32}
+use Rattle.fd_json.proofs.Found.{same_name}
+use Rattle.fd_capture.specs.Field.{between, number_between, part_of_data, indices_of, text_member, unsigned_32}
+use Rattle.fd_capture.specs.Spelling.{spelled_cull, spelled_func, spelled_interp}
 use Rattle.fd_capture.specs.Picture.{bytes_of_data, holes_of, picture_of_data}
-use Rattle.fd_capture.specs.Kind.{clear_event, raster_event, scissor_event, blend_event, factor_of, marker_event, depth_event, depth_clear_event}
-use Rattle.fd_capture.specs.Kind.{draw_event, shaded_draw, painted_draw, is_picture}
+use Rattle.fd_capture.specs.Kind.{blend_event, marker_event, depth_event, depth_clear_event, draw_event, shaded_draw, painted_draw, is_picture}
 use Rattle.fd_capture.specs.Fault.{◌>>=◌}
-use Rattle.fd_capture.specs.declared.fault.EventFault.TheVariants.{BadField}
+use Rattle.fd_capture.specs.declared.fault.EventFault.{EventFault}
+use Rattle.fd_capture.specs.declared.fault.EventFault.TheVariants.{BadField, UnknownEvent}
+use Rattle.fd_capture.specs.declared.kind.Kind.{Kind}
+use Rattle.fd_capture.specs.declared.kind.Kind.TheVariants as kind
+use Rattle.fd_capture.specs.declared.members.Draft.{Draft}
+use Rattle.fd_capture.specs.declared.spelling.Paint.TheVariants as paint
 use Rattle.fd_capture.specs.Capture.{event_of, event_of_kind}
-use Rattle.fd_capture.specs.Streamed.{is_small, Clips, indices_of_array, if_any, well_formed, large_in, picture_read, picture_from}
-use Rattle.fd_capture.specs.Streamed.{draw_from, shaded_draw_from, painted_draw_from, event_of_kind_from, event_from, then_event}
+use Rattle.fd_capture.specs.Streamed.{is_small, Clips, indices_of_array, if_any, well_formed, picture_read, picture_from, spelled_paint, large_of}
+use Rattle.fd_capture.specs.Drafted.{IsDraft, mask_of_data, kind_of, interp_of, is_painted, blend_of, marker_of, depth_of, depth_clear_of, draw_of, shaded_draw_of}
+use Rattle.fd_capture.specs.Drafted.{painted_draw_of, event_of_known, with_kind, event_from}
 use Rattle.fd_capture.proofs.Coloured.{coloured-found, painted-found}
-use Rattle.fd_capture.proofs.Outer.{number-clipped, text-clipped, flag-clipped, colour-clipped, rect-clipped, part-clipped}
+use Rattle.fd_capture.proofs.Outer.{number-clipped}
 
 pub number_between-clipped : (low high : ℕ) (d : Data) → number_between low high (clipped d) ≡ number_between low high d
 number_between-clipped low high d = ap (λ n. option_and_then (between low high) (option_and_then as_i64 n)) (number-clipped d)
@@ -28,49 +44,6 @@ module _ (kept found : Members) (clips : Clips kept found) where
     inner : (o : Option Data) → option_and_then f (option_map clipped o) ≡ option_and_then f o
     inner None = refl
     inner (Some d) = same d
-
-  pub kind-kept : option_and_then as_str (get_member (codes "kind") kept) ≡ option_and_then as_str (get_member (codes "kind") found)
-  kind-kept = member-kept as_str text-clipped (codes "kind") refl
-
-  pub clear-kept : clear_event (object kept) ≡ clear_event (object found)
-  clear-kept = rw (member-kept colour_of_data colour-clipped (codes "color") refl) refl
-
-  pub factor-kept : factor_of (object kept) ≡ factor_of (object found)
-  factor-kept = rw (member-kept colour_of_data colour-clipped (codes "color") refl) refl
-
-  pub scissor-kept : scissor_event (object kept) ≡ scissor_event (object found)
-  scissor-kept = rw (member-kept rect_of_data rect-clipped (codes "rect") refl) refl
-
-  pub raster-kept : raster_event (object kept) ≡ raster_event (object found)
-  raster-kept = rw (
-    member-kept as_str text-clipped (codes "cull") refl,
-    member-kept as_bool flag-clipped (codes "front_ccw") refl,
-    member-kept as_bool
-        flag-clipped (codes "scissor") refl,
-  ) refl
-
-  pub blend-kept : blend_event (object kept) ≡ blend_event (object found)
-  blend-kept =
-      rw (
-        member-kept as_bool flag-clipped (codes "enable") refl,
-        member-kept part_of_data part-clipped (codes "rgb") refl,
-        member-kept part_of_data part-clipped (codes "alpha") refl,
-        member-kept (number_between 0 15) (number_between-clipped 0 15) (codes "mask") refl,
-      ) refl
-
-  pub depth-kept : depth_event (object kept) ≡ depth_event (object found)
-  depth-kept = rw (
-    member-kept as_bool flag-clipped (codes "enable") refl,
-    member-kept as_bool flag-clipped (codes "write") refl,
-    member-kept as_str
-        text-clipped (codes "func") refl,
-  ) refl
-
-  pub depth_clear-kept : depth_clear_event (object kept) ≡ depth_clear_event (object found)
-  depth_clear-kept = rw (member-kept (number_between 0 65535) (number_between-clipped 0 65535) (codes "depth") refl) refl
-
-  pub marker-kept : marker_event (object kept) ≡ marker_event (object found)
-  marker-kept = rw (member-kept as_str text-clipped (codes "name") refl) refl
 
 -- ---- the large members, from what was read of them
 
@@ -97,60 +70,158 @@ pub picture-found : (found : Members) → picture_from (option_and_then unsigned
     ≡ picture_of_data (object found)
 picture-found found = rw (holes_from (get_member (codes "holes") found)) refl
 
-painted-kept : (found : Members) → painted_draw_from (large_in 3 found) ≡ painted_draw 3 (object found)
-painted-kept found =
-    rw (
-      picture_from_member (get_member (codes "picture") found),
-      painted-found 3 (get_member (codes "vertices") found),
-      indices_from (get_member (codes "indices") found),
-    ) refl
+-- ---- texts
 
-module _ (version : ℕ) (kept found : Members) (clips : Clips kept found) where
-  shaded-kept : shaded_draw_from (object kept) (large_in version found) ≡ shaded_draw version (object found)
-  shaded-kept =
+-- a member's text, and what is made of it
+text-then : {X : Type 0} (f : List ℕ → Option X) (o : Option Data) → option_and_then (λ (d : Data). option_and_then f (as_str d)) o
+    ≡ option_and_then f (option_and_then as_str o)
+text-then f None = refl
+text-then f (Some d) = refl
+
+interp-by_tests : (flat linear picture : Bool) → option_and_then interp_of (cond flat (Some (paint.Vertices Flat))
+    (cond linear (Some (paint.Vertices Linear)) (cond picture (Some paint.Picture) None)))
+    ≡ cond flat (Some Flat) (cond linear (Some Linear) None)
+interp-by_tests true linear picture = refl
+interp-by_tests false true picture = refl
+interp-by_tests false false true = refl
+interp-by_tests false false false = refl
+
+interp-spelled : (o : Option (List ℕ)) → option_and_then interp_of (option_and_then spelled_paint o) ≡ option_and_then spelled_interp o
+interp-spelled None = refl
+interp-spelled (Some text) = interp-by_tests (bytes_eq text (codes "flat")) (bytes_eq text (codes "linear")) (bytes_eq text (codes "picture"))
+
+module _ (text : List ℕ) where
+  by_flat : (b : Bool) → bytes_eq text (codes "flat") ≡ b → is_painted (cond b (Some (paint.Vertices Flat))
+      (cond (bytes_eq text (codes "linear")) (Some (paint.Vertices Linear)) (cond (bytes_eq text (codes "picture")) (Some paint.Picture) None)))
+      ≡ bytes_eq text (codes "picture")
+  by_flat true is = rw (same_name text (codes "flat") is) refl
+  by_flat false is = by_linear (bytes_eq text (codes "linear")) refl
+    where
+      by_picture : (b : Bool) → is_painted (cond b (Some paint.Picture) None) ≡ b
+      by_picture true = refl
+      by_picture false = refl
+
+      by_linear : (b : Bool) → bytes_eq text (codes "linear") ≡ b → is_painted (cond b (Some (paint.Vertices Linear))
+          (cond (bytes_eq text (codes "picture")) (Some paint.Picture) None))
+          ≡ bytes_eq text (codes "picture")
+      by_linear true is = rw (same_name text (codes "linear") is) refl
+      by_linear false is = by_picture (bytes_eq text (codes "picture"))
+
+painted-spelled : (o : Option (List ℕ)) → is_painted (option_and_then spelled_paint o) ≡ is_picture o
+painted-spelled None = refl
+painted-spelled (Some text) = by_flat text (bytes_eq text (codes "flat")) refl
+
+-- what is made of one of two
+one_of : {X Y : Type 0} (f : X → Y) (b : Bool) (x y : X) (z w : Y) → f x ≡ z → f y ≡ w → f (cond b x y) ≡ cond b z w
+one_of f true x y z w is other = is
+one_of f false x y z w is other = other
+
+-- ---- the event
+
+-- a mask that is made of bits
+module _ {X : Type 0} (K : Bool → Part → Part → Mask → Option X) (some_flag : Option Bool) (some_rgb some_alpha : Option Part) where
+  by_bits : (some_bits : Option ℕ)
+      → option_and_then (λ e. option_and_then (λ r. option_and_then (λ a. option_and_then (K e r a) (option_map mask_of some_bits)) some_alpha) some_rgb) some_flag
+      ≡ option_and_then (λ e. option_and_then (λ r. option_and_then (λ a. option_and_then (λ n. K e r a (mask_of n)) some_bits) some_alpha) some_rgb) some_flag
+  by_bits None = refl
+  by_bits (Some n) = refl
+
+bits-then : (o : Option Data) → option_and_then mask_of_data o ≡ option_map mask_of (option_and_then (number_between 0 15) o)
+bits-then None = refl
+bits-then (Some d) = refl
+
+-- a name that is made of a text
+by_text : (o : Option (List ℕ)) → option_and_then (λ (label : List ℕ). Some (Marker label)) (option_and_then (λ text. result_ok (labelled text)) o)
+    ≡ option_and_then (λ (text : List ℕ). option_and_then (λ (label : List ℕ). Some (Marker label)) (result_ok (labelled text))) o
+by_text None = refl
+by_text (Some text) = refl
+
+module _ (version : ℕ) (found : Members) (draft : Draft) (is : IsDraft version found draft) where
+  interp-found : option_and_then interp_of draft.paint ≡ option_and_then spelled_interp (text_member "interp" (object found))
+  interp-found = ap (option_and_then interp_of) (is.paint ∙ text-then spelled_paint (get_member (codes "interp") found))
+      ∙ interp-spelled (text_member "interp" (object found))
+
+  picture-named : is_painted draft.paint ≡ is_picture (text_member "interp" (object found))
+  picture-named = ap is_painted (is.paint ∙ text-then spelled_paint (get_member (codes "interp") found)) ∙ painted-spelled (text_member "interp" (object found))
+
+  shaded-found : shaded_draw_of draft.paint (large_of draft.parts) ≡ shaded_draw version (object found)
+  shaded-found =
       rw (
-        member-kept kept found clips as_str text-clipped (codes "interp") refl,
+        interp-found,
+        is.vertices,
+        is.indices,
         coloured-found version (get_member (codes "vertices") found),
         indices_from (get_member (codes "indices") found),
       ) refl
 
-  -- version 3 alone looks for a picture
-  by_version : (b : Bool) → (version == 3) ≡ b → cond (b && is_picture (text_member "interp" (object kept))) (painted_draw_from (large_in version found))
-      (shaded_draw_from (object kept) (large_in version found))
-      ≡ cond (b && is_picture (text_member "interp" (object found))) (painted_draw version (object found)) (shaded_draw version (object found))
-  by_version false other = shaded-kept
-  by_version true third =
-      let is : version ≡ 3 = eqb-true version 3 third in
-      let painted : painted_draw_from (large_in version found) ≡ painted_draw version (object found) = rw is (painted-kept found) in
-      let interp : text_member "interp" (object kept) ≡ text_member "interp" (object found) =
-      member-kept kept found clips as_str text-clipped (codes "interp") refl in
-      cc (interp, painted, shaded-kept)
-
-  draw-kept : draw_from version (object kept) (large_in version found) ≡ draw_event version (object found)
-  draw-kept = by_version (version == 3) refl
-
-  kinds-kept : (kind : List ℕ) → event_of_kind_from version kind (object kept) (large_in version found) ≡ event_of_kind version kind (object found)
-  kinds-kept kind =
+  painted-found_in : version ≡ 3 → painted_draw_of (large_of draft.parts) ≡ painted_draw version (object found)
+  painted-found_in third =
       rw (
-        clear-kept kept found clips,
-        raster-kept kept found clips,
-        scissor-kept kept found clips,
-        blend-kept kept found clips,
-        factor-kept kept found clips,
-        draw-kept,
-        marker-kept kept found clips,
-        depth-kept kept found clips,
-        depth_clear-kept kept found clips,
+        is.picture,
+        is.vertices,
+        is.indices,
+        third,
+        picture_from_member (get_member (codes "picture") found),
+        painted-found 3 (get_member (codes "vertices") found),
+        indices_from (get_member (codes "indices") found),
       ) refl
 
-  pub event-kept : event_from version (object kept) (large_in version found) ≡ event_of version (object found)
-  event-kept =
-      ap (λ o. then_event (ok_or o BadField) (λ (kind : List ℕ). event_of_kind_from version kind (object kept) (large_in version found)))
-      (kind-kept kept found clips)
-      ∙ by_kind (option_and_then as_str (get_member (codes "kind") found))
+  -- version 3 alone looks for a picture
+  by_version : (b : Bool) → (version == 3) ≡ b → cond (b && is_painted draft.paint) (painted_draw_of (large_of draft.parts)) (shaded_draw_of draft.paint (large_of draft.parts))
+      ≡ cond (b && is_picture (text_member "interp" (object found))) (painted_draw version (object found)) (shaded_draw version (object found))
+  by_version false other = shaded-found
+  by_version true third =
+      let painted = painted-found_in (eqb-true version 3 third) in
+      cc (picture-named, painted, shaded-found)
+
+  draw-found : draw_of version draft ≡ draw_event version (object found)
+  draw-found = by_version (version == 3) refl
+
+  abbrev f : Kind → Result Event EventFault
+  f kind = event_of_known version kind draft
+
+  blend-found : blend_of draft ≡ blend_event (object found)
+  blend-found = rw (is.enable, is.rgb, is.alpha, is.mask ∙ bits-then (get_member (codes "mask") found)) (by_bits (λ e r a m. cond (has_colour_factor a) None (Some (SetBlend (record { enable = e; rgb = r; alpha = a; mask = m }))))
+      (option_and_then as_bool (get_member (codes "enable") found)) (option_and_then part_of_data (get_member (codes "rgb") found))
+      (option_and_then part_of_data (get_member (codes "alpha") found)) (option_and_then (number_between 0 15) (get_member (codes "mask") found)))
+
+  marker-found : marker_of draft ≡ marker_event (object found)
+  marker-found = rw (is.label ∙ text-then (λ text. result_ok (labelled text)) (get_member (codes "name") found)) (by_text (text_member "name" (object found)))
+
+  depth-found : depth_of draft ≡ depth_event (object found)
+  depth-found = rw (is.enable, is.write, is.func ∙ text-then spelled_func (get_member (codes "func") found)) refl
+
+  depth_clear-found : depth_clear_of draft ≡ depth_clear_event (object found)
+  depth_clear-found = rw is.depth refl
+
+  -- version 1 has none of these
+  depths : (v bd bc : Bool) → (version == 1) ≡ v → f (cond bd kind.Depth (cond bc kind.DepthClear kind.Other))
+      ≡ cond v (Err UnknownEvent) (cond bd (ok_or (depth_event (object found)) BadField)
+      (cond bc (ok_or (depth_clear_event (object found)) BadField) (Err UnknownEvent)))
+  depths true true bc first = rw first refl
+  depths true false true first = rw first refl
+  depths true false false first = refl
+  depths false true bc later = rw (later, depth-found) refl
+  depths false false true later = rw (later, depth_clear-found) refl
+  depths false false false later = refl
+
+  kinds-found : (text : List ℕ) → f (kind_of text) ≡ event_of_kind version text (object found)
+  kinds-found text =
+      one_of f (bytes_eq text (codes "clear")) _ _ _ _ (rw is.colour refl)
+      (one_of f (bytes_eq text (codes "raster")) _ _ _ _
+      (rw (is.cull ∙ text-then spelled_cull (get_member (codes "cull") found), is.front_ccw, is.scissor) refl)
+      (one_of f (bytes_eq text (codes "scissor")) _ _ _ _ (rw is.rect refl)
+      (one_of f (bytes_eq text (codes "blend")) _ _ _ _ (ap (λ (o : Option Event). ok_or o BadField) blend-found)
+      (one_of f (bytes_eq text (codes "factor")) _ _ _ _ (rw is.colour refl)
+      (one_of f (bytes_eq text (codes "draw")) _ _ _ _ (ap (λ (o : Option Event). ok_or o BadField) draw-found)
+      (one_of f (bytes_eq text (codes "marker")) _ _ _ _ (ap (λ (o : Option Event). ok_or o BadField) marker-found)
+      (depths (version == 1) (bytes_eq text (codes "depth")) (bytes_eq text (codes "depth_clear")) refl)))))))
+
+  pub event-found : event_from version draft ≡ event_of version (object found)
+  event-found = ap (λ (o : Option Kind). with_kind o f) (is.kind ∙ text-then (λ text. Some (kind_of text)) (get_member (codes "kind") found))
+      ∙ by_kind (text_member "kind" (object found))
     where
-      by_kind : (o : Option (List ℕ))
-          → then_event (ok_or o BadField) (λ (kind : List ℕ). event_of_kind_from version kind (object kept) (large_in version found))
-          ≡ ok_or o BadField >>= (λ (kind : List ℕ). event_of_kind version kind (object found))
+      by_kind : (o : Option (List ℕ)) → with_kind (option_and_then (λ text. Some (kind_of text)) o) f
+          ≡ ok_or o BadField >>= (λ (text : List ℕ). event_of_kind version text (object found))
       by_kind None = refl
-      by_kind (Some kind) = kinds-kept kind
+      by_kind (Some text) = kinds-found text

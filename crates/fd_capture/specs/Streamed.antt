@@ -1,28 +1,26 @@
 -- Working. What is made of the parts of a value, however they were read.
-use Rattle.std.specs.Prelude.{◌≡◌, ◌==◌, ℕ, ℤ, List, [], ◌∷◌, map, Bool, true, ◌||◌, ◌&&◌, codes, Option, Some, None, option_map, is_some, unwrap_or}
-use Rattle.std.specs.Prelude.{Result, Ok, Err, ok_or, if◌then◌else◌}
+use Rattle.std.specs.Prelude.{◌≡◌, ◌==◌, ℕ, ℤ, List, [], ◌∷◌, map, Bool, true, ◌||◌, codes, Option, Some, None, option_map, is_some, unwrap_or}
+use Rattle.std.specs.Prelude.{if◌then◌else◌}
 use Rattle.std.specs.List.{list_all}
 use Rattle.std.specs.Result.{result_ok}
-use Rattle.fd_cover.specs.declared.shading.Interp.TheVariants.{Flat}
-use Rattle.fd_events.specs.declared.event.Event.{Event}
-use Rattle.fd_events.specs.declared.event.Event.TheVariants.{Draw}
-use Rattle.fd_events.specs.Draw.{made, made_with}
+use Rattle.fd_cover.specs.declared.shading.Interp.TheVariants.{Flat, Linear}
 use Rattle.fd_events.specs.Picture.{Painting, made_painting, no_colour}
-use Rattle.fd_capture.specs.declared.fault.EventFault.{EventFault}
-use Rattle.fd_capture.specs.declared.fault.EventFault.TheVariants.{UnknownEvent, BadField}
-use Rattle.fd_capture.specs.Kind.{clear_event, raster_event, scissor_event, blend_event, factor_of, is_picture, marker_event}
 use Rattle.fd_capture.specs.Picture.{picture_of_data}
 use Rattle.fd_capture.specs.declared.vertices.VertexList.{VertexList}
 use Rattle.fd_capture.specs.declared.parts.Parts.{Parts}
-use Rattle.fd_capture.specs.Capture.{event_of_depth}
-use Rattle.fd_capture.specs.Spelling.{spelled_interp}
+use Rattle.fd_capture.specs.Spelling.{spelled_factor, spelled_op}
+use Rattle.fd_capture.specs.declared.spelling.Paint.{Paint}
+use Rattle.fd_capture.specs.declared.spelling.Paint.TheVariants as paint
+use Rattle.fd_capture.specs.declared.spelling.Word.{Word}
+use Rattle.fd_blend.specs.declared.equation.Part.{Part}
+use Rattle.fd_cover.specs.declared.verdict.Rect.{Rect}
 use Rattle.std.specs.Str.{bytes_eq}
 use Rattle.serde_json.specs.Data.{Data, Members}
 use Rattle.serde_json.specs.Find.{get_member}
 use Rattle.fd_json.specs.Clipped.{clipped}
 use Rattle.fd_blend.specs.declared.channel.Colour.{Colour}
 use Rattle.fd_events.specs.declared.draw.Vertex.{Vertex}
-use Rattle.fd_capture.specs.Field.{◌>>=◌, position_within, all_of, array_of, unsigned_32, text_member, number_member, colour_member, signed_member}
+use Rattle.fd_capture.specs.Field.{◌>>=◌, position_within, all_of, array_of, unsigned_32, number_member, colour_member, signed_member}
 
 -- ---- vertices, which are read before it is known whether they need a colour: 0 0 0 0 stands for one that is missing
 
@@ -57,20 +55,41 @@ abbrev pub colour_from : List ℕ → Option Colour
 colour_from (r ∷ g ∷ b ∷ a ∷ []) = Some (record { r = r; g = g; b = b; a = a })
 colour_from others = None
 
+-- ---- arrays of a few values
+
+abbrev pub rect_from : List ℤ → Option Rect
+rect_from (l ∷ t ∷ r ∷ b ∷ []) = Some (record { left = l; top = t; right = r; bottom = b })
+rect_from others = None
+
+-- what a text spells in a part: a factor, an operation or neither
+abbrev pub word_of : List ℕ → Word
+word_of text = record { factor = spelled_factor text; op = spelled_op text }
+
+abbrev pub part_from : List Word → Option Part
+part_from (s ∷ d ∷ o ∷ []) = do
+  source ← s.factor
+  destination ← d.factor
+  operation ← o.op
+  Some (record { src = source; dst = destination; op = operation })
+part_from others = None
+
+-- where the colours of a draw come from
+abbrev pub spelled_paint : List ℕ → Option Paint
+spelled_paint text =
+    if bytes_eq text (codes "flat") then Some (paint.Vertices Flat)
+    else (if bytes_eq text (codes "linear") then Some (paint.Vertices Linear)
+    else (if bytes_eq text (codes "picture") then Some paint.Picture
+    else None))
+
 abbrev pub indices_of_array : Data → Option (List ℕ)
 indices_of_array d = array_of d >>= all_of unsigned_32
 
 -- ---- members
 
--- a capture or a kind of event has a member of this name that is no long list or text
+-- a capture has a member of this name beside its events
 abbrev pub is_small : List ℕ → Bool
 is_small name =
     bytes_eq name (codes "format") || bytes_eq name (codes "version") || bytes_eq name (codes "width") || bytes_eq name (codes "height")
-    || bytes_eq name (codes "kind") || bytes_eq name (codes "color") || bytes_eq name (codes "cull") || bytes_eq name (codes "front_ccw")
-    || bytes_eq name (codes "scissor") || bytes_eq name (codes "rect")
-    || bytes_eq name (codes "enable") || bytes_eq name (codes "rgb") || bytes_eq name (codes "alpha") || bytes_eq name (codes "mask")
-    || bytes_eq name (codes "interp") || bytes_eq name (codes "name")
-    || bytes_eq name (codes "write") || bytes_eq name (codes "func") || bytes_eq name (codes "depth")
 
 -- of the small members, the outermost part
 abbrev pub Clips : Members → Members → Type 0
@@ -117,51 +136,3 @@ large_of parts = record {
   indices = option_map (option_map (λ v. v.items)) parts.indices;
   picture = option_map (option_map (λ p. p.value)) parts.picture;
 }
-
--- the large members that were found
-abbrev pub large_in : ℕ → Members → Large
-large_in version found = record {
-  vertices = option_map (vertices_read version) (get_member (codes "vertices") found);
-  indices = option_map indices_of_array (get_member (codes "indices") found);
-  picture = option_map (picture_read version) (get_member (codes "picture") found);
-}
-
-abbrev pub shaded_draw_from : Data → Large → Option Event
-shaded_draw_from d large = do
-  interp ← text_member "interp" d >>= spelled_interp
-  vertices ← well_formed large.vertices >>= coloured
-  indices ← if_any large.indices
-  draw ← result_ok (made vertices indices interp)
-  Some (Draw draw)
-
-abbrev pub painted_draw_from : Large → Option Event
-painted_draw_from large = do
-  picture ← well_formed large.picture
-  vertices ← option_map (λ read. read.0) (well_formed large.vertices)
-  indices ← if_any large.indices
-  draw ← result_ok (made_with (Some picture) vertices indices Flat)
-  Some (Draw draw)
-
-abbrev pub draw_from : ℕ → Data → Large → Option Event
-draw_from version d large =
-    if version == 3 && is_picture (text_member "interp" d) then painted_draw_from large else shaded_draw_from d large
-
-abbrev pub event_of_kind_from : ℕ → List ℕ → Data → Large → Result Event EventFault
-event_of_kind_from version kind d large =
-    if bytes_eq kind (codes "clear") then ok_or (clear_event d) BadField
-    else (if bytes_eq kind (codes "raster") then ok_or (raster_event d) BadField
-    else (if bytes_eq kind (codes "scissor") then ok_or (scissor_event d) BadField
-    else (if bytes_eq kind (codes "blend") then ok_or (blend_event d) BadField
-    else (if bytes_eq kind (codes "factor") then ok_or (factor_of d) BadField
-    else (if bytes_eq kind (codes "draw") then ok_or (draw_from version d large) BadField
-    else (if bytes_eq kind (codes "marker") then ok_or (marker_event d) BadField
-    else (if version == 1 then Err UnknownEvent
-    else event_of_depth kind d)))))))
-
-abbrev pub then_event : Result (List ℕ) EventFault → (List ℕ → Result Event EventFault) → Result Event EventFault
-then_event (Ok kind) f = f kind
-then_event (Err e) f = Err e
-
--- the event of small members and of what the large ones stand for
-abbrev pub event_from : ℕ → Data → Large → Result Event EventFault
-event_from version d large = then_event (ok_or (text_member "kind" d) BadField) (λ (kind : List ℕ). event_of_kind_from version kind d large)

@@ -2,7 +2,6 @@ ghost use Rattle.std.specs.Prelude.{◌≡◌};
 
 use fd_events::TableFault;
 use fd_json::Stop;
-use std::alloc::AllocError;
 use thiserror::Error;
 
 /// Why a capture is refused: the first fault in this order, but memory may run out at any time after the first check.
@@ -45,8 +44,6 @@ pub(crate) enum EventFault {
     UnknownEvent,
     /// A member is missing, or isn't what its kind asks for.
     BadField,
-    /// Memory ran out.
-    Memory,
 }
 
 impl EventFault {
@@ -59,7 +56,6 @@ impl EventFault {
         match self {
             EventFault::UnknownEvent => CaptureFault::UnknownEvent { number },
             EventFault::BadField => CaptureFault::BadField { number },
-            EventFault::Memory => CaptureFault::Memory,
         }
     }
 }
@@ -90,16 +86,5 @@ impl From<TableFault> for CaptureFault {
             TableFault::Size => CaptureFault::Size,
             TableFault::TooMany => CaptureFault::TooMany,
         }
-    }
-}
-
-impl From<AllocError> for EventFault {
-    ghost use Rattle.std.specs.Prelude.{◌≡◌};
-    ghost use Rattle.fd_capture.specs.declared.fault.EventFault.TheVariants.{Memory as OutOfMemory};
-
-    ghost from_gives = { λ _ e. e ≡ OutOfMemory };
-
-    fn from(_refused: AllocError) -> EventFault {
-        EventFault::Memory
     }
 }

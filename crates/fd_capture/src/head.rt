@@ -1,14 +1,16 @@
 //! The members of a capture, taken from the tokens of its text.
-ghost use Rattle.std.specs.Prelude.{◌≡◌, ◌<◌, codes, length, Some, None, Err, IfOk, OnOk, option_and_then};
-ghost use Rattle.serde_json.specs.Data.{Data, Members};
+ghost use Rattle.std.specs.Prelude.{◌≡◌, ◌<◌, codes, cond, length, true, Some, None, Err, IfOk, OnOk, option_and_then};
+ghost use Rattle.serde_json.specs.Data.{Data, Members, put};
 ghost use Rattle.serde_json.specs.Read.{read};
+ghost use Rattle.serde_json.specs.View.{members_view};
+ghost use Rattle.fd_json.specs.Clipped.{clipped};
+ghost use Rattle.fd_capture.specs.Streamed.{is_small};
 ghost use Rattle.fd_json.specs.Taken.{taken, members_taken};
 ghost use Rattle.fd_capture.specs.Head.{HasHead, IsHead};
 
 use crate::events::{ReadEvents, events};
-use crate::members::small_member;
 use crate::scope::Scope;
-use fd_json::{Stop, open_object};
+use fd_json::{Stop, clipped, open_object, pass};
 use json::{Reader, Scratch};
 use serde_json::{Map, Value};
 use std::alloc::Global;
@@ -21,6 +23,39 @@ const MAX_DEPTH: usize = 127;
 pub(crate) struct Head {
     pub(crate) members: Value,
     pub(crate) events: Option<ReadEvents>,
+}
+
+/// Whether a capture has a member of this name beside its events.
+fn is_small(name: &str) -> bool
+    ensures { result ≡ is_small name.now }
+{
+    match name {
+        "format" | "version" | "width" | "height" => true,
+        _ => false,
+    }
+}
+
+/// The next value is the member of this name, and goes in among the small ones if it is one of them.
+fn small_member(
+    reader: &mut Reader<'_>,
+    scope: Scope,
+    name: &str,
+    members: &mut Map<String, Value>,
+) -> Result<(), Stop>
+    ensures ok { OnOk result ((d : Data) × (taken scope.depth reader.old ≡ Some (d, reader.new))
+        × (members_view members.new.entries
+        ≡ cond (is_small name.now) (put name.now (clipped d) (members_view members.old.entries)) (members_view members.old.entries))) }
+    ensures refused { result ≡ Err Stop.NotJson → taken scope.depth reader.old ≡ None }
+    ensures shorter { OnOk result (length reader.new < length reader.old) }
+{
+    if !is_small(name) {
+        pass(reader, scope.depth)?;
+        return Ok(());
+    }
+    let key = String::from_str(scope.alloc, name)?;
+    let value = clipped(scope.alloc, reader, scope.depth)?;
+    drop(members.insert(key, value)?);
+    Ok(())
 }
 
 /// The members of a capture whose brace was taken, up to the brace that closes it.

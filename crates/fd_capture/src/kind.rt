@@ -1,90 +1,112 @@
-//! The kinds of event.
-ghost use Rattle.std.specs.Prelude.{◌≡◌, ok_or};
-ghost use Rattle.serde_json.specs.View.{view};
-ghost use Rattle.fd_capture.specs.Fault.{GivesEvent};
-ghost use Rattle.fd_capture.specs.Kind.{clear_event, raster_event, scissor_event, blend_event, factor_of, marker_event, depth_event, depth_clear_event};
+//! The kinds of event, and the event of each, made of what was read of its members.
+ghost use Rattle.std.specs.Prelude.{◌≡◌};
+ghost use Rattle.fd_capture.specs.Drafted.{clear_of, raster_of, scissor_of, blend_of, factor_of, marker_of, depth_of, depth_clear_of};
 
-use crate::fault::EventFault;
-use crate::field::{colour, mask, part, rect};
-use crate::number::short;
-use crate::spelling;
+use crate::members::Draft;
+use crate::spelling::FromText;
 use fd_blend::BlendState;
 use fd_cover::{Depth, Raster};
-use fd_events::{Event, Label};
-use serde_json::Value;
-use std::alloc::Global;
+use fd_events::Event;
+
+/// What the text of `kind` names.
+#[derive(Clone, Copy, PartialEq, Eq)]
+pub(crate) enum Kind {
+    Clear,
+    Raster,
+    Scissor,
+    Blend,
+    Factor,
+    Draw,
+    Marker,
+    Depth,
+    DepthClear,
+    /// No kind of event.
+    Other,
+}
+
+impl FromText for Kind {
+    ghost use Rattle.std.specs.Prelude.{Some};
+    ghost use Rattle.fd_capture.specs.Drafted.{kind_of};
+
+    ghost spelled = { λ text. Some (kind_of text) };
+
+    fn from_text(text: &str) -> Option<Kind> {
+        Some(match text {
+            "clear" => Kind::Clear,
+            "raster" => Kind::Raster,
+            "scissor" => Kind::Scissor,
+            "blend" => Kind::Blend,
+            "factor" => Kind::Factor,
+            "draw" => Kind::Draw,
+            "marker" => Kind::Marker,
+            "depth" => Kind::Depth,
+            "depth_clear" => Kind::DepthClear,
+            _ => Kind::Other,
+        })
+    }
+}
 
 /// `clear`: a colour.
-pub(crate) fn clear(event: &Value) -> Option<Event>
-    ensures { result ≡ clear_event (view event.now) }
+pub(crate) fn clear(draft: &Draft) -> Option<Event>
+    ensures { result ≡ clear_of draft.now }
 {
-    Some(Event::Clear(colour(event.get("color")?)?))
+    Some(Event::Clear(draft.colour?))
 }
 
 /// `raster`: culling, winding and whether the scissor is on.
-pub(crate) fn raster(event: &Value) -> Option<Event>
-    ensures { result ≡ raster_event (view event.now) }
+pub(crate) fn raster(draft: &Draft) -> Option<Event>
+    ensures { result ≡ raster_of draft.now }
 {
     Some(Event::SetRaster(Raster {
-        cull: spelling::cull(event.get("cull")?.as_str()?)?,
-        front_ccw: event.get("front_ccw")?.as_bool()?,
-        scissor: event.get("scissor")?.as_bool()?,
+        cull: draft.cull?,
+        front_ccw: draft.front_ccw?,
+        scissor: draft.scissor?,
     }))
 }
 
 /// `scissor`: a rectangle.
-pub(crate) fn scissor(event: &Value) -> Option<Event>
-    ensures { result ≡ scissor_event (view event.now) }
+pub(crate) fn scissor(draft: &Draft) -> Option<Event>
+    ensures { result ≡ scissor_of draft.now }
 {
-    Some(Event::SetScissor(rect(event.get("rect")?)?))
+    Some(Event::SetScissor(draft.rect?))
 }
 
 /// `blend`: the blend state.
-pub(crate) fn blend(event: &Value) -> Option<Event>
-    ensures { result ≡ blend_event (view event.now) }
+pub(crate) fn blend(draft: &Draft) -> Option<Event>
+    ensures { result ≡ blend_of draft.now }
 {
-    let enable = event.get("enable")?.as_bool()?;
-    let rgb = part(event.get("rgb")?)?;
-    let alpha = part(event.get("alpha")?)?;
-    let mask = mask(event.get("mask")?)?;
-    let state = BlendState::new(enable, rgb, alpha, mask).ok()?;
+    let state = BlendState::new(draft.enable?, draft.rgb?, draft.alpha?, draft.mask?).ok()?;
     Some(Event::SetBlend(state))
 }
 
 /// `factor`: the blend factor.
-pub(crate) fn factor(event: &Value) -> Option<Event>
-    ensures { result ≡ factor_of (view event.now) }
+pub(crate) fn factor(draft: &Draft) -> Option<Event>
+    ensures { result ≡ factor_of draft.now }
 {
-    Some(Event::SetFactor(colour(event.get("color")?)?))
+    Some(Event::SetFactor(draft.colour?))
 }
 
 /// `marker`: a name.
-pub(crate) fn marker(alloc: Global, event: &Value) -> Result<Event, EventFault>
-    ensures { GivesEvent (λ event. event) result (ok_or (marker_event (view event.now)) EventFault.BadField) }
+pub(crate) fn marker(draft: Draft) -> Option<Event>
+    ensures { result ≡ marker_of draft }
 {
-    let name = event
-        .get("name")
-        .and_then(Value::as_str)
-        .ok_or(EventFault::BadField)?;
-    let text = String::from_str(alloc, name)?;
-    let label = Label::new(text).ok().ok_or(EventFault::BadField)?;
-    Ok(Event::Marker(label))
+    Some(Event::Marker(draft.label?))
 }
 
 /// `depth`: the depth state.
-pub(crate) fn depth(event: &Value) -> Option<Event>
-    ensures { result ≡ depth_event (view event.now) }
+pub(crate) fn depth(draft: &Draft) -> Option<Event>
+    ensures { result ≡ depth_of draft.now }
 {
     Some(Event::SetDepth(Depth {
-        enable: event.get("enable")?.as_bool()?,
-        write: event.get("write")?.as_bool()?,
-        func: spelling::func(event.get("func")?.as_str()?)?,
+        enable: draft.enable?,
+        write: draft.write?,
+        func: draft.func?,
     }))
 }
 
 /// `depth_clear`: a depth.
-pub(crate) fn depth_clear(event: &Value) -> Option<Event>
-    ensures { result ≡ depth_clear_event (view event.now) }
+pub(crate) fn depth_clear(draft: &Draft) -> Option<Event>
+    ensures { result ≡ depth_clear_of draft.now }
 {
-    Some(Event::DepthClear(short(event.get("depth")?.as_i64())?))
+    Some(Event::DepthClear(draft.depth?))
 }

@@ -1,85 +1,59 @@
 //! The members of an event, taken from the tokens of its text.
-ghost use Rattle.std.specs.Prelude.{◌≡◌, ◌<◌, List, ℕ, codes, cond, length, true, Some, None, Err, IfOk, OnOk};
-ghost use Rattle.std.specs.Str.{bytes_eq};
-ghost use Rattle.serde_json.specs.Data.{Data, Members, put};
-ghost use Rattle.serde_json.specs.Find.{get_member};
-ghost use Rattle.serde_json.specs.View.{members_view, view};
-ghost use Rattle.fd_capture.specs.Fault.{GivesEvent};
-ghost use Rattle.fd_capture.specs.Capture.{event_of, event_of_depth};
+ghost use Rattle.std.specs.Prelude.{◌≡◌, ◌<◌, length, Some, None, Err, IfOk, OnOk};
+ghost use Rattle.serde_json.specs.Data.{Data, Members};
 ghost use Rattle.fd_json.specs.Taken.{taken, members_taken};
-ghost use Rattle.fd_json.specs.Clipped.{clipped};
-ghost use Rattle.fd_capture.specs.Streamed.{is_small, Clips, event_from, indices_of_array, large_in, large_of, picture_read, vertices_read};
+ghost use Rattle.fd_capture.specs.Capture.{event_of};
+ghost use Rattle.fd_capture.specs.Drafted.{IsDraft, IsDraftWith, label_of, event_from, event_of_kind_from};
 
 use crate::fault::EventFault;
-use crate::kind;
+use crate::from_tokens::FromTokens;
+use crate::kind::{self, Kind};
 use crate::parts::{Parts, draw};
 use crate::picture::picture;
 use crate::scope::Scope;
+use crate::spelling::{Paint, spelled};
 use crate::vertices::{indices, vertices};
-use fd_events::Event;
-use fd_json::{Stop, clipped, open_object, pass};
+use fd_blend::{Colour, Mask, Part};
+use fd_cover::{Cull, Func, Rect};
+use fd_events::{Event, Label};
+use fd_json::{Stop, open_object, pass, text};
 use json::Reader;
-use serde_json::{Map, Value};
 
 /// The event that was read, or what is wrong with it.
 pub(crate) type ReadEvent = Result<Event, EventFault>;
 
-/// What was read of an event: its small members, and what its large ones stand for.
-#[derive(Drop)]
+/// What the members of an event stand for, each if it is there and well formed.
+#[derive(Default, Drop)]
 pub(crate) struct Draft {
-    pub(crate) members: Map<String, Value>,
+    pub(crate) kind: Option<Kind>,
+    pub(crate) colour: Option<Colour>,
+    pub(crate) cull: Option<Cull>,
+    pub(crate) front_ccw: Option<bool>,
+    pub(crate) scissor: Option<bool>,
+    pub(crate) rect: Option<Rect>,
+    pub(crate) enable: Option<bool>,
+    pub(crate) rgb: Option<Part>,
+    pub(crate) alpha: Option<Part>,
+    pub(crate) mask: Option<Mask>,
+    pub(crate) paint: Option<Paint>,
+    pub(crate) label: Option<Label>,
+    pub(crate) write: Option<bool>,
+    pub(crate) func: Option<Func>,
+    pub(crate) depth: Option<u16>,
     pub(crate) parts: Parts,
 }
 
-/// Whether a capture or a kind of event has a member of this name that is no long list or text.
-fn is_small(name: &str) -> bool
-    ensures { result ≡ is_small name.now }
-{
-    match name {
-        "format"
-        | "version"
-        | "width"
-        | "height"
-        | "kind"
-        | "color"
-        | "cull"
-        | "front_ccw"
-        | "scissor"
-        | "rect"
-        | "enable"
-        | "rgb"
-        | "alpha"
-        | "mask"
-        | "interp"
-        | "name"
-        | "write"
-        | "func"
-        | "depth" => true,
-        _ => false,
-    }
-}
-
-/// The next value is the member of this name, and goes in among the small ones if it is one of them.
-pub(crate) fn small_member(
-    reader: &mut Reader<'_>,
-    scope: Scope,
-    name: &str,
-    members: &mut Map<String, Value>,
-) -> Result<(), Stop>
-    ensures ok { OnOk result ((d : Data) × (taken scope.depth reader.old ≡ Some (d, reader.new))
-        × (members_view members.new.entries
-        ≡ cond (is_small name.now) (put name.now (clipped d) (members_view members.old.entries)) (members_view members.old.entries))) }
+/// The next value as the name of a marker.
+fn label(reader: &mut Reader<'_>, scope: Scope) -> Result<Option<Label>, Stop>
+    ensures ok { IfOk result (λ label. (d : Data) × (taken scope.depth reader.old ≡ Some (d, reader.new)) × (label ≡ label_of d)) }
     ensures refused { result ≡ Err Stop.NotJson → taken scope.depth reader.old ≡ None }
     ensures shorter { OnOk result (length reader.new < length reader.old) }
 {
-    if !is_small(name) {
-        pass(reader, scope.depth)?;
-        return Ok(());
+    let found = text(reader, scope.depth)?;
+    match found {
+        Some(text) => Ok(Label::new(String::from_str(scope.alloc, text)?).ok()),
+        None => Ok(None),
     }
-    let key = String::from_str(scope.alloc, name)?;
-    let value = clipped(scope.alloc, reader, scope.depth)?;
-    drop(members.insert(key, value)?);
-    Ok(())
 }
 
 /// The next value is the member of this name, and goes into the draft if a kind of event has one.
@@ -90,22 +64,30 @@ fn event_member(
     draft: &mut Draft,
 ) -> Result<(), Stop>
     ensures ok { OnOk result ((d : Data) × (taken scope.depth reader.old ≡ Some (d, reader.new))
-        × (members_view draft.new.members.entries
-        ≡ cond (is_small name.now) (put name.now (clipped d) (members_view draft.old.members.entries)) (members_view draft.old.members.entries))
-        × ((large_of draft.new.parts).vertices
-        ≡ cond (bytes_eq name.now (codes "vertices")) (Some (vertices_read scope.version d)) (large_of draft.old.parts).vertices)
-        × ((large_of draft.new.parts).indices
-        ≡ cond (bytes_eq name.now (codes "indices")) (Some (indices_of_array d)) (large_of draft.old.parts).indices)
-        × ((large_of draft.new.parts).picture
-        ≡ cond (bytes_eq name.now (codes "picture")) (Some (picture_read scope.version d)) (large_of draft.old.parts).picture)) }
+        × IsDraftWith scope.version name.now d draft.old draft.new) }
     ensures refused { result ≡ Err Stop.NotJson → taken scope.depth reader.old ≡ None }
     ensures shorter { OnOk result (length reader.new < length reader.old) }
 {
     match name {
+        "kind" => draft.kind = spelled(reader, scope)?,
+        "color" => draft.colour = Colour::next(reader, scope)?,
+        "cull" => draft.cull = spelled(reader, scope)?,
+        "front_ccw" => draft.front_ccw = bool::next(reader, scope)?,
+        "scissor" => draft.scissor = bool::next(reader, scope)?,
+        "rect" => draft.rect = Rect::next(reader, scope)?,
+        "enable" => draft.enable = bool::next(reader, scope)?,
+        "rgb" => draft.rgb = Part::next(reader, scope)?,
+        "alpha" => draft.alpha = Part::next(reader, scope)?,
+        "mask" => draft.mask = Mask::next(reader, scope)?,
+        "interp" => draft.paint = spelled(reader, scope)?,
+        "name" => draft.label = label(reader, scope)?,
+        "write" => draft.write = bool::next(reader, scope)?,
+        "func" => draft.func = spelled(reader, scope)?,
+        "depth" => draft.depth = u16::next(reader, scope)?,
         "vertices" => draft.parts.vertices = Some(vertices(reader, scope)?),
         "indices" => draft.parts.indices = Some(indices(reader, scope)?),
         "picture" => draft.parts.picture = Some(picture(reader, scope)?),
-        _ => small_member(reader, scope, name, &mut draft.members)?,
+        _ => pass(reader, scope.depth)?,
     }
     Ok(())
 }
@@ -113,56 +95,54 @@ fn event_member(
 /// The members of an event whose brace was taken, up to the brace that closes it.
 fn draft_members(reader: &mut Reader<'_>, scope: Scope) -> Result<Draft, Stop>
     ensures ok { IfOk result (λ draft. (found : Members) × (members_taken scope.depth reader.old ≡ Some (found, reader.new))
-        × Clips (members_view draft.members.entries) found × (large_of draft.parts ≡ large_in scope.version found)) }
+        × IsDraft scope.version found draft) }
     ensures refused { result ≡ Err Stop.NotJson → members_taken scope.depth reader.old ≡ None }
     ensures shorter { OnOk result (length reader.new < length reader.old) }
 {
-    let mut draft = Draft {
-        members: Map::new(scope.alloc),
-        parts: Parts::default(),
-    };
+    let mut draft = Draft::default();
     'members: while let Some(name) = reader.next_key()? {
         event_member(reader, scope, name, &mut draft)?;
     }
     Ok(draft)
 }
 
-/// The event of a kind that version 1 doesn't have.
-fn depth_event(kind: &str, event: &Value) -> ReadEvent
-    ensures { GivesEvent (λ event. event) result (event_of_depth kind.now (view event.now)) }
+/// The event of a kind, of what its members stand for.
+fn event_of_kind(version: u32, kind: Kind, draft: Draft) -> Option<Event>
+    ensures { result ≡ event_of_kind_from version kind draft }
 {
     match kind {
-        "depth" => kind::depth(event).ok_or(EventFault::BadField),
-        "depth_clear" => kind::depth_clear(event).ok_or(EventFault::BadField),
-        _ => Err(EventFault::UnknownEvent),
+        Kind::Clear => kind::clear(&draft),
+        Kind::Raster => kind::raster(&draft),
+        Kind::Scissor => kind::scissor(&draft),
+        Kind::Blend => kind::blend(&draft),
+        Kind::Factor => kind::factor(&draft),
+        Kind::Draw => draw(version, draft),
+        Kind::Marker => kind::marker(draft),
+        Kind::Depth => kind::depth(&draft),
+        Kind::DepthClear => kind::depth_clear(&draft),
+        Kind::Other => None,
     }
 }
 
-/// The event of its small members, and of what its large ones stand for.
-fn event_from(scope: Scope, event: &Value, parts: Parts) -> ReadEvent
-    ensures { GivesEvent (λ event. event) result (event_from scope.version (view event.now) (large_of parts)) }
+/// The event of what its members stand for. Version 1 has no depths.
+fn event_from(version: u32, draft: Draft) -> ReadEvent
+    ensures { result ≡ event_from version draft }
 {
-    let kind = event
-        .get("kind")
-        .and_then(Value::as_str)
-        .ok_or(EventFault::BadField)?;
-    match kind {
-        "clear" => kind::clear(event).ok_or(EventFault::BadField),
-        "raster" => kind::raster(event).ok_or(EventFault::BadField),
-        "scissor" => kind::scissor(event).ok_or(EventFault::BadField),
-        "blend" => kind::blend(event).ok_or(EventFault::BadField),
-        "factor" => kind::factor(event).ok_or(EventFault::BadField),
-        "draw" => draw(scope.version, event, parts).ok_or(EventFault::BadField),
-        "marker" => kind::marker(scope.alloc, event),
-        _ if scope.version == 1 => Err(EventFault::UnknownEvent),
-        _ => depth_event(kind, event),
+    let kind = draft.kind.ok_or(EventFault::BadField)?;
+    let is_known = match kind {
+        Kind::Other => false,
+        Kind::Depth | Kind::DepthClear => version != 1,
+        _ => true,
+    };
+    if !is_known {
+        return Err(EventFault::UnknownEvent);
     }
+    event_of_kind(version, kind, draft).ok_or(EventFault::BadField)
 }
 
 /// The next value as an event.
 pub(crate) fn event(reader: &mut Reader<'_>, scope: Scope) -> Result<ReadEvent, Stop>
-    ensures ok { IfOk result (λ r. (d : Data) × (taken scope.depth reader.old ≡ Some (d, reader.new))
-        × GivesEvent (λ event. event) r (event_of scope.version d)) }
+    ensures ok { IfOk result (λ r. (d : Data) × (taken scope.depth reader.old ≡ Some (d, reader.new)) × (r ≡ event_of scope.version d)) }
     ensures refused { result ≡ Err Stop.NotJson → taken scope.depth reader.old ≡ None }
     ensures shorter { OnOk result (length reader.new < length reader.old) }
 {
@@ -170,6 +150,5 @@ pub(crate) fn event(reader: &mut Reader<'_>, scope: Scope) -> Result<ReadEvent, 
         return Ok(Err(EventFault::BadField));
     }
     let draft = draft_members(reader, scope.inner())?;
-    let Draft { members, parts } = draft;
-    Ok(event_from(scope, &Value::Object(members), parts))
+    Ok(event_from(scope.version, draft))
 }

@@ -1,12 +1,13 @@
 //! What the large members of an event stand for, and the draw of them.
 ghost use Rattle.std.specs.Prelude.{◌≡◌, option_map};
-ghost use Rattle.serde_json.specs.View.{view};
-ghost use Rattle.fd_capture.specs.Streamed.{coloured, draw_from, if_any, large_of, painted_draw_from, shaded_draw_from, vertices_seen};
+ghost use Rattle.fd_capture.specs.Drafted.{draw_of, interp_of, painted_draw_of, shaded_draw_of};
+ghost use Rattle.fd_capture.specs.Streamed.{coloured, if_any, large_of, vertices_seen};
 
-use crate::spelling;
+use crate::members::Draft;
+use crate::spelling::Paint;
 use crate::vertices::VertexList;
+use fd_cover::Interp;
 use fd_events::{Draw, Event, Picture, Vertex};
-use serde_json::Value;
 
 /// What a member stands for: none if there is no such member, and none within if it isn't well formed.
 pub(crate) type Member<T> = Option<Option<T>>;
@@ -37,19 +38,26 @@ fn coloured(vertices: VertexList) -> Option<Vec<Vertex>>
     if coloured { Some(list) } else { None }
 }
 
+/// How the colours of vertices are interpolated, if they come from there.
+fn interp_of(paint: Paint) -> Option<Interp>
+    ensures { result ≡ interp_of paint }
+{
+    match paint {
+        Paint::Vertices(interp) => Some(interp),
+        Paint::Picture => None,
+    }
+}
+
 /// A draw whose colours come from its vertices.
-fn shaded_draw(event: &Value, parts: Parts) -> Option<Event>
-    ensures { result ≡ shaded_draw_from (view event.now) (large_of parts) }
+fn shaded_draw(paint: Option<Paint>, parts: Parts) -> Option<Event>
+    ensures { result ≡ shaded_draw_of paint (large_of parts) }
 {
     let Parts {
         vertices,
         indices,
         ..
     } = parts;
-    let interp = event
-        .get("interp")
-        .and_then(Value::as_str)
-        .and_then(spelling::interp)?;
+    let interp = paint.and_then(interp_of)?;
     let vertices = coloured(vertices??)?;
     let indices = if_any(indices)?;
     let draw = Draw::new(vertices, indices, interp).ok()?;
@@ -58,7 +66,7 @@ fn shaded_draw(event: &Value, parts: Parts) -> Option<Event>
 
 /// A draw whose colours come from a picture.
 fn painted_draw(parts: Parts) -> Option<Event>
-    ensures { result ≡ painted_draw_from (large_of parts) }
+    ensures { result ≡ painted_draw_of (large_of parts) }
 {
     let Parts {
         vertices,
@@ -73,13 +81,11 @@ fn painted_draw(parts: Parts) -> Option<Event>
 }
 
 /// A draw in a capture of a version; pictures are of version 3.
-pub(crate) fn draw(version: u32, event: &Value, parts: Parts) -> Option<Event>
-    ensures { result ≡ draw_from version (view event.now) (large_of parts) }
+pub(crate) fn draw(version: u32, draft: Draft) -> Option<Event>
+    ensures { result ≡ draw_of version draft }
 {
-    let interp = event.get("interp").and_then(Value::as_str);
-    if version == 3 && interp == Some("picture") {
-        painted_draw(parts)
-    } else {
-        shaded_draw(event, parts)
+    match draft.paint {
+        Some(Paint::Picture) if version == 3 => painted_draw(draft.parts),
+        _ => shaded_draw(draft.paint, draft.parts),
     }
 }

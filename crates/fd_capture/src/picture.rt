@@ -7,7 +7,7 @@ ghost use Rattle.fd_capture.specs.Field.{unsigned_32};
 ghost use Rattle.fd_capture.specs.Picture.{bytes_of_data, decoded, picture_of_data};
 ghost use Rattle.fd_capture.specs.Streamed.{picture_from, picture_read};
 
-use crate::number::next_unsigned;
+use crate::from_tokens::FromTokens;
 use crate::parts::{Member, if_any};
 use crate::scope::Scope;
 use base64::DecodeAllocError;
@@ -108,10 +108,10 @@ fn picture_member(
     ensures shorter { OnOk result (length reader.new < length reader.old) }
 {
     match name {
-        "left" => parts.left = next_unsigned(reader, scope)?,
-        "top" => parts.top = next_unsigned(reader, scope)?,
-        "width" => parts.width = next_unsigned(reader, scope)?,
-        "height" => parts.height = next_unsigned(reader, scope)?,
+        "left" => parts.left = u32::next(reader, scope)?,
+        "top" => parts.top = u32::next(reader, scope)?,
+        "width" => parts.width = u32::next(reader, scope)?,
+        "height" => parts.height = u32::next(reader, scope)?,
         "texels" => parts.texels = bytes(reader, scope)?,
         "holes" => parts.holes = Some(bytes(reader, scope)?),
         _ => pass(reader, scope.depth)?,

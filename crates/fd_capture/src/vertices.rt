@@ -5,11 +5,10 @@ ghost use Rattle.std.specs.Str.{bytes_eq};
 ghost use Rattle.serde_json.specs.Data.{Data, Items, Members, object};
 ghost use Rattle.fd_json.specs.Taken.{taken, members_taken, items_taken};
 ghost use Rattle.fd_capture.specs.Field.{all_of, array_of, colour_of_data, list_of, number_between, signed_32, unsigned_32};
-ghost use Rattle.fd_capture.specs.Streamed.{colour_from, together, vertex_from, vertex_read, vertices_read, vertices_seen};
+ghost use Rattle.fd_capture.specs.Streamed.{together, vertex_from, vertex_read, vertices_read, vertices_seen};
 
-use crate::number::{next_byte, next_short, next_signed, next_unsigned};
+use crate::from_tokens::FromTokens;
 use crate::scope::Scope;
-use arrayvec::ArrayVec;
 use fd_blend::Colour;
 use fd_events::Vertex;
 use fd_json::{Stop, open_array, open_object, pass};
@@ -67,70 +66,6 @@ fn vertex_from(version: u32, parts: VertexParts) -> Option<(Vertex, bool)>
     Some((vertex, colour.is_some()))
 }
 
-/// The first channels of an array: as many as tell that there are four, or more.
-type Channels = ArrayVec<u8, 5>;
-
-/// Keeps a channel, if it is one of the first.
-fn keep(channels: &mut Channels, channel: u8)
-    ensures { channels.new.items ≡ take 5 (channels.old.items ++ channel ∷ []) }
-{
-    if !channels.is_full() {
-        channels.push(channel);
-    }
-}
-
-/// The first channels of an array whose bracket was taken, up to the bracket that closes it; none if one of all isn't well formed.
-fn channel_items(reader: &mut Reader<'_>, scope: Scope) -> Result<Option<Channels>, Stop>
-    ensures ok { IfOk result (λ v. (ds : Items) × (items_taken scope.depth reader.old ≡ Some (ds, reader.new))
-        × (option_map (λ channels. channels.items) v ≡ option_map (take 5) (all_of (number_between 0 255) (list_of ds)))) }
-    ensures refused { result ≡ Err Stop.NotJson → items_taken scope.depth reader.old ≡ None }
-    ensures shorter { OnOk result (length reader.new < length reader.old) }
-{
-    let mut channels = ArrayVec::new();
-    let mut well_formed = true;
-    'items: while !reader.take_end_array() {
-        match next_byte(reader, scope)? {
-            Some(channel) => keep(&mut channels, channel),
-            None => well_formed = false,
-        }
-    }
-    if !well_formed {
-        return Ok(None);
-    }
-    Ok(Some(channels))
-}
-
-/// The colour of exactly four channels.
-fn colour_from(channels: &[u8]) -> Option<Colour>
-    ensures { result ≡ colour_from channels.now }
-{
-    let [r, g, b, a] = channels else {
-        return None;
-    };
-    Some(Colour {
-        r: *r,
-        g: *g,
-        b: *b,
-        a: *a,
-    })
-}
-
-/// The next value as a colour.
-fn colour(reader: &mut Reader<'_>, scope: Scope) -> Result<Option<Colour>, Stop>
-    ensures ok { IfOk result (λ c. (d : Data) × (taken scope.depth reader.old ≡ Some (d, reader.new)) × (c ≡ colour_of_data d)) }
-    ensures refused { result ≡ Err Stop.NotJson → taken scope.depth reader.old ≡ None }
-    ensures shorter { OnOk result (length reader.new < length reader.old) }
-{
-    if !open_array(reader, scope.depth)? {
-        return Ok(None);
-    }
-    let channels = channel_items(reader, scope.inner())?;
-    let Some(channels) = channels else {
-        return Ok(None);
-    };
-    Ok(colour_from(channels.as_slice()))
-}
-
 /// The next value is the member of this name, and goes in among the parts if a vertex has one.
 #[inline(always)]
 fn vertex_member(
@@ -148,10 +83,10 @@ fn vertex_member(
     ensures shorter { OnOk result (length reader.new < length reader.old) }
 {
     match name {
-        "x" => parts.x = next_signed(reader, scope)?,
-        "y" => parts.y = next_signed(reader, scope)?,
-        "z" => parts.z = next_short(reader, scope)?,
-        "color" => parts.colour = colour(reader, scope)?,
+        "x" => parts.x = i32::next(reader, scope)?,
+        "y" => parts.y = i32::next(reader, scope)?,
+        "z" => parts.z = u16::next(reader, scope)?,
+        "color" => parts.colour = Colour::next(reader, scope)?,
         _ => pass(reader, scope.depth)?,
     }
     Ok(())
@@ -230,7 +165,7 @@ fn index_items(reader: &mut Reader<'_>, scope: Scope) -> Result<Option<Vec<u32>>
     let mut indices = Vec::new(scope.alloc);
     let mut well_formed = true;
     'items: while !reader.take_end_array() {
-        match next_unsigned(reader, scope)? {
+        match u32::next(reader, scope)? {
             Some(index) => indices.push(index)?,
             None => well_formed = false,
         }

@@ -1,16 +1,34 @@
-use Rattle.std.proofs.Common.{◌≡◌, bytes_eq, codes, refl, ap, ◌∙◌, arith}
+use Rattle.std.proofs.Common.{arith}
 use Rattle.serde_json.specs.Data.{no_members, put}
-use Rattle.serde_json.specs.Find.{get_member}
-use Rattle.serde_json.specs.View.{members_view}
 use Rattle.fd_json.proofs.Within.{object-begins, object-member, object-ends, object-no_key, object-refused}
-use Rattle.fd_capture.specs.Streamed.{indices_of_array, picture_read, vertices_read}
-use Rattle.fd_capture.proofs.Drafts.{clips-after, made-after}
+use Rattle.fd_capture.proofs.Drafts.{draft-after}
 use Rattle.fd_capture.proofs.members.draft_members.Goals as goal
 
 pub members-init : goal.members-init
-members-init c =
-    let empty = ap members_view c.new.ensures.empty in
-    (no_members, object-begins c.args.scope.depth c.args.reader.now, λ name small. ap (get_member name) empty, (cc), (cc), (cc))
+members-init c = (
+  no_members,
+  object-begins c.args.scope.depth c.args.reader.now,
+  record {
+    kind = (cc);
+    colour = (cc);
+    cull = (cc);
+    front_ccw = (cc);
+    scissor = (cc);
+    rect = (cc);
+    enable = (cc);
+    rgb = (cc);
+    alpha = (cc);
+    mask = (cc);
+    paint = (cc);
+    label = (cc);
+    write = (cc);
+    func = (cc);
+    depth = (cc);
+    vertices = (cc);
+    indices = (cc);
+    picture = (cc);
+  },
+)
 
 pub returns-in_err-name-clause-refused : goal.returns-in_err-name-clause-refused
 returns-in_err-name-clause-refused c refused = object-no_key _ _ _ _ c.members.invariant.1 c.in_err-name.ensures.value
@@ -24,15 +42,11 @@ members-preserved c =
     let l = c.members in
     let found = l.invariant.0 in
     let k = c.in-Some.name.now in
-    let read = c.in_ok-event_member.ensures.ok in
-    let version = c.args.scope.version in (
+    let read = c.in_ok-event_member.ensures.ok in (
       put k read.0 found,
       object-member _ _ _ c.next_key.new.self c.event_member.new.reader found k read.0 l.invariant.1 (grind arith) read.1
           c.in_ok-event_member.ensures.shorter,
-      rw read.2 (clips-after (members_view l.draft.members.entries) found k read.0 l.invariant.2),
-      read.3 ∙ rw l.invariant.3 (made-after (vertices_read version) (codes "vertices") k read.0 found (bytes_eq k (codes "vertices")) refl),
-      read.4 ∙ rw l.invariant.4 (made-after indices_of_array (codes "indices") k read.0 found (bytes_eq k (codes "indices")) refl),
-      read.5 ∙ rw l.invariant.5 (made-after (picture_read version) (codes "picture") k read.0 found (bytes_eq k (codes "picture")) refl),
+      draft-after c.args.scope.version found k read.0 l.draft c.event_member.new.draft l.invariant.2 read.2,
     )
 
 pub returns-clause-ok : goal.returns-clause-ok
@@ -41,5 +55,4 @@ returns-clause-ok c =
       l.invariant.0,
       object-ends c.args.scope.depth c.args.reader.now l.reader c.next_key.new.self l.invariant.0 l.invariant.1 (grind arith),
       l.invariant.2,
-      cc (l.invariant.3, l.invariant.4, l.invariant.5),
     )

@@ -16,10 +16,10 @@ items-preserved-in-Continue-branch-3 c =
     let l = c.items in
     let going : (after_end_array l.reader ≡ None) × (c.take_end_array.new.self ≡ l.reader) = grind arith in
     let read = c.in_ok-index.ensures.ok in
-    let shorter : length c.next_unsigned.new.reader < length l.reader = rw (← going.1) c.in_ok-index.ensures.shorter in
+    let shorter : length c.next.new.reader < length l.reader = rw (← going.1) c.in_ok-index.ensures.shorter in
     let is : unsigned_32 read.0 ≡ Some c.in-Some.index = sym read.2 ∙ c.in-Some.is in (
       l.invariant.0 ++ read.0 ∷ [],
-      array-item _ _ _ c.next_unsigned.new.reader _ read.0 l.invariant.1 going.0 (rw (← going.1) read.1) shorter,
+      array-item _ _ _ c.next.new.reader _ read.0 l.invariant.1 going.0 (rw (← going.1) read.1) shorter,
       rw c.in_ok-push-in-Some.ensures.items (so_far-some unsigned_32 l.well_formed l.invariant.0 l.indices.items read.0 c.in-Some.index l.invariant.2 is),
     )
 
@@ -28,10 +28,10 @@ items-preserved c =
     let l = c.items in
     let going : (after_end_array l.reader ≡ None) × (c.take_end_array.new.self ≡ l.reader) = grind arith in
     let read = c.in_ok-index.ensures.ok in
-    let shorter : length c.next_unsigned.new.reader < length l.reader = rw (← going.1) c.in_ok-index.ensures.shorter in
+    let shorter : length c.next.new.reader < length l.reader = rw (← going.1) c.in_ok-index.ensures.shorter in
     let is : unsigned_32 read.0 ≡ None = sym read.2 ∙ c.in-None.is in (
       l.invariant.0 ++ read.0 ∷ [],
-      array-item _ _ _ c.next_unsigned.new.reader _ read.0 l.invariant.1 going.0 (rw (← going.1) read.1) shorter,
+      array-item _ _ _ c.next.new.reader _ read.0 l.invariant.1 going.0 (rw (← going.1) read.1) shorter,
       so_far-none unsigned_32 l.well_formed l.invariant.0 l.indices.items read.0 l.invariant.2 is,
     )
 

@@ -1,4 +1,4 @@
-use Rattle.std.proofs.Common.{◌≡◌, bytes_eq, codes, refl, ◌∙◌, arith}
+use Rattle.std.proofs.Common.{bytes_eq, codes, refl, ◌∙◌, arith}
 use Rattle.serde_json.specs.Data.{no_members, put}
 use Rattle.fd_json.proofs.Within.{object-begins, object-member, object-ends, object-no_key, object-refused}
 use Rattle.fd_json.proofs.Found.{field-after}

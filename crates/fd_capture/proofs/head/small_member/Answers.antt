@@ -2,7 +2,7 @@ use Rattle.std.proofs.Common.{◌≡◌, true, string_bytes, refl, ap, ◌∙◌
 use Rattle.serde_json.specs.View.{members_view}
 use Rattle.serde_json.proofs.Views.{members_view-insert_entry}
 use Rattle.fd_capture.specs.Streamed.{is_small}
-use Rattle.fd_capture.proofs.members.small_member.Goals as goal
+use Rattle.fd_capture.proofs.head.small_member.Goals as goal
 
 pub returns-clause-ok : goal.returns-clause-ok
 returns-clause-ok c =
