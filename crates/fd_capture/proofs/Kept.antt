@@ -28,7 +28,7 @@ use Rattle.fd_capture.specs.declared.members.Draft.{Draft}
 use Rattle.fd_capture.specs.declared.spelling.Paint.TheVariants as paint
 use Rattle.fd_capture.specs.Capture.{event_of, event_of_kind}
 use Rattle.fd_capture.specs.Streamed.{is_small, Clips, indices_of_array, if_any, well_formed, picture_read, picture_from, spelled_paint, large_of}
-use Rattle.fd_capture.specs.Drafted.{IsDraft, mask_of_data, kind_of, interp_of, is_painted, blend_of, marker_of, depth_of, depth_clear_of, draw_of, shaded_draw_of}
+use Rattle.fd_capture.specs.Drafted.{IsDraft, mask_of_data, kind_of, interp_of, is_painted, blend_of, marker_of, depth_drafted, depth_clear_of, draw_drafted, shaded_draw_of}
 use Rattle.fd_capture.specs.Drafted.{painted_draw_of, event_of_known, with_kind, event_from}
 use Rattle.fd_capture.proofs.Coloured.{coloured-found, painted-found}
 use Rattle.fd_capture.proofs.Outer.{number-clipped}
@@ -174,7 +174,7 @@ module _ (version : ℕ) (found : Members) (draft : Draft) (is : IsDraft version
       let painted = painted-found_in (eqb-true version 3 third) in
       cc (picture-named, painted, shaded-found)
 
-  draw-found : draw_of version draft ≡ draw_event version (object found)
+  draw-found : draw_drafted version draft ≡ draw_event version (object found)
   draw-found = by_version (version == 3) refl
 
   abbrev f : Kind → Result Event EventFault
@@ -188,7 +188,7 @@ module _ (version : ℕ) (found : Members) (draft : Draft) (is : IsDraft version
   marker-found : marker_of draft ≡ marker_event (object found)
   marker-found = rw (is.label ∙ text-then (λ text. result_ok (labelled text)) (get_member (codes "name") found)) (by_text (text_member "name" (object found)))
 
-  depth-found : depth_of draft ≡ depth_event (object found)
+  depth-found : depth_drafted draft ≡ depth_event (object found)
   depth-found = rw (is.enable, is.write, is.func ∙ text-then spelled_func (get_member (codes "func") found)) refl
 
   depth_clear-found : depth_clear_of draft ≡ depth_clear_event (object found)

@@ -89,29 +89,29 @@ pub record IsDraft (version : ℕ) (found : Members) (draft : Draft) : Type 0 wh
   pub picture : (large_of draft.parts).picture ≡ option_map (picture_read version) (get_member (codes "picture") found)
 
 -- what a member leaves in its place, which is of a name, and what was there before
-abbrev pub left_by : {X : Type 0} → String → List ℕ → (Data → Option X) → Data → Option X → Option X
-left_by own name f d before = cond (bytes_eq name (codes own)) (f d) before
+abbrev pub member_or : {X : Type 0} → String → List ℕ → (Data → Option X) → Data → Option X → Option X
+member_or own name f d before = cond (bytes_eq name (codes own)) (f d) before
 
 -- A draft is another one with one member more, in a capture of a version.
 pub record IsDraftWith (version : ℕ) (name : List ℕ) (d : Data) (old new : Draft) : Type 0 where
-  pub kind : new.kind ≡ left_by "kind" name kind_of_data d old.kind
-  pub colour : new.colour ≡ left_by "color" name colour_of_data d old.colour
-  pub cull : new.cull ≡ left_by "cull" name cull_of_data d old.cull
-  pub front_ccw : new.front_ccw ≡ left_by "front_ccw" name as_bool d old.front_ccw
-  pub scissor : new.scissor ≡ left_by "scissor" name as_bool d old.scissor
-  pub rect : new.rect ≡ left_by "rect" name rect_of_data d old.rect
-  pub enable : new.enable ≡ left_by "enable" name as_bool d old.enable
-  pub rgb : new.rgb ≡ left_by "rgb" name part_of_data d old.rgb
-  pub alpha : new.alpha ≡ left_by "alpha" name part_of_data d old.alpha
-  pub mask : new.mask ≡ left_by "mask" name mask_of_data d old.mask
-  pub paint : new.paint ≡ left_by "interp" name paint_of_data d old.paint
-  pub label : new.label ≡ left_by "name" name label_of d old.label
-  pub write : new.write ≡ left_by "write" name as_bool d old.write
-  pub func : new.func ≡ left_by "func" name func_of_data d old.func
-  pub depth : new.depth ≡ left_by "depth" name (number_between 0 65535) d old.depth
-  pub vertices : (large_of new.parts).vertices ≡ left_by "vertices" name (λ e. Some (vertices_read version e)) d (large_of old.parts).vertices
-  pub indices : (large_of new.parts).indices ≡ left_by "indices" name (λ e. Some (indices_of_array e)) d (large_of old.parts).indices
-  pub picture : (large_of new.parts).picture ≡ left_by "picture" name (λ e. Some (picture_read version e)) d (large_of old.parts).picture
+  pub kind : new.kind ≡ member_or "kind" name kind_of_data d old.kind
+  pub colour : new.colour ≡ member_or "color" name colour_of_data d old.colour
+  pub cull : new.cull ≡ member_or "cull" name cull_of_data d old.cull
+  pub front_ccw : new.front_ccw ≡ member_or "front_ccw" name as_bool d old.front_ccw
+  pub scissor : new.scissor ≡ member_or "scissor" name as_bool d old.scissor
+  pub rect : new.rect ≡ member_or "rect" name rect_of_data d old.rect
+  pub enable : new.enable ≡ member_or "enable" name as_bool d old.enable
+  pub rgb : new.rgb ≡ member_or "rgb" name part_of_data d old.rgb
+  pub alpha : new.alpha ≡ member_or "alpha" name part_of_data d old.alpha
+  pub mask : new.mask ≡ member_or "mask" name mask_of_data d old.mask
+  pub paint : new.paint ≡ member_or "interp" name paint_of_data d old.paint
+  pub label : new.label ≡ member_or "name" name label_of d old.label
+  pub write : new.write ≡ member_or "write" name as_bool d old.write
+  pub func : new.func ≡ member_or "func" name func_of_data d old.func
+  pub depth : new.depth ≡ member_or "depth" name (number_between 0 65535) d old.depth
+  pub vertices : (large_of new.parts).vertices ≡ member_or "vertices" name (λ e. Some (vertices_read version e)) d (large_of old.parts).vertices
+  pub indices : (large_of new.parts).indices ≡ member_or "indices" name (λ e. Some (indices_of_array e)) d (large_of old.parts).indices
+  pub picture : (large_of new.parts).picture ≡ member_or "picture" name (λ e. Some (picture_read version e)) d (large_of old.parts).picture
 
 -- ---- the event
 
@@ -140,8 +140,8 @@ blend_of draft = do
   mask ← draft.mask
   (if has_colour_factor alpha then None else Some (event.SetBlend (record { enable = enable; rgb = rgb; alpha = alpha; mask = mask })))
 
-abbrev pub factor_of : Draft → Option Event
-factor_of draft = do
+abbrev pub factor_drafted : Draft → Option Event
+factor_drafted draft = do
   colour ← draft.colour
   Some (event.SetFactor colour)
 
@@ -150,8 +150,8 @@ marker_of draft = do
   label ← draft.label
   Some (event.Marker label)
 
-abbrev pub depth_of : Draft → Option Event
-depth_of draft = do
+abbrev pub depth_drafted : Draft → Option Event
+depth_drafted draft = do
   enable ← draft.enable
   write ← draft.write
   func ← draft.func
@@ -187,18 +187,18 @@ painted_draw_of large = do
   Some (event.Draw draw)
 
 -- pictures are of version 3
-abbrev pub draw_of : ℕ → Draft → Option Event
-draw_of version draft = if version == 3 && is_painted draft.paint then painted_draw_of (large_of draft.parts) else shaded_draw_of draft.paint (large_of draft.parts)
+abbrev pub draw_drafted : ℕ → Draft → Option Event
+draw_drafted version draft = if version == 3 && is_painted draft.paint then painted_draw_of (large_of draft.parts) else shaded_draw_of draft.paint (large_of draft.parts)
 
 abbrev pub event_of_kind_from : ℕ → Kind → Draft → Option Event
 event_of_kind_from version kind.Clear draft = clear_of draft
 event_of_kind_from version kind.Raster draft = raster_of draft
 event_of_kind_from version kind.Scissor draft = scissor_of draft
 event_of_kind_from version kind.Blend draft = blend_of draft
-event_of_kind_from version kind.Factor draft = factor_of draft
-event_of_kind_from version kind.Draw draft = draw_of version draft
+event_of_kind_from version kind.Factor draft = factor_drafted draft
+event_of_kind_from version kind.Draw draft = draw_drafted version draft
 event_of_kind_from version kind.Marker draft = marker_of draft
-event_of_kind_from version kind.Depth draft = depth_of draft
+event_of_kind_from version kind.Depth draft = depth_drafted draft
 event_of_kind_from version kind.DepthClear draft = depth_clear_of draft
 event_of_kind_from version kind.Other draft = None
 

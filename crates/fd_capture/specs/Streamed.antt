@@ -62,8 +62,8 @@ rect_from (l ∷ t ∷ r ∷ b ∷ []) = Some (record { left = l; top = t; right
 rect_from others = None
 
 -- what a text spells in a part: a factor, an operation or neither
-abbrev pub word_of : List ℕ → Word
-word_of text = record { factor = spelled_factor text; op = spelled_op text }
+abbrev pub words_spelled : List ℕ → Word
+words_spelled text = record { factor = spelled_factor text; op = spelled_op text }
 
 abbrev pub part_from : List Word → Option Part
 part_from (s ∷ d ∷ o ∷ []) = do

@@ -1,6 +1,6 @@
 //! The kinds of event, and the event of each, made of what was read of its members.
 ghost use Rattle.std.specs.Prelude.{◌≡◌};
-ghost use Rattle.fd_capture.specs.Drafted.{clear_of, raster_of, scissor_of, blend_of, factor_of, marker_of, depth_of, depth_clear_of};
+ghost use Rattle.fd_capture.specs.Drafted.{clear_of, raster_of, scissor_of, blend_of, factor_drafted, marker_of, depth_drafted, depth_clear_of};
 
 use crate::members::Draft;
 use crate::spelling::FromText;
@@ -81,7 +81,7 @@ pub(crate) fn blend(draft: &Draft) -> Option<Event>
 
 /// `factor`: the blend factor.
 pub(crate) fn factor(draft: &Draft) -> Option<Event>
-    ensures { result ≡ factor_of draft.now }
+    ensures { result ≡ factor_drafted draft.now }
 {
     Some(Event::SetFactor(draft.colour?))
 }
@@ -95,7 +95,7 @@ pub(crate) fn marker(draft: Draft) -> Option<Event>
 
 /// `depth`: the depth state.
 pub(crate) fn depth(draft: &Draft) -> Option<Event>
-    ensures { result ≡ depth_of draft.now }
+    ensures { result ≡ depth_drafted draft.now }
 {
     Some(Event::SetDepth(Depth {
         enable: draft.enable?,

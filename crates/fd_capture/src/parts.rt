@@ -1,6 +1,6 @@
 //! What the large members of an event stand for, and the draw of them.
 ghost use Rattle.std.specs.Prelude.{◌≡◌, option_map};
-ghost use Rattle.fd_capture.specs.Drafted.{draw_of, interp_of, painted_draw_of, shaded_draw_of};
+ghost use Rattle.fd_capture.specs.Drafted.{draw_drafted, interp_of, painted_draw_of, shaded_draw_of};
 ghost use Rattle.fd_capture.specs.Streamed.{coloured, if_any, large_of, vertices_seen};
 
 use crate::members::Draft;
@@ -82,7 +82,7 @@ fn painted_draw(parts: Parts) -> Option<Event>
 
 /// A draw in a capture of a version; pictures are of version 3.
 pub(crate) fn draw(version: u32, draft: Draft) -> Option<Event>
-    ensures { result ≡ draw_of version draft }
+    ensures { result ≡ draw_drafted version draft }
 {
     match draft.paint {
         Some(Paint::Picture) if version == 3 => painted_draw(draft.parts),

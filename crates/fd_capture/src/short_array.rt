@@ -146,9 +146,9 @@ impl FromTokens for Word {
     ghost use Rattle.std.specs.Prelude.{option_and_then};
     ghost use Rattle.serde_json.specs.Find.{as_str};
     ghost use Rattle.std.specs.Prelude.{Some};
-    ghost use Rattle.fd_capture.specs.Streamed.{word_of};
+    ghost use Rattle.fd_capture.specs.Streamed.{words_spelled};
 
-    ghost of_data = { λ d. option_and_then (λ text. Some (word_of text)) (as_str d) };
+    ghost of_data = { λ d. option_and_then (λ text. Some (words_spelled text)) (as_str d) };
 
     fn next(reader: &mut Reader<'_>, scope: Scope) -> Result<Option<Word>, Stop> {
         spelled(reader, scope)
