@@ -1,6 +1,6 @@
 pub mod Fence
 pub mod Seats
-pub mod Parts
+pub mod Teams
 pub mod Lanes
 pub mod Fakes
 pub mod World

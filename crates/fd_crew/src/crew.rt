@@ -11,13 +11,13 @@ ghost use denote.Param.Send.{IsSync, IsSend};
 ghost use Rattle.fd_owner.specs.Shown.{gone_back_to};
 ghost use Rattle.fd_crew.specs.Fence.{CanWork};
 ghost use Rattle.fd_crew.specs.Seats.{crew_of, target_of};
-ghost use Rattle.fd_crew.specs.Parts.{IsPart, lower_lanes, upper_lanes};
+ghost use Rattle.fd_crew.specs.Teams.{IsTeam, lower_lanes, upper_lanes};
 ghost use Rattle.fd_crew.specs.Lanes.{Drawn, IsPassed, ArePassed, RefusedAt, Worked, EndsAs, EndsApart, OnStop, opening_position};
 ghost use Rattle.fd_memory.specs.Wanting.{Wanted};
 
 use crate::fence::{Fence, Post};
 use crate::lane::{Gate, Lane};
-use crate::part::{Part, even_firsts};
+use crate::team::{Team, even_firsts};
 use fd_events::EventTable;
 use std::alloc::{AllocError, Global};
 use std::thread::{Threads, join_mut};
@@ -117,14 +117,14 @@ fn draw_lanes<L: Lane, G: Gate, S: Post>(
     }
 }
 
-/// Two neighbouring parts of the crew side by side: the upper one in this thread, the lower one in a new thread, or in this one afterwards where none
+/// Two neighbouring teams of the crew side by side: the upper one in this thread, the lower one in a new thread, or in this one afterwards where none
 /// can be started. It is a function of its own, and its closures capture only references to its parameters, since only then is it known what they
 /// leave in the two halves of the lanes.
 #[cycle(range)]
 fn run_both<R: Threads + Sync, L: Lane, G: Gate, S: Post>(
     rt: &R,
     course: &Course<'_, G>,
-    halves: &(Part<'_>, Part<'_>),
+    halves: &(Team<'_>, Team<'_>),
     seat: &mut S,
     other: &mut S,
     lanes: &mut [L],
@@ -133,7 +133,7 @@ fn run_both<R: Threads + Sync, L: Lane, G: Gate, S: Post>(
     requires can { CanWork (crew_of course.now.fence.now) (length course.now.table.now.events) (S.view seat.old)
         × CanWork (crew_of course.now.fence.now) (length course.now.table.now.events) (S.view other.old) }
     requires workers { ((S.view seat.old).share ≡ halves.now.0.workers) × ((S.view other.old).share ≡ halves.now.1.workers) }
-    requires parts { IsPart halves.now.0 × IsPart halves.now.1 }
+    requires teams { IsTeam halves.now.0 × IsTeam halves.now.1 }
     requires owned { (halves.now.0.first_lane ≤ halves.now.1.first_lane) × (halves.now.1.first_lane ≤ halves.now.0.first_lane + length lanes.old) }
     requires room { halves.now.0.first_lane + length lanes.old < 2 ^ 64 }
     requires fits { All (λ l. L.fits l course.now.table.now) lanes.old }
@@ -157,7 +157,7 @@ fn run_both<R: Threads + Sync, L: Lane, G: Gate, S: Post>(
             requires seat { S.stands course.now.fence.now seat.now }
             requires can { CanWork (crew_of course.now.fence.now) (length course.now.table.now.events) (S.view seat.now) }
             requires workers { (S.view seat.now).share ≡ halves.now.0.workers }
-            requires part { IsPart halves.now.0 }
+            requires team { IsTeam halves.now.0 }
             requires room { halves.now.0.first_lane + length front.now < 2 ^ 64 }
             requires fits { All (λ l. L.fits l course.now.table.now) front.now }
             ensures seat { S.stands course.entry.now.fence.now seat.exit.now }
@@ -171,7 +171,7 @@ fn run_both<R: Threads + Sync, L: Lane, G: Gate, S: Post>(
             requires seat { S.stands course.now.fence.now other.now }
             requires can { CanWork (crew_of course.now.fence.now) (length course.now.table.now.events) (S.view other.now) }
             requires workers { (S.view other.now).share ≡ halves.now.1.workers }
-            requires part { IsPart halves.now.1 }
+            requires team { IsTeam halves.now.1 }
             requires room { halves.now.1.first_lane + length back.now < 2 ^ 64 }
             requires fits { All (λ l. L.fits l course.now.table.now) back.now }
             ensures seat { S.stands course.entry.now.fence.now other.exit.now }
@@ -183,31 +183,31 @@ fn run_both<R: Threads + Sync, L: Lane, G: Gate, S: Post>(
     );
 }
 
-/// A part of the crew, with the lanes that its workers own. It is cut in two until one worker is left, or at most one lane: that this thread does itself.
+/// A team of the crew, with the lanes that its workers own. It is cut in two until one worker is left, or at most one lane: that this thread does itself.
 #[cycle(range)]
 fn run_range<R: Threads + Sync, L: Lane, G: Gate, S: Post>(
     rt: &R,
     course: &Course<'_, G>,
-    part: &Part<'_>,
+    team: &Team<'_>,
     seat: &mut S,
     lanes: &mut [L],
 )
     requires seat { S.stands course.now.fence.now seat.old }
     requires can { CanWork (crew_of course.now.fence.now) (length course.now.table.now.events) (S.view seat.old) }
-    requires workers { (S.view seat.old).share ≡ part.now.workers }
-    requires part { IsPart part.now }
-    requires room { part.now.first_lane + length lanes.old < 2 ^ 64 }
+    requires workers { (S.view seat.old).share ≡ team.now.workers }
+    requires team { IsTeam team.now }
+    requires room { team.now.first_lane + length lanes.old < 2 ^ 64 }
     requires fits { All (λ l. L.fits l course.now.table.now) lanes.old }
     ensures seat { S.stands course.now.fence.now seat.new }
     ensures worked { Worked L.shown L.fits course.now.table.now (target_of course.now.fence.now) (S.view seat.old) (S.view seat.new) lanes.old lanes.new }
     ensures wanted { ((S.view seat.new).low ≡ (S.view seat.old).low) ⊎ L.wanted }
-    ensures passed { ArePassed L.shown (G.opened course.now.gate.now) part.now.first_lane lanes.old lanes.new }
+    ensures passed { ArePassed L.shown (G.opened course.now.gate.now) team.now.first_lane lanes.old lanes.new }
 {
-    if part.workers < 2 || lanes.len() < 2 {
-        draw_lanes(course, part.first_lane, seat, lanes);
+    if team.workers < 2 || lanes.len() < 2 {
+        draw_lanes(course, team.first_lane, seat, lanes);
         return;
     }
-    let halves = part.halves(lanes.len());
+    let halves = team.halves(lanes.len());
     let mut other = seat.split(course.fence);
     run_both(rt, course, &halves, seat, &mut other, lanes);
     seat.join(course.fence, other);
@@ -248,13 +248,13 @@ pub fn run_shared<R: Threads + Sync, L: Lane, G: Gate>(
     ensures fits { All (λ l. L.fits l run.now.table.now) lanes.new }
 {
     let (fence, mut seat) = Fence::raise(alloc, run.target, run.workers)?;
-    let part = Part::whole(run.workers, run.firsts);
+    let team = Team::whole(run.workers, run.firsts);
     let course = Course {
         fence: &fence,
         gate,
         table: run.table,
     };
-    run_range(rt, &course, &part, &mut seat, lanes);
+    run_range(rt, &course, &team, &mut seat, lanes);
     let at = fence.close(seat) as u32;
     if at == run.target {
         return Ok(Outcome::Reached);

@@ -8,4 +8,4 @@ mod crew;
 mod fence;
 mod lane;
 pub mod laws;
-mod part;
+mod team;

@@ -6,6 +6,7 @@ use Rattle.fd_events.specs.declared.event.Event.{Event}
 use Rattle.fd_events.specs.declared.event.Event.TheVariants.{Draw}
 use Rattle.fd_events.specs.declared.pipeline.Pipeline.{Pipeline}
 use Rattle.fd_events.specs.Draw.{DrawList, Triangle, triangles_of}
+use Rattle.fd_events.specs.Image.{Pixel, pixel_after, kept_by}
 use Rattle.fd_tile.specs.declared.place.Place.{Place}
 use Rattle.fd_tile.specs.Place.{Holds}
 use Rattle.fd_draw.specs.declared.found.Found.{Found}
@@ -15,6 +16,10 @@ use Rattle.fd_draw.specs.Area.{LiesIn, IsWrittenIn, box_of_place}
 use Rattle.fd_draw.specs.Demand.{is_reached}
 use Rattle.fd_draw.specs.Found.{IsFound}
 use Rattle.fd_draw.specs.Triangles.{triangle_at}
+
+-- an event leaves each pixel of the place as it is, and keeps nothing of it
+abbrev pub WritesNothing : Event → Pipeline → Place → Type 0
+WritesNothing event s p = (x y : ℕ) (before : Pixel) → Holds p x y → (pixel_after event s x y before ≡ before) × (kept_by event s x y before ≡ [])
 
 -- a triangle is reached at no pixel of the place
 abbrev pub IsUnreached : Triangle → Pipeline → Place → Type 0

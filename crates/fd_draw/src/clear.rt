@@ -1,10 +1,10 @@
 //! A clear: all pixels of a tile.
-ghost use Rattle.std.specs.Prelude.{◌≡◌, ◌≤◌, ◌<◌, true, false, Ok, OnErr, length, [], ◌∷◌, ◌++◌};
+ghost use Rattle.std.specs.Prelude.{◌≡◌, ◌≤◌, ◌<◌, true, false, Ok, OnErr, IsOk, length, [], ◌∷◌, ◌++◌};
 ghost use Rattle.fd_events.specs.Image.{pixel_after, kept_by};
 ghost use Rattle.fd_tile.specs.Tile.{IsTileImage};
 ghost use Rattle.fd_undo.specs.Frame.{IsAlike, top};
 ghost use Rattle.fd_undo.specs.Undo.{without_room};
-ghost use Rattle.fd_draw.specs.Demand.{pixels_in, spans_in};
+ghost use Rattle.fd_draw.specs.Demand.{pixels_in, spans_in, event_pixels};
 ghost use Rattle.fd_draw.specs.Written.{cleared, with_cleared};
 ghost use Rattle.fd_draw.specs.Paints.{Paints};
 ghost use Rattle.fd_draw.specs.Writing.{HasRoom, keep_each};
@@ -52,6 +52,7 @@ pub fn clear_alike(event: &Event, tile: &mut Tile, undo: &mut UndoStack) -> Resu
     ensures alike { result ≡ Ok true → IsAlike tile.old.place (top undo.new.frames) }
     ensures not { result ≡ Ok false → (tile.new ≡ tile.old) × (undo.new ≡ undo.old) }
     ensures full { OnErr result ((tile.new ≡ tile.old) × (undo.new ≡ without_room undo.old.opens_fresh undo.old.frames)) }
+    ensures free { (state : Pipeline) → event_pixels event.now state tile.old.place ≡ 0 → IsOk result }
     ensures wanted { OnErr result (length undo.old.frames < 4294967295 → Wanted) }
 {
     let clear = match event {

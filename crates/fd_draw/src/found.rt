@@ -8,7 +8,7 @@ ghost use Rattle.fd_draw.specs.Found.{IsFound, span_from};
 ghost use Rattle.fd_draw.specs.Run.{ends_of};
 ghost use Rattle.fd_draw.specs.Span.{IsRowSpan};
 
-use crate::room::{Demand, NOTHING};
+use crate::demand::{Demand, NOTHING};
 use crate::run::Run;
 use crate::write::WIDEST;
 use fd_cover::{Bounds, Raster, Rows, Tri};

@@ -12,13 +12,14 @@ ghost use Rattle.fd_draw.specs.Area.{LiesIn, IsOpen, IsWindow, box_of_place};
 ghost use Rattle.fd_draw.specs.Demand.{pixels_in, spans_in, triangle_pixels, triangle_spans, event_pixels, event_spans};
 ghost use Rattle.fd_draw.specs.declared.plan.TheConstants.{MOST_PLANNED};
 ghost use Rattle.arrayvec.specs.ArrayVec.{array_vec_len};
-ghost use Rattle.fd_draw.specs.Plan.{ArePlanned, IsPlan, MayBeginAt};
+ghost use Rattle.fd_cover.specs.declared.depth.Func.TheVariants.{Never};
+ghost use Rattle.fd_draw.specs.Plan.{ArePlanned, IsPlan, MayBeginAt, WritesNothing};
 
+use crate::demand::{Demand, NOTHING};
 use crate::found::{Found, find};
 use crate::primitive::is_tested;
-use crate::room::{Demand, NOTHING};
 use arrayvec::ArrayVec;
-use fd_cover::{Bounds, Raster, Rect};
+use fd_cover::{Bounds, Depth, Func, Raster, Rect};
 use fd_events::{Draw, Event, Pipeline};
 use fd_tile::Place;
 
@@ -102,6 +103,13 @@ fn is_idle(draw: &Draw, raster: &Raster, window: Bounds) -> bool
     window.is_empty() || draw.is_culled(raster)
 }
 
+/// Whether depths are tested and none passes.
+fn is_shut(depth: &Depth) -> bool
+    ensures { IsTrue result → (depth.now.enable ≡ true) × (depth.now.func ≡ Never) }
+{
+    depth.enable && matches!(depth.func, Func::Never)
+}
+
 /// The plan of a draw, of whose triangles none before this one covers a pixel of the place.
 fn plan_draw(draw: &Draw, state: &Pipeline, place: Place, first: u32) -> Plan
     requires placed { IsTilePlace place }
@@ -146,7 +154,7 @@ fn plan_clear(place: Place) -> Plan
 pub fn first_listed(event: &Event, place: Place) -> Option<u32>
     requires { IsTilePlace place }
     ensures first { IfSome result (λ first. MayBeginAt event.now place first) }
-    ensures none { IfNone result ((s : Pipeline) → (event_spans event.now s place ≡ 0) × (event_pixels event.now s place ≡ 0)) }
+    ensures none { IfNone result ((s : Pipeline) → WritesNothing event.now s place) }
 {
     match event {
         Event::Draw(draw) => {
@@ -161,14 +169,17 @@ pub fn first_listed(event: &Event, place: Place) -> Option<u32>
     }
 }
 
-/// Whether an event is seen to write nothing on a place in a state: a draw of which the scissor leaves nothing there, whose picture lies elsewhere, or
-/// whose triangles are all culled.
+/// Whether an event is seen to write nothing on a place in a state: a draw none of whose depths passes the test, of which the scissor leaves nothing
+/// there, whose picture lies elsewhere, or whose triangles are all culled.
 pub fn draws_nothing(event: &Event, state: &Pipeline, place: Place) -> bool
     requires { IsTilePlace place }
-    ensures { IsTrue result → (event_spans event.now state.now place ≡ 0) × (event_pixels event.now state.now place ≡ 0) }
+    ensures { IsTrue result → WritesNothing event.now state.now place }
 {
     match event {
         Event::Draw(draw) => {
+            if is_shut(&state.depth) {
+                return true;
+            }
             let window = window_of(draw, state, place);
             is_idle(draw, &state.raster, window)
         }

@@ -10,7 +10,7 @@ ghost use Rattle.fd_draw.specs.Run.{EachColumn, run_spans};
 ghost use Rattle.fd_draw.specs.Tested.{AreDepths, AreTested};
 ghost use Rattle.fd_draw.specs.Writing.{ChangesRun, HasRoom, HasRun, WritesRun, depth_stored};
 
-use crate::lanes::{alike, test_row};
+use crate::comparison::{alike, test_row};
 use crate::primitive::Primitive;
 use crate::run::Run;
 use crate::write::{WIDEST, write_span};

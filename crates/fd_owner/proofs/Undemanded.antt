@@ -1,6 +1,6 @@
--- An event that demands no pixel of a place draws nothing there.
-use Rattle.std.proofs.Common.{◌≡◌, ℕ, zero, suc, ◌+◌, ◌<◌, ◌≤◌, inl, inr, Bool, true, false, cond, List, [], ◌∷◌, Option, Some, None}
-use Rattle.std.proofs.Common.{refl, sym, ap, ◌∙◌, arith, length, slice_get}
+-- An event that demands no pixel of a place writes nothing there.
+use Rattle.std.proofs.Common.{◌≡◌, ℕ, zero, suc, ◌+◌, ◌<◌, ◌≤◌, inl, inr, Bool, true, false, cond, List, [], ◌∷◌, Some}
+use Rattle.std.proofs.Common.{refl, sym, ap, arith, slice_get}
 use Rattle.std.specs.List.{sum_by}
 use Rattle.std.proofs.lemmas.Bool.{cases_lt}
 use Rattle.std.proofs.lemmas.List.Sums.{sum_by-cons}
@@ -12,16 +12,12 @@ use Rattle.fd_events.specs.declared.event.Event.{Event}
 use Rattle.fd_events.specs.declared.event.Event.TheVariants.{Clear, DepthClear, Draw}
 use Rattle.fd_events.specs.declared.pipeline.Pipeline.{Pipeline}
 use Rattle.fd_events.specs.Draw.{Triangle, triangles_of}
-use Rattle.fd_events.specs.Image.{pixel_after, kept_by, pixel_after_event, kept_by_event, pixel_at}
-use Rattle.fd_events.specs.Table.{Table, active_event, state_at}
+use Rattle.fd_events.specs.Image.{pixel_after, kept_by}
 use Rattle.fd_draw.specs.Demand.{is_reached, total, written_in_row, pixels_in, triangle_pixels, event_pixels}
 use Rattle.fd_draw.specs.Paints.{Paints}
 use Rattle.fd_draw.proofs.Painting.{Paints-same, Paints-nothing}
-use Rattle.fd_draw.specs.Plan.{AreUnreached, IsUnreached}
-use Rattle.fd_draw.proofs.Triangles.{pixel_after_triangles-unreached, kept_by_triangles-unreached}
-use Rattle.fd_owner.specs.History.{pixel_past, kept_past}
-use Rattle.fd_owner.specs.Step.{pixels_written, pixels_past}
-use Rattle.fd_owner.specs.Untouched.{AreUntouched, IsUnchanged}
+use Rattle.fd_draw.specs.Plan.{IsUnreached, WritesNothing}
+use Rattle.fd_draw.proofs.Nothing.{nothing_unreached}
 
 -- numbers that add up to nothing are each nothing
 each_nothing : (f : ℕ → ℕ) (a n k : ℕ) → total f a n ≡ 0 → a ≤ k → k < a + n → f k ≡ 0
@@ -50,54 +46,38 @@ undemanded (first ∷ ts) s p none zero t at x y held =
 undemanded (first ∷ ts) s p none (suc i) t at x y held =
     undemanded ts s p (omega (arith, none, sum_by-cons (triangle_pixels s p) first ts)) i t at x y held
 
--- a pixel stays as it is, and nothing of it is kept
-module _ (s : Pipeline) (p : Place) (x y : ℕ) (before : Pixel) (held : Holds p x y) where
-  written_anyhow : pixels_in (λ x y. true) p ≡ 0 → ⊥
-  written_anyhow none =
-      let unwritten : true ≡ false = uncounted (λ x y. true) p x y none held in
-      cc unwritten
+-- a place has a pixel, so a clear demands some
+clear_demands : (p : Place) (x y : ℕ) → Holds p x y → pixels_in (λ x y. true) p ≡ 0 → ⊥
+clear_demands p x y held none =
+    let unwritten : true ≡ false = uncounted (λ x y. true) p x y none held in
+    cc unwritten
 
-  by_event : (event : Event) → event_pixels event s p ≡ 0 → (pixel_after event s x y before ≡ before) × (kept_by event s x y before ≡ [])
-  by_event (Clear colour) none = absurd (written_anyhow none)
-  by_event (DepthClear depth) none = absurd (written_anyhow none)
-  by_event (Draw draw) none =
-      let nowhere : AreUnreached (triangles_of draw) s p 0 (length (triangles_of draw)) = λ i t from to at. undemanded (triangles_of draw) s p none i t at in (
-        pixel_after_triangles-unreached (triangles_of draw) draw.interp s p nowhere x y before held,
-        kept_by_triangles-unreached (triangles_of draw) draw.interp s p nowhere x y before held,
-      )
-  by_event other none = (refl, refl)
-
-  by_any : (event : Option Event) → pixels_written event s p ≡ 0 → (pixel_after_event event s x y before ≡ before) × (kept_by_event event s x y before ≡ [])
-  by_any None none = (refl, refl)
-  by_any (Some event) none = by_event event none
-
--- so does each pixel past an event of a table
-pub pixel_undemanded : (table : Table) (k : ℕ) (place : Place) (x y : ℕ) (before : Pixel) → Holds place x y → pixels_past table k place ≡ 0
-    → (pixel_past table k x y before ≡ before) × (kept_past table k x y before ≡ [])
-pixel_undemanded table k place x y before held none = by_any (state_at table k) place x y before held (active_event table (suc k)) none
+pub nothing_demanded : (event : Event) (s : Pipeline) (p : Place) → event_pixels event s p ≡ 0 → WritesNothing event s p
+nothing_demanded (Clear colour) s p none = λ x y before held. absurd (clear_demands p x y held none)
+nothing_demanded (DepthClear depth) s p none = λ x y before held. absurd (clear_demands p x y held none)
+nothing_demanded (Draw draw) s p none =
+    nothing_unreached draw s p (λ i t from to at. undemanded (triangles_of draw) s p none i t at)
+nothing_demanded other s p none = λ x y before held. (refl, refl)
 
 -- drawing nothing is drawing it
-pub Paints-undemanded : (table : Table) (k : ℕ) (t : TileImage) (u : Undo) → IsTileImage t → u.frame_left ≡ false → pixels_past table k t.place ≡ 0
-    → Paints (pixel_past table k) (kept_past table k) t u t u
-Paints-undemanded table k t u filled begun none =
-    Paints-same
-    (λ x y held. sym (pixel_undemanded table k t.place x y _ held none).0)
-    (λ x y held. sym (pixel_undemanded table k t.place x y _ held none).1)
-    (Paints-nothing filled begun)
+pub Paints-undemanded : (event : Event) (s : Pipeline) (t : TileImage) (u : Undo) → IsTileImage t → u.frame_left ≡ false → event_pixels event s t.place ≡ 0
+    → Paints (pixel_after event s) (kept_by event s) t u t u
+Paints-undemanded event s t u filled begun none =
+    let nothing = nothing_demanded event s t.place none in
+    Paints-same (λ x y held. sym (nothing x y _ held).0) (λ x y held. sym (nothing x y _ held).1) (Paints-nothing filled begun)
 
--- so each pixel is the same at two positions between which nothing is written
-pixel_passed : (table : Table) (place : Place) (x y a b : ℕ) → Holds place x y → a ≤ b → AreUntouched table a b place
-    → pixel_at table a x y ≡ pixel_at table b x y
-pixel_passed table place x y a zero held on far = let here : a ≡ zero = omega (arith, on) in rw here refl
-pixel_passed table place x y a (suc b) held on far = elim (cases_lt b a) [
-  | inl there ↦ let here : a ≡ suc b = omega (arith, on, there) in rw here refl
-  | inr before ↦
-      pixel_passed table place x y a b held before (λ k low high. far k low (omega (arith, high)))
-      ∙ sym (pixel_undemanded table b place x y (pixel_at table b x y) held (far b before (omega arith)).pixels).0
-]
-
-pub pixel_alike : (table : Table) (place : Place) (x y a b : ℕ) → Holds place x y → IsUnchanged table a b place → pixel_at table a x y ≡ pixel_at table b x y
-pixel_alike table place x y a b held is = elim (cases_lt b a) [
-  | inl back ↦ sym (pixel_passed table place x y b a held (omega (arith, back)) is.back)
-  | inr on ↦ pixel_passed table place x y a b held on is.on
-]
+-- a stack with other room is as good
+pub Paints-over : {after : ℕ → ℕ → Pixel → Pixel} {replaced : ℕ → ℕ → Pixel → List Pixel} {t t' : TileImage} {u v u' : Undo} → v.frames ≡ u.frames
+    → v.opens_fresh ≡ u.opens_fresh → Paints after replaced t u t' u' → Paints after replaced t v t' u'
+Paints-over frames opening is = record {
+  placed = is.placed;
+  made = is.made;
+  filled = is.filled;
+  below = rw frames is.below;
+  begun = is.begun;
+  opening = rw opening is.opening;
+  some = rw frames is.some;
+  pixels = is.pixels;
+  kept = rw frames is.kept;
+  inside = rw frames is.inside;
+}

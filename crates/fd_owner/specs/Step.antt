@@ -1,12 +1,15 @@
--- Working. How much the next event writes on a place, and what is known of its triangles.
-use Rattle.std.specs.Prelude.{ℕ, suc, ◌+◌, Option, Some, None, IfSome}
+-- Working. How much the next event writes on a place, and what it makes of a tile.
+use Rattle.std.specs.Prelude.{◌≡◌, ℕ, suc, ◌+◌, [], ◌∷◌, ◌++◌, Option, Some, None, true, false}
 use Rattle.fd_tile.specs.declared.place.Place.{Place}
+use Rattle.fd_tile.specs.Tile.{TileImage}
+use Rattle.fd_undo.specs.Frame.{IsAlike, top}
+use Rattle.fd_undo.specs.Undo.{Undo, without_room}
 use Rattle.fd_events.specs.declared.event.Event.{Event}
 use Rattle.fd_events.specs.declared.pipeline.Pipeline.{Pipeline}
-use Rattle.fd_events.specs.Table.{Table, active_event, event_at, state_at}
-use Rattle.fd_draw.specs.declared.plan.Plan.{Plan}
+use Rattle.fd_events.specs.Image.{pixel_after, kept_by}
+use Rattle.fd_events.specs.Table.{Table, active_event, event_at, flag_at, state_at}
 use Rattle.fd_draw.specs.Demand.{event_spans, event_pixels}
-use Rattle.fd_draw.specs.Plan.{IsPlan, MayBeginAt}
+use Rattle.fd_draw.specs.Paints.{Paints}
 
 -- the spans that an event writes, which is none where it is missing or switched off
 abbrev pub spans_of : Option Event → Pipeline → Place → ℕ
@@ -25,10 +28,24 @@ spans_past table k place = spans_of (active_event table (suc k)) (state_at table
 abbrev pub pixels_past : Table → ℕ → Place → ℕ
 pixels_past table k place = pixels_written (active_event table (suc k)) (state_at table k) place
 
--- none of its triangles before this one covers a pixel of the place
-abbrev pub MayBeginPast : Table → ℕ → Place → ℕ → Type 0
-MayBeginPast table k place first = IfSome (event_at table (k + 1)) (λ event. MayBeginAt event place first)
+-- the event after position k is this one, which is switched on, and this is the state before it
+pub record IsNext (event : Event) (state : Pipeline) (table : Table) (k : ℕ) : Type 0 where
+  pub there : event_at table (k + 1) ≡ Some event
+  pub on : flag_at table (k + 1) ≡ Some true
+  pub before : state ≡ state_at table k
 
--- the plan is its plan
-abbrev pub IsPlanPast : Plan → Table → ℕ → Place → Type 0
-IsPlanPast plan table k place = IfSome (event_at table (k + 1)) (λ event. IsPlan plan event (state_at table k) place)
+-- ---- a tile t and its stack u become t' and u'
+
+-- the tile may be made, and all else is the same
+pub record IsSame (t : TileImage) (u : Undo) (t' : TileImage) (u' : Undo) : Type 0 where
+  pub made : t.made ≡ true → t'.made ≡ true
+  pub tile : t' ≡ record t { made = t'.made }
+  pub frames : u'.frames ≡ u.frames
+  pub opening : u'.opens_fresh ≡ u.opens_fresh
+
+-- an event is drawn in a state on a tile that may be made for it, and what it overwrites is a frame more; on a tile that isn't made it is nothing or all
+pub record IsPast (event : Event) (state : Pipeline) (t : TileImage) (u : Undo) (t' : TileImage) (u' : Undo) : Type 0 where
+  pub made : t.made ≡ true → t'.made ≡ true
+  pub painted : Paints (pixel_after event state) (kept_by event state) (record t { made = t'.made })
+      (without_room u.opens_fresh (u.frames ++ [] ∷ [])) t' u'
+  pub alike : t'.made ≡ false → IsAlike t.place (top u'.frames)

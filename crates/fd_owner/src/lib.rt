@@ -4,4 +4,5 @@
 pub use owner::{Owner, Refused};
 
 pub mod laws;
+mod next;
 mod owner;

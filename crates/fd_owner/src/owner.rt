@@ -1,22 +1,20 @@
-ghost use Rattle.std.specs.Prelude.{◌≡◌, ℕ, ◌+◌, ◌-◌, ◌^◌, ◌<◌, ◌≤◌, ◌++◌, [], length, take, map, not, true, false, IsTrue, Some, None, Ok, slice_get};
-ghost use Rattle.std.specs.Prelude.{IfNone, IfSome, IsOk, OnOk, OnErr};
+ghost use Rattle.std.specs.Prelude.{◌≡◌, ℕ, ◌+◌, ◌-◌, ◌<◌, ◌≤◌, ◌++◌, [], length, take, map, None, slice_get};
+ghost use Rattle.std.specs.Prelude.{IsOk, OnOk, OnErr};
 ghost use Rattle.fd_tile.specs.Place.{Holds, HasRow, IsTilePlace};
 ghost use Rattle.fd_tile.specs.Tile.{FillsPlace, pixels_of, row_in, pixel_in};
 ghost use Rattle.fd_draw.specs.Area.{box_of_place};
-ghost use Rattle.fd_draw.specs.Paints.{Paints};
-ghost use Rattle.fd_owner.specs.History.{position, last_image, pixels_kept, pixels_recorded, pixel_past, kept_past};
+ghost use Rattle.fd_owner.specs.History.{position, last_image, pixels_kept, pixels_recorded};
 ghost use Rattle.fd_owner.specs.Shown.{gone_forward, gone_on_to, gone_back, gone_back_to, refused, forgotten, IsInside};
-ghost use Rattle.fd_owner.specs.Step.{IsPlanPast, MayBeginPast, spans_past, pixels_past};
-ghost use Rattle.fd_owner.specs.Untouched.{IsUntouched, AreUntouched};
-ghost use Rattle.fd_events.specs.Table.{flag_at};
+ghost use Rattle.fd_owner.specs.Step.{spans_past, pixels_past};
+ghost use Rattle.fd_owner.specs.Untouched.{AreUntouched};
 ghost use Rattle.fd_memory.specs.Wanting.{Wanted};
 
+use crate::next::{Next, number_past, pass_idle};
 use fd_blend::Colour;
 use fd_cover::Bounds;
-use fd_draw::{Demand, Plan};
 use fd_events::EventTable;
 use fd_tile::{Place, Tile};
-use fd_undo::{Full, UndoStack};
+use fd_undo::UndoStack;
 use std::alloc::{AllocError, Global};
 use std::marker::Model;
 use thiserror::Error;
@@ -140,21 +138,20 @@ impl Owner {
         self.undo.kept(event as usize - 1, x, y, n)
     }
 
-    /// Adds to a list the first colours and depths, at most so many, that pixel (x, y) had just before the event of this number (from 1) wrote it.
+    /// Adds to a list the first colours and depths, at most so many, that a pixel had just before the event of this number (from 1) wrote it.
     pub fn add_kept(
         &self,
         event: u32,
-        x: u32,
-        y: u32,
+        pixel: (u32, u32),
         count: usize,
         kept: &mut Vec<(Colour, u16)>,
     ) -> Result<(), AllocError>
         requires first { 1 ≤ event }
         requires last { event ≤ position self.now.history }
-        ensures kept { OnOk result (kept.new.items ≡ kept.old.items ++ take count (pixels_kept self.now.place self.now.history event x y)) }
+        ensures kept { OnOk result (kept.new.items ≡ kept.old.items ++ take count (pixels_kept self.now.place self.now.history event pixel.0 pixel.1)) }
         ensures wanted { OnErr result Wanted }
     {
-        self.undo.add_kept(event as usize - 1, x, y, count, kept)
+        self.undo.add_kept(event as usize - 1, pixel, count, kept)
     }
 
     /// Goes through the next event. A refusal changes nothing but what is told of refusals. An event that writes nothing on the tile isn't refused.
@@ -167,71 +164,14 @@ impl Owner {
             → pixels_past table.now (position self.old.history) self.old.place ≡ 0 → IsOk result }
         ensures wanted { OnErr result Wanted }
     {
-        let (position, place, _len) = (self.position(), self.place(), table.len());
-        match first_near(table, position, place) {
-            Some(first) => self.draw_next(table, first),
-            None => {
-                self.pass_to(table, position + 1);
-                Ok(())
-            }
-        }
-    }
-
-    /// Goes through the next event, which is switched on, and draws it. Of its triangles none before this one covers a pixel of the tile.
-    #[inline(never)]
-    fn draw_next(&mut self, table: &EventTable, first: u32) -> Result<(), Refused>
-        requires below { position self.old.history < length table.now.events }
-        requires on { flag_at table.now (position self.old.history + 1) ≡ Some true }
-        requires first { MayBeginPast table.now (position self.old.history) self.old.place first }
-        ensures ok { OnOk result (self.new ≡ gone_forward table.now self.old) }
-        ensures refused { OnErr result (self.new ≡ refused self.old) }
-        ensures free { spans_past table.now (position self.old.history) self.old.place ≡ 0
-            → pixels_past table.now (position self.old.history) self.old.place ≡ 0 → IsOk result }
-        ensures wanted { OnErr result Wanted }
-    {
-        let (position, place, _len) = (self.position(), self.place(), table.len());
-        let plan = plan_past(table, position, place, first);
-        if plan.demand.pixels > 0 && self.clear_next(table, position + 1)? {
+        let position = self.position();
+        let number = number_past(table, position);
+        let Some(next) = Next::of(table, position, self.tile.place()) else {
+            self.pass_to(table, number);
             return Ok(());
-        }
-        self.draw_planned(table, &plan)
-    }
-
-    /// Draws the next event, which is switched on and whose plan this is.
-    fn draw_planned(&mut self, table: &EventTable, plan: &Plan) -> Result<(), Refused>
-        requires below { position self.old.history < length table.now.events }
-        requires on { flag_at table.now (position self.old.history + 1) ≡ Some true }
-        requires planned { IsPlanPast plan.now table.now (position self.old.history) self.old.place }
-        requires spans { plan.now.demand.spans ≡ spans_past table.now (position self.old.history) self.old.place }
-        requires pixels { plan.now.demand.pixels ≡ pixels_past table.now (position self.old.history) self.old.place }
-        ensures ok { OnOk result (self.new ≡ gone_forward table.now self.old) }
-        ensures refused { OnErr result (self.new ≡ refused self.old) }
-        ensures free { plan.now.demand.spans ≡ 0 → plan.now.demand.pixels ≡ 0 → IsOk result }
-        ensures wanted { OnErr result Wanted }
-    {
-        let (position, _len, _place) = (self.position(), table.len(), self.tile.place());
-        if make_room(plan.demand, &mut self.tile, &mut self.undo).is_err() {
-            return Err(self.refuse());
-        }
-        self.undo.begin();
-        draw_past(table, position, plan, &mut self.tile, &mut self.undo);
-        Ok(())
-    }
-
-    /// Goes through the next event, which has this number and is switched on, where it is a clear and the tile's pixels are known to be alike. It says
-    /// whether it did.
-    fn clear_next(&mut self, table: &EventTable, number: u32) -> Result<bool, Refused>
-        requires next { number ≡ position self.old.history + 1 }
-        requires last { number ≤ length table.now.events }
-        requires on { flag_at table.now number ≡ Some true }
-        ensures drawn { result ≡ Ok true → self.new ≡ gone_forward table.now self.old }
-        ensures not { result ≡ Ok false → self.new ≡ self.old }
-        ensures refused { OnErr result (self.new ≡ refused self.old) }
-        ensures wanted { OnErr result Wanted }
-    {
-        let (_len, _place) = (table.len(), self.tile.place());
-        match fd_draw::clear_alike(table.event(number), &mut self.tile, &mut self.undo) {
-            Ok(drawn) => Ok(drawn),
+        };
+        match next.draw(&mut self.tile, &mut self.undo) {
+            Ok(()) => Ok(()),
             Err(_) => Err(self.refuse()),
         }
     }
@@ -305,120 +245,6 @@ impl Owner {
     {
         self.undo.forget();
     }
-}
-
-/// The first triangle that the event after a position may draw on a place, as far as its box tells and what a draw lists there. None where it writes
-/// nothing there.
-fn first_near(table: &EventTable, position: u32, place: Place) -> Option<u32>
-    requires below { position < length table.now.events }
-    requires placed { IsTilePlace place }
-    requires inside { IsInside place table.now }
-    ensures near { IfSome result (λ _. flag_at table.now (position + 1) ≡ Some true) }
-    ensures first { IfSome result (λ first. MayBeginPast table.now position place first) }
-    ensures far { IfNone result (IsUntouched table.now position place) }
-{
-    let _len = table.len();
-    let number = position + 1;
-    if table.next_near(position, number, fd_draw::box_of(place)) < number {
-        fd_draw::first_listed(table.event(number), place)
-    } else {
-        None
-    }
-}
-
-/// Whether the event after a position is seen to write nothing on a place in the state before it.
-fn is_idle(table: &EventTable, position: u32, place: Place) -> bool
-    requires below { position < length table.now.events }
-    requires placed { IsTilePlace place }
-    ensures { IsTrue result → IsUntouched table.now position place }
-{
-    let _len = table.len();
-    let number = position + 1;
-    fd_draw::draws_nothing(table.event(number), table.state_before(number), place)
-}
-
-/// The first position from this one on, and `to` at most, whose next event isn't seen to write nothing on a place.
-fn pass_idle(table: &EventTable, from: u32, to: u32, place: Place) -> u32
-    requires order { from ≤ to }
-    requires last { to ≤ length table.now.events }
-    requires placed { IsTilePlace place }
-    ensures from { from ≤ result }
-    ensures last { result ≤ to }
-    ensures idle { AreUntouched table.now from result place }
-{
-    let mut position = from;
-    while position < to && is_idle(table, position, place) {
-        position += 1;
-    }
-    position
-}
-
-/// What the event after a position, which is switched on, writes on a place. Of its triangles none before this one covers a pixel there.
-fn plan_past(table: &EventTable, position: u32, place: Place, first: u32) -> Plan
-    requires below { position < length table.now.events }
-    requires on { flag_at table.now (position + 1) ≡ Some true }
-    requires placed { IsTilePlace place }
-    requires first { MayBeginPast table.now position place first }
-    ensures spans { result.demand.spans ≡ spans_past table.now position place }
-    ensures pixels { result.demand.pixels ≡ pixels_past table.now position place }
-    ensures planned { IsPlanPast result table.now position place }
-{
-    let _len = table.len();
-    let number = position + 1;
-    let event = table.event(number);
-    Plan::of(event, table.state_before(number), place, first)
-}
-
-/// Takes the memory that an event wants which writes so much on a tile: that of the tile, where it writes any pixel, and that of what it overwrites.
-fn make_room(demand: Demand, tile: &mut Tile, undo: &mut UndoStack) -> Result<(), Full>
-    ensures same { tile.new ≡ record tile.old { made = tile.new.made } }
-    ensures kept { tile.old.made ≡ true → tile.new.made ≡ true }
-    ensures frames { undo.new.frames ≡ undo.old.frames }
-    ensures opening { undo.new.opens_fresh ≡ undo.old.opens_fresh }
-    ensures made { OnOk result (0 < demand.pixels → tile.new.made ≡ true) }
-    ensures room { OnOk result (undo.new ≡ record {
-      frames = undo.old.frames;
-      opens_fresh = undo.old.opens_fresh;
-      frame_left = true;
-      spans_left = demand.spans;
-      pixels_left = demand.pixels;
-    }) }
-    ensures free { demand.spans ≡ 0 → demand.pixels ≡ 0 → length undo.old.frames + 1 < 2 ^ 64 → IsOk result }
-    ensures wanted { OnErr result (length undo.old.frames < 4294967295 → Wanted) }
-{
-    if demand.pixels > 0 && tile.make().is_err() {
-        return Err(Full);
-    }
-    undo.reserve(demand.spans, demand.pixels)
-}
-
-/// Draws the event after a position, which is switched on and whose plan this is, and keeps what it overwrites.
-fn draw_past(table: &EventTable, position: u32, plan: &Plan, tile: &mut Tile, undo: &mut UndoStack)
-    requires below { position < length table.now.events }
-    requires on { flag_at table.now (position + 1) ≡ Some true }
-    requires begun { undo.old.frame_left ≡ false }
-    requires made { 0 < plan.now.demand.pixels → tile.old.made ≡ true }
-    requires planned { IsPlanPast plan.now table.now position tile.old.place }
-    requires most_pixels { plan.now.demand.pixels ≡ pixels_past table.now position tile.old.place }
-    requires spans { spans_past table.now position tile.old.place ≤ undo.old.spans_left }
-    requires pixels { pixels_past table.now position tile.old.place ≤ undo.old.pixels_left }
-    ensures painted { Paints (pixel_past table.now position) (kept_past table.now position) tile.old undo.old tile.new undo.new }
-    ensures not_made { tile.new.made ≡ false → undo.new ≡ undo.old }
-{
-    let (_len, _place) = (table.len(), tile.place());
-    // of many small draws most write nothing on a tile
-    let most = plan.demand.pixels;
-    if most == 0 {
-        return;
-    }
-    let number = position + 1;
-    fd_draw::draw(
-        table.event(number),
-        table.state_before(number),
-        plan,
-        tile,
-        undo,
-    );
 }
 
 #[cfg(test)]

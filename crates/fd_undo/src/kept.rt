@@ -20,7 +20,7 @@ pub(crate) fn kept_in(parts: Parts<'_>, x: u32, y: u32, n: usize) -> Option<(Col
     for span in parts.spans {
         if span.holds(x, y) {
             if left == 0 {
-                return Some(pixel_of(span, parts, first_colour, first_depth, x, y));
+                return Some(pixel_of(span, parts, first_colour, first_depth, (x, y)));
             }
             left -= 1;
         }
@@ -30,16 +30,15 @@ pub(crate) fn kept_in(parts: Parts<'_>, x: u32, y: u32, n: usize) -> Option<(Col
     None
 }
 
-/// Adds the first colours and depths, at most so many, that some spans keep of pixel (x, y).
+/// Adds the first colours and depths, at most so many, that some spans keep of a pixel.
 pub(crate) fn add_kept_in(
     parts: Parts<'_>,
-    x: u32,
-    y: u32,
+    pixel: (u32, u32),
     count: usize,
     kept: &mut Vec<(Colour, u16)>,
 ) -> Result<(), AllocError>
     requires { AreParts parts }
-    ensures kept { OnOk result (kept.new.items ≡ kept.old.items ++ take count (kept_at (kept_in_parts parts.entry) x y)) }
+    ensures kept { OnOk result (kept.new.items ≡ kept.old.items ++ take count (kept_at (kept_in_parts parts.entry) pixel.0 pixel.1)) }
     ensures wanted { OnErr result Wanted }
 {
     let (mut first_colour, mut first_depth) = (0, 0);
@@ -48,9 +47,9 @@ pub(crate) fn add_kept_in(
         if left == 0 {
             return Ok(());
         }
-        if span.holds(x, y) {
-            let pixel = pixel_of(span, parts, first_colour, first_depth, x, y);
-            fd_memory::push(kept, pixel)?;
+        if span.holds(pixel.0, pixel.1) {
+            let before = pixel_of(span, parts, first_colour, first_depth, pixel);
+            fd_memory::push(kept, before)?;
             left -= 1;
         }
         first_colour += span.listed_colours();
@@ -67,16 +66,16 @@ fn pixel_of(
     parts: Parts<'_>,
     colour: usize,
     depth: usize,
-    x: u32,
-    y: u32,
+    pixel: (u32, u32),
 ) -> (Colour, u16)
-    requires held { span_holds span.now x y ≡ true }
+    requires held { span_holds span.now pixel.0 pixel.1 ≡ true }
     requires colours { colour + listed_colours span.now ≤ length parts.colours.now }
     requires depths { depth + listed_depths span.now ≤ length parts.depths.now }
     ensures { result ≡ slice_index_or
-        (pixels_of_row span.now (drop colour parts.entry.colours.now) (drop depth parts.entry.depths.now) (y - span.now.y)) (x - span.now.x) fresh_pixel }
+        (pixels_of_row span.now (drop colour parts.entry.colours.now) (drop depth parts.entry.depths.now) (pixel.1 - span.now.y))
+        (pixel.0 - span.now.x) fresh_pixel }
 {
-    let (row, column) = (y - span.y(), (x - span.x()) as usize);
+    let (row, column) = (pixel.1 - span.y(), (pixel.0 - span.x()) as usize);
     let first_colour = colour + span.colours_above(row);
     let first_depth = depth + span.depths_above(row);
     (

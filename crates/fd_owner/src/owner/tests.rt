@@ -289,7 +289,7 @@ fn depths_go_back_with_colours(rt: HostRuntime) -> Result<(), Fail> {
     let mut kept = Vec::new(alloc);
     for event in 1..=5 {
         assert!(rt; event <= owner.position());
-        owner.add_kept(event, 0, 0, 9, &mut kept)?;
+        owner.add_kept(event, (0, 0), 9, &mut kept)?;
     }
     assert_eq!(rt; kept.as_slice(), [first, near, cleared].as_slice());
     for (position, (recorded, pixel)) in passed.iter().enumerate().rev() {

@@ -153,7 +153,7 @@ fn what_is_kept_is_added(rt: HostRuntime) -> Result<(), Fail> {
     let undo = with_two_frames(rt.alloc())?;
     let mut kept = Vec::new(rt.alloc());
     for (frame, count) in [(1, 1), (0, 9), (1, 9)] {
-        undo.add_kept(frame, 1, 1, count, &mut kept)?;
+        undo.add_kept(frame, (1, 1), count, &mut kept)?;
     }
     assert_eq!(rt;
         kept.as_slice(),

@@ -530,6 +530,19 @@ fn a_picture_is_drawn_where_it_lies(rt: HostRuntime) -> Result<(), Fail> {
     Ok(())
 }
 
+/// A test that no depth passes is seen, where it is on.
+#[test]
+fn nothing_is_drawn_where_no_depth_passes(rt: HostRuntime) -> Result<(), Fail> {
+    let event = painted(rt.alloc(), None)?;
+    let never = tested(Func::Never, true);
+    let mut off = never;
+    off.depth.enable = false;
+    assert!(rt; draws_nothing(&event, &never, FOUR));
+    assert!(rt; !draws_nothing(&event, &off, FOUR));
+    assert!(rt; !draws_nothing(&event, &tested(Func::Less, true), FOUR));
+    Ok(())
+}
+
 /// Where no picture lies nothing is planned, though the triangle covers the tile.
 #[test]
 fn a_picture_elsewhere_asks_for_nothing(rt: HostRuntime) -> Result<(), Fail> {

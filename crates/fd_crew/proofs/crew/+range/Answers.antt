@@ -12,7 +12,7 @@ run_range-returns-clause-worked g t c =
 pub run_range-returns-clause-passed : goal.run_range-returns-clause-passed
 run_range-returns-clause-passed g t c =
     let k = c.halves-halves.result.1.first_lane - c.halves-halves.result.0.first_lane in
-    passed_from g.L.Lane.shown (g.G.Gate.opened c.args.course.now.gate.now) c.args.part.now.first_lane c.halves-halves.result.0.first_lane
+    passed_from g.L.Lane.shown (g.G.Gate.opened c.args.course.now.gate.now) c.args.team.now.first_lane c.halves-halves.result.0.first_lane
     c.args.lanes.now c.run_both.new.lanes c.halves-halves.ensures.lower.0 (passed_halves g.L.Lane.shown (g.G.Gate.opened c.args.course.now.gate.now)
     c.halves-halves.result.0.first_lane c.halves-halves.result.1.first_lane k c.args.lanes.now c.run_both.new.lanes (omega arith) (omega arith)
     c.run_both.ensures.lower_passed c.run_both.ensures.upper_passed)

@@ -33,15 +33,15 @@ returns-clause-fits g c = fits_all _ _ _ _ _ _ _ _ _ c.run_range.ensures.worked 
 
 pub returns-then-at-run-clause-passed : goal.returns-then-at-run-clause-passed
 returns-then-at-run-clause-passed g c =
-    passed_from g.L.Lane.shown (g.G.Gate.opened c.args.gate.now) 0 c.whole-part.result.first_lane c.args.lanes.now c.run_range.new.lanes
-    c.whole-part.ensures.first c.run_range.ensures.passed
+    passed_from g.L.Lane.shown (g.G.Gate.opened c.args.gate.now) 0 c.whole-team.result.first_lane c.args.lanes.now c.run_range.new.lanes
+    c.whole-team.ensures.first c.run_range.ensures.passed
 
 pub returns-clause-passed : goal.returns-clause-passed
 returns-clause-passed g c =
     passed_back g.L.Lane.shown (g.G.Gate.opened c.args.gate.now) 0 c.close-at.result c.args.lanes.now c.run_range.new.lanes c.run_back.new.lanes
     (above_all _ _ _ _ _ _ _ _ _ c.run_range.ensures.worked c.close-at.ensures.seen)
-    (passed_from g.L.Lane.shown (g.G.Gate.opened c.args.gate.now) 0 c.whole-part.result.first_lane c.args.lanes.now c.run_range.new.lanes
-    c.whole-part.ensures.first c.run_range.ensures.passed) c.run_back.ensures.moved
+    (passed_from g.L.Lane.shown (g.G.Gate.opened c.args.gate.now) 0 c.whole-team.result.first_lane c.args.lanes.now c.run_range.new.lanes
+    c.whole-team.ensures.first c.run_range.ensures.passed) c.run_back.ensures.moved
 
 pub returns-in_err-fence-clause-passed : goal.returns-in_err-fence-clause-passed
 returns-in_err-fence-clause-passed g c = passed_none g.L.Lane.shown (g.G.Gate.opened c.args.gate.now) 0 c.args.lanes.now

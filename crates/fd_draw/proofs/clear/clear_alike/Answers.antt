@@ -1,8 +1,11 @@
-use Rattle.std.proofs.Common.{◌≡◌, ◌∙◌, List, [], ◌∷◌, ◌++◌, ap, arith}
+use Rattle.std.proofs.Common.{◌≡◌, ◌∙◌, List, [], ◌∷◌, ◌++◌, ap, sym, arith}
 use Rattle.fd_tile.specs.Tile.{Pixel, TileImage}
 use Rattle.fd_undo.specs.Frame.{KeptPixel, alike}
 use Rattle.fd_undo.specs.Undo.{without_room}
+use Rattle.fd_events.specs.declared.event.Event.{Event}
+use Rattle.fd_draw.specs.Demand.{event_pixels}
 use Rattle.fd_draw.proofs.Alike.{Paints-alike}
+use Rattle.fd_draw.proofs.Nothing.{clear_writes}
 use Rattle.fd_draw.proofs.clear.clear_alike.Goals as goal
 use Rattle.fd_draw.proofs.clear.clear_alike.Goals.{in-Clear, in-DepthClear}
 
@@ -17,3 +20,13 @@ returns-clause-drawn c = λ _ state.
     let painted = Paints-alike c.args.undo.now.opens_fresh t c.in-Some-Some.colour c.in-Some-Some.depth frames c.place.ensures.filled c.in-Some-Some.ensures
     c.in-Some-Some.ensures' in
     grind arith
+
+-- a clear writes some
+pub returns-in_err-push_alike-clause-free : goal.returns-in_err-push_alike-clause-free
+returns-in_err-push_alike-clause-free c = λ state none.
+    let place = c.args.tile.now.place in
+    let placed = c.place.ensures.filled.colours.placed in
+    elim c.match-event.branch [
+      | in-Clear w ↦ absurd (clear_writes place placed (ap (λ (e : Event). event_pixels e state place) (sym w.in-Clear.is) ∙ none))
+      | in-DepthClear w ↦ absurd (clear_writes place placed (ap (λ (e : Event). event_pixels e state place) (sym w.in-DepthClear.is) ∙ none))
+    ]

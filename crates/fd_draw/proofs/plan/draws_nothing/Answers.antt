@@ -1,20 +1,27 @@
-use Rattle.std.proofs.Common.{◌∙◌, inl, inr, length, ap}
+use Rattle.std.proofs.Common.{inl, inr, length, sym, subst}
+use Rattle.fd_events.specs.declared.event.Event.{Event}
 use Rattle.fd_events.specs.Draw.{triangles_of}
-use Rattle.fd_draw.specs.Demand.{event_pixels, event_spans}
-use Rattle.fd_draw.specs.Plan.{AreUnreached}
-use Rattle.fd_draw.proofs.Triangles.{no_pixels, no_spans, unreached_closed, unreached_culled}
+use Rattle.fd_draw.specs.Plan.{AreUnreached, WritesNothing}
+use Rattle.fd_draw.proofs.Nothing.{nothing_unreached, nothing_passes}
+use Rattle.fd_draw.proofs.Triangles.{unreached_closed, unreached_culled}
 use Rattle.fd_draw.proofs.plan.draws_nothing.Goals as goal
 
+-- no depth passes the test
+pub returns-then-is_shut : goal.returns-then-is_shut
+returns-then-is_shut c = λ _.
+    let state = c.args.state.now in
+    let place = c.args.place in
+    let shut = c.is_shut.ensures c.if-is_shut.true in
+    subst (λ (event : Event). WritesNothing event state place) (sym c.in-Draw.is) (nothing_passes c.in-Draw.draw state place shut.0 shut.1)
+
 -- the scissor leaves nothing, or every triangle is culled
-pub returns-in-Draw : goal.returns-in-Draw
-returns-in-Draw c = λ yes.
+pub returns-else-is_shut : goal.returns-else-is_shut
+returns-else-is_shut c = λ yes.
     let ts = triangles_of c.in-Draw.draw in
     let state = c.args.state.now in
     let place = c.args.place in
     let nowhere : AreUnreached ts state place 0 (length ts) = elim (c.is_idle.ensures yes) [
       | inl empty ↦ unreached_closed c.in-Draw.draw state place c.window_of-window.result c.window_of-window.ensures.window empty
       | inr culled ↦ unreached_culled ts state place culled
-    ] in (
-      ap (λ event. event_spans event state place) c.in-Draw.is ∙ no_spans ts state place nowhere,
-      ap (λ event. event_pixels event state place) c.in-Draw.is ∙ no_pixels ts state place nowhere,
-    )
+    ] in
+    subst (λ (event : Event). WritesNothing event state place) (sym c.in-Draw.is) (nothing_unreached c.in-Draw.draw state place nowhere)

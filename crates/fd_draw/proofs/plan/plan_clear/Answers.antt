@@ -1,5 +1,5 @@
 use Rattle.std.proofs.Common.{◌∙◌, ap, sym}
-use Rattle.fd_draw.specs.declared.room.Demand.{Demand}
+use Rattle.fd_draw.specs.declared.demand.Demand.{Demand}
 use Rattle.fd_draw.proofs.Counts.{pixels_in-all, spans_in-all}
 use Rattle.fd_draw.proofs.plan.plan_clear.Goals as goal
 

@@ -1,6 +1,6 @@
 use Rattle.std.proofs.Common.{◌≡◌, ◌∙◌, cond, ◌+◌, ◌<◌, inl, inr, length, min, sym, ap, arith}
 use Rattle.fd_events.specs.Draw.{triangles_of}
-use Rattle.fd_draw.specs.declared.room.Demand.{Demand}
+use Rattle.fd_draw.specs.declared.demand.Demand.{Demand}
 use Rattle.fd_draw.specs.Demand.{is_tested, triangle_pixels, triangle_spans}
 use Rattle.fd_draw.specs.Plan.{AreUnreached}
 use Rattle.fd_draw.specs.Triangles.{triangle_at}

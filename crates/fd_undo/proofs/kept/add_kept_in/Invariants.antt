@@ -6,6 +6,6 @@ use Rattle.fd_undo.proofs.kept.add_kept_in.Given as goal
 abbrev pub invariant-loop-span : goal.invariant-loop-span
 invariant-loop-span l = record {
   at : StandsAt l.parts l.span-index l.first_colour l.first_depth;
-  same : l.kept.items ++ take l.left (kept_from l.parts l.span-index l.first_colour l.first_depth l.x l.y)
-      ≡ l.initial.kept.items ++ take l.count (kept_from l.parts 0 0 0 l.x l.y);
+  same : l.kept.items ++ take l.left (kept_from l.parts l.span-index l.first_colour l.first_depth l.pixel.0 l.pixel.1)
+      ≡ l.initial.kept.items ++ take l.count (kept_from l.parts 0 0 0 l.pixel.0 l.pixel.1);
 }
