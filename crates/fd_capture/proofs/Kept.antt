@@ -121,8 +121,10 @@ one_of f false x y z w is other = other
 -- a mask that is made of bits
 module _ {X : Type 0} (K : Bool → Part → Part → Mask → Option X) (some_flag : Option Bool) (some_rgb some_alpha : Option Part) where
   by_bits : (some_bits : Option ℕ)
-      → option_and_then (λ e. option_and_then (λ r. option_and_then (λ a. option_and_then (K e r a) (option_map mask_of some_bits)) some_alpha) some_rgb) some_flag
-      ≡ option_and_then (λ e. option_and_then (λ r. option_and_then (λ a. option_and_then (λ n. K e r a (mask_of n)) some_bits) some_alpha) some_rgb) some_flag
+      → option_and_then (λ e. option_and_then (λ r. option_and_then (λ a. option_and_then (K e r a) (option_map mask_of some_bits)) some_alpha)
+      some_rgb) some_flag
+      ≡ option_and_then (λ e. option_and_then (λ r. option_and_then (λ a. option_and_then (λ n. K e r a (mask_of n)) some_bits) some_alpha)
+      some_rgb) some_flag
   by_bits None = refl
   by_bits (Some n) = refl
 
@@ -142,7 +144,8 @@ module _ (version : ℕ) (found : Members) (draft : Draft) (is : IsDraft version
       ∙ interp-spelled (text_member "interp" (object found))
 
   picture-named : is_painted draft.paint ≡ is_picture (text_member "interp" (object found))
-  picture-named = ap is_painted (is.paint ∙ text-then spelled_paint (get_member (codes "interp") found)) ∙ painted-spelled (text_member "interp" (object found))
+  picture-named = ap is_painted (is.paint ∙ text-then spelled_paint (get_member (codes "interp") found))
+      ∙ painted-spelled (text_member "interp" (object found))
 
   shaded-found : shaded_draw_of draft.paint (large_of draft.parts) ≡ shaded_draw version (object found)
   shaded-found =
@@ -167,7 +170,8 @@ module _ (version : ℕ) (found : Members) (draft : Draft) (is : IsDraft version
       ) refl
 
   -- version 3 alone looks for a picture
-  by_version : (b : Bool) → (version == 3) ≡ b → cond (b && is_painted draft.paint) (painted_draw_of (large_of draft.parts)) (shaded_draw_of draft.paint (large_of draft.parts))
+  by_version : (b : Bool) → (version == 3) ≡ b
+      → cond (b && is_painted draft.paint) (painted_draw_of (large_of draft.parts)) (shaded_draw_of draft.paint (large_of draft.parts))
       ≡ cond (b && is_picture (text_member "interp" (object found))) (painted_draw version (object found)) (shaded_draw version (object found))
   by_version false other = shaded-found
   by_version true third =
@@ -181,12 +185,14 @@ module _ (version : ℕ) (found : Members) (draft : Draft) (is : IsDraft version
   f kind = event_of_known version kind draft
 
   blend-found : blend_of draft ≡ blend_event (object found)
-  blend-found = rw (is.enable, is.rgb, is.alpha, is.mask ∙ bits-then (get_member (codes "mask") found)) (by_bits (λ e r a m. cond (has_colour_factor a) None (Some (SetBlend (record { enable = e; rgb = r; alpha = a; mask = m }))))
+  blend-found = rw (is.enable, is.rgb, is.alpha, is.mask ∙ bits-then (get_member (codes "mask") found))
+      (by_bits (λ e r a m. cond (has_colour_factor a) None (Some (SetBlend (record { enable = e; rgb = r; alpha = a; mask = m }))))
       (option_and_then as_bool (get_member (codes "enable") found)) (option_and_then part_of_data (get_member (codes "rgb") found))
       (option_and_then part_of_data (get_member (codes "alpha") found)) (option_and_then (number_between 0 15) (get_member (codes "mask") found)))
 
   marker-found : marker_of draft ≡ marker_event (object found)
-  marker-found = rw (is.label ∙ text-then (λ text. result_ok (labelled text)) (get_member (codes "name") found)) (by_text (text_member "name" (object found)))
+  marker-found = rw (is.label ∙ text-then (λ text. result_ok (labelled text)) (get_member (codes "name") found))
+      (by_text (text_member "name" (object found)))
 
   depth-found : depth_drafted draft ≡ depth_event (object found)
   depth-found = rw (is.enable, is.write, is.func ∙ text-then spelled_func (get_member (codes "func") found)) refl

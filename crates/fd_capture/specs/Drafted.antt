@@ -88,7 +88,7 @@ pub record IsDraft (version : ℕ) (found : Members) (draft : Draft) : Type 0 wh
   pub indices : (large_of draft.parts).indices ≡ option_map indices_of_array (get_member (codes "indices") found)
   pub picture : (large_of draft.parts).picture ≡ option_map (picture_read version) (get_member (codes "picture") found)
 
--- what a member leaves in its place, which is of a name, and what was there before
+-- what stands under a member's own name once a member of any name was read: that one's value where the names are the same, else what stood before
 abbrev pub member_or : {X : Type 0} → String → List ℕ → (Data → Option X) → Data → Option X → Option X
 member_or own name f d before = cond (bytes_eq name (codes own)) (f d) before
 
@@ -188,7 +188,8 @@ painted_draw_of large = do
 
 -- pictures are of version 3
 abbrev pub draw_drafted : ℕ → Draft → Option Event
-draw_drafted version draft = if version == 3 && is_painted draft.paint then painted_draw_of (large_of draft.parts) else shaded_draw_of draft.paint (large_of draft.parts)
+draw_drafted version draft =
+    if version == 3 && is_painted draft.paint then painted_draw_of (large_of draft.parts) else shaded_draw_of draft.paint (large_of draft.parts)
 
 abbrev pub event_of_kind_from : ℕ → Kind → Draft → Option Event
 event_of_kind_from version kind.Clear draft = clear_of draft

@@ -13,11 +13,11 @@ use Rattle.fd_memory.specs.Wanting.{Wanted}
 use Rattle.fd_words.specs.declared.command.Command.TheVariants.{Quit}
 use Rattle.fd_words.specs.declared.ending.Ending.{Ending}
 use Rattle.fd_words.specs.declared.ending.Ending.TheVariants.{Done, Write, TooMuch}
-use Rattle.fd_cli.specs.declared.progress.Progress.{Progress}
+use Rattle.fd_cli.specs.declared.dialogue.Dialogue.{Dialogue}
 use Rattle.fd_words.specs.Line.{Cuts, command_of}
 use Rattle.fd_cli.specs.Run.{Answers}
 use Rattle.fd_cli.specs.Serving.{Answered, AnswersLines, BreaksOff, Replies, Stops, Serves}
-use Rattle.fd_cli.specs.Progress.{IsServing, Advances, AfterBytes, Finishes}
+use Rattle.fd_cli.specs.Dialogue.{IsServing, Advances, AfterBytes, Finishes}
 use Rattle.fd_cli.proofs.LineLemmas.{all_push, cut_byte, cut_line, run_push, command_front}
 use Rattle.fd_device.proofs.Transfers.{puts_all}
 
@@ -31,11 +31,11 @@ serving_start table session line opened none =
     record { lines = []; rest = []; answered = answered; line = none; line_count = refl; byte_count = refl; sent_count = refl }
 
 -- the lines that were answered so far
-abbrev before : {table : Table} {input text : List ℕ} {p : Progress} → IsServing table input text p → AnswersLines table input text
+abbrev before : {table : Table} {input text : List ℕ} {p : Dialogue} → IsServing table input text p → AnswersLines table input text
 before {p} h = record { lines = h.lines; rest = h.rest; state = p.session; answered = h.answered }
 
 -- a byte past a bound
-pub advance_past : (old : Progress) (held : Option (List ℕ)) (byte : ℕ) → (268435456 ≤ old.bytes) ⊎ (1000000 ≤ old.lines)
+pub advance_past : (old : Dialogue) (held : Option (List ℕ)) (byte : ℕ) → (268435456 ≤ old.bytes) ⊎ (1000000 ≤ old.lines)
     → Advances old old held held (byte ∷ []) (Err TooMuch)
 advance_past old held byte past =
     record {
@@ -49,7 +49,7 @@ advance_past old held byte past =
     }
 
 -- a byte that is no line feed
-pub advance_byte : (old : Progress) (line : ArrayVec ℕ) (held : Option (List ℕ)) (byte : ℕ) → byte ≢ 10 → old.bytes < 268435456 → old.lines < 1000000
+pub advance_byte : (old : Dialogue) (line : ArrayVec ℕ) (held : Option (List ℕ)) (byte : ℕ) → byte ≢ 10 → old.bytes < 268435456 → old.lines < 1000000
     → ((rest : List ℕ) → old.line.items ≡ take 258 rest → line.items ≡ take 258 (rest ++ byte ∷ []))
     → Advances old (record old { line = line; bytes = old.bytes + 1 }) held held (byte ∷ []) (Ok tt)
 advance_byte old line held byte other bytes count front =
@@ -76,14 +76,14 @@ advance_byte old line held byte other bytes count front =
     }
 
 -- the reply to the line that the buffer holds
-abbrev pub Replied : Progress → Progress → Option (List ℕ) → Option (List ℕ) → Bool → Type 0
+abbrev pub Replied : Dialogue → Dialogue → Option (List ℕ) → Option (List ℕ) → Bool → Type 0
 Replied old new held_old held_new ok = Replies old.session (command_of old.line.items) new.session held_old held_new old.sent new.sent ok
 
 -- the command of the line that the buffer holds the front of
-whole_line : {table : Table} {input text : List ℕ} {p : Progress} → (h : IsServing table input text p) → command_of p.line.items ≡ command_of h.rest
+whole_line : {table : Table} {input text : List ℕ} {p : Dialogue} → (h : IsServing table input text p) → command_of p.line.items ≡ command_of h.rest
 whole_line h = ap command_of h.line ∙ command_front h.rest
 
-module _ (old new : Progress) (held_old held_new : Option (List ℕ)) where
+module _ (old new : Dialogue) (held_old held_new : Option (List ℕ)) where
   abbrev breaks_off : (replies : Replied old new held_old held_new false) (table : Table) (input text : List ℕ) → IsServing table input text old
       → BreaksOff table input (text ++ replies.puts.taken) new.sent
   breaks_off replies table input text h =
@@ -182,7 +182,7 @@ rest_empty line [] is none = refl
 rest_empty line (byte ∷ rest) is none = absurd (grind (arith, nat_tests, length-take 258 (byte ∷ rest), ap length is))
 
 -- no unfinished line at the end of the input
-pub finish_none : (p : Progress) (held : Option (List ℕ)) → (length p.line.items == 0) ≡ true → Finishes p held held Done
+pub finish_none : (p : Dialogue) (held : Option (List ℕ)) → (length p.line.items == 0) ≡ true → Finishes p held held Done
 finish_none p held none =
     record {
       written = [];
@@ -192,13 +192,13 @@ finish_none p held none =
     }
 
 -- no byte
-pub advance_none : (p : Progress) (held : Option (List ℕ)) → Advances p p held held [] (Ok tt)
+pub advance_none : (p : Dialogue) (held : Option (List ℕ)) → Advances p p held held [] (Ok tt)
 advance_none p held = record { written = []; appended = Appends-nil held; after = λ table input text h. rw (append-nil input, append-nil text) h }
 
 shifted : (input front rest more bytes : List ℕ) → front ++ rest ≡ bytes → (input ++ front) ++ (rest ++ more) ≡ (input ++ bytes) ++ more
 shifted input front rest more bytes is = rw (← is) (simp append_assoc)
 
-module _ (a b c : Progress) (held_a held_b held_c : Option (List ℕ)) where
+module _ (a b c : Dialogue) (held_a held_b held_c : Option (List ℕ)) where
   -- bytes and then more bytes
   advance_then : (xs ys : List ℕ) (r : Result (Unit {0}) Ending) → Advances a b held_a held_b xs (Ok tt) → Advances b c held_b held_c ys r
       → Advances a c held_a held_c (xs ++ ys) r
@@ -231,7 +231,7 @@ module _ (a b c : Progress) (held_a held_b held_c : Option (List ℕ)) where
       }
 
 -- the bytes of a fill, which stand at the front of the buffer, lead on
-pub after_fill : (table : Table) (input text : List ℕ) (old new : Progress) (held_old held_new : Option (List ℕ)) (k : ℕ) (filled rest : List ℕ)
+pub after_fill : (table : Table) (input text : List ℕ) (old new : Dialogue) (held_old held_new : Option (List ℕ)) (k : ℕ) (filled rest : List ℕ)
     (r : Result (Unit {0}) Ending) → k ≤ length filled → IsServing table input text old
     → (a : Advances old new held_old held_new (take k (filled ++ rest)) r) → AfterBytes table (input ++ take k filled) (text ++ a.written) new r
 after_fill table input text old new held_old held_new k filled rest r within h a =

@@ -4,8 +4,8 @@ use Rattle.fd_device.specs.Beside.{IsFilledBeside}
 use Rattle.fd_events.specs.Table.{Table}
 use Rattle.fd_listing.specs.Counting.{StaysFlushed}
 use Rattle.std.specs.Io.KnownBytes.{Appends}
-use Rattle.fd_cli.specs.declared.progress.Progress.{Progress}
-use Rattle.fd_cli.specs.Progress.{IsServing}
+use Rattle.fd_cli.specs.declared.dialogue.Dialogue.{Dialogue}
+use Rattle.fd_cli.specs.Dialogue.{IsServing}
 use Rattle.fd_cli.specs.Waiting.{IsAnswered, Telling, Waited}
 
 module _ {R W : Type 0} (telling : Telling W) (table : Table) (first : W) (old : R) where
@@ -23,12 +23,12 @@ module _ {R W : Type 0} (telling : Telling W) (table : Table) (first : W) (old :
   }
 
   -- what a run has answered
-  pub answered_so : (sink : W) (input text : List ℕ) (progress : Progress) → IsServing table input text progress
+  pub answered_so : (sink : W) (input text : List ℕ) (dialogue : Dialogue) → IsServing table input text dialogue
       → Appends (telling.contents first) (telling.contents sink) text → StaysFlushed (telling.is_flushed first) (telling.is_flushed sink)
       → IsAnswered telling table first sink input
-  answered_so sink input text progress serving appended flushed = record {
+  answered_so sink input text dialogue serving appended flushed = record {
     written = text;
     appended = appended;
-    answers = record { lines = serving.lines; rest = serving.rest; state = progress.session; answered = serving.answered };
+    answers = record { lines = serving.lines; rest = serving.rest; state = dialogue.session; answered = serving.answered };
     passed_on = flushed;
   }

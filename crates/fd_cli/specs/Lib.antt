@@ -2,7 +2,7 @@ pub mod Show
 pub mod ReplyText
 pub mod Run
 pub mod Serving
-pub mod Progress
+pub mod Dialogue
 pub mod Imaging
 pub mod Transcript
 pub mod Output

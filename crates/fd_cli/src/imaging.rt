@@ -5,6 +5,7 @@ ghost use Rattle.fd_listing.specs.Counting.{CountsWriter, EndsFlushed};
 ghost use Rattle.fd_listing.specs.Opening.{RefusesTooLong};
 ghost use Rattle.fd_cli.specs.Imaging.{ShowsState, ImagesTable, WritesImage};
 
+use crate::host::Host;
 use fd_device::Sink;
 use fd_events::EventTable;
 use fd_listing::open;
@@ -34,8 +35,7 @@ fn write_shown<W: Sink>(alloc: Global, picture: &Picture, sink: &mut W) -> Endin
 
 /// Writes the image of a table at a position, or at the last one.
 fn write_table<T: Threads + Sync, W: Sink>(
-    rt: &T,
-    alloc: Global,
+    host: &Host<'_, T>,
     table: EventTable,
     workers: u32,
     at: Option<u32>,
@@ -47,11 +47,11 @@ fn write_table<T: Threads + Sync, W: Sink>(
     ensures flushed { EndsFlushed result (W.is_flushed sink.old) (W.is_flushed sink.new) }
 {
     let to = at.unwrap_or(table.len());
-    let Ok(mut picture) = Picture::start(alloc, table, workers) else {
+    let Ok(mut picture) = Picture::start(host.alloc, table, workers) else {
         return Ending::Memory;
     };
-    match picture.go(rt, to, sink) {
-        Answer::Moved { .. } => write_shown(alloc, &picture, sink),
+    match picture.go(host.rt, to, sink) {
+        Answer::Moved { .. } => write_shown(host.alloc, &picture, sink),
         Answer::Refused(SessionFault::NoSuchPosition) => Ending::NoSuchPosition,
         Answer::Stopped { .. } | Answer::Refused(_) => Ending::Memory,
     }
@@ -75,8 +75,9 @@ pub fn image<T: Threads + Sync, W: Sink>(
     ensures failures { CountsWriter result (W.failure_count sink.old) (W.failure_count sink.new) }
     ensures flushed { EndsFlushed result (W.is_flushed sink.old) (W.is_flushed sink.new) }
 {
+    let host = Host { rt, alloc };
     match open(alloc, capture) {
-        Ok(table) => write_table(rt, alloc, table, workers, at, sink),
+        Ok(table) => write_table(&host, table, workers, at, sink),
         Err(ending) => ending,
     }
 }

@@ -24,24 +24,26 @@ pub struct Devices<R, W, E> {
 }
 
 /// Does what is asked for about a capture.
-fn do_request<T: Threads + Sync, R: Source, W: Sink>(
+fn do_request<T: Threads + Sync, R: Source, W: Sink, E: Sink>(
     rt: &T,
     alloc: Global,
     request: Request,
     capture: &[u8],
-    source: &mut R,
-    sink: &mut W,
+    devices: &mut Devices<R, W, E>,
 ) -> Ending
     requires { AsksWorkers request }
-    ensures does { (taken : List ℕ) × (written : List ℕ) × Consumes (R.remaining source.old) (R.remaining source.new) taken
-        × Appends (W.contents sink.old) (W.contents sink.new) written
-        × Does request capture.now taken written result (R.has_ended source.new) }
-    ensures waits { WaitsAbout (record { contents = W.contents; is_flushed = W.is_flushed }) capture.now sink.old source.old source.new }
+    ensures does { (taken : List ℕ) × (written : List ℕ) × Consumes (R.remaining devices.old.source) (R.remaining devices.new.source) taken
+        × Appends (W.contents devices.old.sink) (W.contents devices.new.sink) written
+        × Does request capture.now taken written result (R.has_ended devices.new.source) }
+    ensures waits { WaitsAbout (record { contents = W.contents; is_flushed = W.is_flushed }) capture.now
+        devices.old.sink devices.old.source devices.new.source }
     ensures too_long { RefusesTooLong capture.now result }
-    ensures read { CountsReader result (R.failure_count source.old) (R.failure_count source.new) }
-    ensures write { CountsWriter result (W.failure_count sink.old) (W.failure_count sink.new) }
-    ensures flushed { EndsFlushed result (W.is_flushed sink.old) (W.is_flushed sink.new) }
+    ensures read { CountsReader result (R.failure_count devices.old.source) (R.failure_count devices.new.source) }
+    ensures write { CountsWriter result (W.failure_count devices.old.sink) (W.failure_count devices.new.sink) }
+    ensures flushed { EndsFlushed result (W.is_flushed devices.old.sink) (W.is_flushed devices.new.sink) }
+    ensures errors { devices.new.errors ≡ devices.old.errors }
 {
+    let Devices { source, sink, .. } = devices;
     match request {
         Request::Run { workers } => serve(rt, alloc, capture, workers, source, sink),
         Request::Image { workers, at } => image(rt, alloc, capture, workers, at, sink),
@@ -67,14 +69,7 @@ pub fn perform<T: Threads + Sync, R: Source, W: Sink, E: Sink>(
     ensures waits { WaitsAbout (record { contents = W.contents; is_flushed = W.is_flushed }) capture.now
         devices.old.sink devices.old.source devices.new.source }
 {
-    let ending = do_request(
-        rt,
-        alloc,
-        request,
-        capture,
-        &mut devices.source,
-        &mut devices.sink,
-    );
+    let ending = do_request(rt, alloc, request, capture, devices);
     let _ = ending.report(&mut devices.errors);
     ending.status()
 }

@@ -11,6 +11,7 @@ ghost use Rattle.fd_device.specs.Transfer.{Puts, CountsFailure};
 ghost use Rattle.fd_cli.specs.Serving.{Replies};
 ghost use Rattle.fd_cli.specs.ReplyText.{answer_line, pixel_text, history_text};
 
+use crate::host::Host;
 use crate::refusal::refusal_line;
 use crate::show::show;
 use fd_device::{Failed, Sink, send};
@@ -39,23 +40,22 @@ fn send_answer<W: Sink>(answer: Answer, sink: &mut W, sent: &mut u64) -> Result<
     }
 }
 
-/// Sends the reply to `pixel`.
+/// Sends the reply to `pixel`, of column and row.
 fn send_pixel<W: Sink>(
     session: &Session,
-    x: u32,
-    y: u32,
+    pixel: (u32, u32),
     sink: &mut W,
     sent: &mut u64,
 ) -> Result<(), Failed>
     requires { sent.old + 256 < 2 ^ 64 }
-    ensures puts { (colour : Result Colour SessionFault) × (depth : Result ℕ SessionFault) × ShowsPixel session.now x y colour
-        × ShowsDepth session.now x y depth
+    ensures puts { (colour : Result Colour SessionFault) × (depth : Result ℕ SessionFault) × ShowsPixel session.now pixel.0 pixel.1 colour
+        × ShowsDepth session.now pixel.0 pixel.1 depth
         × (length (pixel_text session.now.table.version colour depth) ≤ 256)
         × Puts (W.contents sink.old) (W.contents sink.new) sent.old sent.new (pixel_text session.now.table.version colour depth) (is_ok result) }
     ensures failures { CountsFailure (W.failure_count sink.old) (W.failure_count sink.new) (is_ok result) }
 {
-    let colour = session.pixel(x, y);
-    let depth = session.depth(x, y);
+    let colour = session.pixel(pixel.0, pixel.1);
+    let depth = session.depth(pixel.0, pixel.1);
     match colour {
         Ok(colour) => match depth {
             Ok(depth) => {
@@ -68,22 +68,21 @@ fn send_pixel<W: Sink>(
     }
 }
 
-/// Sends the reply to `history`.
+/// Sends the reply to `history`, of column and row.
 fn send_history<W: Sink>(
     alloc: Global,
     session: &Session,
-    x: u32,
-    y: u32,
+    pixel: (u32, u32),
     sink: &mut W,
     sent: &mut u64,
 ) -> Result<(), Failed>
     requires { sent.old + most_reply_bytes < 2 ^ 64 }
-    ensures puts { (outcome : Result (List Entry) SessionFault) × ShowsHistory session.now x y outcome × OnMemory Wanted outcome
+    ensures puts { (outcome : Result (List Entry) SessionFault) × ShowsHistory session.now pixel.0 pixel.1 outcome × OnMemory Wanted outcome
         × (is_ok result ≡ true → length (history_text session.now.table.version outcome) ≤ most_reply_bytes)
         × Puts (W.contents sink.old) (W.contents sink.new) sent.old sent.new (history_text session.now.table.version outcome) (is_ok result) }
     ensures failures { CountsFailure (W.failure_count sink.old) (W.failure_count sink.new) (is_ok result) }
 {
-    match session.history(alloc, x, y) {
+    match session.history(alloc, pixel.0, pixel.1) {
         Ok(entries) => send_entries(session.table().version(), &entries, sink, sent),
         Err(fault) => send(sink, sent, refusal_line(fault)),
     }
@@ -91,8 +90,7 @@ fn send_history<W: Sink>(
 
 /// Answers a command, or what stands in a command's place.
 fn reply<T: Threads + Sync, W: Sink>(
-    rt: &T,
-    alloc: Global,
+    host: &Host<'_, T>,
     session: &mut Session,
     command: Result<Command, CommandFault>,
     sink: &mut W,
@@ -104,30 +102,29 @@ fn reply<T: Threads + Sync, W: Sink>(
 {
     match command {
         Err(fault) => send(sink, sent, fault_line(fault)),
-        Ok(Command::Step) => send_answer(session.step(rt), sink, sent),
+        Ok(Command::Step) => send_answer(session.step(host.rt), sink, sent),
         Ok(Command::Back) => match session.back() {
             Ok(at) => send(sink, sent, number_line(b"at", u64::from(at)).as_slice()),
             Err(fault) => send(sink, sent, refusal_line(fault)),
         },
-        Ok(Command::Goto(to)) => send_answer(session.go(rt, to, sink), sink, sent),
-        Ok(Command::On(number)) => send_answer(session.switch(rt, number, true), sink, sent),
-        Ok(Command::Off(number)) => send_answer(session.switch(rt, number, false), sink, sent),
-        Ok(Command::Pixel(x, y)) => send_pixel(session, x, y, sink, sent),
-        Ok(Command::History(x, y)) => send_history(alloc, session, x, y, sink, sent),
+        Ok(Command::Goto(to)) => send_answer(session.go(host.rt, to, sink), sink, sent),
+        Ok(Command::On(number)) => send_answer(session.switch(host.rt, number, true), sink, sent),
+        Ok(Command::Off(number)) => send_answer(session.switch(host.rt, number, false), sink, sent),
+        Ok(Command::Pixel(x, y)) => send_pixel(session, (x, y), sink, sent),
+        Ok(Command::History(x, y)) => send_history(host.alloc, session, (x, y), sink, sent),
         Ok(Command::State) => {
             let line = state_line(session.table().version(), session.state());
             send(sink, sent, line.as_slice())
         }
         Ok(Command::Events) => send_events(session.table(), session.position(), sink, sent),
-        Ok(Command::Show) => show(alloc, session, sink, sent),
+        Ok(Command::Show) => show(host.alloc, session, sink, sent),
         Ok(Command::Quit) => send(sink, sent, b"bye\n"),
     }
 }
 
 /// Answers a line, and says whether it was a quit.
 pub(crate) fn answer<T: Threads + Sync, W: Sink>(
-    rt: &T,
-    alloc: Global,
+    host: &Host<'_, T>,
     session: &mut Session,
     line: &[u8],
     sink: &mut W,
@@ -140,7 +137,7 @@ pub(crate) fn answer<T: Threads + Sync, W: Sink>(
     ensures failures { CountsFailure (W.failure_count sink.old) (W.failure_count sink.new) (is_ok result) }
 {
     let command = read_command(line);
-    reply(rt, alloc, session, command, sink, sent)?;
+    reply(host, session, command, sink, sent)?;
     sink.flush()?;
     Ok(matches!(command, Ok(Command::Quit)))
 }

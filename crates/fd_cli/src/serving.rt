@@ -6,7 +6,8 @@ ghost use Rattle.fd_cli.specs.Serving.{Serves, ServesCapture};
 ghost use Rattle.fd_cli.specs.Waiting.{Reading, WaitsFor, WaitsAbout};
 ghost use Rattle.fd_listing.specs.Counting.{CountsReader, CountsWriter, EndsFlushed};
 
-use crate::progress::{MAX_BYTES, Progress};
+use crate::dialogue::{Dialogue, MAX_BYTES};
+use crate::host::Host;
 use arrayvec::ArrayVec;
 use fd_device::{Sink, Source, fill_beside};
 use fd_events::EventTable;
@@ -18,8 +19,7 @@ use std::thread::Threads;
 
 /// Answers the commands that come from the source.
 fn serve_table<T: Threads + Sync, R: Source, W: Sink>(
-    rt: &T,
-    alloc: Global,
+    host: &Host<'_, T>,
     table: EventTable,
     workers: u32,
     source: &mut R,
@@ -35,10 +35,10 @@ fn serve_table<T: Threads + Sync, R: Source, W: Sink>(
     ensures write { CountsWriter result (W.failure_count sink.old) (W.failure_count sink.new) }
     ensures flushed { EndsFlushed result (W.is_flushed sink.old) (W.is_flushed sink.new) }
 {
-    let Ok(session) = Session::start(alloc, table, workers) else {
+    let Ok(session) = Session::start(host.alloc, table, workers) else {
         return Ending::Memory;
     };
-    let mut progress = Progress {
+    let mut dialogue = Dialogue {
         session,
         line: ArrayVec::new(),
         lines: 0,
@@ -47,14 +47,14 @@ fn serve_table<T: Threads + Sync, R: Source, W: Sink>(
     };
     let mut buffer = [0u8; 4096];
     loop {
-        let room = buffer.len().min((MAX_BYTES + 1 - progress.bytes) as usize);
+        let room = buffer.len().min((MAX_BYTES + 1 - dialogue.bytes) as usize);
         let Ok(count) = fill_beside(source, sink, &mut buffer[..room]) else {
             return Ending::Read;
         };
         if count == 0 {
-            return progress.finish(rt, alloc, sink);
+            return dialogue.finish(host, sink);
         }
-        if let Err(ending) = progress.take_bytes(rt, alloc, &buffer[..count], sink) {
+        if let Err(ending) = dialogue.take_bytes(host, &buffer[..count], sink) {
             return ending;
         }
     }
@@ -85,8 +85,9 @@ pub fn serve<T: Threads + Sync, R: Source, W: Sink>(
     ensures write { CountsWriter result (W.failure_count sink.old) (W.failure_count sink.new) }
     ensures flushed { EndsFlushed result (W.is_flushed sink.old) (W.is_flushed sink.new) }
 {
+    let host = Host { rt, alloc };
     match open(alloc, capture) {
-        Ok(table) => serve_table(rt, alloc, table, workers, source, sink),
+        Ok(table) => serve_table(&host, table, workers, source, sink),
         Err(ending) => ending,
     }
 }

@@ -24,7 +24,7 @@ use Rattle.fd_owner.specs.Untouched.{IsUntouched, AreUntouched, Misses}
 use Rattle.fd_owner.proofs.Drawn.{last_drawn}
 use Rattle.fd_owner.proofs.Histories.{extend_to_on}
 use Rattle.fd_owner.proofs.PassedOver.{untouched_missed}
-use Rattle.fd_owner.proofs.Undemanded.{pixel_alike}
+use Rattle.fd_owner.proofs.Untouched.{pixel_alike}
 use Rattle.fd_crew.specs.Lanes.{opening_position}
 use Rattle.fd_session.specs.Held.{Stands, ShowsAt, places_of, first_places, size_of, HoldsAll, IsLeft}
 use Rattle.fd_session.specs.Near.{StandsNear, HoldsNear, Between}
@@ -68,22 +68,7 @@ near_beside table from to k n o placed on most untouched near =
     near_further table from to k o on most
     (subst (λ (p : Place). AreUntouched table from to p) (sym placed) (untouched (subst (λ (p : Place). IsInside p table) placed near.stands.inside))) near
 
--- past one event more that writes nothing on its tile
-pub near_more : (table : Table) (k : ℕ) (o : Shown) → IsUntouched table k o.place → StandsNear table k o → StandsNear table (suc k) o
-near_more table k o here n = record {
-  at = n.at;
-  stands = n.stands;
-  within = n.within;
-  alike = record {
-    on = λ j low high. elim (cases_lt j k) [
-      | inl before ↦ n.alike.on j low before
-      | inr there ↦ let same : k ≡ j = omega (arith, there, high) in subst (λ (i : ℕ). IsUntouched table i o.place) same here
-    ];
-    back = λ j low high. n.alike.back j (omega (arith, low)) high;
-  };
-}
-
--- before it
+-- before the last of them, which writes nothing on its tile
 pub near_less : (table : Table) (k : ℕ) (o : Shown) → IsUntouched table k o.place → StandsNear table (suc k) o → StandsNear table k o
 near_less table k o here n = record {
   at = n.at;
@@ -216,6 +201,20 @@ met_by size box n x y held within =
       (omega (arith, held.from_top, held.to_bottom, in_box.1.0), omega (arith, held.from_top, held.to_bottom, in_box.1.1)),
     )
 
+-- so no tile that the box meets comes before the first one that is found, from where on it was looked for
+pub found_first : (size : TargetSize) (box : Bounds) (n x y from start column found : ℕ) → 0 < columns_of size → Holds (place_of size n) x y
+    → IsTrue (is_within box x y) → from ≤ n → start ≡ max from (box.top / 32 * columns_of size)
+    → column ≡ max (start % columns_of size) (box.left / 32)
+    → ((column < (box.right + 31) / 32) × (found ≡ start - start % columns_of size + column))
+    ⊎ (((box.right + 31) / 32 ≤ column) × (found ≡ start - start % columns_of size + columns_of size + box.left / 32))
+    → found ≤ n
+found_first size box n x y from start column found some held within on starts at is =
+    let columns = columns_of size in
+    let met = met_by size box n x y held within in
+    let above = not_above columns start n (box.left / 32) ((box.right + 31) / 32) (box.top / 32) ((box.bottom + 31) / 32) some met.0 met.1 in
+    found_low columns start n (box.left / 32) ((box.right + 31) / 32) (box.top / 32) ((box.bottom + 31) / 32) some met.0 met.1 column found
+    (omega (arith, starts, on, above)) at is
+
 -- a tile of the target is a place
 pub tile_placed : (table : Table) (n : ℕ) → IsTable table → n < tile_count (size_of table) → IsTilePlace (place_of (size_of table) n)
 tile_placed table n valid below =
@@ -254,10 +253,7 @@ module _ (table : Table) (number : ℕ) (first : 1 ≤ number) (last : number �
       untouched_missed table place box misses tile inside (number - 1)
       (subst (λ (k : ℕ). option_map (reach_of table.width table.height) (event_at table k) ≡ Some box) is reach)
 
-  -- past it and before it where it writes nothing on the tile
-  pub over_missed : (o : Shown) → IsUntouched table (number - 1) o.place → StandsNear table (number - 1) o → StandsNear table number o
-  over_missed o here n = subst (λ (k : ℕ). StandsNear table k o) (sym is) (near_more table (number - 1) o here n)
-
+  -- before it where it writes nothing on the tile
   pub before_missed : (o : Shown) → IsUntouched table (number - 1) o.place → StandsNear table number o → StandsNear table (number - 1) o
   before_missed o here n = near_less table (number - 1) o here (subst (λ (k : ℕ). StandsNear table k o) is n)
 
@@ -272,9 +268,6 @@ module _ (table : Table) (number : ℕ) (first : 1 ≤ number) (last : number �
         missed_place box reach (get_or owners n d).place
         (subst IsTilePlace (sym at_place) (tile_placed table n valid (omega (arith, within, count_placed (size_of table) owners places)))) inside
         (subst (Misses box) (sym at_place) misses)
-
-    pub passed_over : StandsNear table (number - 1) (get_or owners n d) → StandsNear table number (get_or owners n d)
-    passed_over near = over_missed (get_or owners n d) (tile_missed near.stands.inside) near
 
     pub passed_back : StandsNear table number (get_or owners n d) → StandsNear table (number - 1) (get_or owners n d)
     passed_back near = before_missed (get_or owners n d) (tile_missed near.stands.inside) near

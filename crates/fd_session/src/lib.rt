@@ -8,15 +8,17 @@ pub use picture::Picture;
 pub use session::Session;
 
 mod answer;
+mod drive;
 mod estimate;
+mod frame;
 pub mod laws;
 mod moves;
 mod near;
 mod picture;
 mod redraw;
-mod rows;
 mod session;
 mod switch;
 #[cfg(test)]
 mod tests;
+mod way;
 mod worth;

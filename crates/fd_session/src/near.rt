@@ -10,12 +10,14 @@ ghost use Rattle.fd_owner.specs.Shown.{IsInside};
 ghost use Rattle.fd_owner.specs.Untouched.{AreUntouched, Misses};
 ghost use Rattle.fd_session.specs.Held.{Stands, IsLeft, places_of, first_places, size_of};
 ghost use Rattle.fd_session.specs.Near.{StandsNear, IsBrought, IsTakenBack, Between};
-ghost use Rattle.fd_session.specs.Moves.{Comes};
+ghost use Rattle.fd_session.specs.Moves.{Comes, forgets_by};
 
+use crate::drive::Drive;
 use crate::estimate::Area;
-use crate::moves::{Drive, Way, go_forward};
+use crate::moves::go_forward;
+use crate::way::Way;
 use fd_cover::Bounds;
-use fd_crew::Gate;
+use fd_crew::Free;
 use fd_device::Progress;
 use fd_events::{Event, EventTable, GROUP_LEN};
 use fd_owner::Owner;
@@ -153,20 +155,26 @@ struct Taken {
     area: Area,
 }
 
-/// The owners, of so many, whose tiles the events from one position up to another may reach: all, where the events are many.
-fn reached(table: &EventTable, from: u32, to: u32, count: usize) -> Taken
-    requires order { from ≤ to }
-    requires within { to ≤ length table.now.events }
+/// The owners, of so many, whose tiles the events of a way may reach: all, where the events are many.
+fn reached(way: &Way<'_>, count: usize) -> Taken
+    requires order { way.now.from ≤ way.now.to }
+    requires within { way.now.to ≤ length way.now.table.now.events }
     ensures order { (result.first ≤ result.past) × (result.past ≤ count) }
-    ensures untouched { (n : ℕ) → n < count → n < tile_count (size_of table.now) → (n < result.first) ⊎ (result.past ≤ n)
-        → IsInside (place_of (size_of table.now) n) table.now → AreUntouched table.now from to (place_of (size_of table.now) n) }
+    ensures untouched { (n : ℕ) → n < count → n < tile_count (size_of way.now.table.now) → (n < result.first) ⊎ (result.past ≤ n)
+        → IsInside (place_of (size_of way.now.table.now) n) way.now.table.now
+        → AreUntouched way.now.table.now way.now.from way.now.to (place_of (size_of way.now.table.now) n) }
 {
+    let Way {
+        table,
+        from,
+        to,
+        ..
+    } = *way;
     if to - from > MOST_EVENTS {
-        let area = Area::of(table);
         return Taken {
             first: 0,
             past: count,
-            area,
+            area: way.area,
         };
     }
     let area = Area::round(table, reach_between(table, from, to));
@@ -188,33 +196,32 @@ fn reached(table: &EventTable, from: u32, to: u32, count: usize) -> Taken
 }
 
 /// Takes the owners of the tiles that the events of a way reach forward over it, as `go_forward` does. All others stay where they stand.
-pub(crate) fn draw_reached<R: Threads + Sync, G: Gate, T: Progress>(
+pub(crate) fn draw_reached<R: Threads + Sync, T: Progress>(
     rt: &R,
     owners: &mut [Owner],
-    table: &EventTable,
-    way: &Way,
-    drive: &Drive<'_, G>,
+    way: &Way<'_>,
+    drive: &Drive<'_, Free>,
     teller: &mut T,
 ) -> Result<u32, AllocError>
     requires order { way.now.from ≤ way.now.to }
-    requires within { way.now.to ≤ length table.now.events }
-    requires places { places_of owners.old ≡ first_places (size_of table.now) (tile_count (size_of table.now)) }
-    requires near { All (StandsNear table.now way.now.from) owners.old }
-    requires whole { drive.now.forgets ≡ false }
-    requires together { drive.now.together ≡ true }
+    requires within { way.now.to ≤ length way.now.table.now.events }
+    requires together { way.now.together ≡ true }
+    requires places { places_of owners.old ≡ first_places (size_of way.now.table.now) (tile_count (size_of way.now.table.now)) }
+    requires near { All (StandsNear way.now.table.now way.now.from) owners.old }
+    requires whole { forgets_by drive.now.policy ≡ false }
     requires workers { (1 ≤ drive.now.workers) × (drive.now.workers ≤ 64) }
-    ensures comes { Comes (StandsNear table.now) way.now.from way.now.to (result_unwrap_or result way.now.from) owners.old owners.new }
+    ensures comes { Comes (StandsNear way.now.table.now) way.now.from way.now.to (result_unwrap_or result way.now.from) owners.old owners.new }
     ensures wanted { MatchResult result (λ at. at < way.now.to → Wanted) (λ _. Wanted) }
     ensures told { T.kept teller.new ≡ T.kept teller.old }
 {
-    let Taken { first, past, area } = reached(table, way.from, way.to, owners.len());
+    let Taken { first, past, area } = reached(way, owners.len());
     if first == past {
         return Ok(way.to);
     }
     let (_, above) = owners.split_at_mut(first);
     let (lanes, _) = above.split_at_mut(past - first);
-    level(lanes, table, way.from);
-    go_forward(rt, lanes, table, &Way { area, ..*way }, drive, teller)
+    level(lanes, way.table, way.from);
+    go_forward(rt, lanes, &Way { area, ..*way }, drive, teller)
 }
 
 /// Whether the events from one position up to another are few, and reach few tiles.

@@ -3,16 +3,15 @@ ghost use Rattle.std.specs.Prelude.{◌≡◌, ◌<◌, ◌≤◌, length, IfOk,
 ghost use Rattle.fd_memory.specs.Wanting.{Wanted};
 
 use crate::answer::{Answer, SessionFault};
-use crate::estimate::Area;
-use crate::moves::{Drive, Pace, Way, common_position, go_forward, open};
-use crate::rows::row_from;
+use crate::drive::Policy;
+use crate::frame::Frame;
+use crate::moves::go_forward;
+use crate::way::Way;
 use fd_blend::Colour;
 use fd_crew::Free;
 use fd_device::Progress;
 use fd_events::EventTable;
 use fd_frame::Shows;
-use fd_owner::Owner;
-use fd_tile::Grid;
 use std::alloc::{AllocError, Global};
 use std::marker::Model;
 use std::thread::Threads;
@@ -20,13 +19,8 @@ use std::thread::Threads;
 /// The image of a frame at a position, drawn forward alone. What events overwrite is kept no longer than a slice.
 #[derive(Drop)]
 pub struct Picture {
-    table: EventTable,
-    grid: Grid,
-    // one for each tile of the grid, all at one position, and none of them keeps anything
-    owners: Vec<Owner>,
-    // the most that a slice starts
-    workers: u32,
-    alloc: Global,
+    // all owners stand at one position, and none of them keeps anything
+    frame: Frame,
 }
 
 impl Model for Picture {
@@ -37,9 +31,9 @@ impl Model for Picture {
 
     ghost Value = { State };
 
-    ghost view = { λ p. record { table = p.table; position = opening_position p.owners.items } };
+    ghost view = { λ p. record { table = p.frame.table; position = opening_position p.frame.owners.items } };
 
-    ghost invariant = { λ p. HoldsAll true p.table p.grid p.owners.items × (1 ≤ p.workers) × (p.workers ≤ 64) };
+    ghost invariant = { λ p. HoldsAll true p.frame.table p.frame.grid p.frame.owners.items × (1 ≤ p.frame.workers) × (p.frame.workers ≤ 64) };
 }
 
 impl Picture {
@@ -57,16 +51,8 @@ impl Picture {
         ensures err { IfErr result (λ e. e.0 ≡ table) }
         ensures wanted { OnErr result Wanted }
     {
-        match open(alloc, &table) {
-            Ok((grid, owners)) => Ok(Picture {
-                table,
-                grid,
-                owners,
-                workers,
-                alloc,
-            }),
-            Err(refused) => Err((table, refused)),
-        }
+        let frame = Frame::open(alloc, table, workers)?;
+        Ok(Picture { frame })
     }
 
     /// Draws on to a position, or to the one before the first event that is refused memory, and gives that position.
@@ -79,18 +65,10 @@ impl Picture {
         ensures wanted { result < to → Wanted }
         ensures told { T.kept teller.new ≡ T.kept teller.old }
     {
-        let drive = Drive {
-            pace: Pace::Slices,
-            forgets: true,
-            together: true,
-            workers: self.workers,
-            alloc: self.alloc,
-            gate: &Free,
-        };
-        let from = common_position(&self.owners);
-        let area = Area::of(&self.table);
-        let way = Way { from, to, area };
-        go_forward(rt, &mut self.owners, &self.table, &way, &drive, teller).unwrap_or(from)
+        let from = self.position();
+        let drive = self.frame.drive(Policy::Picture, &Free);
+        let way = Way::of(&self.frame.table, from, to);
+        go_forward(rt, &mut self.frame.owners, &way, &drive, teller).unwrap_or(from)
     }
 
     /// Draws on to a position, slice by slice. It stops where an event is refused memory that is drawn by the calling thread alone. The teller is told after
@@ -105,24 +83,21 @@ impl Picture {
             return Answer::Refused(SessionFault::NoSuchPosition);
         }
         let at = self.draw(rt, to, teller);
-        if at < to {
-            return Answer::Stopped { at };
-        }
-        Answer::Moved { at }
+        Answer::come(at, to)
     }
 
     /// How many events have been gone through.
     pub fn position(&self) -> u32
         ensures { result ≡ self.now.position }
     {
-        common_position(&self.owners)
+        self.frame.opening_position()
     }
 
     /// The table of the frame.
     pub fn table(&self) -> &EventTable
         ensures { result.now ≡ self.now.table }
     {
-        &self.table
+        &self.frame.table
     }
 }
 
@@ -130,11 +105,11 @@ impl Shows for Picture {
     ghost state = { λ picture. picture };
 
     fn table(&self) -> &EventTable {
-        &self.table
+        &self.frame.table
     }
 
     fn row_from(&self, x: u32, y: u32) -> &[Colour] {
-        row_from(&self.grid, &self.owners, x, y)
+        self.frame.row_from(x, y)
     }
 }
 

@@ -1,16 +1,17 @@
 //! A switch of an event that the owners of a frame have gone through. Tiles that the event can't reach are not drawn anew.
-ghost use Rattle.std.specs.Prelude.{◌≡◌, ◌+◌, ◌<◌, ◌≤◌, Some, false, not, length, All};
-ghost use Rattle.fd_events.specs.Table.{with_flag, flag_at};
-ghost use Rattle.fd_crew.specs.Lanes.{opening_position};
+ghost use Rattle.std.specs.Prelude.{◌≡◌, ◌+◌, ◌<◌, ◌≤◌, false, length, All};
 ghost use Rattle.fd_session.specs.Held.{Stands, StandsFrom, IsLeft};
+ghost use Rattle.fd_session.specs.Moves.{forgets_by};
 ghost use Rattle.fd_session.specs.Redraw.{IsTakenBefore};
 ghost use Rattle.fd_session.specs.Switch.{HoldsSwitched, unswitched};
 ghost use Rattle.fd_memory.specs.Wanting.{Wanted};
 
+use crate::drive::Drive;
 use crate::estimate::Area;
-use crate::moves::{Drive, Way, common_position, go_forward};
+use crate::moves::go_forward;
 use crate::switch::Switch;
-use fd_crew::Gate;
+use crate::way::Way;
+use fd_crew::Free;
 use fd_device::Untold;
 use fd_events::EventTable;
 use fd_owner::Owner;
@@ -46,37 +47,31 @@ fn take_all_before(owners: &mut [Owner], table: &EventTable, switch: &Switch) ->
     lowest
 }
 
-/// Switches an event that the owners have gone through, and draws anew what it can reach, in the end all up to one position. Gives that position.
-pub(crate) fn go_again<R: Threads + Sync, G: Gate>(
+/// Draws anew what a switch can reach of an event that the owners have gone through, in the end all up to one position. Gives that position.
+pub(crate) fn go_again<R: Threads + Sync>(
     rt: &R,
     owners: &mut [Owner],
-    table: &mut EventTable,
-    number: u32,
-    on: bool,
-    drive: &Drive<'_, G>,
+    table: &EventTable,
+    switch: &Switch,
+    drive: &Drive<'_, Free>,
 ) -> u32
-    requires stand { All (Stands false table.old (opening_position owners.old)) owners.old }
-    requires number { (1 ≤ number) × (number ≤ opening_position owners.old) }
-    requires reached { opening_position owners.old ≤ length table.old.events }
-    requires other { flag_at table.old number ≡ Some (not on) }
+    requires stand { All (Stands false (unswitched table.now switch.now) switch.now.position) owners.old }
+    requires number { (1 ≤ switch.now.number) × (switch.now.number ≤ switch.now.position) }
+    requires within { switch.now.position ≤ length table.now.events }
+    requires reach { HoldsSwitched table.now switch.now }
     requires workers { (1 ≤ drive.now.workers) × (drive.now.workers ≤ 64) }
-    requires whole { drive.now.forgets ≡ false }
-    ensures table { table.new ≡ with_flag table.old number on }
-    ensures low { number ≤ result + 1 }
-    ensures high { result ≤ opening_position owners.old }
-    ensures left { IsLeft (Stands false (with_flag table.old number on) result) owners.old owners.new }
-    ensures wanted { result < opening_position owners.old → Wanted }
+    requires whole { forgets_by drive.now.policy ≡ false }
+    ensures low { switch.now.number ≤ result + 1 }
+    ensures high { result ≤ switch.now.position }
+    ensures left { IsLeft (Stands false table.now result) owners.old owners.new }
+    ensures wanted { result < switch.now.position → Wanted }
 {
-    let position = common_position(owners);
-    let switch = Switch::make(table, number, on, position);
     let way = Way {
-        from: take_all_before(owners, table, &switch),
-        to: position,
+        table,
+        from: take_all_before(owners, table, switch),
+        to: switch.position,
+        together: false,
         area: Area::round(table, switch.reach),
     };
-    let drive = Drive {
-        together: false,
-        ..*drive
-    };
-    go_forward(rt, owners, table, &way, &drive, &mut Untold).unwrap_or(way.from)
+    go_forward(rt, owners, &way, drive, &mut Untold).unwrap_or(way.from)
 }

@@ -1,12 +1,15 @@
-ghost use Rattle.std.specs.Prelude.{true, ◌≡◌, ◌≤◌, ◌+◌, false, Some, not, length, IfOk, IfErr, OnErr, MatchResult};
+//! A frame at a position, stepped forward and back.
+ghost use Rattle.std.specs.Prelude.{◌≡◌, ◌≤◌, ◌+◌, false, Some, not, length, IfOk, IfErr, OnErr, MatchResult};
 ghost use Rattle.fd_memory.specs.Wanting.{Wanted};
 
 use crate::answer::{Answer, SessionFault};
-use crate::estimate::Area;
-use crate::moves::{Drive, Pace, Way, go_forward, open};
+use crate::drive::Policy;
+use crate::frame::Frame;
+use crate::moves::go_forward;
 use crate::near::{draw_reached, level, take_back};
 use crate::redraw::go_again;
-use crate::rows::{owner_of, row_from};
+use crate::switch::Switch;
+use crate::way::Way;
 use fd_blend::Colour;
 use fd_crew::{Free, Gate};
 use fd_device::{Progress, Untold};
@@ -14,7 +17,6 @@ use fd_events::{EventTable, Pipeline};
 use fd_frame::Shows;
 use fd_history::{Entry, history_near};
 use fd_owner::Owner;
-use fd_tile::Grid;
 use std::alloc::{AllocError, Global};
 use std::marker::Model;
 use std::thread::Threads;
@@ -22,14 +24,9 @@ use std::thread::Threads;
 /// A frame at a position. Position k has gone through the first k events.
 #[derive(Drop)]
 pub struct Session {
-    table: EventTable,
-    grid: Grid,
-    // one for each tile of the grid; an owner may stand elsewhere than the session where its tile is the same there
-    owners: Vec<Owner>,
+    // an owner may stand elsewhere than the session where its tile is the same there
+    frame: Frame,
     position: u32,
-    // the most that a move starts
-    workers: u32,
-    alloc: Global,
 }
 
 impl Model for Session {
@@ -39,13 +36,13 @@ impl Model for Session {
 
     ghost Value = { State };
 
-    ghost view = { λ s. record { table = s.table; position = s.position } };
+    ghost view = { λ s. record { table = s.frame.table; position = s.position } };
 
-    ghost invariant = { λ s. HoldsNear s.table s.grid s.position s.owners.items × (1 ≤ s.workers) × (s.workers ≤ 64) };
+    ghost invariant = { λ s. HoldsNear s.frame.table s.frame.grid s.position s.frame.owners.items × (1 ≤ s.frame.workers) × (s.frame.workers ≤ 64) };
 }
 
 impl Session {
-    ghost use Rattle.std.specs.Prelude.{◌<◌, ◌*◌, IsTrue};
+    ghost use Rattle.std.specs.Prelude.{◌<◌, ◌*◌, IfSome, IfNone};
     ghost use Rattle.std.specs.Result.{result_map_both, result_unwrap_or};
     ghost use Rattle.fd_tile.specs.Place.{Holds};
     ghost use Rattle.fd_tile.specs.Tile.{pixel_in};
@@ -54,7 +51,6 @@ impl Session {
     ghost use Rattle.fd_events.specs.Limits.{most_triangles, most_events};
     ghost use Rattle.fd_events.specs.Table.{state_at, flag_at};
     ghost use Rattle.fd_session.specs.Near.{StandsNear};
-    ghost use Rattle.fd_session.specs.declared.moves.Pace.TheVariants.{Whole};
     ghost use Rattle.fd_frame.specs.State.{State, opening, at_position, with_flag_at};
     ghost use Rattle.fd_session.specs.Machine.{Steps, GoesBack, Jumps, RefusesSwitch, Switches, ShowsPixel};
     ghost use Rattle.fd_frame.specs.State.{IsState};
@@ -71,46 +67,8 @@ impl Session {
         ensures err { IfErr result (λ e. e.0 ≡ table) }
         ensures wanted { OnErr result Wanted }
     {
-        match open(alloc, &table) {
-            Ok((grid, owners)) => Ok(Session {
-                table,
-                grid,
-                owners,
-                position: 0,
-                workers,
-                alloc,
-            }),
-            Err(refused) => Err((table, refused)),
-        }
-    }
-
-    /// How a move forward at this pace is handed to the crew.
-    fn drive<'a, G: Gate>(&self, pace: Pace, gate: &'a G) -> Drive<'a, G>
-        ensures workers { (1 ≤ result.workers) × (result.workers ≤ 64) }
-        ensures whole { result.forgets ≡ false }
-        ensures together { result.together ≡ true }
-        ensures gate { result.gate.now ≡ gate.now }
-    {
-        Drive {
-            pace,
-            forgets: false,
-            together: true,
-            workers: self.workers,
-            alloc: self.alloc,
-            gate,
-        }
-    }
-
-    /// A way forward to a position, by any tiles.
-    fn way(&self, to: u32) -> Way
-        ensures from { result.from ≡ self.now.position }
-        ensures to { result.to ≡ to }
-    {
-        Way {
-            from: self.position,
-            to,
-            area: Area::of(&self.table),
-        }
+        let frame = Frame::open(alloc, table, workers)?;
+        Ok(Session { frame, position: 0 })
     }
 
     /// Goes forward to a position, or to the one before the first event that is refused, and gives that position. It takes the owners of tiles that the
@@ -129,9 +87,9 @@ impl Session {
         ensures wanted { MatchResult result (λ at. at < to → Wanted) (λ _. Wanted) }
         ensures told { T.kept teller.new ≡ T.kept teller.old }
     {
-        let drive = self.drive(Pace::Slices, &Free);
-        let way = self.way(to);
-        let run = draw_reached(rt, &mut self.owners, &self.table, &way, &drive, teller);
+        let drive = self.frame.drive(Policy::Slices, &Free);
+        let way = Way::of(&self.frame.table, self.position, to);
+        let run = draw_reached(rt, &mut self.frame.owners, &way, &drive, teller);
         self.position = run.unwrap_or(way.from);
         run
     }
@@ -151,10 +109,10 @@ impl Session {
         ensures wanted { MatchResult result (λ at. at < to → Wanted) (λ _. Wanted) }
         ensures passed { Passes (G.opened gate.now) self.old self.new }
     {
-        let drive = self.drive(Pace::Whole, gate);
-        let way = self.way(to);
-        level(&mut self.owners, &self.table, way.from);
-        let run = go_forward(rt, &mut self.owners, &self.table, &way, &drive, &mut Untold);
+        let drive = self.frame.drive(Policy::Whole, gate);
+        let way = Way::of(&self.frame.table, self.position, to);
+        level(&mut self.frame.owners, way.table, way.from);
+        let run = go_forward(rt, &mut self.frame.owners, &way, &drive, &mut Untold);
         self.position = run.unwrap_or(way.from);
         run
     }
@@ -164,40 +122,24 @@ impl Session {
         requires { to ≤ self.old.position }
         ensures { self.new ≡ at_position self.old to }
     {
-        take_back(&mut self.owners, &self.table, self.position, to);
+        take_back(&mut self.frame.owners, &self.frame.table, self.position, to);
         self.position = to;
     }
 
-    /// Jumps to a position, forward at this pace.
-    fn jump<R: Threads + Sync, G: Gate, T: Progress>(
-        &mut self,
-        rt: &R,
-        to: u32,
-        pace: Pace,
-        gate: &G,
-        teller: &mut T,
-    ) -> Answer
-        ensures jumps { Jumps self.old to result self.new }
-        ensures passed { pace ≡ Whole → Passes (G.opened gate.now) self.old self.new }
-        ensures told { T.kept teller.new ≡ T.kept teller.old }
-        ensures wanted { OnWant Wanted result }
+    /// What a jump answers that does not go forward: one to a position that there is not is refused, and one back is gone.
+    fn jump_back(&mut self, to: u32) -> Option<Answer>
+        ensures jumped { IfSome result (λ answer. Jumps self.old to answer self.new × (self.new.position ≤ self.old.position)) }
+        ensures wanted { IfSome result (OnWant Wanted) }
+        ensures ahead { IfNone result ((self.new ≡ self.old) × (self.old.position < to) × (to ≤ length self.old.table.events)) }
     {
         if to > self.table().len() {
-            return Answer::Refused(SessionFault::NoSuchPosition);
+            return Some(Answer::Refused(SessionFault::NoSuchPosition));
         }
-        if to <= self.position() {
-            self.back_to(to);
-            return Answer::Moved { at: to };
+        if to > self.position() {
+            return None;
         }
-        let run = match pace {
-            Pace::Whole => self.forward_gated(rt, to, gate),
-            Pace::Slices => self.forward(rt, to, teller),
-        };
-        match run {
-            Ok(at) if at < to => Answer::Stopped { at },
-            Ok(at) => Answer::Moved { at },
-            Err(_) => Answer::Refused(SessionFault::Memory),
-        }
+        self.back_to(to);
+        Some(Answer::Moved { at: to })
     }
 
     /// Goes through the next event. On want of memory nothing changes.
@@ -206,7 +148,7 @@ impl Session {
         ensures wanted { OnWant Wanted result }
     {
         let position = self.position();
-        if position == self.table.len() {
+        if position == self.table().len() {
             return Answer::Refused(SessionFault::AtEnd);
         }
         self.goto(rt, position + 1)
@@ -226,7 +168,11 @@ impl Session {
         ensures told { T.kept teller.new ≡ T.kept teller.old }
         ensures wanted { OnWant Wanted result }
     {
-        self.jump(rt, to, Pace::Slices, &Free, teller)
+        if let Some(answer) = self.jump_back(to) {
+            return answer;
+        }
+        let run = self.forward(rt, to, teller);
+        Answer::of(run, to)
     }
 
     /// Jumps to a position, by all workers. On the way forward each tile passes the gate before each of its events.
@@ -235,7 +181,11 @@ impl Session {
         ensures passed { Passes (G.opened gate.now) self.old self.new }
         ensures wanted { OnWant Wanted result }
     {
-        self.jump(rt, to, Pace::Whole, gate, &mut Untold)
+        if let Some(answer) = self.jump_back(to) {
+            return answer;
+        }
+        let run = self.forward_gated(rt, to, gate);
+        Answer::of(run, to)
     }
 
     /// Why an event can't be switched on or off.
@@ -258,13 +208,15 @@ impl Session {
         ensures switched { self.new ≡ with_flag_at self.old number on result }
         ensures wanted { result < self.old.position → Wanted }
     {
-        let drive = self.drive(Pace::Slices, &Free);
-        level(&mut self.owners, &self.table, self.position);
+        let drive = self.frame.drive(Policy::Slices, &Free);
+        level(&mut self.frame.owners, &self.frame.table, self.position);
         if number > self.position {
-            self.table.set_on(number, on);
+            self.frame.table.set_on(number, on);
             return self.position;
         }
-        self.position = go_again(rt, &mut self.owners, &mut self.table, number, on, &drive);
+        let switch = Switch::make(&mut self.frame.table, number, on, self.position);
+        let table = &self.frame.table;
+        self.position = go_again(rt, &mut self.frame.owners, table, &switch, &drive);
         self.position
     }
 
@@ -278,10 +230,7 @@ impl Session {
         }
         let position = self.position();
         let at = self.set_on(rt, number, on);
-        if at < position {
-            return Answer::Stopped { at };
-        }
-        Answer::Moved { at }
+        Answer::come(at, position)
     }
 
     /// Goes back over the last event, and gives the new position.
@@ -308,24 +257,24 @@ impl Session {
     pub fn table(&self) -> &EventTable
         ensures { result.now ≡ self.now.table }
     {
-        &self.table
+        &self.frame.table
     }
 
     /// Whether an event is switched on.
     pub fn is_on(&self, number: u32) -> Result<bool, SessionFault>
         ensures { ShowsFlag self.now number result }
     {
-        if number < 1 || number > self.table.len() {
+        if number < 1 || number > self.table().len() {
             return Err(SessionFault::NoSuchEvent);
         }
-        Ok(self.table.is_on(number))
+        Ok(self.table().is_on(number))
     }
 
     /// The state at the session's position, which is the state before the next event.
     pub fn state(&self) -> &Pipeline
         ensures { result.now ≡ state_at self.now.table self.now.position }
     {
-        self.table.state_before(self.position() + 1)
+        self.table().state_before(self.position() + 1)
     }
 
     /// The owner of the tile that holds a pixel, if there is such a pixel.
@@ -336,10 +285,10 @@ impl Session {
         ensures shows { IfOk result (λ owner. pixel_in owner.now.place (last_image owner.now.history) x y ≡ pixel_at self.now.table self.now.position x y) }
         ensures err { IfErr result (λ fault. ShowsPixel self.now x y (Err fault)) }
     {
-        if x >= self.table.width() || y >= self.table.height() {
+        if x >= self.table().width() || y >= self.table().height() {
             return Err(SessionFault::NoSuchPixel);
         }
-        Ok(owner_of(&self.grid, &self.owners, x, y))
+        Ok(self.frame.owner_of(x, y))
     }
 
     /// The colour of a pixel at the session's position.
@@ -364,11 +313,10 @@ impl Session {
     {
         match history_near(
             alloc,
-            &self.table,
+            &self.frame.table,
             self.owner_of(x, y)?,
             self.position,
-            x,
-            y,
+            (x, y),
         ) {
             Ok(entries) => Ok(entries),
             Err(_) => Err(SessionFault::Memory),
@@ -380,11 +328,11 @@ impl Shows for Session {
     ghost state = { λ session. session };
 
     fn table(&self) -> &EventTable {
-        &self.table
+        &self.frame.table
     }
 
     fn row_from(&self, x: u32, y: u32) -> &[Colour] {
-        row_from(&self.grid, &self.owners, x, y)
+        self.frame.row_from(x, y)
     }
 }
 

@@ -1,7 +1,8 @@
 //! How a move is cut into slices, how many workers each is worth, and where these begin, by an estimate of its work. What is drawn does not depend on it.
 ghost use Rattle.std.specs.Prelude.{◌≡◌, ◌<◌, ◌≤◌, length};
 
-use crate::estimate::{Area, Estimate, Firsts};
+use crate::estimate::{Estimate, Firsts};
+use crate::way::Way;
 use fd_crew::Run;
 use fd_events::EventTable;
 
@@ -64,28 +65,27 @@ impl Slice {
     }
 }
 
-/// The next slice of a move from one position to another in an area: as many events as are worth so much work of each worker, or all that are left, with
-/// the tiles shared out so that each worker has about as much of it.
+/// The next slice of a move that has come to a position: as many events as are worth so much work of each worker, or all that are left, with the tiles
+/// shared out so that each worker has about as much of it.
 /// Each event is looked at once, but on a single tile none is.
-pub(crate) fn next_slice(
-    table: &EventTable,
-    from: u32,
-    to: u32,
-    area: &Area,
-    workers: u32,
-    work_each: usize,
-) -> Slice
-    requires ahead { from < to }
-    requires within { to ≤ length table.now.events }
+pub(crate) fn next_slice(way: &Way<'_>, at: u32, workers: u32, work_each: usize) -> Slice
+    requires ahead { at < way.now.to }
+    requires within { way.now.to ≤ length way.now.table.now.events }
     requires some { 1 ≤ workers }
-    ensures from { result.from ≡ from }
-    ensures on { from < result.end }
-    ensures within { result.end ≤ to }
+    ensures from { result.from ≡ at }
+    ensures on { at < result.end }
+    ensures within { result.end ≤ way.now.to }
     ensures some { 1 ≤ result.workers }
     ensures most { result.workers ≤ workers }
 {
+    let Way {
+        table,
+        to,
+        area,
+        ..
+    } = *way;
     if area.tiles < 2 {
-        return Slice::even(from, to.min(from.saturating_add(TILE_SLICE)), 1);
+        return Slice::even(at, to.min(at.saturating_add(TILE_SLICE)), 1);
     }
     // a worker that has no tile is worth nothing
     let useful = area.tiles.clamp(1, workers as usize);
@@ -93,15 +93,15 @@ pub(crate) fn next_slice(
     let enough = fetched
         .saturating_add(useful.saturating_mul(work_each))
         .min(SLICE_MOST);
-    let mut estimate = Estimate::of(area);
-    let mut end = from;
+    let mut estimate = Estimate::of(&area);
+    let mut end = at;
     loop {
         end += 1;
         estimate.add_event(table, end);
         if end == to || estimate.work() >= enough {
             let workers = (estimate.work() / WORKER_WORK).clamp(1, useful) as u32;
             return Slice {
-                from,
+                from: at,
                 end,
                 workers,
                 firsts: estimate.firsts(workers),

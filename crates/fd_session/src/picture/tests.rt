@@ -6,7 +6,7 @@ use std::test::Fail;
 /// How many pixels all owners keep.
 fn recorded(picture: &Picture) -> u64 {
     let mut count: u64 = 0;
-    for owner in &picture.owners {
+    for owner in &picture.frame.owners {
         count = count.saturating_add(owner.recorded());
     }
     count

@@ -1,3 +1,4 @@
+use crate::frame::Frame;
 use crate::session::Session;
 use crate::tests::frames::{
     colour, expect_moved, expect_pixel, flat, grey, one_clear, raster, session,
@@ -14,14 +15,14 @@ use std::test::Fail;
 #[test]
 fn an_owner_has_no_further_field(rt: HostRuntime) -> Result<(), Fail> {
     let session = one_clear(rt.alloc(), 33, colour(1, 2, 3, 4), 2)?;
-    let Session {
+    let Session { frame, position } = &session;
+    let Frame {
         table,
         grid,
         owners,
-        position,
         workers,
         alloc,
-    } = &session;
+    } = frame;
     let grid: &Grid = grid;
     let owners: &Vec<Owner> = owners;
     let _alloc: &Global = alloc;
@@ -45,8 +46,8 @@ fn three_tiles(alloc: Global) -> Result<Session, Fail> {
 
 /// Checks at which positions the three owners stand.
 fn expect_owners(rt: &impl Abort, session: &Session, positions: [u32; 3]) {
-    assert_eq!(rt; session.owners.len(), 3);
-    for (owner, position) in session.owners.iter().zip(positions) {
+    assert_eq!(rt; session.frame.owners.len(), 3);
+    for (owner, position) in session.frame.owners.iter().zip(positions) {
         assert_eq!(rt; owner.position(), position);
     }
 }

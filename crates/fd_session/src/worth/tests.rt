@@ -2,6 +2,7 @@ ghost use Rattle.std.specs.Prelude.{◌≡◌, ◌<◌, ◌≤◌, length, IfOk}
 
 use crate::estimate::Area;
 use crate::tests::frames::{colour, draw, flat};
+use crate::way::Way;
 use crate::worth::{MOVE_WORK, Slice, next_slice};
 use fd_cover::{Bounds, Interp};
 use fd_events::{Event, EventTable};
@@ -28,7 +29,11 @@ fn slice_of(table: &EventTable, from: u32, to: u32, tiles: usize, workers: u32) 
         tiles,
         ..Area::of(table)
     };
-    next_slice(table, from, to, &area, workers, MOVE_WORK)
+    let way = Way {
+        area,
+        ..Way::of(table, from, to)
+    };
+    next_slice(&way, from, workers, MOVE_WORK)
 }
 
 #[test]
@@ -140,10 +145,9 @@ fn workers_begin_where_the_work_is(rt: HostRuntime) -> Result<(), Fail> {
         &[(corners, [colour(1, 2, 3, 4); 3]); 2],
     )?;
     let table = table(alloc, clear, upper)?;
-    let all = Area::of(&table);
-    let slice = next_slice(&table, 0, 1, &all, 4, MOVE_WORK);
+    let slice = next_slice(&Way::of(&table, 0, 1), 0, 4, MOVE_WORK);
     assert!(rt; slice.firsts.as_slice() == [0, 128, 256, 384].as_slice());
-    let slice = next_slice(&table, 1, 2, &all, 4, MOVE_WORK);
+    let slice = next_slice(&Way::of(&table, 1, 2), 1, 4, MOVE_WORK);
     assert!(rt; slice.firsts.as_slice() == [0, 32, 64, 96].as_slice());
     Ok(())
 }
@@ -160,7 +164,11 @@ fn workers_begin_inside_the_box(rt: HostRuntime) -> Result<(), Fail> {
         right: 768,
         bottom: 256,
     };
-    let slice = next_slice(&table, 0, 1, &Area::round(&table, bounds), 4, MOVE_WORK);
+    let way = Way {
+        area: Area::round(&table, bounds),
+        ..Way::of(&table, 0, 1)
+    };
+    let slice = next_slice(&way, 0, 4, MOVE_WORK);
     assert!(rt; slice.firsts.as_slice() == [136, 200].as_slice());
     Ok(())
 }

@@ -12,9 +12,9 @@ returns-in-Run-clause-does g c =
 pub returns-in-Image-clause-does : goal.returns-in-Image-clause-does
 returns-in-Image-clause-does g c =
     let w = c.image.ensures.writes in
-    ([], w.0, Consumes-nil (g.R.Source.remaining c.args.source.now), w.1, rw c.in-Image.is (refl, w.2))
+    ([], w.0, Consumes-nil (g.R.Source.remaining c.args.devices.now.source), w.1, rw c.in-Image.is (refl, w.2))
 
 pub returns-in-Events-clause-does : goal.returns-in-Events-clause-does
 returns-in-Events-clause-does g c =
     let w = c.list_events.ensures.lists in
-    ([], w.0, Consumes-nil (g.R.Source.remaining c.args.source.now), w.1, rw c.in-Events.is (refl, w.2))
+    ([], w.0, Consumes-nil (g.R.Source.remaining c.args.devices.now.source), w.1, rw c.in-Events.is (refl, w.2))

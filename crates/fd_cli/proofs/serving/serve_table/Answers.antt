@@ -86,7 +86,7 @@ loop-count-preserved g c =
       serving = after_fill _ _ _ _ _ _ _ _ _ _ _ filled.0 inv.serving a;
       waited = waited_more _ c.args.table c.args.sink.now c.args.source.now c.loop-count.source c.fill_beside.new.source c.loop-count.sink
           inv.input _ inv.waited c.in-Ok-fill_beside.ensures.beside
-          (answered_so _ c.args.table c.args.sink.now c.args.source.now c.loop-count.sink inv.input inv.text c.loop-count.progress inv.serving inv.appended
+          (answered_so _ c.args.table c.args.sink.now c.args.source.now c.loop-count.sink inv.input inv.text c.loop-count.dialogue inv.serving inv.appended
           inv.flushed);
       room = c.in_default-take_bytes.ensures.room;
       read = c.in-Ok-fill_beside.ensures.failures ∙ inv.read;
@@ -102,7 +102,7 @@ returns-in_default-fill_beside-clause-waits g c =
     let inv = c.loop-count.invariant in
     let waited = waited_more _ c.args.table c.args.sink.now c.args.source.now c.loop-count.source c.fill_beside.new.source c.loop-count.sink
     inv.input _ inv.waited c.in_default-fill_beside.ensures.beside
-    (answered_so _ c.args.table c.args.sink.now c.args.source.now c.loop-count.sink inv.input inv.text c.loop-count.progress inv.serving inv.appended
+    (answered_so _ c.args.table c.args.sink.now c.args.source.now c.loop-count.sink inv.input inv.text c.loop-count.dialogue inv.serving inv.appended
     inv.flushed) in
     (waited.reads, waited.waits)
 
@@ -111,7 +111,7 @@ returns-then-count-eq0-clause-waits g c =
     let inv = c.loop-count.invariant in
     let waited = waited_more _ c.args.table c.args.sink.now c.args.source.now c.loop-count.source c.fill_beside.new.source c.loop-count.sink
     inv.input _ inv.waited c.in-Ok-fill_beside.ensures.beside
-    (answered_so _ c.args.table c.args.sink.now c.args.source.now c.loop-count.sink inv.input inv.text c.loop-count.progress inv.serving inv.appended
+    (answered_so _ c.args.table c.args.sink.now c.args.source.now c.loop-count.sink inv.input inv.text c.loop-count.dialogue inv.serving inv.appended
     inv.flushed) in
     (waited.reads, waited.waits)
 
@@ -120,6 +120,6 @@ returns-in-Err-clause-waits g c =
     let inv = c.loop-count.invariant in
     let waited = waited_more _ c.args.table c.args.sink.now c.args.source.now c.loop-count.source c.fill_beside.new.source c.loop-count.sink
     inv.input _ inv.waited c.in-Ok-fill_beside.ensures.beside
-    (answered_so _ c.args.table c.args.sink.now c.args.source.now c.loop-count.sink inv.input inv.text c.loop-count.progress inv.serving inv.appended
+    (answered_so _ c.args.table c.args.sink.now c.args.source.now c.loop-count.sink inv.input inv.text c.loop-count.dialogue inv.serving inv.appended
     inv.flushed) in
     (waited.reads, waited.waits)

@@ -2,12 +2,13 @@ use Rattle.std.proofs.Common.{◌≡◌, ◌≤◌, ◌-◌}
 use Rattle.fd_owner.specs.Shown.{Shown}
 use Rattle.fd_crew.specs.Lanes.{ArePassed}
 use Rattle.fd_session.specs.Held.{StandsFrom, IsLeft}
+use Rattle.fd_session.specs.Moves.{forgets_by}
 use Rattle.fd_session.proofs.moves.go_on.Given as goal
 
 -- no owner stands lower than where the last slice ended
 abbrev pub invariant-loop-at : goal.invariant-loop-at
 invariant-loop-at g l = record {
-  left : IsLeft (StandsFrom l.drive.forgets l.drive.together l.table l.at) l.fn.owners l.owners;
+  left : IsLeft (StandsFrom (forgets_by l.drive.policy) l.way.together l.way.table.now l.at) l.fn.owners l.owners;
   passed : ArePassed (λ (o : Shown). o) (g.G.Gate.opened l.drive.gate.now) 0 l.fn.owners l.owners;
   ahead : l.way.from ≤ l.at;
   high : l.at ≤ l.way.to;

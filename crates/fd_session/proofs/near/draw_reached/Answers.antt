@@ -12,11 +12,11 @@ pub level-requires-clause-near : goal.level-requires-clause-near
 level-requires-clause-near g c =
     let taken = c.reached-first.result in
     rw (c.split_at_mut-lanes.ensures.front, c.split_at_mut-above.ensures.back) (part_of taken.first (taken.past - taken.first) c.args.owners.now
-    (StandsNear c.args.table.now c.args.way.now.from) c.requires.near)
+    (StandsNear c.args.way.now.table.now c.args.way.now.from) c.requires.near)
 
 pub returns-then-first-past-clause-comes : goal.returns-then-first-past-clause-comes
 returns-then-first-past-clause-comes g c =
-    let table = c.args.table.now in
+    let table = c.args.way.now.table.now in
     let owners = c.args.owners.now in
     let way = c.args.way.now in
     let taken = c.reached-first.result in
@@ -37,7 +37,7 @@ returns-then-first-past-clause-comes g c =
 
 pub returns-clause-comes : goal.returns-clause-comes
 returns-clause-comes g c =
-    let table = c.args.table.now in
+    let table = c.args.way.now.table.now in
     let owners = c.args.owners.now in
     let way = c.args.way.now in
     let taken = c.reached-first.result in

@@ -14,7 +14,7 @@ returns-then-to-from-gt-MOST_EVENTS-clause-untouched c = λ n below tile others 
 
 pub returns-in-Some-clause-untouched : goal.returns-in-Some-clause-untouched
 returns-in-Some-clause-untouched c = λ n below tile others inside.
-    let table = c.args.table.now in
+    let table = c.args.way.now.table.now in
     let place = place_of (size_of table) n in
     c.reach_between.ensures place (tile_placed table n c.round-area.ensures.valid tile) inside
     (subst (λ (box : Bounds). Misses box place) c.round-area.ensures.bounds (elim others [
@@ -24,7 +24,7 @@ returns-in-Some-clause-untouched c = λ n below tile others inside.
 
 pub returns-in-None-clause-untouched : goal.returns-in-None-clause-untouched
 returns-in-None-clause-untouched c = λ n below tile others inside.
-    let table = c.args.table.now in
+    let table = c.args.way.now.table.now in
     let place = place_of (size_of table) n in
     c.reach_between.ensures place (tile_placed table n c.round-area.ensures.valid tile) inside
     (subst (λ (box : Bounds). Misses box place) c.round-area.ensures.bounds

@@ -3,7 +3,7 @@ use Rattle.fd_session.proofs.worth.next_slice.Given as goal
 
 abbrev pub invariant-loop-end : goal.invariant-loop-end
 invariant-loop-end l = record {
-  start : l.from ≤ l.end;
+  start : l.at ≤ l.end;
   left : l.end < l.to;
 }
 

@@ -10,7 +10,8 @@ returns-in-Some-clause-ok c =
     let items = sym (ap (option_map (λ v. v.items)) c.in-Some.is) ∙ read.2 in (
       read.0,
       read.1,
-      c.colour_from.ensures ∙ ap colour_from c.as_slice.ensures.value ∙ array-read (number_between 0 255) colour_from colour_of_list colour-by_channels colour_from-kept read.0 (Some c.in-Some.channels.items) items,
+      c.colour_from.ensures ∙ ap colour_from c.as_slice.ensures.value
+          ∙ array-read (number_between 0 255) colour_from colour_of_list colour-by_channels colour_from-kept read.0 (Some c.in-Some.channels.items) items,
     )
 
 pub returns-in-None-clause-ok : goal.returns-in-None-clause-ok

@@ -10,7 +10,8 @@ returns-in-Some-clause-ok c =
     let items = sym (ap (option_map (λ v. v.items)) c.in-Some.is) ∙ read.2 in (
       read.0,
       read.1,
-      c.part_from.ensures ∙ ap part_from c.as_slice.ensures.value ∙ array-read word_of_data part_from part_of_list part-by_words part_from-kept read.0 (Some c.in-Some.words.items) items,
+      c.part_from.ensures ∙ ap part_from c.as_slice.ensures.value
+          ∙ array-read word_of_data part_from part_of_list part-by_words part_from-kept read.0 (Some c.in-Some.words.items) items,
     )
 
 pub returns-in-None-clause-ok : goal.returns-in-None-clause-ok

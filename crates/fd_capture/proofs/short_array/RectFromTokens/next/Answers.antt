@@ -10,7 +10,8 @@ returns-in-Some-clause-ok c =
     let items = sym (ap (option_map (λ v. v.items)) c.in-Some.is) ∙ read.2 in (
       read.0,
       read.1,
-      c.rect_from.ensures ∙ ap rect_from c.as_slice.ensures.value ∙ array-read signed_32 rect_from rect_of_list rect-by_sides rect_from-kept read.0 (Some c.in-Some.sides.items) items,
+      c.rect_from.ensures ∙ ap rect_from c.as_slice.ensures.value
+          ∙ array-read signed_32 rect_from rect_of_list rect-by_sides rect_from-kept read.0 (Some c.in-Some.sides.items) items,
     )
 
 pub returns-in-None-clause-ok : goal.returns-in-None-clause-ok

@@ -9,6 +9,7 @@ use Rattle.fd_session.proofs.picture.PictureShows.row_from.Goals as goal
 pub returns-clause-colours : goal.returns-clause-colours
 returns-clause-colours c =
     let row = c.row_from.result.now in
-    let at = opening_position c.self.inside.owners.items in
+    let frame = c.self.inside.frame in
+    let at = opening_position frame.owners.items in
     subst (λ (s : State). row ≡ map (λ column. colour_at s.table s.position column c.args.y) (range_with_len c.args.x (length row))) c.self.view_is
-    (c.row_from.ensures.colours c.self.inside.table at (all_show true c.self.inside.table at c.self.inside.owners.items c.self.invariant.0.stand))
+    (c.row_from.ensures.colours frame.table at (all_show true frame.table at frame.owners.items c.self.invariant.0.stand))

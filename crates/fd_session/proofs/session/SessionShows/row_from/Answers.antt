@@ -10,4 +10,5 @@ returns-clause-colours c =
     let row = c.row_from.result.now in
     let inside = c.self.inside in
     subst (λ (s : State). row ≡ map (λ column. colour_at s.table s.position column c.args.y) (range_with_len c.args.x (length row))) c.self.view_is
-    (c.row_from.ensures.colours inside.table inside.position (all_near_show inside.table inside.position inside.owners.items c.self.invariant.0.stand))
+    (c.row_from.ensures.colours inside.frame.table inside.position
+    (all_near_show inside.frame.table inside.position inside.frame.owners.items c.self.invariant.0.stand))

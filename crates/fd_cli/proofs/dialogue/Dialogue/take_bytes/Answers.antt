@@ -1,7 +1,7 @@
 use Rattle.std.proofs.Common.{◌∙◌, refl, arith}
 use Rattle.std.proofs.lemmas.Result.{err_from_is_err_and}
 use Rattle.fd_cli.proofs.Advancing.{advance_none, advance_more, advance_stopped}
-use Rattle.fd_cli.proofs.progress.Progress.take_bytes.Goals as goal
+use Rattle.fd_cli.proofs.dialogue.Dialogue.take_bytes.Goals as goal
 
 pub loop-byte-init : goal.loop-byte-init
 loop-byte-init g c =

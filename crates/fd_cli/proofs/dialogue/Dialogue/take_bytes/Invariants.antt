@@ -1,7 +1,7 @@
 use Rattle.std.proofs.Common.{◌≡◌, take, Ok}
 use Rattle.fd_listing.specs.Counting.{StaysFlushed}
-use Rattle.fd_cli.specs.Progress.{CanCount, Advances}
-use Rattle.fd_cli.proofs.progress.Progress.take_bytes.Given as goal
+use Rattle.fd_cli.specs.Dialogue.{CanCount, Advances}
+use Rattle.fd_cli.proofs.dialogue.Dialogue.take_bytes.Given as goal
 
 abbrev pub invariant-loop-byte : goal.invariant-loop-byte
 invariant-loop-byte g l =

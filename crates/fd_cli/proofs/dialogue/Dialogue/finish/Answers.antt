@@ -1,6 +1,6 @@
 use Rattle.std.proofs.Common.{◌∙◌, sym}
 use Rattle.fd_cli.proofs.Advancing.{finish_none, finish_line, finish_fault}
-use Rattle.fd_cli.proofs.progress.Progress.finish.Goals as goal
+use Rattle.fd_cli.proofs.dialogue.Dialogue.finish.Goals as goal
 
 pub returns-then-is_empty-clause-finishes : goal.returns-then-is_empty-clause-finishes
 returns-then-is_empty-clause-finishes g c =

@@ -5,9 +5,9 @@ use Rattle.fd_words.specs.Line.{command_of}
 use Rattle.fd_cli.proofs.LineLemmas.{push_front}
 use Rattle.fd_device.proofs.Transfers.{puts_all}
 use Rattle.fd_cli.proofs.Advancing.{advance_past, advance_byte, advance_fault, advance_quit, advance_line}
-use Rattle.fd_cli.proofs.progress.Progress.take_byte.Goals as goal
-use Rattle.fd_cli.proofs.progress.Progress.take_byte.Goals.{then-self-ge-MAX_BYTES-via-then-self-ge-MAX_BYTES}
-use Rattle.fd_cli.proofs.progress.Progress.take_byte.Goals.{then-self-ge-MAX_BYTES-via-else-self-ge-MAX_BYTES+then-self-ge-MAX_LINES}
+use Rattle.fd_cli.proofs.dialogue.Dialogue.take_byte.Goals as goal
+use Rattle.fd_cli.proofs.dialogue.Dialogue.take_byte.Goals.{then-self-ge-MAX_BYTES-via-then-self-ge-MAX_BYTES}
+use Rattle.fd_cli.proofs.dialogue.Dialogue.take_byte.Goals.{then-self-ge-MAX_BYTES-via-else-self-ge-MAX_BYTES+then-self-ge-MAX_LINES}
 
 pub returns-then-self-ge-MAX_BYTES-clause-advances : goal.returns-then-self-ge-MAX_BYTES-clause-advances
 returns-then-self-ge-MAX_BYTES-clause-advances g c =

@@ -4,7 +4,7 @@ use Rattle.std.proofs.lemmas.List.FromFn.{length-map-range_with_len}
 use Rattle.fd_blend.specs.declared.channel.Colour.{Colour}
 use Rattle.fd_events.specs.Image.{colour_at}
 use Rattle.fd_session.proofs.Showing.{row_shows}
-use Rattle.fd_session.proofs.rows.row_from.Goals as goal
+use Rattle.fd_session.proofs.frame.Frame.row_from.Goals as goal
 
 pub returns-clause-colours : goal.returns-clause-colours
 returns-clause-colours c = λ table k each.

@@ -4,18 +4,18 @@ use Rattle.fd_tile.specs.Place.{Holds}
 use Rattle.fd_session.specs.Held.{ShowsAt}
 use Rattle.fd_session.specs.Near.{StandsNear}
 use Rattle.fd_session.proofs.Frames.{count_placed, owner_placed, owner_at}
-use Rattle.fd_session.proofs.rows.owner_of.Goals as goal
+use Rattle.fd_session.proofs.frame.Frame.owner_of.Goals as goal
 
 pub index-requires : goal.index-requires
 index-requires c =
-    let owners = c.args.owners.now in
-    omega (arith, c.tile_of.ensures.below, owners.ok.0, count_placed c.args.grid.now owners.items c.requires.places)
+    let owners = c.args.self.now.owners in
+    omega (arith, c.tile_of.ensures.below, owners.ok.0, count_placed c.args.self.now.grid owners.items c.requires.places)
 
 pub returns : goal.returns
 returns c =
     let owner = c.index.result.now in
-    let items = c.args.owners.now.items in
-    let placed = owner_placed c.args.grid.now items c.requires.places c.tile_of.result owner c.tile_of.ensures.below c.index.ensures in
+    let items = c.args.self.now.owners.items in
+    let placed = owner_placed c.args.self.now.grid items c.requires.places c.tile_of.result owner c.tile_of.ensures.below c.index.ensures in
     let holds : Holds owner.place c.args.x c.args.y = rw placed c.tile_of.ensures.holds in
     record {
       holds = holds;

@@ -2,7 +2,7 @@ use Rattle.std.proofs.Common.{◌≡◌, ℕ, Bool, true, arith, rules, subst}
 use Rattle.fd_tile.specs.Grid.{tile_count}
 use Rattle.fd_session.specs.Held.{places_of, first_places}
 use Rattle.fd_session.proofs.Frames.{one_more, held_at}
-use Rattle.fd_session.proofs.moves.open.Goals as goal
+use Rattle.fd_session.proofs.frame.owners_of.Goals as goal
 
 pub loop-number-preserved : goal.loop-number-preserved
 loop-number-preserved c =

@@ -1,14 +1,14 @@
-//! A run, byte by byte of its input.
+//! A dialogue of commands and replies, byte by byte of its input.
 ghost use Rattle.std.specs.Prelude.{◌≡◌, ◌<◌, ◌+◌, ◌^◌, ◌⊎◌, ℕ, [], ◌∷◌, Err, OnOk, IfErr};
 ghost use Rattle.fd_words.specs.Limits.{most_reply_bytes};
 ghost use Rattle.fd_listing.specs.Counting.{CountsReader, CountsWriter, StaysFlushed, EndsFlushed};
 
+use crate::host::Host;
 use crate::reply::answer;
 use arrayvec::ArrayVec;
 use fd_device::Sink;
 use fd_session::Session;
 use fd_words::Ending;
-use std::alloc::Global;
 use std::thread::Threads;
 
 /// The most lines of input.
@@ -17,9 +17,9 @@ const MAX_LINES: u32 = 1_000_000;
 /// The most bytes of input.
 pub(crate) const MAX_BYTES: u32 = 268_435_456;
 
-/// How far a run has come.
+/// How far a dialogue has come: the session, the line that has not ended yet, and how many lines and bytes were taken and bytes were sent.
 #[derive(Drop)]
-pub(crate) struct Progress {
+pub(crate) struct Dialogue {
     pub(crate) session: Session,
     pub(crate) line: ArrayVec<u8, 258>,
     pub(crate) lines: u32,
@@ -27,14 +27,13 @@ pub(crate) struct Progress {
     pub(crate) sent: u64,
 }
 
-impl Progress {
-    ghost use Rattle.fd_cli.specs.Progress.{CanCount, Advances, Finishes};
+impl Dialogue {
+    ghost use Rattle.fd_cli.specs.Dialogue.{CanCount, Advances, Finishes};
 
     /// Takes one byte of the input, and answers the line that it ends.
     fn take_byte<T: Threads + Sync, W: Sink>(
         &mut self,
-        rt: &T,
-        alloc: Global,
+        host: &Host<'_, T>,
         byte: u8,
         sink: &mut W,
     ) -> Result<(), Ending>
@@ -56,7 +55,7 @@ impl Progress {
             return Ok(());
         }
         let line = self.line.as_slice();
-        let Ok(quit) = answer(rt, alloc, &mut self.session, line, sink, &mut self.sent) else {
+        let Ok(quit) = answer(host, &mut self.session, line, sink, &mut self.sent) else {
             return Err(Ending::Write { sent: self.sent });
         };
         self.line.clear();
@@ -67,8 +66,7 @@ impl Progress {
     /// Takes bytes of the input, and answers each line that they end.
     pub(crate) fn take_bytes<T: Threads + Sync, W: Sink>(
         &mut self,
-        rt: &T,
-        alloc: Global,
+        host: &Host<'_, T>,
         bytes: &[u8],
         sink: &mut W,
     ) -> Result<(), Ending>
@@ -82,7 +80,7 @@ impl Progress {
         ensures read { IfErr result (λ ending. (old new : ℕ) → new ≡ old → CountsReader ending old new) }
     {
         for byte in bytes {
-            self.take_byte(rt, alloc, *byte, sink)?;
+            self.take_byte(host, *byte, sink)?;
         }
         Ok(())
     }
@@ -90,8 +88,7 @@ impl Progress {
     /// Answers the line that no line feed ends, if there is one.
     pub(crate) fn finish<T: Threads + Sync, W: Sink>(
         &mut self,
-        rt: &T,
-        alloc: Global,
+        host: &Host<'_, T>,
         sink: &mut W,
     ) -> Ending
         requires { self.old.sent + most_reply_bytes < 2 ^ 64 }
@@ -104,7 +101,7 @@ impl Progress {
             return Ending::Done;
         }
         let line = self.line.as_slice();
-        match answer(rt, alloc, &mut self.session, line, sink, &mut self.sent) {
+        match answer(host, &mut self.session, line, sink, &mut self.sent) {
             Ok(_) => Ending::Done,
             Err(_) => Ending::Write { sent: self.sent },
         }

@@ -1,6 +1,6 @@
 use Rattle.std.proofs.Common.{◌≡◌, Bool, All}
 use Rattle.fd_session.specs.Held.{Stands, places_of, first_places}
-use Rattle.fd_session.proofs.moves.open.Given as goal
+use Rattle.fd_session.proofs.frame.owners_of.Given as goal
 
 -- an owner stands for each of the first tiles
 abbrev pub invariant-loop-number : goal.invariant-loop-number
