@@ -4,8 +4,9 @@
     benches/count_instructions.py [--beside PROGRAM] [SCENE ..]
 
 Each scene is a capture and two runs by one worker: one without what is counted, as reading the capture, and one with
-it. The difference is printed, and how much of it falls on a pixel, a triangle or a draw. With --beside another program
-is counted too, and its count to this one's. FRAMEDBG names another program than the one that was built.
+it. Where reading is counted, the one without it reads a capture of half the events. The difference is printed, and how
+much of it falls on a pixel, a triangle or a draw. With --beside another program is counted too, and its count to this
+one's. FRAMEDBG names another program than the one that was built.
 """
 import argparse
 import base64
@@ -29,13 +30,15 @@ SECONDS = 600
 
 @dataclass(frozen=True)
 class Scene:
-    """A capture, the commands that are counted behind those that aren't, and how many of a unit they draw."""
+    """A capture, the commands that are counted behind those that aren't, and how many of a unit they draw; where
+    reading is counted, also the capture that is read without what is counted."""
 
     capture: bytes
     commands: str
     unit: str
     count: int
     before: str = ""
+    half: bytes | None = None
 
 
 def to_the_end(capture, unit, count):
@@ -70,13 +73,13 @@ def small_pictures(side, count):
     return scenes.frame(side, side, [captures.compact(draw)] * count, 3)
 
 
-def undrawn(side, count, states):
+def undrawn(side, count, states, version=1):
     """Draws of a triangle over the whole target that the states before them let draw nothing."""
     corners = [(0, 0), (2 * side, 0), (0, 2 * side)]
-    vertices = [captures.vertex(x * captures.PIXEL, y * captures.PIXEL, [9, 9, 9, 9]) for x, y in corners]
-    return scenes.frame(
-        side, side, [*map(captures.compact, states), *[captures.compact(captures.draw(vertices))] * count]
-    )
+    depth = None if version == 1 else 0
+    vertices = [captures.vertex(x * captures.PIXEL, y * captures.PIXEL, [9, 9, 9, 9], depth) for x, y in corners]
+    events = [*map(captures.compact, states), *[captures.compact(captures.draw(vertices))] * count]
+    return scenes.frame(side, side, events, version)
 
 
 def clear_of_what_was_drawn(side):
@@ -97,10 +100,23 @@ def over_one_event(command, event, side):
     return Scene(scenes.frame(side, side, [event] * 9), f"{command}\n", command, 1, "goto 4\n")
 
 
+def reading(kind, event, count=1000):
+    """So many events that are alike, and so many more that are counted."""
+    return Scene(
+        scenes.frame(64, 64, [event] * (2 * count)), "", kind, count, half=scenes.frame(64, 64, [event] * count)
+    )
+
+
 SMALL_EVENTS = {
     "marker": scenes.MARKER,
     "state": captures.compact(captures.factor(1, 2, 3, 4)),
     "small_draw": captures.compact(small_draw()),
+}
+READ = {
+    "marker": scenes.MARKER,
+    "clear": captures.compact(captures.clear(1, 2, 3, 4)),
+    "blend": scenes.BLENDED,
+    "triangle": captures.compact(captures.draw(small_draw()["vertices"][:3])),
 }
 STEPS = {
     f"{command}_{name}_{side}": partial(over_one_event, command, event, side)
@@ -110,6 +126,7 @@ STEPS = {
 }
 CULLED = [captures.raster("front")]
 SHUT = [captures.raster("none", scissor=True), captures.scissor(9, 9, 9, 9)]
+NEVER = [captures.depth(True, True, "NEVER")]
 SCENES = {
     "flat": lambda: to_the_end(scenes.large(512, 512, 10).capture(), "pixel", 10 * 512 * 512),
     "linear": lambda: to_the_end(scenes.large(512, 512, 10, "linear").capture(), "pixel", 10 * 512 * 512),
@@ -125,7 +142,9 @@ SCENES = {
     "largest_target": lambda: to_the_end(scenes.small(16384, 16384, 16384, True).capture(), "draw", 16384),
     "culled": lambda: to_the_end(undrawn(2048, 1000, CULLED), "draw", 1000),
     "empty_scissor": lambda: to_the_end(undrawn(2048, 1000, SHUT), "draw", 1000),
+    "never": lambda: to_the_end(undrawn(2048, 1000, NEVER, 2), "draw", 1000),
     **STEPS,
+    **{f"read_{kind}": partial(reading, kind, event) for kind, event in READ.items()},
 }
 
 
@@ -139,7 +158,9 @@ def counted(program, path, commands):
 def measured(program, scene, path):
     """The instructions of what is counted, less those of what isn't."""
     path.write_bytes(scene.capture)
-    return counted(program, path, scene.before + scene.commands) - counted(program, path, scene.before)
+    everything = counted(program, path, scene.before + scene.commands)
+    path.write_bytes(scene.capture if scene.half is None else scene.half)
+    return everything - counted(program, path, scene.before)
 
 
 def main():

@@ -107,8 +107,12 @@ def entries(capture):
 
 class CountedScenes(unittest.TestCase):
     def test_states_let_draw_nothing(self):
-        for states, verdict in [(count_instructions.CULLED, "culled"), (count_instructions.SHUT, "scissored")]:
-            capture = count_instructions.undrawn(24, 3, states)
+        for states, version, verdict in [
+            (count_instructions.CULLED, 1, "culled"),
+            (count_instructions.SHUT, 1, "scissored"),
+            (count_instructions.NEVER, 2, "depthfailed"),
+        ]:
+            capture = count_instructions.undrawn(24, 3, states, version)
             self.assertIsNone(fault(capture))
             self.assertEqual({entry[2] for entry in entries(capture)}, {verdict})
             self.assertEqual(len(entries(capture)), 3)
@@ -143,6 +147,19 @@ class CountedScenes(unittest.TestCase):
         drawn = [frame.replay(5, x, y)[1] for x in range(8) for y in range(8)]
         self.assertEqual([len(entries) for entries in drawn if entries], [5] * 8)
         self.assertEqual((len(frame.events), scene.before, scene.commands), (9, "goto 4\n", "back\n"))
+
+    def test_what_is_read_is_counted_beside_half_of_it(self):
+        for kind in count_instructions.READ:
+            scene = count_instructions.SCENES[f"read_{kind}"]()
+            self.assertIsNone(fault(scene.capture))
+            sizes = [len(json.loads(capture)["events"]) for capture in (scene.capture, scene.half)]
+            self.assertEqual((sizes, scene.count, scene.commands), ([2000, 1000], 1000, ""))
+        # a program that takes an instruction for each byte that it reads
+        with tempfile.TemporaryDirectory() as folder, mock.patch.object(
+            count_instructions, "counted", lambda program, path, commands: path.stat().st_size
+        ):
+            read = count_instructions.measured("a program", scene, pathlib.Path(folder) / "scene.json")
+        self.assertEqual(read, len(scene.capture) - len(scene.half))
 
     def test_a_scene_ends_at_its_last_event(self):
         scene = count_instructions.SCENES["small"]()
