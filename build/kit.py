@@ -59,19 +59,18 @@ def is_older(crate, made):
     return any(os.stat(file).st_mtime > made.stat().st_mtime for file in [TOP / "crates.txt", *files])
 
 
-def is_of_gate(crate, folder):
-    """Whether a library stands in this folder that `rt ci` has built."""
-    return (folder / f"{crate.name}.rlib/format").exists() and not (folder / "stamp").exists()
+def is_of_gate(crate):
+    """Whether the crate's library is the one that `rt ci` built of these texts, which leaves no stamp."""
+    folder = pathlib.Path(crate.rlib).parent
+    is_built = (folder / f"{crate.name}.rlib/format").exists() and not (folder / "stamp").exists()
+    return is_built and not is_older(crate, folder)
 
 
 def has_libraries(crate):
-    """Whether the libraries below the crate are built: all by commands of this checkout, or all by `rt ci`, which
-    leaves no stamp. The two don't fit each other."""
+    """Whether the libraries below the crate are built: all by commands of this checkout, or all by `rt ci`. The two
+    don't fit each other."""
     below = crate.below()
-    if all(it.is_built() for it in below):
-        return True
-    folders = [pathlib.Path(it.rlib).parent for it in below]
-    return all(is_of_gate(it, folder) and not is_older(it, folder) for it, folder in zip(below, folders))
+    return all(it.is_built() for it in below) or all(map(is_of_gate, below))
 
 
 @functools.lru_cache(maxsize=None)

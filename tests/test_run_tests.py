@@ -68,13 +68,15 @@ class RunsTests(unittest.TestCase):
 
     def test_a_command_that_is_not_there(self):
         status, said, errors = self.ran("nowhere to be found", "echo after")
-        self.assertEqual(said[1], "run_tests: [Errno 2] No such file or directory: 'nowhere'")
-        self.assertEqual((status, errors), (1, "nowhere to be found: status 1\n"))
-        status, said, errors = self.ran("| nowhere", "\necho after")
-        self.assertEqual(
-            said[1:3], ["taskset: failed to execute nowhere: No such file or directory", "run_tests: nowhere: FAILED"]
-        )
-        self.assertEqual((status, errors), (1, "nowhere: status 127\n"))
+        self.assertRegex(said[1], "^nice: .nowhere.: No such file or directory$")
+        self.assertEqual((status, errors), (1, "nowhere to be found: status 127\n"))
+        for sign in "|&":
+            status, said, errors = self.ran(f"{sign} nowhere", "\necho after")
+            self.assertEqual(
+                said[1:3],
+                ["taskset: failed to execute nowhere: No such file or directory", "run_tests: nowhere: FAILED"],
+            )
+            self.assertEqual((status, errors), (1, "nowhere: status 127\n"))
 
     def test_an_interrupt_is_heard_in_the_background(self):
         """There a shell has it ignored, and what a part starts would ignore it too."""
@@ -154,9 +156,32 @@ class RunsTests(unittest.TestCase):
         status, said, _ = self.ran(f"| {slow}", f"| touch {self.checks}/two", waits)
         self.assertEqual((status, said[:4]), (0, [f"== {waits}", f"== {slow}", f"== touch {self.checks}/two", MINUTES]))
 
-    def test_one_processor(self):
-        self.assertEqual(self.ran("| nproc")[1][1], "1")
-        self.assertEqual(self.ran("nproc")[1][1], str(len(os.sched_getaffinity(0))))
+    def test_one_that_waits(self):
+        """It is run beside those of both other kinds, and after another that waits."""
+        slow = self.part("slow", "sleep 0.5", "touch one")
+        waits = self.part("waits", "for i in $(seq 100); do [ -e one ] && exit; sleep 0.1; done; exit 1")
+        status, said, _ = self.ran(waits, f"| {waits}", f"& {slow}", "& echo two")
+        self.assertEqual((status, said[0]), (0, f"== {waits}"))
+        self.assertLess(said.index(f"== {slow}"), said.index("== echo two"))
+        self.assertEqual(said.count("== echo two"), 1)
+
+    def test_one_that_waits_fails(self):
+        """The other ends, and no more is run."""
+        first, second = self.meeting("0 1", "1 0")
+        status, said, errors = self.ran(f"& {first}", "& echo more", second, "echo other", "", "echo after")
+        self.assertEqual((status, errors), (1, f"{first}: status 1\n"))
+        self.assertIn(f"run_tests: {first}: FAILED", said)
+        self.assertEqual([line for line in said if line.startswith("== echo")], [])
+
+    def test_processors(self):
+        """How many each kind may take."""
+        for sign, count in (("", len(os.sched_getaffinity(0))), ("& ", len(os.sched_getaffinity(0))), ("| ", 1)):
+            self.assertEqual(self.ran(f"{sign}nproc")[1][1], str(count), sign)
+
+    def test_who_goes_first(self):
+        """What is run beside others isn't late by them."""
+        for sign, niceness in (("", "19"), ("& ", "0"), ("| ", "0")):
+            self.assertEqual(self.ran(f"{sign}nice")[1][1], niceness, sign)
 
     def test_paragraphs(self):
         """Each begins when the one before has ended, and comments are none of them."""
@@ -167,9 +192,9 @@ class RunsTests(unittest.TestCase):
         )
 
     def test_quick(self):
-        lines = ("echo one", "-  echo two", "|- echo four")
+        lines = ("echo one", "-  echo two", "|- echo four", "&- echo five")
         self.assertEqual(self.ran(*lines, words=["--quick"])[1][:3], ["== echo one", "one", MINUTES])
-        self.assertEqual(len(self.ran(*lines)[1]), 6 + 6)
+        self.assertEqual(len(self.ran(*lines)[1]), 6 + 9)
 
     def test_words(self):
         self.assertEqual(self.ran("echo one", "echo two", words=["two"])[1][:2], ["== echo two", "two"])
@@ -190,10 +215,10 @@ class RunsTests(unittest.TestCase):
         for path in sorted([*CHECKS.glob("check_*"), *TESTS.glob("test_*.py")]):
             if os.access(path, os.X_OK):
                 is_part = re.search(
-                    rf"^(?:\t|[| -]+)?{re.escape(path.relative_to(TOP).as_posix())}\b", lines + made, re.M
+                    rf"^(?:\t|[|& -]+)?{re.escape(path.relative_to(TOP).as_posix())}\b", lines + made, re.M
                 )
                 self.assertTrue(is_part, f"{path.name} is no part of make test")
-        for line in [line.lstrip("|- ") for line in lines.splitlines()]:
+        for line in [line.lstrip("|&- ") for line in lines.splitlines()]:
             if line.startswith(("checks/", "tests/")):
                 self.assertTrue(os.access(TOP / line.split()[0], os.X_OK), line)
 

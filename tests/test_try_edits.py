@@ -165,6 +165,28 @@ class TriesEdits(kit_testing.Checkout):
         )
         self.assertEqual(sorted(self.log()), ["checks 0 two", "checks 1 ", "checks 1 two"])
 
+    def test_what_it_breaks(self):
+        """An edit outside of bodies that names a function is tried at that one, and alone; any other on the whole."""
+        limit, refused = edit("u32 = 7", "u32 = 6"), "refused: most: returns-clause-most"
+        for name, checked in (("most", "most"), ("nowhere", ""), ("three", "three")):
+            self.assertEqual(
+                self.tried(limit=f"{limit}breaks: {name}\n", wrong=WRONG_TWO)[:2],
+                (0, [f"made_up/limit: {refused}", "made_up/wrong: refused: two: returns-clause-two"]),
+            )
+            self.assertIn(f"checks 1 {checked}", self.log())
+            (self.top / "crates/made_up/edits/limit.edit").unlink()
+
+    def test_a_crate_that_the_gate_has_proved(self):
+        """It isn't checked as it stands, unless a source is newer."""
+        self.write("crates/made_up/out/rlib/made_up.rlib/format", "")
+        refused = ["made_up/wrong: refused: two: returns-clause-two"]
+        self.assertEqual(self.tried(wrong=WRONG_TWO)[:2], (0, refused))
+        self.assertEqual(self.log(), ["checks 1 two"])
+        later = os.stat(self.top / "crates/made_up/out/rlib").st_mtime + 10
+        os.utime(self.write("crates/made_up/src/lib.rt", CRATE + "\n"), (later, later))
+        self.assertEqual(self.tried()[:2], (0, refused))
+        self.assertEqual(self.log(), ["checks 0 two", "checks 1 two"])
+
     def test_members_of_a_cycle_are_tried_apart(self):
         self.assertEqual(
             self.tried(even=edit("4 + 4", "4 + 3"), odd=edit("4 + 5", "4 + 6")),
@@ -292,6 +314,17 @@ class Words(unittest.TestCase):
 
     def test_another_of_its_name(self):
         self.assertIsNone(self.verdict("fn fd::b::a::f: not proved", "fn fd::a::f2: not proved", "fn fd::a::f: proved"))
+
+    def test_a_type_of_another_module(self):
+        """The prover names its functions by the module of the type."""
+        function = functions.Function(("packing", "Colour"), "is_same")
+        said = "fn fd::channel::Colour::is_same: not proved\nfn fd::channel::Other::is_same: proved"
+        self.assertEqual(verdicts.states(function, said), ["not proved"])
+        self.assertEqual(verdicts.states(function, f"{said}\nfn fd::packing::Colour::is_same: proved"), ["proved"])
+        self.assertEqual(verdicts.states(functions.Function(("packing",), "is_same"), said), [])
+        self.assertEqual(function.end(), "Colour::is_same")
+        self.assertEqual(functions.Function(("packing",), "word_of").end(), "packing::word_of")
+        self.assertEqual(functions.Function((), "word_of").end(), "word_of")
 
     def test_declarations_that_were_not_checked(self):
         """rt counts it as refused."""

@@ -7,6 +7,7 @@ from editing import functions
 
 PARTS = ("src", "specs", "proofs")
 LINE = re.compile(r"^(file|old|new):(?: ?)(.*)$", re.M)
+BREAKS = re.compile(r"^breaks: (\S+)$", re.M)  # of an edit outside of bodies, a function that it leaves unproved
 
 
 class Edit(NamedTuple):
@@ -14,7 +15,8 @@ class Edit(NamedTuple):
     name: str
     text: str
     pairs: tuple  # of a file, what stands there, and what is to stand there
-    functions: frozenset  # whose bodies it changes; None among them is a place outside of them
+    functions: frozenset  # whose bodies it changes, or which it says that it breaks; None is a place outside of bodies
+    is_of_bodies: bool = True
 
     def __str__(self):
         return f"{self.crate}/{self.name}"
@@ -22,7 +24,8 @@ class Edit(NamedTuple):
     def proofs(self):
         return {it and it.proof() for it in self.functions}
 
-    def is_of_bodies(self):
+    def is_of_functions(self):
+        """Whether a check of functions tells its verdict, and not only one of the whole crate."""
         return None not in self.functions
 
 
@@ -62,7 +65,9 @@ def edit_of(crate, file, texts):
     text = file.read_text()
     pairs = pairs_of(text)
     made = made_by(pairs, texts)
-    return Edit(crate, file.stem, text, pairs, made[1] if made else frozenset([None]))
+    changed = made[1] if made else frozenset([None])
+    broken = frozenset(functions.named(end, texts) for end in BREAKS.findall(text))
+    return Edit(crate, file.stem, text, pairs, broken or changed, None not in changed)
 
 
 def can_be_made(edits, texts):
@@ -73,7 +78,7 @@ def can_be_made(edits, texts):
 
 def fits(edit, batch, most, texts):
     """Whether an edit can join a batch, of which each member changes proofs of its own."""
-    is_apart = edit.is_of_bodies() and all(it.is_of_bodies() and not it.proofs() & edit.proofs() for it in batch)
+    is_apart = edit.is_of_bodies and all(it.is_of_bodies and not it.proofs() & edit.proofs() for it in batch)
     return len(batch) < most and is_apart and can_be_made([*batch, edit], texts) is not None
 
 

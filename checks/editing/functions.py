@@ -18,6 +18,13 @@ class Function(NamedTuple):
     def __str__(self):
         return "::".join((*self.path, self.name))
 
+    def is_of_type(self):
+        return bool(self.path) and self.path[-1][0].isupper()
+
+    def end(self):
+        """The end of what the prover names it: its module may be that of its type."""
+        return f"{self.path[-1]}::{self.name}" if self.is_of_type() else str(self)
+
     def proof(self):
         """What two edits of one check can't both change."""
         return self.cycle or self
@@ -73,6 +80,14 @@ def places(file, text):
 def in_body(file, text, line):
     """The function in whose body a line stands."""
     return next((it.function for it in places(file, text) if it.body <= line <= it.last), None)
+
+
+def named(end, texts):
+    """The function of a crate's texts whose name ends so, where there is one such."""
+    sources = {file: text for file, text in texts.items() if file.startswith("src/")}
+    every = [it.function for file, text in sources.items() for it in places(file, text)]
+    found = {it for it in every if f"::{it}".endswith(f"::{end}")}
+    return found.pop() if len(found) == 1 else None
 
 
 def at(file, text, line):

@@ -24,7 +24,8 @@ class Said(NamedTuple):
 
 
 class Trial:
-    """The edits of a crate, which are tried over what a check of their functions as they stand left."""
+    """The edits of a crate, which are tried over what a check of their functions as they stand left; or from nothing
+    where the gate has proved the crate, as it keeps none of its work, and a batch needs little of it."""
 
     def __init__(self, crate, todo, texts, most):
         self.crate, self.texts = crate, texts
@@ -43,22 +44,25 @@ class Trial:
             yield (self.crate.name, "edits", number), ([seed], len(batch) * len(self.texts), OVER * needs, call)
 
     def seeded(self, jobs):
-        """A folder with what such a check left, or None where it failed."""
+        """A folder with what such a check left, no name where none is wanted, or None where the check failed."""
+        if kit.is_of_gate(self.crate):
+            return ""
         rt, flags, start = kit.rt(), ["--jobs", str(jobs)], kit.rt().work_for(self.crate)
         only = only_of([edit for batch in self.batches for edit in batch])
         return rt.seeded(self.crate, [*flags, *only], start) or rt.seeded(self.crate, flags, start)
 
     def check(self, batch, seed, flags):
         """What the prover says of the crate with these edits made."""
-        rt, over = kit.rt(), f"{seed}/{next(self.number)}"
-        made = edits.can_be_made(batch, self.texts)
+        rt, made = kit.rt(), edits.can_be_made(batch, self.texts)
+        over = f"{seed}/{next(self.number)}" if seed else None
         try:
-            rt.linked(f"{seed}/seed", over)
+            if over:
+                rt.linked(f"{seed}/seed", over)
             ran = rt.checked(self.crate, made, ["--jobs", "1", *flags], over)
             if ran.returncode == -signal.SIGKILL:  # most likely for memory
                 ran = rt.checked(self.crate, made, ["--jobs", "1", *flags], over)
         finally:
-            shutil.rmtree(over, ignore_errors=True)
+            shutil.rmtree(over or "", ignore_errors=True)
         unread = next((line for line in ran.stdout.split("\n") if rt.unread(line, made)), "")
         return Said(ran.returncode, ran.stdout, unread)
 
@@ -66,7 +70,7 @@ class Trial:
         """The verdicts on a batch."""
         if seed is None:
             return [(edit, Verdict(Kind.UNSURE, "the crate is not proved as it stands")) for edit in batch]
-        if not batch[0].is_of_bodies():
+        if not batch[0].is_of_functions():
             return [(batch[0], self.alone(batch[0], seed))]
         said = self.check(batch, seed, only_of(batch))
         half = len(batch) // 2
@@ -89,5 +93,5 @@ class Trial:
 
 def only_of(batch):
     """The flags that have only those functions checked whose bodies these edits change."""
-    changed = sorted({str(function) for edit in batch for function in edit.functions if function})
+    changed = sorted({function.end() for edit in batch for function in edit.functions if function})
     return [word for name in changed for word in ("--only", name)]

@@ -58,7 +58,12 @@ def messages(said):
 def states(function, said):
     """What the check says of a function, of its closures and of the cycle that it belongs to."""
     full = "::(?:fn::)?".join([r"\w+", *map(re.escape, function.path), function.name])
-    return re.findall(rf"^fn {full}(?:(?:::|\+)\S+)?: (.*)$", said, re.M)
+    elsewhere = rf"\w+::(?:\w+::)*{re.escape(function.end())}"  # where the type stands in another module
+    for path in [full, elsewhere][: 1 + function.is_of_type()]:
+        found = re.findall(rf"^fn {path}(?:(?:::|\+)\S+)?: (.*)$", said, re.M)
+        if found:
+            return found
+    return []
 
 
 def is_own(state):
@@ -95,7 +100,7 @@ def of_whole(edit, status, said, sources):
         return Verdict(Kind.PROVES, "the crate is still proved")
     if status == 3:
         return Verdict(Kind.LIMIT, "no verdict")
-    told = of_batch(edit, status, said, sources) if edit.is_of_bodies() else None
+    told = of_batch(edit, status, said, sources) if edit.is_of_functions() else None
     if told:
         return told
     found = messages(said)

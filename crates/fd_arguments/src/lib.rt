@@ -6,6 +6,4 @@ pub use reading::{explained, read_arguments};
 
 mod arguments;
 mod reading;
-#[cfg(test)]
-mod tests;
 mod words;

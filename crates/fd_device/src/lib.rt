@@ -8,5 +8,3 @@ pub use progress::{Progress, Untold};
 mod beside;
 mod device;
 mod progress;
-#[cfg(test)]
-mod tests;

@@ -7,8 +7,6 @@ mod numeral;
 mod opening;
 mod passing;
 mod stop;
-#[cfg(test)]
-mod tests;
 mod texts;
 mod whole_number;
 

@@ -7,6 +7,4 @@ pub use texts::end_text;
 
 mod list;
 mod opening;
-#[cfg(test)]
-mod tests;
 mod texts;

@@ -4,6 +4,4 @@
 pub use fd_device::{Device, Failed, Progress, Sink, Source, send};
 pub use writer::{PamFault, header, pam_len, write, write_body};
 
-#[cfg(test)]
-mod tests;
 mod writer;

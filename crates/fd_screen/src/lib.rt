@@ -6,5 +6,3 @@ pub use screen::Screen;
 
 mod prompt;
 mod screen;
-#[cfg(test)]
-mod tests;

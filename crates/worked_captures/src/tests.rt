@@ -1,2 +1,4 @@
 mod captures;
+mod device;
+mod json;
 mod words;

@@ -1,1 +1,5 @@
+mod arguments;
 mod cli;
+mod listing;
+mod pam;
+mod screen;

@@ -1,3 +1,4 @@
+mod blend;
 mod cover;
 mod draw;
 mod tile;

@@ -1,5 +1,5 @@
-use crate::read_arguments;
 use clap::error::ErrorKind;
+use fd_arguments::read_arguments;
 use fd_words::Request;
 use std::test::Fail;
 

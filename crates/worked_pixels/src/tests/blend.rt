@@ -1,4 +1,6 @@
-use crate::{BlendFault, BlendOp, BlendState, Brush, Colour, Factor, Mask, Part, blend, blend_row};
+use fd_blend::{
+    BlendFault, BlendOp, BlendState, Brush, Colour, Factor, Mask, Part, blend, blend_row,
+};
 use std::process::Abort;
 use std::test::Fail;
 

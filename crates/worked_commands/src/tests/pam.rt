@@ -1,4 +1,4 @@
-use crate::{header, pam_len};
+use fd_pam::{header, pam_len};
 use std::test::Fail;
 
 #[test]

@@ -1,6 +1,6 @@
-use crate::{list_events, open};
 use fd_capture::CaptureFault;
 use fd_device::Device;
+use fd_listing::{list_events, open};
 use fd_words::Ending;
 
 const MARKED: &[u8] =

@@ -1,4 +1,4 @@
-use super::*;
+use fd_json::{clipped, integer, leaf, number, open_array, open_object, pass, text};
 use json::{Reader, Scratch};
 use serde_json::Value;
 use std::alloc::Global;

@@ -1,4 +1,4 @@
-use crate::{Device, Failed, Progress, Sink, Source, Untold, send};
+use fd_device::{Device, Failed, Progress, Sink, Source, Untold, send};
 use std::alloc::Global;
 use std::io;
 use std::io::{Read, Write};

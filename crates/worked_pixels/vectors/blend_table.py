@@ -4,7 +4,7 @@
 Every number here is an exact fraction from 0 to 1, and the rules are those of the Direct3D 11.3 functional
 specification, section 17 (output merger), and 3.2.3.6 (FLOAT to UNORM). Nothing is taken from the crate's code.
 
-    python3 vectors/blend_table.py > src/tests/table.rt && rt fmt     (two minutes)
+    python3 vectors/blend_table.py > src/tests/blend/table.rt && rt fmt     (two minutes)
 """
 
 from fractions import Fraction

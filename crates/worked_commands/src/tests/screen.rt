@@ -1,5 +1,5 @@
-use crate::{Prompt, Screen};
 use fd_device::{Device, Progress, Sink, Source};
+use fd_screen::{Prompt, Screen};
 use std::test::Fail;
 
 /// What errors got: the notice of an image at the head of a reply, and no other.
