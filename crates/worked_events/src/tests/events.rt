@@ -8,6 +8,7 @@ use fd_events::{
 };
 use fd_snap::Pos;
 use std::alloc::Global;
+use std::process::Abort;
 use std::test::Fail;
 
 fn grey(level: u8) -> Colour {
@@ -345,11 +346,12 @@ fn table_of(alloc: Global, side: u32, vertices: Vec<Vertex>) -> Result<EventTabl
 fn in_two_cells(alloc: Global, count: u32) -> Result<Vec<Vertex>, Fail> {
     let mut vertices = Vec::new(alloc);
     for number in 0..count {
-        if number % 2 == 0 {
-            push_triangle(&mut vertices, NEAR_CORNERS)?;
+        let corners = if number % 2 == 0 {
+            NEAR_CORNERS
         } else {
-            push_triangle(&mut vertices, NEXT_CELL_CORNERS)?;
-        }
+            NEXT_CELL_CORNERS
+        };
+        push_triangle(&mut vertices, corners)?;
     }
     Ok(vertices)
 }
@@ -652,29 +654,41 @@ const PAINTED: Bounds = Bounds {
     bottom: 43,
 };
 
+/// Checks what of a window lies on a draw's picture.
+fn expect_clipped(rt: &impl Abort, draw: &Draw, window: Bounds, clipped: Bounds) {
+    assert_eq!(rt; draw.clip(window), clipped, "{window:?}");
+}
+
 #[test]
 fn a_draw_ends_where_its_picture_does(rt: HostRuntime) -> Result<(), Fail> {
     let draw = painted(rt.alloc())?;
-    assert_eq!(rt; draw.clip(square(0, 0, 64)), PAINTED);
-    assert_eq!(rt;
-        draw.clip(square(0, 9, 33)),
-        Bounds {
-            left: 40,
-            top: 41,
-            right: 33,
-            bottom: 42
-        }
-    );
+    let corner = Bounds {
+        left: 40,
+        top: 41,
+        right: 33,
+        bottom: 42,
+    };
+    expect_clipped(&rt, &draw, square(0, 0, 64), PAINTED);
+    expect_clipped(&rt, &draw, square(0, 9, 33), corner);
     let mut vertices = Vec::new(rt.alloc());
     push_triangle(&mut vertices, LARGE_CORNERS)?;
     let plain = Draw::new(vertices, None, Interp::Flat)?;
-    assert_eq!(rt; plain.clip(square(0, 9, 33)), square(0, 9, 33));
+    expect_clipped(&rt, &plain, square(0, 9, 33), square(0, 9, 33));
+    Ok(())
+}
+
+/// Whether a picture of two texels is whole.
+fn is_whole(alloc: Global, holes: Option<Vec<u8>>) -> Result<bool, Fail> {
+    let picture = Picture::new(0, 0, 2, 1, texels(alloc, 2)?, holes)?;
+    Ok(picture.is_whole())
+}
+
+#[test]
+fn a_picture_without_holes_is_whole(rt: HostRuntime) -> Result<(), Fail> {
     let mut holes = Vec::new(rt.alloc());
     holes.push(0)?;
-    let picture = Picture::new(0, 0, 2, 1, texels(rt.alloc(), 2)?, Some(holes))?;
-    assert!(rt; !picture.is_whole());
-    let picture = Picture::new(0, 0, 2, 1, texels(rt.alloc(), 2)?, None)?;
-    assert!(rt; picture.is_whole());
+    assert!(rt; !is_whole(rt.alloc(), Some(holes))?);
+    assert!(rt; is_whole(rt.alloc(), None)?);
     Ok(())
 }
 
