@@ -1,4 +1,5 @@
-ghost use Rattle.std.specs.Prelude.{◌≡◌, ◌<◌, true};
+ghost use Rattle.std.specs.Prelude.{◌≡◌, ◌<◌, IsTrue, true};
+ghost use Rattle.fd_tile.specs.Place.{HasRow};
 
 use super::new_block;
 use crate::UndoStack;
@@ -56,16 +57,54 @@ fn draw_over(tile: &mut Tile, x: u32, y: u32)
     tile.set_depth(x, y, 1000);
 }
 
-/// Checks that a small tile is fresh, but for its pixel (1, 0), which is 7 deep.
-fn expect_as_before(rt: &impl Abort, tile: &Tile) -> Result<(), Fail>
-    requires made { tile.now.made ≡ true }
-    requires small { tile.now.place ≡ record { left = 0; top = 0; width = 2; height = 2 } }
+/// Whether a tile that is made has a row.
+fn has_row(tile: &Tile, y: u32) -> bool
+    ensures made { IsTrue result → tile.now.made ≡ true }
+    ensures row { IsTrue result → HasRow tile.now.place y }
 {
-    assert_eq!(rt; tile.row(0), [FRESH, FRESH].as_slice());
-    assert_eq!(rt; tile.row(1), [FRESH, FRESH].as_slice());
-    assert_eq!(rt; tile.depth_row(0), [DEEP, 7].as_slice());
-    assert_eq!(rt; tile.depth_row(1), [DEEP, DEEP].as_slice());
+    let place = tile.place();
+    tile.is_made() && place.top <= y && y - place.top < place.height
+}
+
+/// Checks the colours of a row.
+fn expect_colours(rt: &impl Abort, tile: &Tile, y: u32, colours: &[Colour]) -> Result<(), Fail> {
+    if !has_row(tile, y) {
+        return Err("a row of the tile".into());
+    }
+    assert_eq!(rt; tile.row(y), colours, "row {y}");
     Ok(())
+}
+
+/// Checks its depths.
+fn expect_depths(rt: &impl Abort, tile: &Tile, y: u32, depths: &[u16]) -> Result<(), Fail> {
+    if !has_row(tile, y) {
+        return Err("a row of the tile".into());
+    }
+    assert_eq!(rt; tile.depth_row(y), depths, "row {y}");
+    Ok(())
+}
+
+/// Checks what a frame keeps of a pixel, for the n-th time.
+fn expect_kept(
+    rt: &impl Abort,
+    undo: &UndoStack,
+    frame: usize,
+    (x, y, n): (u32, u32, usize),
+    pixel: Option<(Colour, u16)>,
+) {
+    assert_eq!(rt;
+        undo.kept(frame, x, y, n),
+        pixel,
+        "frame {frame}, pixel {x} {y}, {n}"
+    );
+}
+
+/// Checks that a small tile is fresh, but for its pixel (1, 0), which is 7 deep.
+fn expect_as_before(rt: &impl Abort, tile: &Tile) -> Result<(), Fail> {
+    expect_colours(rt, tile, 0, &[FRESH, FRESH])?;
+    expect_colours(rt, tile, 1, &[FRESH, FRESH])?;
+    expect_depths(rt, tile, 0, &[DEEP, 7])?;
+    expect_depths(rt, tile, 1, &[DEEP, DEEP])
 }
 
 #[test]
@@ -108,8 +147,8 @@ fn frames_that_are_forgotten_keep_nothing(rt: HostRuntime) -> Result<(), Fail> {
     undo.reserve(1, 1)?;
     undo.begin();
     undo.keep(1, 1, &[FRESH], &[DEEP]);
-    assert_eq!(rt; undo.kept(1, 0, 0, 0), None);
-    assert_eq!(rt; undo.kept(2, 1, 1, 0), Some((FRESH, DEEP)));
+    expect_kept(&rt, &undo, 1, (0, 0, 0), None);
+    expect_kept(&rt, &undo, 2, (1, 1, 0), Some((FRESH, DEEP)));
     Ok(())
 }
 
@@ -139,11 +178,7 @@ fn what_is_kept_of_a_pixel(rt: HostRuntime) -> Result<(), Fail> {
         (0, 1, 1, 0, None),
         (2, 1, 1, 0, None),
     ] {
-        assert_eq!(rt;
-            undo.kept(frame, x, y, n),
-            pixel,
-            "frame {frame}, pixel {x} {y}"
-        );
+        expect_kept(&rt, &undo, frame, (x, y, n), pixel);
     }
     Ok(())
 }
@@ -171,8 +206,8 @@ fn equal_colours_are_kept_once(rt: HostRuntime) -> Result<(), Fail> {
     undo.keep(0, 1, &[RED, FRESH], &[DEEP, DEEP]);
     assert_eq!(rt; undo.last.held().colours, 3);
     expect_counts(&rt, &undo, 5, 1)?;
-    assert_eq!(rt; undo.kept(0, 1, 0, 0), Some((RED, 7)));
-    assert_eq!(rt; undo.kept(0, 1, 1, 0), Some((FRESH, DEEP)));
+    expect_kept(&rt, &undo, 0, (1, 0, 0), Some((RED, 7)));
+    expect_kept(&rt, &undo, 0, (1, 1, 0), Some((FRESH, DEEP)));
     Ok(())
 }
 
@@ -185,8 +220,8 @@ fn equal_depths_are_kept_once(rt: HostRuntime) -> Result<(), Fail> {
     assert_eq!(rt; undo.last.held().depths, 0);
     undo.keep(0, 1, &[RED, RED], &[DEEP, 7]);
     assert_eq!(rt; undo.last.held().depths, 2);
-    assert_eq!(rt; undo.kept(0, 2, 0, 0), Some((RED, DEEP)));
-    assert_eq!(rt; undo.kept(0, 1, 1, 0), Some((RED, 7)));
+    expect_kept(&rt, &undo, 0, (2, 0, 0), Some((RED, DEEP)));
+    expect_kept(&rt, &undo, 0, (1, 1, 0), Some((RED, 7)));
     Ok(())
 }
 
@@ -199,8 +234,8 @@ fn whole_rows_are_put_back(rt: HostRuntime) -> Result<(), Fail> {
     undo.keep(0, 0, &[RED, FRESH], &[DEEP, DEEP]);
     undo.keep(0, 1, &[FRESH, RED], &[DEEP, DEEP]);
     undo.undo_top(&mut tile);
-    assert_eq!(rt; tile.row(0), [RED, FRESH].as_slice());
-    assert_eq!(rt; tile.row(1), [FRESH, RED].as_slice());
+    expect_colours(&rt, &tile, 0, &[RED, FRESH])?;
+    expect_colours(&rt, &tile, 1, &[FRESH, RED])?;
     expect_counts(&rt, &undo, 0, 0)
 }
 
@@ -216,8 +251,8 @@ fn a_flat_depth_comes_back(rt: HostRuntime) -> Result<(), Fail> {
     tile.fill_depths(7);
     undo.undo_top(&mut tile);
     assert_eq!(rt; tile.flat_depth(), Some(DEEP));
-    assert_eq!(rt; tile.row(0), [RED, FRESH].as_slice());
-    assert_eq!(rt; tile.depth_row(1), [DEEP, DEEP].as_slice());
+    expect_colours(&rt, &tile, 0, &[RED, FRESH])?;
+    expect_depths(&rt, &tile, 1, &[DEEP, DEEP])?;
     Ok(())
 }
 
@@ -240,14 +275,14 @@ fn rows_that_are_alike_are_one_span(rt: HostRuntime) -> Result<(), Fail> {
     undo.keep(1, 0, &[FRESH], &[8]);
     assert_eq!(rt; undo.last.held().spans, 5);
     expect_counts(&rt, &undo, 9, 2)?;
-    assert_eq!(rt; undo.kept(0, 1, 1, 1), Some((RED, 7)));
-    assert_eq!(rt; undo.kept(0, 1, 1, 2), None);
+    expect_kept(&rt, &undo, 0, (1, 1, 1), Some((RED, 7)));
+    expect_kept(&rt, &undo, 0, (1, 1, 2), None);
     undo.undo_top(&mut tile);
-    assert_eq!(rt; tile.row(0), [RED, FRESH].as_slice());
-    assert_eq!(rt; tile.depth_row(0), [7, 8].as_slice());
+    expect_colours(&rt, &tile, 0, &[RED, FRESH])?;
+    expect_depths(&rt, &tile, 0, &[7, 8])?;
     undo.undo_top(&mut tile);
-    assert_eq!(rt; tile.row(1), [RED, RED].as_slice());
-    assert_eq!(rt; tile.depth_row(1), [7, 7].as_slice());
+    expect_colours(&rt, &tile, 1, &[RED, RED])?;
+    expect_depths(&rt, &tile, 1, &[7, 7])?;
     expect_counts(&rt, &undo, 0, 0)
 }
 
@@ -265,13 +300,13 @@ fn listed_rows_are_one_span(rt: HostRuntime) -> Result<(), Fail> {
     undo.keep(0, 1, &[RED, RED], &[8, 9]);
     assert_eq!(rt; undo.last.held().spans, 2);
     expect_counts(&rt, &undo, 6, 1)?;
-    assert_eq!(rt; undo.kept(0, 1, 1, 0), Some((RED, 7)));
-    assert_eq!(rt; undo.kept(0, 0, 1, 1), Some((RED, 8)));
+    expect_kept(&rt, &undo, 0, (1, 1, 0), Some((RED, 7)));
+    expect_kept(&rt, &undo, 0, (0, 1, 1), Some((RED, 8)));
     undo.undo_top(&mut tile);
-    assert_eq!(rt; tile.row(0), [RED, FRESH].as_slice());
-    assert_eq!(rt; tile.row(1), [FRESH, RED].as_slice());
-    assert_eq!(rt; tile.depth_row(0), [7, 8].as_slice());
-    assert_eq!(rt; tile.depth_row(1), [9, 7].as_slice());
+    expect_colours(&rt, &tile, 0, &[RED, FRESH])?;
+    expect_colours(&rt, &tile, 1, &[FRESH, RED])?;
+    expect_depths(&rt, &tile, 0, &[7, 8])?;
+    expect_depths(&rt, &tile, 1, &[9, 7])?;
     expect_counts(&rt, &undo, 0, 0)
 }
 
@@ -291,9 +326,9 @@ fn with_two_blocks(alloc: Global) -> Result<UndoStack, Fail> {
 fn blocks_are_given_back(rt: HostRuntime) -> Result<(), Fail> {
     let mut undo = with_two_blocks(rt.alloc())?;
     assert_eq!(rt; undo.full.len(), 1);
-    assert_eq!(rt; undo.kept(0, 0, 0, 0), Some((FRESH, DEEP)));
-    assert_eq!(rt; undo.kept(1, 1, 1, 0), Some((RED, 7)));
-    assert_eq!(rt; undo.kept(1, 0, 0, 0), None);
+    expect_kept(&rt, &undo, 0, (0, 0, 0), Some((FRESH, DEEP)));
+    expect_kept(&rt, &undo, 1, (1, 1, 0), Some((RED, 7)));
+    expect_kept(&rt, &undo, 1, (0, 0, 0), None);
     undo.forget();
     assert!(rt; undo.full.capacity() == 0);
     assert!(rt; !undo.last.takes(Room::needed(1, 1)));
@@ -316,8 +351,8 @@ fn a_block_without_frames_is_given_back(rt: HostRuntime) -> Result<(), Fail> {
     undo.undo_top(&mut tile);
     assert!(rt; !undo.last.takes(Room::needed(1, 1)));
     expect_counts(&rt, &undo, 0, 0)?;
-    assert_eq!(rt; tile.row(1), [FRESH, RED].as_slice());
-    assert_eq!(rt; tile.depth_row(1), [DEEP, 7].as_slice());
+    expect_colours(&rt, &tile, 1, &[FRESH, RED])?;
+    expect_depths(&rt, &tile, 1, &[DEEP, 7])?;
     Ok(())
 }
 
@@ -348,14 +383,14 @@ fn a_whole_place_is_put_back(rt: HostRuntime) -> Result<(), Fail> {
     assert_eq!(rt; undo.last.held().spans, 1);
     assert_eq!(rt; undo.last.held().colours, 1);
     assert_eq!(rt; undo.last.held().depths, 0);
-    assert_eq!(rt; undo.kept(1, 1, 1, 0), Some((RED, DEEP)));
-    assert_eq!(rt; undo.kept(1, 1, 1, 1), None);
+    expect_kept(&rt, &undo, 1, (1, 1, 0), Some((RED, DEEP)));
+    expect_kept(&rt, &undo, 1, (1, 1, 1), None);
     undo.undo_top(&mut tile);
-    assert_eq!(rt; tile.row(1), [RED, RED].as_slice());
-    assert_eq!(rt; tile.depth(1, 1), DEEP);
+    expect_colours(&rt, &tile, 1, &[RED, RED])?;
+    expect_depths(&rt, &tile, 1, &[DEEP, DEEP])?;
     undo.undo_top(&mut tile);
-    assert_eq!(rt; tile.row(0), [FRESH, FRESH].as_slice());
-    assert_eq!(rt; tile.row(1), [FRESH, FRESH].as_slice());
+    expect_colours(&rt, &tile, 0, &[FRESH, FRESH])?;
+    expect_colours(&rt, &tile, 1, &[FRESH, FRESH])?;
     expect_counts(&rt, &undo, 0, 0)
 }
 
@@ -380,15 +415,15 @@ fn older_whole_frames_are_put_back_alone(rt: HostRuntime) -> Result<(), Fail> {
     expect_counts(&rt, &undo, 10, 5)?;
     undo.undo_to(4, &mut tile);
     expect_counts(&rt, &undo, 9, 4)?;
-    assert_eq!(rt; tile.depth_row(1), [DEEP, 9].as_slice());
+    expect_depths(&rt, &tile, 1, &[DEEP, 9])?;
     undo.undo_to(1, &mut tile);
     expect_counts(&rt, &undo, 1, 1)?;
-    assert_eq!(rt; tile.row(0), [RED, FRESH].as_slice());
-    assert_eq!(rt; tile.depth_row(0), [DEEP, 7].as_slice());
-    assert_eq!(rt; tile.depth_row(1), [DEEP, DEEP].as_slice());
+    expect_colours(&rt, &tile, 0, &[RED, FRESH])?;
+    expect_depths(&rt, &tile, 0, &[DEEP, 7])?;
+    expect_depths(&rt, &tile, 1, &[DEEP, DEEP])?;
     undo.undo_to(0, &mut tile);
     expect_counts(&rt, &undo, 0, 0)?;
-    assert_eq!(rt; tile.row(0), [FRESH, FRESH].as_slice());
+    expect_colours(&rt, &tile, 0, &[FRESH, FRESH])?;
     Ok(())
 }
 

@@ -96,6 +96,33 @@ fn states(
     Ok(EventTable::start(alloc, 3, 1, 1, events)?)
 }
 
+/// The state before an event of a table, or behind its last.
+fn state_before(table: &EventTable, number: u32) -> Result<Pipeline, Fail> {
+    if number == 0 || number - 1 > table.len() {
+        return Err("an event of the table".into());
+    }
+    Ok(*table.state_before(number))
+}
+
+/// Switches an event of a table.
+fn switch(table: &mut EventTable, number: u32, is_on: bool) -> Result<(), Fail> {
+    if number == 0 || number > table.len() {
+        return Err("an event of the table".into());
+    }
+    table.set_on(number, is_on);
+    Ok(())
+}
+
+/// Switches the first of two events or more.
+fn switch_first(rt: &impl Abort, table: &mut EventTable, is_on: bool) -> Result<(), Fail> {
+    if table.len() < 2 {
+        return Err("two events".into());
+    }
+    table.set_on(1, is_on);
+    assert_eq!(rt; (table.is_on(1), table.is_on(2)), (is_on, true));
+    Ok(())
+}
+
 #[test]
 fn a_blend_event_switched_off_and_on(rt: HostRuntime) -> Result<(), Fail> {
     let part = Part {
@@ -119,21 +146,23 @@ fn a_blend_event_switched_off_and_on(rt: HostRuntime) -> Result<(), Fail> {
     let mut table = states(rt.alloc(), blend, raster, rect)?;
     assert_eq!(rt; table.len(), 6);
     let defaults = Pipeline::default();
-    assert_eq!(rt; *table.state_before(1), defaults);
-    assert_eq!(rt; table.state_before(6).blend, blend);
-    assert_eq!(rt; table.state_before(4).scissor, defaults.scissor);
-    table.set_on(1, false);
-    assert!(rt; !table.is_on(1));
-    assert!(rt; table.is_on(2));
-    assert_eq!(rt; table.state_before(2).blend, defaults.blend);
-    assert_eq!(rt; table.state_before(6).blend, defaults.blend);
-    assert_eq!(rt; table.state_before(6).raster, raster);
-    assert_eq!(rt; table.state_before(6).scissor, rect);
-    table.set_on(1, true);
-    assert_eq!(rt; table.state_before(6).blend, blend);
-    assert_eq!(rt; table.state_before(6).factor, grey(5));
-    assert_eq!(rt; table.state_before(6).depth, defaults.depth);
-    assert_eq!(rt; table.state_before(7).depth, NEARER);
+    assert_eq!(rt; state_before(&table, 1)?, defaults);
+    assert_eq!(rt; state_before(&table, 6)?.blend, blend);
+    assert_eq!(rt; state_before(&table, 4)?.scissor, defaults.scissor);
+    switch_first(&rt, &mut table, false)?;
+    assert_eq!(rt; state_before(&table, 2)?.blend, defaults.blend);
+    let changed = state_before(&table, 6)?;
+    assert_eq!(rt;
+        (changed.blend, changed.raster, changed.scissor),
+        (defaults.blend, raster, rect)
+    );
+    switch_first(&rt, &mut table, true)?;
+    let last = state_before(&table, 6)?;
+    assert_eq!(rt;
+        (last.blend, last.factor, last.depth),
+        (blend, grey(5), defaults.depth)
+    );
+    assert_eq!(rt; state_before(&table, 7)?.depth, NEARER);
     Ok(())
 }
 
@@ -146,14 +175,19 @@ fn vertex(x: i32, y: i32, level: u8, z: u16) -> Result<Vertex, Fail> {
     Ok(Vertex { pos, colour, z })
 }
 
-/// Vertices at (1/256, -1/512) pixels, rounded to (1/256, 0); the first three are darker and nearer.
-fn vertices(alloc: Global, number: u32) -> Result<Vec<Vertex>, Fail> {
-    let near = vertex(256, -128, 1, 0)?;
-    let far = vertex(256, -128, 2, 65_535)?;
-    let mut vertices = Vec::new(alloc);
-    for place in 0..number {
-        vertices.push(if place < 3 { near } else { far })?;
+/// So many vertices at (1/256, -1/512) pixels, which is rounded to (1/256, 0).
+fn push_vertices(vertices: &mut Vec<Vertex>, count: u32, level: u8, z: u16) -> Result<(), Fail> {
+    for _ in 0..count {
+        vertices.push(vertex(256, -128, level, z)?)?;
     }
+    Ok(())
+}
+
+/// Such vertices, of which the first three are darker and nearer.
+fn vertices(alloc: Global, number: u32) -> Result<Vec<Vertex>, Fail> {
+    let mut vertices = Vec::new(alloc);
+    push_vertices(&mut vertices, number.min(3), 1, 0)?;
+    push_vertices(&mut vertices, number.saturating_sub(3), 2, 65_535)?;
     Ok(vertices)
 }
 
@@ -192,6 +226,18 @@ fn refused_draws_and_their_faults(rt: HostRuntime) -> Result<(), Fail> {
 fn push_triangle(vertices: &mut Vec<Vertex>, corners: [(i32, i32); 3]) -> Result<(), Fail> {
     for (x, y) in corners {
         vertices.push(vertex(x, y, 1, 0)?)?;
+    }
+    Ok(())
+}
+
+/// So many triangles with the same corners.
+fn push_triangles(
+    vertices: &mut Vec<Vertex>,
+    count: u32,
+    corners: [(i32, i32); 3],
+) -> Result<(), Fail> {
+    for _ in 0..count {
+        push_triangle(vertices, corners)?;
     }
     Ok(())
 }
@@ -239,9 +285,7 @@ fn the_bounds_go_round_all_triangles(rt: HostRuntime) -> Result<(), Fail> {
 #[test]
 fn each_group_has_a_box_once_a_table_starts(rt: HostRuntime) -> Result<(), Fail> {
     let mut vertices = Vec::new(rt.alloc());
-    for _ in 0..32 {
-        push_triangle(&mut vertices, NEAR_CORNERS)?;
-    }
+    push_triangles(&mut vertices, 32, NEAR_CORNERS)?;
     push_triangle(&mut vertices, FAR_CORNERS)?;
     let draw = Draw::new(vertices, None, Interp::Flat)?;
     assert_eq!(rt; (draw.group_bounds(0), draw.group_bounds(1)), (BOTH, BOTH));
@@ -264,9 +308,7 @@ fn each_group_has_a_box_once_a_table_starts(rt: HostRuntime) -> Result<(), Fail>
 /// So many clockwise triangles, and one more with these corners.
 fn clockwise_and(alloc: Global, count: u32, corners: [(i32, i32); 3]) -> Result<Vec<Vertex>, Fail> {
     let mut vertices = Vec::new(alloc);
-    for _ in 0..count {
-        push_triangle(&mut vertices, NEAR_CORNERS)?;
-    }
+    push_triangles(&mut vertices, count, NEAR_CORNERS)?;
     push_triangle(&mut vertices, corners)?;
     Ok(vertices)
 }
@@ -390,12 +432,8 @@ fn a_window_is_shown_the_triangles_of_its_cell(rt: HostRuntime) -> Result<(), Fa
 fn with_large_ones(alloc: Global, small: u32, large: u32) -> Result<Vec<Vertex>, Fail> {
     let mut vertices = Vec::new(alloc);
     push_triangle(&mut vertices, NEAR_CORNERS)?;
-    for _ in 0..large {
-        push_triangle(&mut vertices, LARGE_CORNERS)?;
-    }
-    for _ in 1..small {
-        push_triangle(&mut vertices, NEAR_CORNERS)?;
-    }
+    push_triangles(&mut vertices, large, LARGE_CORNERS)?;
+    push_triangles(&mut vertices, small.saturating_sub(1), NEAR_CORNERS)?;
     Ok(vertices)
 }
 
@@ -520,18 +558,16 @@ fn one_triangle(alloc: Global, corners: [(i32, i32); 3]) -> Result<Event, Fail> 
     Ok(Event::Draw(Draw::new(vertices, None, Interp::Flat)?))
 }
 
-/// The factor's level in the state before each of five events, and after the last.
-fn factors(table: &EventTable) -> [u8; 6]
-    requires { length table.now.events ≡ 5 }
-{
-    [
-        table.state_before(1).factor.r,
-        table.state_before(2).factor.r,
-        table.state_before(3).factor.r,
-        table.state_before(4).factor.r,
-        table.state_before(5).factor.r,
-        table.state_before(6).factor.r,
-    ]
+/// Checks the factor's level in the state before each event of a table, and after the last.
+fn expect_factors(rt: &impl Abort, table: &EventTable, levels: &[u8]) -> Result<(), Fail> {
+    for (number, level) in (1..).zip(levels) {
+        assert_eq!(rt;
+            state_before(table, number)?.factor,
+            grey(*level),
+            "before {number}"
+        );
+    }
+    Ok(())
 }
 
 #[test]
@@ -543,20 +579,39 @@ fn markers_and_draws_share_the_state_before_them(rt: HostRuntime) -> Result<(), 
     events.push(Event::SetFactor(grey(2)))?;
     events.push(Event::DepthClear(7))?;
     let mut table = EventTable::start(rt.alloc(), 3, 64, 64, events)?;
-    assert!(rt; table.len() == 5);
     let all = [255, 255, 1, 1, 2, 2];
-    assert_eq!(rt; factors(&table), all);
-    table.set_on(1, false);
-    table.set_on(3, false);
-    assert_eq!(rt; factors(&table), all);
-    table.set_on(2, false);
-    assert_eq!(rt; factors(&table), [255, 255, 255, 255, 2, 2]);
-    table.set_on(4, false);
-    assert_eq!(rt; factors(&table), [255, 255, 255, 255, 255, 255]);
-    table.set_on(2, true);
-    assert_eq!(rt; factors(&table), [255, 255, 1, 1, 1, 1]);
-    table.set_on(4, true);
-    assert_eq!(rt; factors(&table), all);
+    expect_factors(&rt, &table, &all)?;
+    switch(&mut table, 1, false)?;
+    switch(&mut table, 3, false)?;
+    expect_factors(&rt, &table, &all)?;
+    switch(&mut table, 2, false)?;
+    expect_factors(&rt, &table, &[255, 255, 255, 255, 2, 2])?;
+    switch(&mut table, 4, false)?;
+    expect_factors(&rt, &table, &[255, 255, 255, 255, 255, 255])?;
+    switch(&mut table, 2, true)?;
+    expect_factors(&rt, &table, &[255, 255, 1, 1, 1, 1])?;
+    switch(&mut table, 4, true)?;
+    expect_factors(&rt, &table, &all)?;
+    Ok(())
+}
+
+/// Checks which of the events from one on to another is the next near a window.
+fn expect_near(
+    rt: &impl Abort,
+    table: &EventTable,
+    events: (u32, u32),
+    window: Bounds,
+    next: u32,
+) -> Result<(), Fail> {
+    let (from, to) = events;
+    if from > to || to > table.len() {
+        return Err("events of the table".into());
+    }
+    assert_eq!(rt;
+        table.next_near(from, to, window),
+        next,
+        "{from} to {to}, {window:?}"
+    );
     Ok(())
 }
 
@@ -568,19 +623,18 @@ fn the_next_event_near_a_window(rt: HostRuntime) -> Result<(), Fail> {
     events.push(one_triangle(rt.alloc(), NEXT_CELL_CORNERS)?)?;
     events.push(Event::Clear(grey(9)))?;
     let mut table = EventTable::start(rt.alloc(), 3, 64, 64, events)?;
-    assert!(rt; table.len() == 4);
-    assert_eq!(rt; table.next_near(0, 4, square(0, 0, 32)), 1);
-    assert_eq!(rt; table.next_near(2, 4, square(0, 0, 32)), 3);
-    assert_eq!(rt; table.next_near(2, 3, square(0, 0, 32)), 3);
-    assert_eq!(rt; table.next_near(0, 4, square(32, 32, 32)), 2);
-    assert_eq!(rt; table.next_near(0, 4, square(32, 0, 32)), 3);
-    assert_eq!(rt; table.next_near(0, 4, square(0, 32, 32)), 3);
-    table.set_on(4, false);
-    assert_eq!(rt; table.next_near(2, 4, square(0, 0, 32)), 4);
-    table.set_on(2, false);
-    assert_eq!(rt; table.next_near(0, 4, square(0, 0, 32)), 4);
-    table.set_on(4, true);
-    assert_eq!(rt; table.next_near(0, 4, square(0, 0, 32)), 3);
+    expect_near(&rt, &table, (0, 4), square(0, 0, 32), 1)?;
+    expect_near(&rt, &table, (2, 4), square(0, 0, 32), 3)?;
+    expect_near(&rt, &table, (2, 3), square(0, 0, 32), 3)?;
+    expect_near(&rt, &table, (0, 4), square(32, 32, 32), 2)?;
+    expect_near(&rt, &table, (0, 4), square(32, 0, 32), 3)?;
+    expect_near(&rt, &table, (0, 4), square(0, 32, 32), 3)?;
+    switch(&mut table, 4, false)?;
+    expect_near(&rt, &table, (2, 4), square(0, 0, 32), 4)?;
+    switch(&mut table, 2, false)?;
+    expect_near(&rt, &table, (0, 4), square(0, 0, 32), 4)?;
+    switch(&mut table, 4, true)?;
+    expect_near(&rt, &table, (0, 4), square(0, 0, 32), 3)?;
     Ok(())
 }
 
@@ -692,6 +746,26 @@ fn a_picture_without_holes_is_whole(rt: HostRuntime) -> Result<(), Fail> {
     Ok(())
 }
 
+/// Checks which of the events from one on to another is the next whose triangles reach a window.
+fn expect_over(
+    rt: &impl Abort,
+    table: &EventTable,
+    events: (u32, u32),
+    window: Bounds,
+    next: u32,
+) -> Result<(), Fail> {
+    let (from, to) = events;
+    if from > to || to > table.len() {
+        return Err("events of the table".into());
+    }
+    assert_eq!(rt;
+        table.next_over(from, to, window),
+        next,
+        "{from} to {to}, {window:?}"
+    );
+    Ok(())
+}
+
 /// Tiles are asked for it where its picture lies, and histories wherever its triangles do.
 #[test]
 fn a_draw_is_near_its_picture_and_over_more(rt: HostRuntime) -> Result<(), Fail> {
@@ -701,12 +775,12 @@ fn a_draw_is_near_its_picture_and_over_more(rt: HostRuntime) -> Result<(), Fail>
     let mut table = EventTable::start(rt.alloc(), 3, 64, 64, events)?;
     assert!(rt; table.len() == 2);
     assert_eq!(rt; table.reach(1), PAINTED);
-    assert_eq!(rt; table.next_near(0, 2, square(0, 0, 32)), 2);
-    assert_eq!(rt; table.next_near(0, 2, square(32, 32, 32)), 0);
-    assert_eq!(rt; table.next_over(0, 2, square(0, 0, 32)), 0);
-    assert_eq!(rt; table.next_over(1, 2, square(0, 0, 32)), 2);
-    table.set_on(1, false);
-    assert_eq!(rt; table.next_over(0, 2, square(0, 0, 32)), 2);
+    expect_near(&rt, &table, (0, 2), square(0, 0, 32), 2)?;
+    expect_near(&rt, &table, (0, 2), square(32, 32, 32), 0)?;
+    expect_over(&rt, &table, (0, 2), square(0, 0, 32), 0)?;
+    expect_over(&rt, &table, (1, 2), square(0, 0, 32), 2)?;
+    switch(&mut table, 1, false)?;
+    expect_over(&rt, &table, (0, 2), square(0, 0, 32), 2)?;
     Ok(())
 }
 

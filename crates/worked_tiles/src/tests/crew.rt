@@ -501,18 +501,23 @@ fn lanes_may_begin_apart(rt: HostRuntime) -> Result<(), Fail> {
 #[test]
 fn all_lanes_go_wherever_workers_begin(rt: HostRuntime) -> Result<(), Fail> {
     let table = markers(rt.alloc(), 9)?;
-    all_go(&rt, rt.alloc(), &table, &[])?;
-    all_go(&rt, rt.alloc(), &table, &[0])?;
-    all_go(&rt, rt.alloc(), &table, &[2])?;
-    all_go(&rt, rt.alloc(), &table, &[9])?;
-    all_go(&rt, rt.alloc(), &table, &[0, 9])?;
-    all_go(&rt, rt.alloc(), &table, &[2, 2])?;
-    all_go(&rt, rt.alloc(), &table, &[2, 1])?;
-    all_go(&rt, rt.alloc(), &table, &[9, 0])?;
-    all_go(&rt, rt.alloc(), &table, &[0, 9, 9])?;
-    all_go(&rt, rt.alloc(), &table, &[2, 2, 2])?;
-    all_go(&rt, rt.alloc(), &table, &[2, 1, 0])?;
-    all_go(&rt, rt.alloc(), &table, &[9, 0, 9])
+    for firsts in [
+        [].as_slice(),
+        &[0],
+        &[2],
+        &[9],
+        &[0, 9],
+        &[2, 2],
+        &[2, 1],
+        &[9, 0],
+        &[0, 9, 9],
+        &[2, 2, 2],
+        &[2, 1, 0],
+        &[9, 0, 9],
+    ] {
+        all_go(&rt, rt.alloc(), &table, firsts)?;
+    }
+    Ok(())
 }
 
 /// Sets the flag of each lane that passes, and holds none.
