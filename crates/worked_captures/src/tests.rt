@@ -1,4 +1,4 @@
 mod captures;
 mod device;
-mod json;
+mod values;
 mod words;
