@@ -86,16 +86,23 @@ class RunsTests(unittest.TestCase):
         self.assertIn("default_int_handler", self.ran(f"python3 {part}")[1][1])
 
     def test_an_interrupt_ends_what_runs(self):
+        """Beside others too."""
         part = self.part("long", "echo $$ > begun", "mv begun number", "exec sleep 60")
-        (self.checks / "test_parts.txt").write_text(f"{part}\necho after\n")
+        for sign, more in (("", ""), ("| ", f"run_tests: {part}: FAILED\n"), ("& ", f"run_tests: {part}: FAILED\n")):
+            self.interrupt(f"{sign}{part}\n\necho after\n", f"== {part}\n{more}")
+
+    def interrupt(self, lines, wanted):
+        """Interrupts a list once its part has told its number."""
+        (self.checks / "test_parts.txt").write_text(lines)
         number = self.checks / "number"
+        number.unlink(missing_ok=True)
         with subprocess.Popen([self.checks / "run_tests"], stdout=subprocess.PIPE, text=True) as run:
             until = time.monotonic() + 30
             while not number.exists() and time.monotonic() < until:
                 time.sleep(0.1)
             run.send_signal(signal.SIGINT)
             said = run.communicate(timeout=30)[0]
-        self.assertEqual((run.returncode, said), (130, f"== {part}\n"))
+        self.assertEqual((run.returncode, said), (130, wanted))
         with self.assertRaises(ProcessLookupError):
             while time.monotonic() < until:
                 os.kill(int(number.read_text()), 0)

@@ -19,6 +19,7 @@ MUTATIONS = [   # name, tool, text, what stands there instead, test
     ("noted: tests that fail are passed", NOTE, "sys.exit(not ran.wasSuccessful())", "sys.exit(0)", "PassedOver.test_tests_that_ran_are_counted"),
     ("run: deaf in the background", RUN, "    signal.signal(signal.SIGINT, signal.default_int_handler)", "    str()", "RunsTests.test_an_interrupt_is_heard_in_the_background"),
     ("run: what runs outlives an interrupt", RUN, "        process.terminate()\n", "        pass\n", "RunsTests.test_an_interrupt_ends_what_runs"),
+    ("run: what is run beside others outlives an interrupt", RUN, "                self.end()\n", "", "RunsTests.test_an_interrupt_ends_what_runs"),
     ("run: on behind a fault", RUN, "        if paragraph.failed:\n            break", "        pass", "RunsTests.test_the_first_that_fails_is_the_last"),
     ("run: on in a paragraph behind a fault", RUN, "while not self.failed and (part", "while (part", "RunsTests.test_the_first_that_fails_is_the_last"),
     ("run: a fault is no fault", RUN, "in paragraph.failed.items()) or 0)", "in paragraph.failed.items()) and 0)", "RunsTests.test_the_first_that_fails_is_the_last"),
