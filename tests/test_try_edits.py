@@ -315,6 +315,20 @@ class Words(unittest.TestCase):
     def test_another_of_its_name(self):
         self.assertIsNone(self.verdict("fn fd::b::a::f: not proved", "fn fd::a::f2: not proved", "fn fd::a::f: proved"))
 
+    def test_a_definition_that_a_lemma_is_of(self):
+        """The function's own proof only names the lemma, which is no longer there."""
+        said = "\n".join(
+            [
+                "./proofs/Lemmas.antt:3:1: error: expected 2, found 3",
+                "./proofs/a/f/Answers.antt:3:1: error: 1 declaration that depends on `lemma`, which was not admitted, "
+                "was not checked: returns",
+                "fn fd::a::f: not proved",
+            ]
+        )
+        for is_of_bodies, verdict in ((False, "refused: a::f: "), (True, "shows nothing: ")):
+            found = verdicts.of_batch(self.FOUND._replace(is_of_bodies=is_of_bodies), 1, said, {})
+            self.assertEqual(str(found)[: len(verdict)], verdict)
+
     def test_a_type_of_another_module(self):
         """The prover names its functions by the module of the type."""
         function = functions.Function(("packing", "Colour"), "is_same")

@@ -79,13 +79,13 @@ def refused(function, shown, own):
 
 
 def of_batch(edit, status, said, sources):
-    """The verdict on an edit of bodies that was made with others, or in a check of its own functions alone; None
-    where that can't tell."""
+    """The verdict on an edit of bodies that was made with others, or on any in a check of its own functions alone;
+    None where that can't tell. What is changed outside of bodies is met in any proof."""
     own = {it: [state for state in states(it, said) if is_own(state)] for it in edit.functions}
     edited = next((it for it in own if own[it]), None)
     if edited is None:
         return None
-    found = [it for it in messages(said) if it.is_of(edit.functions, sources)]
+    found = [it for it in messages(said) if not edit.is_of_bodies or it.is_of(edit.functions, sources)]
     shown = [it for it in found if it.shows()]
     if any("could not tell" in it for it in own[edited]):
         return Verdict(Kind.LIMIT, f"{edited}: no verdict")

@@ -33,6 +33,8 @@ MUTATIONS = [   # name, tool, text, what stands there instead, test
     ("edits: whatever it says that it breaks", EDITS, "broken or changed, None", "changed, None", "TriesEdits.test_what_it_breaks"),
     ("edits: what breaks a function beside others", EDITS, "broken or changed, None not in changed)",
      "broken or changed, True)", "TriesEdits.test_what_it_breaks"),
+    ("edits: what lemmas show is nothing", VERDICTS, "if not edit.is_of_bodies or it.is_of(", "if it.is_of(", "Words.test_a_definition_that_a_lemma_is_of"),
+    ("edits: any message is of any edit", VERDICTS, "if not edit.is_of_bodies or it.is_of(", "if True or it.is_of(", "Words.test_a_definition_that_a_lemma_is_of"),
     ("edits: a type has one module", VERDICTS, "[: 1 + function.is_of_type()]", "[:1]", "Words.test_a_type_of_another_module"),
     ("edits: two of one function in one check", EDITS, "not it.proofs() & edit.proofs()",
      "True", "TriesEdits.test_two_of_one_function_are_tried_apart"),
