@@ -102,7 +102,7 @@ class Lists(unittest.TestCase):
         )
         return run.returncode, re.sub(r"in \d+\.\d minutes", "in N minutes", run.stdout).splitlines(), run.stderr
 
-    def end(self, seen, of, at_once=3 * len(os.sched_getaffinity(0))):
+    def end(self, seen, of, at_once=2 * len(os.sched_getaffinity(0))):
         return f"tool_mutations: {seen} of {of} wrong versions were seen, in N minutes, {at_once} at once"
 
     def test_all_are_seen(self):

@@ -20,7 +20,7 @@ import wrong_copies
 TOP = wrong_copies.TOP
 AS_IT_IS = ("MISSED", "skipped")  # what tests say where nothing is wrong
 TOGETHER = 8  # tests of a class that are run together on what is there
-EACH = 3  # versions that are tried at once, for each processor: some of them wait for what doesn't come
+EACH = 2  # versions that are tried at once, for each processor: some of them wait for what doesn't come
 
 
 def exchanged(text, old, new):
