@@ -189,13 +189,13 @@ fn expect_owner(rt: &impl Abort, owner: &Owner, position: u32, recorded: u64, re
     assert_eq!(rt; owner.pixel(place.left, place.top).r, red);
 }
 
-/// What a step over a table's one event comes to, on the left tile of a target of 33 by 1 pixels.
+/// What a step over the next event of a table comes to, on a tile of its target.
 fn step(owner: &mut Owner, table: &EventTable) -> Result<Result<(), Refused>, Fail> {
-    if table.len() != 1 || table.width() != 33 || table.height() != 1 {
-        return Err(Fail::from("one event"));
-    }
-    if owner.position() != 0 || owner.place() != PLACE {
-        return Err(Fail::from("the left tile"));
+    let place = owner.place();
+    let is_inside = place.left + place.width <= table.width()
+        && place.top + place.height <= table.height();
+    if owner.position() >= table.len() || !is_inside {
+        return Err(Fail::from("an event of a tile"));
     }
     Ok(owner.forward(table))
 }
