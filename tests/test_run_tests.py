@@ -184,7 +184,7 @@ class RunsTests(unittest.TestCase):
 
     def test_who_goes_first(self):
         """What is run beside others isn't late by them."""
-        for sign, niceness in (("", "19"), ("& ", "15"), ("| ", "0")):
+        for sign, niceness in (("", "19"), ("& ", "5"), ("| ", "0")):
             self.assertEqual(self.ran(f"{sign}nice")[1][1], niceness, sign)
 
     def test_paragraphs(self):
