@@ -155,7 +155,8 @@ fn a_blank_tile_is_alike_until_it_is_made(rt: HostRuntime) -> Result<(), Fail> {
         expect_pixel(&rt, &tile, (x, 67), RED, 7)?;
     }
     assert_eq!(rt; tile.flat_colour(), Some(RED));
-    Ok(())
+    colour_pixel(&mut tile, (33, 65), NOTHING)?;
+    expect_row(&rt, &tile, 65, &[RED, NOTHING, RED, RED, RED])
 }
 
 #[test]
