@@ -1,7 +1,7 @@
 use crate::frame::Frame;
 use crate::session::Session;
 use crate::tests::frames::{
-    colour, expect_moved, expect_pixel, flat, grey, one_clear, raster, session,
+    back, colour, expect_pixel, flat, go, grey, one_clear, raster, session, step, switch,
 };
 use fd_cover::Cull;
 use fd_events::Event;
@@ -55,11 +55,11 @@ fn expect_owners(rt: &impl Abort, session: &Session, positions: [u32; 3]) {
 #[test]
 fn a_step_back_takes_the_owners_of_tiles_that_it_reaches(rt: HostRuntime) -> Result<(), Fail> {
     let mut session = three_tiles(rt.alloc())?;
-    expect_moved(&rt, session.goto(&rt, 3), 3);
+    go(&rt, &mut session, 3);
     expect_owners(&rt, &session, [3, 3, 3]);
     expect_pixel(&rt, &session, (1, 1), grey(3));
     for (at, positions) in [(2, [2, 3, 3]), (1, [2, 3, 1]), (0, [0, 3, 1])] {
-        assert_eq!(rt; session.back(), Ok(at));
+        back(&rt, &mut session, at);
         expect_owners(&rt, &session, positions);
     }
     expect_pixel(&rt, &session, (1, 1), grey(0));
@@ -77,11 +77,11 @@ fn a_step_over_what_reaches_no_tile_takes_nobody(rt: HostRuntime) -> Result<(), 
     events.push(flat(alloc, [(96, 0), (99, 0), (96, 3)], grey(9))?)?;
     let mut session = session(alloc, 96, 32, events, 2)?;
     for (at, positions) in [(1, [1, 1, 1]), (2, [1, 1, 1]), (3, [1, 1, 1])] {
-        expect_moved(&rt, session.step(&rt), at);
+        step(&rt, &mut session, at);
         expect_owners(&rt, &session, positions);
     }
     expect_pixel(&rt, &session, (95, 31), grey(4));
-    expect_moved(&rt, session.goto(&rt, 0), 0);
+    go(&rt, &mut session, 0);
     expect_owners(&rt, &session, [0, 0, 0]);
     Ok(())
 }
@@ -89,18 +89,31 @@ fn a_step_over_what_reaches_no_tile_takes_nobody(rt: HostRuntime) -> Result<(), 
 #[test]
 fn a_jump_takes_owners_from_where_they_stand(rt: HostRuntime) -> Result<(), Fail> {
     let mut session = three_tiles(rt.alloc())?;
-    expect_moved(&rt, session.goto(&rt, 4), 4);
+    go(&rt, &mut session, 4);
     expect_owners(&rt, &session, [4, 4, 4]);
-    expect_moved(&rt, session.goto(&rt, 0), 0);
+    go(&rt, &mut session, 0);
     expect_owners(&rt, &session, [0, 3, 1]);
-    expect_moved(&rt, session.goto(&rt, 2), 2);
+    go(&rt, &mut session, 2);
     expect_owners(&rt, &session, [2, 2, 2]);
     expect_pixel(&rt, &session, (65, 1), grey(2));
     expect_pixel(&rt, &session, (40, 1), grey(0));
     // the owner of the third tile goes back and forth
-    expect_moved(&rt, session.switch(&rt, 2, false), 2);
+    switch(&rt, &mut session, (2, false), 2);
     expect_owners(&rt, &session, [2, 2, 2]);
     expect_pixel(&rt, &session, (65, 1), grey(0));
+    Ok(())
+}
+
+/// Checks how many entries the history of a pixel of row 1 has.
+fn expect_entries(
+    rt: &impl Abort,
+    alloc: Global,
+    session: &Session,
+    x: u32,
+    entries: usize,
+) -> Result<(), Fail> {
+    let history = session.history(alloc, x, 1)?;
+    assert_eq!(rt; history.len(), entries, "column {x}");
     Ok(())
 }
 
@@ -117,12 +130,9 @@ fn a_history_ends_where_the_session_stands(rt: HostRuntime) -> Result<(), Fail> 
         (0, 0, 0),
         (3, 2, 1),
     ] {
-        expect_moved(&rt, session.goto(&rt, at), at);
+        go(&rt, &mut session, at);
         for (x, entries) in [(1, first), (65, third)] {
-            let Ok(history) = session.history(alloc, x, 1) else {
-                return Err(Fail::from("a history"));
-            };
-            assert_eq!(rt; history.len(), entries, "column {x} at {at}");
+            expect_entries(&rt, alloc, &session, x, entries)?;
         }
     }
     expect_owners(&rt, &session, [3, 3, 3]);

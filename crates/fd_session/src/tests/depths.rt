@@ -1,7 +1,7 @@
 ghost use Rattle.std.specs.Prelude.{◌≤◌};
 
 use crate::tests::frames::{
-    CLOCKWISE, depth_test, expect_moved, expect_pixel, flat_at, grey, session,
+    CLOCKWISE, depth_test, expect_pixel, flat_at, go, grey, session, switch,
 };
 use crate::{Session, SessionFault};
 use fd_events::Event;
@@ -33,10 +33,10 @@ fn a_nearer_triangle_wins(rt: HostRuntime) -> Result<(), Fail> {
         let mut session = tested(rt.alloc(), workers)?;
         expect(&rt, &session, 0, 65535);
         for (at, level, depth) in [(3, 1, 1000), (5, 2, 2000), (4, 1, 65535), (3, 1, 1000)] {
-            expect_moved(&rt, session.goto(&rt, at), at);
+            go(&rt, &mut session, at);
             expect(&rt, &session, level, depth);
         }
-        expect_moved(&rt, session.switch(&rt, 2, false), 3);
+        switch(&rt, &mut session, (2, false), 3);
         expect(&rt, &session, 2, 2000);
         assert_eq!(rt; session.depth(1, 0), Err(SessionFault::NoSuchPixel));
     }

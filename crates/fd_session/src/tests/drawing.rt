@@ -1,17 +1,18 @@
 ghost use Rattle.std.specs.Prelude.{◌<◌};
 
-use crate::SessionFault;
 use crate::tests::frames::{
-    CLOCKWISE, added_twice, blend, colour, culled_and_scissored, draw, expect_moved, expect_pixel,
-    expect_pixels, expect_refused, flat, grey, masked_and_scissored, position, raster, scissor,
-    session,
+    CLOCKWISE, added_twice, back, blend, colour, culled_and_scissored, draw, expect_pixel,
+    expect_pixels, expect_refused, flat, go, go_gated, grey, masked_and_scissored, position,
+    raster, scissor, session, step, switch,
 };
+use crate::{Session, SessionFault};
 use fd_blend::Factor;
 use fd_cover::{Cull, Interp};
-use fd_crew::Free;
 use fd_events::{Draw, Event, Vertex};
 use std::alloc::Global;
+use std::process::Abort;
 use std::test::Fail;
+use std::thread::Threads;
 
 #[test]
 fn the_shared_edge_is_drawn_once(rt: HostRuntime) -> Result<(), Fail> {
@@ -24,7 +25,7 @@ fn the_shared_edge_is_drawn_once(rt: HostRuntime) -> Result<(), Fail> {
     for workers in [1, 2, 64] {
         let events = vec![in rt.alloc(); draw(rt.alloc(), Interp::Flat, &triangles)?]?;
         let mut session = session(rt.alloc(), 2, 2, events, workers)?;
-        expect_moved(&rt, session.goto_gated(&rt, 1, &Free), 1);
+        go_gated(&rt, &mut session, 1);
         expect_pixels(&rt, &session, red, green);
         assert_eq!(rt; session.pixel(2, 0), Err(SessionFault::NoSuchPixel));
     }
@@ -38,7 +39,7 @@ fn culled_and_scissored_draws_leave_the_pixel(rt: HostRuntime) -> Result<(), Fai
         let events = culled_and_scissored(rt.alloc(), last)?;
         let mut session = session(rt.alloc(), 1, 1, events, workers)?;
         for (at, seen) in [(1, grey(0)), (3, grey(0)), (4, grey(0)), (5, last)] {
-            expect_moved(&rt, session.goto(&rt, at), at);
+            go(&rt, &mut session, at);
             expect_pixel(&rt, &session, (0, 0), seen);
         }
     }
@@ -49,12 +50,18 @@ fn culled_and_scissored_draws_leave_the_pixel(rt: HostRuntime) -> Result<(), Fai
 fn mask_and_scissor_leave_clears_alone(rt: HostRuntime) -> Result<(), Fail> {
     for workers in [1, 2, 64] {
         let mut session = masked_and_scissored(rt.alloc(), workers)?;
-        expect_moved(&rt, session.goto_gated(&rt, 5, &Free), 5);
+        go_gated(&rt, &mut session, 5);
         expect_pixels(&rt, &session, colour(200, 9, 202, 9), grey(9));
-        assert_eq!(rt; session.back(), Ok(4));
+        back(&rt, &mut session, 4);
         expect_pixel(&rt, &session, (0, 0), grey(9));
     }
     Ok(())
+}
+
+/// Checks that the first event is on, and can't be switched on once more.
+fn expect_on<R: Threads + Sync + Abort>(rt: &R, session: &mut Session) {
+    expect_refused(rt, session.switch(rt, 1, true), SessionFault::AlreadySo);
+    assert_eq!(rt; session.is_on(1), Ok(true));
 }
 
 #[test]
@@ -65,14 +72,13 @@ fn a_blend_state_switched_off_and_on(rt: HostRuntime) -> Result<(), Fail> {
         events.push(blend(true, Factor::SrcAlpha, Factor::Zero, 15)?)?;
         events.push(flat(rt.alloc(), CLOCKWISE, source)?)?;
         let mut session = session(rt.alloc(), 1, 1, events, workers)?;
-        expect_moved(&rt, session.goto(&rt, 2), 2);
+        go(&rt, &mut session, 2);
         expect_pixel(&rt, &session, (0, 0), colour(100, 50, 25, 128));
-        expect_moved(&rt, session.switch(&rt, 1, false), 2);
+        switch(&rt, &mut session, (1, false), 2);
         expect_pixel(&rt, &session, (0, 0), source);
-        expect_moved(&rt, session.switch(&rt, 1, true), 2);
+        switch(&rt, &mut session, (1, true), 2);
         expect_pixel(&rt, &session, (0, 0), colour(100, 50, 25, 128));
-        expect_refused(&rt, session.switch(&rt, 1, true), SessionFault::AlreadySo);
-        assert_eq!(rt; session.is_on(1), Ok(true));
+        expect_on(&rt, &mut session);
     }
     Ok(())
 }
@@ -82,9 +88,9 @@ fn back_returns_to_the_image_before_the_draw(rt: HostRuntime) -> Result<(), Fail
     for workers in [1, 2, 64] {
         let events = added_twice(rt.alloc())?;
         let mut session = session(rt.alloc(), 1, 1, events, workers)?;
-        expect_moved(&rt, session.goto(&rt, 2), 2);
+        go(&rt, &mut session, 2);
         expect_pixel(&rt, &session, (0, 0), grey(20));
-        assert_eq!(rt; session.back(), Ok(1));
+        back(&rt, &mut session, 1);
         expect_pixel(&rt, &session, (0, 0), grey(0));
     }
     Ok(())
@@ -98,7 +104,7 @@ fn linear_red_rounds_to_nearest(rt: HostRuntime) -> Result<(), Fail> {
     for workers in [1, 2, 64] {
         let events = vec![in rt.alloc(); draw(rt.alloc(), Interp::Linear, &triangles)?]?;
         let mut session = session(rt.alloc(), 1, 1, events, workers)?;
-        expect_moved(&rt, session.step(&rt), 1);
+        step(&rt, &mut session, 1);
         expect_pixel(&rt, &session, (0, 0), colour(64, 0, 0, 255));
     }
     Ok(())
@@ -165,6 +171,20 @@ fn round(alloc: Global, events: &mut Vec<Event>, numbers: &mut Numbers) -> Resul
     Ok(())
 }
 
+/// Checks that a pixel is what its history ends with.
+fn expect_led_to(
+    rt: &impl Abort,
+    alloc: Global,
+    session: &Session,
+    x: u32,
+    y: u32,
+) -> Result<(), Fail> {
+    let entries = session.history(alloc, x, y)?;
+    let last = entries.last().map(|entry| entry.after);
+    assert_eq!(rt; session.pixel(x, y).ok(), last, "at {x} {y}");
+    Ok(())
+}
+
 /// The tiles of many draws, against the replay of each pixel alone.
 #[test]
 fn every_pixel_is_what_its_history_leads_to(rt: HostRuntime) -> Result<(), Fail> {
@@ -176,12 +196,10 @@ fn every_pixel_is_what_its_history_leads_to(rt: HostRuntime) -> Result<(), Fail>
             round(rt.alloc(), &mut events, &mut numbers)?;
         }
         let mut session = session(rt.alloc(), 40, 35, events, workers)?;
-        expect_moved(&rt, session.goto_gated(&rt, 31, &Free), 31);
+        go_gated(&rt, &mut session, 31);
         for y in 0..35 {
             for x in 0..40 {
-                let entries = session.history(rt.alloc(), x, y)?;
-                let last = entries.last().map(|entry| entry.after);
-                assert_eq!(rt; session.pixel(x, y).ok(), last, "at {x} {y}");
+                expect_led_to(&rt, rt.alloc(), &session, x, y)?;
             }
         }
     }

@@ -4,12 +4,14 @@ ghost use Rattle.std.specs.Prelude.{◌≤◌};
 use crate::{Answer, Session, SessionFault};
 use fd_blend::{BlendOp, BlendState, Colour, Factor, Mask, Part};
 use fd_cover::{Cull, Depth, Func, Interp, Raster, Rect};
+use fd_crew::Free;
 use fd_device::Progress;
 use fd_events::{Draw, Event, EventTable, Vertex};
 use fd_snap::Pos;
 use std::alloc::Global;
 use std::process::Abort;
 use std::test::Fail;
+use std::thread::Threads;
 
 /// Whom a move tells where it is: how often that was, and what was said last.
 #[derive(Default, Drop)]
@@ -183,9 +185,42 @@ pub(crate) fn added_twice(alloc: Global) -> Result<Vec<Event>, Fail> {
     Ok(vec![in alloc; adding, draw(alloc, Interp::Flat, &twice)?]?)
 }
 
+// All that a call promises is carried along to the end of a test. These functions promise nothing, so that tests are proved in seconds.
+
 /// Checks that a move was carried out, and where it ended.
 pub(crate) fn expect_moved(rt: &impl Abort, answer: Answer, at: u32) {
     assert_eq!(rt; answer, Answer::Moved { at });
+}
+
+/// Goes to a position.
+pub(crate) fn go<R: Threads + Sync + Abort>(rt: &R, session: &mut Session, to: u32) {
+    expect_moved(rt, session.goto(rt, to), to);
+}
+
+/// Goes to a position with all workers.
+pub(crate) fn go_gated<R: Threads + Sync + Abort>(rt: &R, session: &mut Session, to: u32) {
+    expect_moved(rt, session.goto_gated(rt, to, &Free), to);
+}
+
+/// Steps over an event to this position.
+pub(crate) fn step<R: Threads + Sync + Abort>(rt: &R, session: &mut Session, at: u32) {
+    expect_moved(rt, session.step(rt), at);
+}
+
+/// Goes back over an event to this position.
+pub(crate) fn back(rt: &impl Abort, session: &mut Session, at: u32) {
+    assert_eq!(rt; session.back(), Ok(at));
+}
+
+/// Switches an event on or off at this position.
+pub(crate) fn switch<R: Threads + Sync + Abort>(
+    rt: &R,
+    session: &mut Session,
+    (number, on): (u32, bool),
+    at: u32,
+) {
+    let answer = session.switch(rt, number, on);
+    assert_eq!(rt; answer, Answer::Moved { at }, "event {number}");
 }
 
 /// Checks why a move was refused.

@@ -2,7 +2,7 @@
 use crate::Session;
 use crate::tests::depths::tested;
 use crate::tests::frames::{
-    CLOCKWISE, added_twice, colour, culled_and_scissored, draw, expect_moved, grey, session,
+    CLOCKWISE, added_twice, colour, culled_and_scissored, draw, go, grey, session, step, switch,
 };
 use fd_blend::Colour;
 use fd_cover::{Interp, Verdict};
@@ -50,9 +50,9 @@ fn history_names_culled_and_scissored(rt: HostRuntime) -> Result<(), Fail> {
     ];
     let events = culled_and_scissored(rt.alloc(), last)?;
     let mut session = session(rt.alloc(), 1, 1, events, 2)?;
-    expect_moved(&rt, session.goto(&rt, 5), 5);
+    go(&rt, &mut session, 5);
     expect_history(&rt, rt.alloc(), &session, &expected)?;
-    expect_moved(&rt, session.switch(&rt, 5, false), 5);
+    switch(&rt, &mut session, (5, false), 5);
     expect_history(&rt, rt.alloc(), &session, &expected[..2])
 }
 
@@ -77,7 +77,7 @@ fn history_of_two_triangles_of_one_draw(rt: HostRuntime) -> Result<(), Fail> {
     let mut session = session(rt.alloc(), 1, 1, events, 2)?;
     let expected = added_and_cleared();
     for (at, count) in [(0, 0), (1, 0), (2, 2), (3, 3)] {
-        expect_moved(&rt, session.goto(&rt, at), at);
+        go(&rt, &mut session, at);
         expect_history(
             &rt,
             rt.alloc(),
@@ -97,17 +97,22 @@ fn reddening(alloc: Global) -> Result<Session, Fail> {
     session(alloc, 8, 8, events, 2)
 }
 
+/// Checks that nothing was done to pixel (7, 7).
+fn expect_none(rt: &impl Abort, alloc: Global, session: &Session) -> Result<(), Fail> {
+    let entries = session.history(alloc, 7, 7)?;
+    assert_eq!(rt; entries.len(), 0);
+    Ok(())
+}
+
 /// A pixel halfway down the triangle, and one that the draw's box does not hold.
 #[test]
 fn history_of_a_linear_draw(rt: HostRuntime) -> Result<(), Fail> {
     let shown = colour(64, 0, 0, 255);
     let expected = [entry(1, Verdict::Drawn, shown, grey(0), shown)];
     let mut session = reddening(rt.alloc())?;
-    expect_moved(&rt, session.step(&rt), 1);
+    step(&rt, &mut session, 1);
     expect_history(&rt, rt.alloc(), &session, &expected)?;
-    let none = session.history(rt.alloc(), 7, 7)?;
-    assert_eq!(rt; none.len(), 0);
-    Ok(())
+    expect_none(&rt, rt.alloc(), &session)
 }
 
 /// A triangle that is drawn, one that lies behind it, a clear of the depths, and the one behind again.
@@ -140,6 +145,6 @@ fn depths_in_turn() -> [Entry; 4] {
 #[test]
 fn history_shows_depths(rt: HostRuntime) -> Result<(), Fail> {
     let mut session = tested(rt.alloc(), 2)?;
-    expect_moved(&rt, session.goto(&rt, 5), 5);
+    go(&rt, &mut session, 5);
     expect_history(&rt, rt.alloc(), &session, &depths_in_turn())
 }

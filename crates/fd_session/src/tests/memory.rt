@@ -1,5 +1,5 @@
 //! Moves that meet want of memory. All memory is taken and given back bit by bit, so that a move gets a little further each time.
-use crate::tests::frames::{blend, colour, expect_moved, expect_pixel, flat, one_clear, session};
+use crate::tests::frames::{blend, colour, expect_pixel, flat, go, one_clear, session, switch};
 use crate::{Answer, Session, SessionFault};
 use fd_blend::{Colour, Factor};
 use fd_crew::Free;
@@ -7,6 +7,7 @@ use fd_events::Event;
 use std::alloc::{AllocError, Global};
 use std::process::Abort;
 use std::test::Fail;
+use std::thread::Threads;
 
 const CLEARED: Colour = Colour {
     r: 1,
@@ -75,6 +76,15 @@ const TRIES: usize = 8;
 /// More pieces than all allocations of a step need together, which take 12 KB, and fewer than lie side by side.
 const MOST_GIVEN: usize = 800;
 
+/// A step, or a jump over one event by all workers.
+fn step_somehow<R: Threads + Sync>(rt: &R, session: &mut Session, gated: bool) -> Answer {
+    if gated {
+        session.goto_gated(rt, 1, &Free)
+    } else {
+        session.step(rt)
+    }
+}
+
 /// A step is refused where the crew's fence wants memory, and stops where a tile does. Either way nothing has changed. What a tile got it keeps, so each
 /// try gets a little further, though all memory is taken again before it. By the gate two workers are asked for, and the thread can't be started.
 #[test]
@@ -94,12 +104,7 @@ fn a_step_with_hardly_any_memory(rt: HostRuntime) -> Result<(), Fail> {
                 for _ in 0..given {
                     drop(pieces.pop());
                 }
-                let answer = if gated {
-                    session.goto_gated(&rt, 1, &Free)
-                } else {
-                    session.step(&rt)
-                };
-                match answer {
+                match step_somehow(&rt, &mut session, gated) {
                     Answer::Moved { at } => assert_eq!(rt; at, 1),
                     Answer::Stopped { at } => {
                         assert_eq!(rt; at, 0);
@@ -124,6 +129,11 @@ fn a_step_with_hardly_any_memory(rt: HostRuntime) -> Result<(), Fail> {
     Ok(())
 }
 
+/// Whether there is no memory for a history.
+fn has_no_history(alloc: Global, session: &Session) -> bool {
+    session.history(alloc, 0, 0).is_err()
+}
+
 /// Both draws lie beside the target, so that they and the blending between them reach no tile; and blending that is set again changes nothing. No owner is
 /// asked to move. A history, which asks for memory, finds none.
 #[test]
@@ -138,15 +148,15 @@ fn a_switch_that_reaches_nothing_wants_no_memory(rt: HostRuntime) -> Result<(), 
     events.push(blend(false, Factor::One, Factor::Zero, 15)?)?;
     events.push(flat(rt.alloc(), beside, CLEARED)?)?;
     let mut session = session(rt.alloc(), 33, 1, events, 2)?;
-    expect_moved(&rt, session.goto(&rt, 7), 7);
+    go(&rt, &mut session, 7);
     let pieces = exhaust(rt.alloc())?;
     for number in [2, 3, 6, 7] {
-        expect_moved(&rt, session.switch(&rt, number, false), 7);
+        switch(&rt, &mut session, (number, false), 7);
         assert_eq!(rt; session.is_on(number), Ok(false));
     }
-    expect_moved(&rt, session.switch(&rt, 2, true), 7);
-    expect_moved(&rt, session.switch(&rt, 4, false), 7);
-    assert!(rt; session.history(rt.alloc(), 0, 0).is_err());
+    switch(&rt, &mut session, (2, true), 7);
+    switch(&rt, &mut session, (4, false), 7);
+    assert!(rt; has_no_history(rt.alloc(), &session));
     drop(pieces);
     Ok(())
 }

@@ -1,9 +1,11 @@
 //! Long moves, which go slice by slice.
-use crate::tests::frames::{Teller, expect_moved, expect_pixel, grey, session};
-use crate::{Answer, Session, SessionFault};
+use crate::tests::frames::{Teller, expect_moved, expect_pixel, expect_refused, go, grey, session};
+use crate::{Session, SessionFault};
 use fd_events::Event;
 use std::alloc::Global;
+use std::process::Abort;
 use std::test::Fail;
+use std::thread::Threads;
 
 /// Clears of 512 by 512 pixels, each of its own grey, of 1,048,576 ns by estimate. With one worker a slice takes 60 ms, which are 58 of them.
 fn clears(alloc: Global, count: u8) -> Result<Session, Fail> {
@@ -14,19 +16,38 @@ fn clears(alloc: Global, count: u8) -> Result<Session, Fail> {
     session(alloc, 512, 512, events, 1)
 }
 
+/// Goes to a position.
+fn go_telling<R: Threads + Sync + Abort>(
+    rt: &R,
+    session: &mut Session,
+    to: u32,
+    teller: &mut Teller,
+) {
+    expect_moved(rt, session.go(rt, to, teller), to);
+}
+
+/// Checks that there is no such position to go to.
+fn refuse_to_go<R: Threads + Sync + Abort>(
+    rt: &R,
+    session: &mut Session,
+    to: u32,
+    teller: &mut Teller,
+) {
+    expect_refused(rt, session.go(rt, to, teller), SessionFault::NoSuchPosition);
+}
+
 #[test]
 fn a_jump_is_told_slice_by_slice(rt: HostRuntime) -> Result<(), Fail> {
     let mut session = clears(rt.alloc(), 150)?;
     let mut teller = Teller::default();
-    expect_moved(&rt, session.go(&rt, 150, &mut teller), 150);
+    go_telling(&rt, &mut session, 150, &mut teller);
     assert_eq!(rt; (teller.times, teller.at, teller.to), (2, 116, 150));
     expect_pixel(&rt, &session, (511, 511), grey(150));
-    expect_moved(&rt, session.go(&rt, 7, &mut teller), 7);
+    go_telling(&rt, &mut session, 7, &mut teller);
     expect_pixel(&rt, &session, (511, 511), grey(7));
-    let refused = Answer::Refused(SessionFault::NoSuchPosition);
-    assert_eq!(rt; session.go(&rt, 151, &mut teller), refused);
+    refuse_to_go(&rt, &mut session, 151, &mut teller);
     assert_eq!(rt; teller.times, 2);
-    expect_moved(&rt, session.goto(&rt, 150), 150);
+    go(&rt, &mut session, 150);
     expect_pixel(&rt, &session, (511, 511), grey(150));
     Ok(())
 }

@@ -2,7 +2,7 @@
 ghost use Rattle.std.specs.Prelude.{◌≤◌};
 
 use crate::Session;
-use crate::tests::frames::{blend, draw, expect_moved, grey, session};
+use crate::tests::frames::{back, blend, draw, go, go_gated, grey, session, step, switch};
 use fd_blend::Factor;
 use fd_cover::Interp;
 use fd_crew::Free;
@@ -54,18 +54,18 @@ fn expect_stair(rt: &impl Abort, session: &Session, cleared: u8, draws: u8) {
 fn many_workers_draw_what_one_does(rt: HostRuntime) -> Result<(), Fail> {
     for workers in [1, 2, 64] {
         let mut session = stair(rt.alloc(), workers)?;
-        expect_moved(&rt, session.step(&rt), 1);
+        step(&rt, &mut session, 1);
         expect_stair(&rt, &session, 100, 0);
-        expect_moved(&rt, session.goto(&rt, 18), 18);
+        go(&rt, &mut session, 18);
         expect_stair(&rt, &session, 100, 16);
-        expect_moved(&rt, session.switch(&rt, 1, false), 18);
+        switch(&rt, &mut session, (1, false), 18);
         expect_stair(&rt, &session, 0, 16);
-        expect_moved(&rt, session.switch(&rt, 1, true), 18);
+        switch(&rt, &mut session, (1, true), 18);
         expect_stair(&rt, &session, 100, 16);
-        assert_eq!(rt; session.back(), Ok(17));
+        back(&rt, &mut session, 17);
         expect_stair(&rt, &session, 100, 15);
-        expect_moved(&rt, session.goto(&rt, 2), 2);
-        expect_moved(&rt, session.goto_gated(&rt, 18, &Free), 18);
+        go(&rt, &mut session, 2);
+        go_gated(&rt, &mut session, 18);
         expect_stair(&rt, &session, 100, 16);
     }
     Ok(())

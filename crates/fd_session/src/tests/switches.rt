@@ -1,10 +1,10 @@
 //! Switches of events that reach some of nine tiles.
 ghost use Rattle.std.specs.Prelude.{◌≤◌};
 
+use crate::Session;
 use crate::tests::frames::{
-    blend, depth_test, expect_moved, expect_pixel, flat, flat_at, grey, raster, scissor, session,
+    blend, depth_test, expect_pixel, flat, flat_at, go, grey, raster, scissor, session, switch,
 };
-use crate::{Answer, Session};
 use fd_blend::{BlendOp, BlendState, Factor, Mask, Part};
 use fd_cover::Cull;
 use fd_events::Event;
@@ -50,7 +50,7 @@ fn expect_tiles(rt: &impl Abort, session: &Session, middle: u8, column: u8, othe
 fn a_switch_shows_on_the_tiles_that_it_reaches(rt: HostRuntime) -> Result<(), Fail> {
     for workers in [1, 2, 64] {
         let mut session = nine_tiles(rt.alloc(), workers)?;
-        expect_moved(&rt, session.goto(&rt, 6), 6);
+        go(&rt, &mut session, 6);
         expect_tiles(&rt, &session, 6, 10, 101);
         for (number, middle, column, others) in [
             (2, 101, 10, 101),
@@ -60,18 +60,17 @@ fn a_switch_shows_on_the_tiles_that_it_reaches(rt: HostRuntime) -> Result<(), Fa
             (6, 6, 10, 101),
             (1, 6, 10, 1),
         ] {
-            let moved = Answer::Moved { at: 6 };
-            assert_eq!(rt; session.switch(&rt, number, false), moved, "{number}");
+            switch(&rt, &mut session, (number, false), 6);
             expect_tiles(&rt, &session, middle, column, others);
-            assert_eq!(rt; session.switch(&rt, number, true), moved, "{number}");
+            switch(&rt, &mut session, (number, true), 6);
             expect_tiles(&rt, &session, 6, 10, 101);
         }
-        expect_moved(&rt, session.switch(&rt, 3, false), 6);
-        expect_moved(&rt, session.goto(&rt, 4), 4);
+        switch(&rt, &mut session, (3, false), 6);
+        go(&rt, &mut session, 4);
         expect_tiles(&rt, &session, 5, 100, 100);
-        expect_moved(&rt, session.goto(&rt, 1), 1);
+        go(&rt, &mut session, 1);
         expect_tiles(&rt, &session, 100, 100, 100);
-        expect_moved(&rt, session.goto(&rt, 0), 0);
+        go(&rt, &mut session, 0);
         expect_tiles(&rt, &session, 0, 0, 0);
     }
     Ok(())
@@ -127,7 +126,7 @@ fn a_switch_of_a_state_shows_where_it_is_drawn_in(rt: HostRuntime) -> Result<(),
     let all = [5, 100, 50, 50, 100, 100];
     for workers in [1, 2, 64] {
         let mut session = states(rt.alloc(), workers)?;
-        expect_moved(&rt, session.goto(&rt, 16), 16);
+        go(&rt, &mut session, 16);
         expect_states(&rt, &session, all);
         for (number, levels) in [
             (2, [7, 100, 50, 50, 100, 100]),
@@ -140,9 +139,9 @@ fn a_switch_of_a_state_shows_where_it_is_drawn_in(rt: HostRuntime) -> Result<(),
             (13, [5, 100, 50, 50, 50, 100]),
             (15, [5, 100, 50, 50, 100, 60]),
         ] {
-            expect_moved(&rt, session.switch(&rt, number, false), 16);
+            switch(&rt, &mut session, (number, false), 16);
             expect_states(&rt, &session, levels);
-            expect_moved(&rt, session.switch(&rt, number, true), 16);
+            switch(&rt, &mut session, (number, true), 16);
             expect_states(&rt, &session, all);
         }
     }

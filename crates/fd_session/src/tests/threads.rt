@@ -48,6 +48,21 @@ fn most_threads<R: Files + Alloc>(rt: &R, wanted: u32, ended: &AtomicU64) -> u32
     most
 }
 
+fn step_and_back<R: Threads + Sync>(rt: &R, session: &mut Session) {
+    session.step(rt);
+    let _position = session.back();
+}
+
+fn jump_and_back<R: Threads + Sync>(rt: &R, session: &mut Session) {
+    session.goto(rt, 18);
+    session.goto(rt, 2);
+}
+
+fn switch_off_and_on<R: Threads + Sync>(rt: &R, session: &mut Session) {
+    session.switch(rt, 1, false);
+    session.switch(rt, 1, true);
+}
+
 /// Makes a move, and takes it back, until it is ended or was tried often enough.
 fn try_moves<R: Threads + Sync>(rt: &R, session: &mut Session, kind: Move, ended: &AtomicU64) {
     for _ in 0..TRIES {
@@ -55,18 +70,9 @@ fn try_moves<R: Threads + Sync>(rt: &R, session: &mut Session, kind: Move, ended
             return;
         }
         match kind {
-            Move::Step => {
-                session.step(rt);
-                let _position = session.back();
-            }
-            Move::Jump => {
-                session.goto(rt, 18);
-                session.goto(rt, 2);
-            }
-            Move::Switch => {
-                session.switch(rt, 1, false);
-                session.switch(rt, 1, true);
-            }
+            Move::Step => step_and_back(rt, session),
+            Move::Jump => jump_and_back(rt, session),
+            Move::Switch => switch_off_and_on(rt, session),
         }
     }
     ended.store(1, Ordering::SeqCst);

@@ -1,8 +1,11 @@
+use crate::Session;
 use crate::tests::frames::{colour, expect_moved, expect_pixel, one_clear};
 use fd_crew::Gate;
+use std::process::Abort;
 use std::sync::atomic::{AtomicU64, Ordering};
 use std::test::Fail;
 use std::thread;
+use std::thread::Threads;
 
 /// How long a lane waits for the other.
 const TURNS: u32 = 10_000_000;
@@ -33,6 +36,11 @@ impl Gate for Meeting {
     }
 }
 
+/// Steps over the clear through the gate.
+fn meet<R: Threads + Sync + Abort>(rt: &R, session: &mut Session, gate: &Meeting) {
+    expect_moved(rt, session.goto_gated(rt, 1, gate), 1);
+}
+
 #[test]
 fn every_worker_is_in_a_lane_at_once(rt: HostRuntime) -> Result<(), Fail> {
     let mut session = one_clear(rt.alloc(), 33, colour(1, 2, 3, 4), 2)?;
@@ -41,7 +49,7 @@ fn every_worker_is_in_a_lane_at_once(rt: HostRuntime) -> Result<(), Fail> {
         second: AtomicU64::new(0),
         gave_up: AtomicU64::new(0),
     };
-    expect_moved(&rt, session.goto_gated(&rt, 1, &gate), 1);
+    meet(&rt, &mut session, &gate);
     assert_eq!(rt; gate.gave_up.load(Ordering::SeqCst), 0);
     for flag in [&gate.first, &gate.second] {
         assert_eq!(rt; flag.load(Ordering::SeqCst), 1);

@@ -1,5 +1,5 @@
-ghost use Rattle.std.specs.Prelude.{◌≡◌, ◌<◌, IsTrue, true};
-ghost use Rattle.fd_tile.specs.Place.{HasRow};
+ghost use Rattle.std.specs.Prelude.{◌≡◌, ◌<◌, ◌≤◌, IsTrue, All, length, true, false};
+ghost use Rattle.fd_tile.specs.Place.{HasRow, Holds};
 
 use super::new_block;
 use crate::UndoStack;
@@ -45,16 +45,112 @@ fn expect_counts(
     Ok(())
 }
 
-/// Draws over a pixel of a small tile.
-fn draw_over(tile: &mut Tile, x: u32, y: u32)
-    requires made { tile.old.made ≡ true }
-    requires small { tile.old.place ≡ record { left = 0; top = 0; width = 2; height = 2 } }
-    requires inside { (x < 2) × (y < 2) }
-    ensures placed { tile.new.place ≡ tile.old.place }
-    ensures made { tile.new.made ≡ true }
+// All that a call promises is carried along to the end of a test. What follows promises next to nothing, so that tests are proved in seconds.
+
+/// Begins a frame with room for so many spans and pixels.
+fn begin(undo: &mut UndoStack, spans: usize, pixels: usize) -> Result<(), Fail> {
+    undo.reserve(spans, pixels)?;
+    undo.begin();
+    Ok(())
+}
+
+/// Whether a frame has room for these pixels.
+fn has_room(undo: &UndoStack, old: &[Colour], depths: &[u16]) -> bool
+    ensures begun { IsTrue result → undo.now.frame_left ≡ false }
+    ensures span { IsTrue result → 0 < undo.now.spans_left }
+    ensures pixels { IsTrue result → length old.now ≤ undo.now.pixels_left }
+    ensures equal { IsTrue result → length depths.now ≡ length old.now }
 {
-    tile.set(x, y, RED);
-    tile.set_depth(x, y, 1000);
+    !undo.frame_left()
+        && undo.spans_left() > 0
+        && old.len() <= undo.pixels_left()
+        && depths.len() == old.len()
+}
+
+/// Keeps some of the first three pixels of a row.
+fn keep(undo: &mut UndoStack, x: u32, y: u32, old: &[Colour], depths: &[u16]) -> Result<(), Fail> {
+    if !has_room(undo, old, depths) || x > 3 || old.len() > 3 || y > 3 {
+        return Err("room for pixels".into());
+    }
+    undo.keep(x, y, old, depths);
+    Ok(())
+}
+
+/// A small tile that is made, and a stack whose frames lie on it.
+#[derive(Drop)]
+struct Small {
+    tile: Tile,
+    undo: UndoStack,
+    ghost made: { tile.made ≡ true },
+    ghost placed: { tile.place ≡ record { left = 0; top = 0; width = 2; height = 2 } },
+    ghost inside: { All (λ frame. All (λ k. Holds tile.place k.x k.y) frame) undo.frames },
+}
+
+impl Small {
+    /// A fresh tile, and no frame.
+    fn new(alloc: Global) -> Result<Small, Fail> {
+        let tile = Tile::fresh(alloc, SMALL)?;
+        let undo = UndoStack::new(alloc);
+        Ok(Small { tile, undo })
+    }
+
+    /// Gives a pixel a depth.
+    fn set_depth(&mut self, x: u32, y: u32, depth: u16) -> Result<(), Fail> {
+        if x > 1 || y > 1 {
+            return Err("a pixel of the tile".into());
+        }
+        self.tile.set_depth(x, y, depth);
+        Ok(())
+    }
+
+    /// Draws over a pixel.
+    fn draw_over(&mut self, x: u32, y: u32) -> Result<(), Fail> {
+        if x > 1 || y > 1 {
+            return Err("a pixel of the tile".into());
+        }
+        self.tile.set(x, y, RED);
+        self.set_depth(x, y, 1000)
+    }
+
+    /// Begins a frame with room for so many spans and pixels.
+    fn begin(&mut self, spans: usize, pixels: usize) -> Result<(), Fail> {
+        self.undo.reserve(spans, pixels)?;
+        self.undo.begin();
+        Ok(())
+    }
+
+    /// Keeps some pixels of a row.
+    fn keep(&mut self, x: u32, y: u32, old: &[Colour], depths: &[u16]) -> Result<(), Fail> {
+        if !has_room(&self.undo, old, depths) || x > 2 || old.len() > (2 - x) as usize || y > 1 {
+            return Err("room for pixels of the tile".into());
+        }
+        self.undo.keep(x, y, old, depths);
+        Ok(())
+    }
+
+    /// Keeps the whole tile, whose pixels are alike.
+    fn push_alike(&mut self, colour: Colour, depth: u16) -> Result<(), Fail> {
+        self.undo.push_alike(SMALL, colour, depth)?;
+        Ok(())
+    }
+
+    /// Puts the top frame back.
+    fn undo_top(&mut self) -> Result<(), Fail> {
+        if self.undo.frames() == 0 {
+            return Err("a frame".into());
+        }
+        self.undo.undo_top(&mut self.tile);
+        Ok(())
+    }
+
+    /// Puts frames back down to so many.
+    fn undo_to(&mut self, to: usize) -> Result<(), Fail> {
+        if to > self.undo.frames() {
+            return Err("so many frames".into());
+        }
+        self.undo.undo_to(to, &mut self.tile);
+        Ok(())
+    }
 }
 
 /// Whether a tile that is made has a row.
@@ -109,27 +205,24 @@ fn expect_as_before(rt: &impl Abort, tile: &Tile) -> Result<(), Fail> {
 
 #[test]
 fn a_frame_is_put_back(rt: HostRuntime) -> Result<(), Fail> {
-    let mut tile = Tile::fresh(rt.alloc(), SMALL)?;
-    tile.set_depth(1, 0, 7);
-    let mut undo = UndoStack::new(rt.alloc());
-    undo.reserve(2, 3)?;
-    undo.begin();
-    undo.keep(0, 0, &[FRESH, FRESH], &[DEEP, 7]);
-    undo.keep(1, 1, &[FRESH], &[DEEP]);
-    draw_over(&mut tile, 0, 0);
-    draw_over(&mut tile, 1, 0);
-    draw_over(&mut tile, 1, 1);
-    expect_counts(&rt, &undo, 3, 1)?;
-    undo.undo_top(&mut tile);
-    expect_counts(&rt, &undo, 0, 0)?;
-    expect_as_before(&rt, &tile)
+    let mut small = Small::new(rt.alloc())?;
+    small.set_depth(1, 0, 7)?;
+    small.begin(2, 3)?;
+    small.keep(0, 0, &[FRESH, FRESH], &[DEEP, 7])?;
+    small.keep(1, 1, &[FRESH], &[DEEP])?;
+    small.draw_over(0, 0)?;
+    small.draw_over(1, 0)?;
+    small.draw_over(1, 1)?;
+    expect_counts(&rt, &small.undo, 3, 1)?;
+    small.undo_top()?;
+    expect_counts(&rt, &small.undo, 0, 0)?;
+    expect_as_before(&rt, &small.tile)
 }
 
 #[test]
 fn a_frame_without_pixels_stores_nothing(rt: HostRuntime) -> Result<(), Fail> {
     let mut undo = UndoStack::new(rt.alloc());
-    undo.reserve(0, 0)?;
-    undo.begin();
+    begin(&mut undo, 0, 0)?;
     assert_eq!(rt; undo.frames(), 1);
     let held = undo.last.held();
     assert_eq!(rt; (held.frames, held.spans, held.colours), (0, 0, 0));
@@ -144,9 +237,8 @@ fn frames_that_are_forgotten_keep_nothing(rt: HostRuntime) -> Result<(), Fail> {
     expect_counts(&rt, &undo, 0, 2)?;
     assert!(rt; undo.last.is_empty());
     assert!(rt; undo.full.capacity() == 0);
-    undo.reserve(1, 1)?;
-    undo.begin();
-    undo.keep(1, 1, &[FRESH], &[DEEP]);
+    begin(&mut undo, 1, 1)?;
+    keep(&mut undo, 1, 1, &[FRESH], &[DEEP])?;
     expect_kept(&rt, &undo, 1, (0, 0, 0), None);
     expect_kept(&rt, &undo, 2, (1, 1, 0), Some((FRESH, DEEP)));
     Ok(())
@@ -155,13 +247,11 @@ fn frames_that_are_forgotten_keep_nothing(rt: HostRuntime) -> Result<(), Fail> {
 /// Two frames: one that keeps nothing, and one that keeps pixel (1, 1) twice.
 fn with_two_frames(alloc: Global) -> Result<UndoStack, Fail> {
     let mut undo = UndoStack::new(alloc);
-    undo.reserve(0, 0)?;
-    undo.begin();
-    undo.reserve(3, 4)?;
-    undo.begin();
-    undo.keep(0, 1, &[FRESH, FRESH], &[5, 6]);
-    undo.keep(1, 1, &[RED], &[6]);
-    undo.keep(0, 0, &[RED], &[8]);
+    begin(&mut undo, 0, 0)?;
+    begin(&mut undo, 3, 4)?;
+    keep(&mut undo, 0, 1, &[FRESH, FRESH], &[5, 6])?;
+    keep(&mut undo, 1, 1, &[RED], &[6])?;
+    keep(&mut undo, 0, 0, &[RED], &[8])?;
     Ok(undo)
 }
 
@@ -200,10 +290,9 @@ fn what_is_kept_is_added(rt: HostRuntime) -> Result<(), Fail> {
 #[test]
 fn equal_colours_are_kept_once(rt: HostRuntime) -> Result<(), Fail> {
     let mut undo = UndoStack::new(rt.alloc());
-    undo.reserve(2, 5)?;
-    undo.begin();
-    undo.keep(0, 0, &[RED, RED, RED], &[DEEP, 7, DEEP]);
-    undo.keep(0, 1, &[RED, FRESH], &[DEEP, DEEP]);
+    begin(&mut undo, 2, 5)?;
+    keep(&mut undo, 0, 0, &[RED, RED, RED], &[DEEP, 7, DEEP])?;
+    keep(&mut undo, 0, 1, &[RED, FRESH], &[DEEP, DEEP])?;
     assert_eq!(rt; undo.last.held().colours, 3);
     expect_counts(&rt, &undo, 5, 1)?;
     expect_kept(&rt, &undo, 0, (1, 0, 0), Some((RED, 7)));
@@ -214,11 +303,10 @@ fn equal_colours_are_kept_once(rt: HostRuntime) -> Result<(), Fail> {
 #[test]
 fn equal_depths_are_kept_once(rt: HostRuntime) -> Result<(), Fail> {
     let mut undo = UndoStack::new(rt.alloc());
-    undo.reserve(2, 5)?;
-    undo.begin();
-    undo.keep(0, 0, &[RED, RED, RED], &[DEEP, DEEP, DEEP]);
+    begin(&mut undo, 2, 5)?;
+    keep(&mut undo, 0, 0, &[RED, RED, RED], &[DEEP, DEEP, DEEP])?;
     assert_eq!(rt; undo.last.held().depths, 0);
-    undo.keep(0, 1, &[RED, RED], &[DEEP, 7]);
+    keep(&mut undo, 0, 1, &[RED, RED], &[DEEP, 7])?;
     assert_eq!(rt; undo.last.held().depths, 2);
     expect_kept(&rt, &undo, 0, (2, 0, 0), Some((RED, DEEP)));
     expect_kept(&rt, &undo, 0, (1, 1, 0), Some((RED, 7)));
@@ -227,98 +315,90 @@ fn equal_depths_are_kept_once(rt: HostRuntime) -> Result<(), Fail> {
 
 #[test]
 fn whole_rows_are_put_back(rt: HostRuntime) -> Result<(), Fail> {
-    let mut tile = Tile::fresh(rt.alloc(), SMALL)?;
-    let mut undo = UndoStack::new(rt.alloc());
-    undo.reserve(2, 4)?;
-    undo.begin();
-    undo.keep(0, 0, &[RED, FRESH], &[DEEP, DEEP]);
-    undo.keep(0, 1, &[FRESH, RED], &[DEEP, DEEP]);
-    undo.undo_top(&mut tile);
-    expect_colours(&rt, &tile, 0, &[RED, FRESH])?;
-    expect_colours(&rt, &tile, 1, &[FRESH, RED])?;
-    expect_counts(&rt, &undo, 0, 0)
+    let mut small = Small::new(rt.alloc())?;
+    small.begin(2, 4)?;
+    small.keep(0, 0, &[RED, FRESH], &[DEEP, DEEP])?;
+    small.keep(0, 1, &[FRESH, RED], &[DEEP, DEEP])?;
+    small.undo_top()?;
+    expect_colours(&rt, &small.tile, 0, &[RED, FRESH])?;
+    expect_colours(&rt, &small.tile, 1, &[FRESH, RED])?;
+    expect_counts(&rt, &small.undo, 0, 0)
 }
 
 /// What a clear of depths overwrote on a tile that was flat: after it is put back the tile knows its depth again.
 #[test]
 fn a_flat_depth_comes_back(rt: HostRuntime) -> Result<(), Fail> {
-    let mut tile = Tile::fresh(rt.alloc(), SMALL)?;
-    let mut undo = UndoStack::new(rt.alloc());
-    undo.reserve(2, 4)?;
-    undo.begin();
-    undo.keep(0, 0, &[RED, FRESH], &[DEEP, DEEP]);
-    undo.keep(0, 1, &[FRESH, RED], &[DEEP, DEEP]);
-    tile.fill_depths(7);
-    undo.undo_top(&mut tile);
-    assert_eq!(rt; tile.flat_depth(), Some(DEEP));
-    expect_colours(&rt, &tile, 0, &[RED, FRESH])?;
-    expect_depths(&rt, &tile, 1, &[DEEP, DEEP])?;
+    let mut small = Small::new(rt.alloc())?;
+    small.begin(2, 4)?;
+    small.keep(0, 0, &[RED, FRESH], &[DEEP, DEEP])?;
+    small.keep(0, 1, &[FRESH, RED], &[DEEP, DEEP])?;
+    small.tile.fill_depths(7);
+    small.undo_top()?;
+    assert_eq!(rt; small.tile.flat_depth(), Some(DEEP));
+    expect_colours(&rt, &small.tile, 0, &[RED, FRESH])?;
+    expect_depths(&rt, &small.tile, 1, &[DEEP, DEEP])?;
     Ok(())
 }
 
 /// Rows that are alike are one span; another colour, another depth, a row that lies elsewhere and another frame are not.
 #[test]
 fn rows_that_are_alike_are_one_span(rt: HostRuntime) -> Result<(), Fail> {
-    let mut tile = Tile::fresh(rt.alloc(), SMALL)?;
-    let mut undo = UndoStack::new(rt.alloc());
-    undo.reserve(3, 6)?;
-    undo.begin();
-    undo.keep(0, 0, &[RED, RED], &[7, 7]);
-    undo.keep(0, 1, &[RED, RED], &[7, 7]);
-    assert_eq!(rt; (undo.last.held().spans, undo.last.held().colours), (1, 1));
-    undo.keep(0, 1, &[RED, RED], &[7, 7]);
-    assert_eq!(rt; undo.last.held().spans, 2);
-    undo.reserve(3, 4)?;
-    undo.begin();
-    undo.keep(0, 0, &[RED], &[7]);
-    undo.keep(0, 1, &[FRESH], &[7]);
-    undo.keep(1, 0, &[FRESH], &[8]);
-    assert_eq!(rt; undo.last.held().spans, 5);
-    expect_counts(&rt, &undo, 9, 2)?;
-    expect_kept(&rt, &undo, 0, (1, 1, 1), Some((RED, 7)));
-    expect_kept(&rt, &undo, 0, (1, 1, 2), None);
-    undo.undo_top(&mut tile);
-    expect_colours(&rt, &tile, 0, &[RED, FRESH])?;
-    expect_depths(&rt, &tile, 0, &[7, 8])?;
-    undo.undo_top(&mut tile);
-    expect_colours(&rt, &tile, 1, &[RED, RED])?;
-    expect_depths(&rt, &tile, 1, &[7, 7])?;
-    expect_counts(&rt, &undo, 0, 0)
+    let mut small = Small::new(rt.alloc())?;
+    small.begin(3, 6)?;
+    small.keep(0, 0, &[RED, RED], &[7, 7])?;
+    small.keep(0, 1, &[RED, RED], &[7, 7])?;
+    assert_eq!(rt;
+        (small.undo.last.held().spans, small.undo.last.held().colours),
+        (1, 1)
+    );
+    small.keep(0, 1, &[RED, RED], &[7, 7])?;
+    assert_eq!(rt; small.undo.last.held().spans, 2);
+    small.begin(3, 4)?;
+    small.keep(0, 0, &[RED], &[7])?;
+    small.keep(0, 1, &[FRESH], &[7])?;
+    small.keep(1, 0, &[FRESH], &[8])?;
+    assert_eq!(rt; small.undo.last.held().spans, 5);
+    expect_counts(&rt, &small.undo, 9, 2)?;
+    expect_kept(&rt, &small.undo, 0, (1, 1, 1), Some((RED, 7)));
+    expect_kept(&rt, &small.undo, 0, (1, 1, 2), None);
+    small.undo_top()?;
+    expect_colours(&rt, &small.tile, 0, &[RED, FRESH])?;
+    expect_depths(&rt, &small.tile, 0, &[7, 8])?;
+    small.undo_top()?;
+    expect_colours(&rt, &small.tile, 1, &[RED, RED])?;
+    expect_depths(&rt, &small.tile, 1, &[7, 7])?;
+    expect_counts(&rt, &small.undo, 0, 0)
 }
 
 /// Rows whose pixels differ are one span, with their colours and depths row after row; a row that doesn't follow is another one.
 #[test]
 fn listed_rows_are_one_span(rt: HostRuntime) -> Result<(), Fail> {
-    let mut tile = Tile::fresh(rt.alloc(), SMALL)?;
-    let mut undo = UndoStack::new(rt.alloc());
-    undo.reserve(3, 6)?;
-    undo.begin();
-    undo.keep(0, 0, &[RED, FRESH], &[7, 8]);
-    undo.keep(0, 1, &[FRESH, RED], &[9, 7]);
-    let held = undo.last.held();
+    let mut small = Small::new(rt.alloc())?;
+    small.begin(3, 6)?;
+    small.keep(0, 0, &[RED, FRESH], &[7, 8])?;
+    small.keep(0, 1, &[FRESH, RED], &[9, 7])?;
+    let held = small.undo.last.held();
     assert_eq!(rt; (held.spans, held.colours, held.depths), (1, 4, 4));
-    undo.keep(0, 1, &[RED, RED], &[8, 9]);
-    assert_eq!(rt; undo.last.held().spans, 2);
-    expect_counts(&rt, &undo, 6, 1)?;
-    expect_kept(&rt, &undo, 0, (1, 1, 0), Some((RED, 7)));
-    expect_kept(&rt, &undo, 0, (0, 1, 1), Some((RED, 8)));
-    undo.undo_top(&mut tile);
-    expect_colours(&rt, &tile, 0, &[RED, FRESH])?;
-    expect_colours(&rt, &tile, 1, &[FRESH, RED])?;
-    expect_depths(&rt, &tile, 0, &[7, 8])?;
-    expect_depths(&rt, &tile, 1, &[9, 7])?;
-    expect_counts(&rt, &undo, 0, 0)
+    small.keep(0, 1, &[RED, RED], &[8, 9])?;
+    assert_eq!(rt; small.undo.last.held().spans, 2);
+    expect_counts(&rt, &small.undo, 6, 1)?;
+    expect_kept(&rt, &small.undo, 0, (1, 1, 0), Some((RED, 7)));
+    expect_kept(&rt, &small.undo, 0, (0, 1, 1), Some((RED, 8)));
+    small.undo_top()?;
+    expect_colours(&rt, &small.tile, 0, &[RED, FRESH])?;
+    expect_colours(&rt, &small.tile, 1, &[FRESH, RED])?;
+    expect_depths(&rt, &small.tile, 0, &[7, 8])?;
+    expect_depths(&rt, &small.tile, 1, &[9, 7])?;
+    expect_counts(&rt, &small.undo, 0, 0)
 }
 
 /// Two frames of a pixel each, the second of which is in a block of its own: room for many pixels was asked for.
 fn with_two_blocks(alloc: Global) -> Result<UndoStack, Fail> {
     let mut undo = UndoStack::new(alloc);
-    undo.reserve(1, 1)?;
-    undo.begin();
-    undo.keep(0, 0, &[FRESH], &[DEEP]);
-    undo.reserve(1, 1000)?;
-    undo.begin();
-    undo.keep(1, 1, &[RED], &[7]);
+    begin(&mut undo, 1, 1)?;
+    keep(&mut undo, 0, 0, &[FRESH], &[DEEP])?;
+    begin(&mut undo, 1, 1000)?;
+    keep(&mut undo, 1, 1, &[RED], &[7])?;
     Ok(undo)
 }
 
@@ -337,31 +417,27 @@ fn blocks_are_given_back(rt: HostRuntime) -> Result<(), Fail> {
 
 #[test]
 fn a_block_without_frames_is_given_back(rt: HostRuntime) -> Result<(), Fail> {
-    let mut tile = Tile::fresh(rt.alloc(), SMALL)?;
-    let mut undo = UndoStack::new(rt.alloc());
-    undo.reserve(1, 1)?;
-    undo.begin();
-    undo.keep(0, 0, &[FRESH], &[DEEP]);
-    undo.reserve(1, 1000)?;
-    undo.begin();
-    undo.keep(1, 1, &[RED], &[7]);
-    undo.undo_top(&mut tile);
-    assert!(rt; undo.full.is_empty());
-    assert_eq!(rt; undo.last.held().frames, 1);
-    undo.undo_top(&mut tile);
-    assert!(rt; !undo.last.takes(Room::needed(1, 1)));
-    expect_counts(&rt, &undo, 0, 0)?;
-    expect_colours(&rt, &tile, 1, &[FRESH, RED])?;
-    expect_depths(&rt, &tile, 1, &[DEEP, 7])?;
+    let mut small = Small::new(rt.alloc())?;
+    small.begin(1, 1)?;
+    small.keep(0, 0, &[FRESH], &[DEEP])?;
+    small.begin(1, 1000)?;
+    small.keep(1, 1, &[RED], &[7])?;
+    small.undo_top()?;
+    assert!(rt; small.undo.full.is_empty());
+    assert_eq!(rt; small.undo.last.held().frames, 1);
+    small.undo_top()?;
+    assert!(rt; !small.undo.last.takes(Room::needed(1, 1)));
+    expect_counts(&rt, &small.undo, 0, 0)?;
+    expect_colours(&rt, &small.tile, 1, &[FRESH, RED])?;
+    expect_depths(&rt, &small.tile, 1, &[DEEP, 7])?;
     Ok(())
 }
 
 #[test]
 fn room_that_is_left_is_used(rt: HostRuntime) -> Result<(), Fail> {
     let mut undo = UndoStack::new(rt.alloc());
-    undo.reserve(1, 64)?;
-    undo.begin();
-    undo.keep(0, 0, &[RED, FRESH], &[7, 8]);
+    begin(&mut undo, 1, 64)?;
+    keep(&mut undo, 0, 0, &[RED, FRESH], &[7, 8])?;
     undo.reserve(1, 126)?;
     assert!(rt; undo.full.is_empty());
     undo.reserve(1, 127)?;
@@ -371,59 +447,53 @@ fn room_that_is_left_is_used(rt: HostRuntime) -> Result<(), Fail> {
 
 #[test]
 fn a_whole_place_is_put_back(rt: HostRuntime) -> Result<(), Fail> {
-    let mut tile = Tile::fresh(rt.alloc(), SMALL)?;
-    let mut undo = UndoStack::new(rt.alloc());
-    undo.push_alike(SMALL, FRESH, DEEP)?;
-    tile.fill_colours(RED);
-    expect_counts(&rt, &undo, 4, 1)?;
-    undo.push_alike(SMALL, RED, DEEP)?;
-    tile.fill_depths(7);
-    expect_counts(&rt, &undo, 8, 2)?;
-    assert_eq!(rt; undo.full.len(), 1);
-    assert_eq!(rt; undo.last.held().spans, 1);
-    assert_eq!(rt; undo.last.held().colours, 1);
-    assert_eq!(rt; undo.last.held().depths, 0);
-    expect_kept(&rt, &undo, 1, (1, 1, 0), Some((RED, DEEP)));
-    expect_kept(&rt, &undo, 1, (1, 1, 1), None);
-    undo.undo_top(&mut tile);
-    expect_colours(&rt, &tile, 1, &[RED, RED])?;
-    expect_depths(&rt, &tile, 1, &[DEEP, DEEP])?;
-    undo.undo_top(&mut tile);
-    expect_colours(&rt, &tile, 0, &[FRESH, FRESH])?;
-    expect_colours(&rt, &tile, 1, &[FRESH, FRESH])?;
-    expect_counts(&rt, &undo, 0, 0)
+    let mut small = Small::new(rt.alloc())?;
+    small.push_alike(FRESH, DEEP)?;
+    small.tile.fill_colours(RED);
+    expect_counts(&rt, &small.undo, 4, 1)?;
+    small.push_alike(RED, DEEP)?;
+    small.tile.fill_depths(7);
+    expect_counts(&rt, &small.undo, 8, 2)?;
+    assert_eq!(rt; small.undo.full.len(), 1);
+    assert_eq!(rt; small.undo.last.held().spans, 1);
+    assert_eq!(rt; small.undo.last.held().colours, 1);
+    assert_eq!(rt; small.undo.last.held().depths, 0);
+    expect_kept(&rt, &small.undo, 1, (1, 1, 0), Some((RED, DEEP)));
+    expect_kept(&rt, &small.undo, 1, (1, 1, 1), None);
+    small.undo_top()?;
+    expect_colours(&rt, &small.tile, 1, &[RED, RED])?;
+    expect_depths(&rt, &small.tile, 1, &[DEEP, DEEP])?;
+    small.undo_top()?;
+    expect_colours(&rt, &small.tile, 0, &[FRESH, FRESH])?;
+    expect_colours(&rt, &small.tile, 1, &[FRESH, FRESH])?;
+    expect_counts(&rt, &small.undo, 0, 0)
 }
 
 /// Frames that keep a small tile: one pixel, all of it row by row, nothing, all of it at once, and one pixel.
 #[test]
 fn older_whole_frames_are_put_back_alone(rt: HostRuntime) -> Result<(), Fail> {
-    let mut tile = Tile::fresh(rt.alloc(), SMALL)?;
-    let mut undo = UndoStack::new(rt.alloc());
-    undo.reserve(1, 1)?;
-    undo.begin();
-    undo.keep(0, 0, &[FRESH], &[DEEP]);
-    undo.reserve(2, 4)?;
-    undo.begin();
-    undo.keep(0, 0, &[RED, FRESH], &[DEEP, 7]);
-    undo.keep(0, 1, &[FRESH, FRESH], &[DEEP, DEEP]);
-    undo.reserve(0, 0)?;
-    undo.begin();
-    undo.push_alike(SMALL, RED, 7)?;
-    undo.reserve(1, 1)?;
-    undo.begin();
-    undo.keep(1, 1, &[RED], &[9]);
-    expect_counts(&rt, &undo, 10, 5)?;
-    undo.undo_to(4, &mut tile);
-    expect_counts(&rt, &undo, 9, 4)?;
-    expect_depths(&rt, &tile, 1, &[DEEP, 9])?;
-    undo.undo_to(1, &mut tile);
-    expect_counts(&rt, &undo, 1, 1)?;
-    expect_colours(&rt, &tile, 0, &[RED, FRESH])?;
-    expect_depths(&rt, &tile, 0, &[DEEP, 7])?;
-    expect_depths(&rt, &tile, 1, &[DEEP, DEEP])?;
-    undo.undo_to(0, &mut tile);
-    expect_counts(&rt, &undo, 0, 0)?;
-    expect_colours(&rt, &tile, 0, &[FRESH, FRESH])?;
+    let mut small = Small::new(rt.alloc())?;
+    small.begin(1, 1)?;
+    small.keep(0, 0, &[FRESH], &[DEEP])?;
+    small.begin(2, 4)?;
+    small.keep(0, 0, &[RED, FRESH], &[DEEP, 7])?;
+    small.keep(0, 1, &[FRESH, FRESH], &[DEEP, DEEP])?;
+    small.begin(0, 0)?;
+    small.push_alike(RED, 7)?;
+    small.begin(1, 1)?;
+    small.keep(1, 1, &[RED], &[9])?;
+    expect_counts(&rt, &small.undo, 10, 5)?;
+    small.undo_to(4)?;
+    expect_counts(&rt, &small.undo, 9, 4)?;
+    expect_depths(&rt, &small.tile, 1, &[DEEP, 9])?;
+    small.undo_to(1)?;
+    expect_counts(&rt, &small.undo, 1, 1)?;
+    expect_colours(&rt, &small.tile, 0, &[RED, FRESH])?;
+    expect_depths(&rt, &small.tile, 0, &[DEEP, 7])?;
+    expect_depths(&rt, &small.tile, 1, &[DEEP, DEEP])?;
+    small.undo_to(0)?;
+    expect_counts(&rt, &small.undo, 0, 0)?;
+    expect_colours(&rt, &small.tile, 0, &[FRESH, FRESH])?;
     Ok(())
 }
 

@@ -7,11 +7,12 @@ use fd_crew::{Free, Outcome, run_forward};
 use fd_events::{Event, EventTable, Label, TableFault};
 use fd_owner::{Owner, Refused};
 use fd_pam::{Device, PamFault, header, write};
+use fd_session::Session;
 use fd_tile::{Place, Tile};
 use fd_undo::UndoStack;
 use std::alloc::{AllocError, Global};
 use std::io;
-use std::io::Write;
+use std::io::{Print, Write};
 use std::process::Abort;
 use std::test::Fail;
 
@@ -43,60 +44,44 @@ fn table_start(rt: HostRuntime) -> Result<(), Fail> {
     Ok(())
 }
 
-#[test]
-fn capture_read(rt: HostRuntime) -> Result<(), Fail> {
+/// Reads a capture of so many events. After a refusal it is read again.
+fn expect_read<R: Print + Abort>(
+    rt: &R,
+    alloc: Global,
+    capture: &str,
+    events: u32,
+) -> Result<(), Fail> {
     println!(rt; "ready")?;
-    match read(rt.alloc(), MASKED) {
+    match read(alloc, capture.as_bytes()) {
         Ok(table) => {
             println!(rt; "told Ok")?;
-            assert_eq!(rt; table.len(), 5);
+            assert_eq!(rt; table.len(), events);
         }
         Err(fault) => {
             println!(rt; "told {fault:?}")?;
             assert_eq!(rt; fault, CaptureFault::Memory);
-            let again = read(rt.alloc(), MASKED);
-            assert!(rt; again.is_ok_and(|table| table.len() == 5));
+            let again = read(alloc, capture.as_bytes());
+            assert!(rt; again.is_ok_and(|table| table.len() == events));
         }
     }
     Ok(())
+}
+
+#[test]
+fn capture_read(rt: HostRuntime) -> Result<(), Fail> {
+    expect_read(&rt, rt.alloc(), MASKED, 5)
 }
 
 /// A draw whose triangles are listed in cells.
 #[test]
 fn capture_read_into_cells(rt: HostRuntime) -> Result<(), Fail> {
-    println!(rt; "ready")?;
-    match read(rt.alloc(), TWO_CELLS) {
-        Ok(table) => {
-            println!(rt; "told Ok")?;
-            assert_eq!(rt; table.len(), 1);
-        }
-        Err(fault) => {
-            println!(rt; "told {fault:?}")?;
-            assert_eq!(rt; fault, CaptureFault::Memory);
-            let again = read(rt.alloc(), TWO_CELLS);
-            assert!(rt; again.is_ok_and(|table| table.len() == 1));
-        }
-    }
-    Ok(())
+    expect_read(&rt, rt.alloc(), TWO_CELLS, 1)
 }
 
 /// A draw with a picture, some of whose texels are holes.
 #[test]
 fn capture_read_with_a_picture(rt: HostRuntime) -> Result<(), Fail> {
-    println!(rt; "ready")?;
-    match read(rt.alloc(), PICTURE) {
-        Ok(table) => {
-            println!(rt; "told Ok")?;
-            assert_eq!(rt; table.len(), 4);
-        }
-        Err(fault) => {
-            println!(rt; "told {fault:?}")?;
-            assert_eq!(rt; fault, CaptureFault::Memory);
-            let again = read(rt.alloc(), PICTURE);
-            assert!(rt; again.is_ok_and(|table| table.len() == 4));
-        }
-    }
-    Ok(())
+    expect_read(&rt, rt.alloc(), PICTURE, 4)
 }
 
 const PLACE: Place = Place {
@@ -200,10 +185,19 @@ fn step(owner: &mut Owner, table: &EventTable) -> Result<Result<(), Refused>, Fa
     Ok(owner.forward(table))
 }
 
+/// Goes back over an event that the owner has gone through.
+fn back(owner: &mut Owner) -> Result<(), Fail> {
+    if owner.position() == 0 {
+        return Err(Fail::from("one event"));
+    }
+    owner.back();
+    Ok(())
+}
+
 /// An owner whose opening image is no fresh one.
 #[test]
 fn owner_forward(rt: HostRuntime) -> Result<(), Fail> {
-    let table = read(rt.alloc(), TWO_TILES)?;
+    let table = read(rt.alloc(), TWO_TILES.as_bytes())?;
     let mut tile = Tile::fresh(rt.alloc(), PLACE)?;
     tile.set(0, 0, colour(5, 6, 7, 8));
     let mut owner = Owner::of(rt.alloc(), tile);
@@ -219,10 +213,7 @@ fn owner_forward(rt: HostRuntime) -> Result<(), Fail> {
         assert!(rt; step(&mut owner, &table)?.is_ok());
     }
     expect_owner(&rt, &owner, 1, 32, 1);
-    if owner.position() == 0 {
-        return Err(Fail::from("one event"));
-    }
-    owner.back();
+    back(&mut owner)?;
     expect_owner(&rt, &owner, 0, 0, 5);
     Ok(())
 }
@@ -230,7 +221,7 @@ fn owner_forward(rt: HostRuntime) -> Result<(), Fail> {
 /// An owner whose tile isn't made, over a clear: one record of one colour.
 #[test]
 fn owner_forward_on_a_blank_tile(rt: HostRuntime) -> Result<(), Fail> {
-    let table = read(rt.alloc(), TWO_TILES)?;
+    let table = read(rt.alloc(), TWO_TILES.as_bytes())?;
     let mut owner = Owner::of(rt.alloc(), Tile::blank(rt.alloc(), PLACE));
     println!(rt; "ready")?;
     if step(&mut owner, &table)?.is_ok() {
@@ -242,10 +233,7 @@ fn owner_forward_on_a_blank_tile(rt: HostRuntime) -> Result<(), Fail> {
         assert!(rt; step(&mut owner, &table)?.is_ok());
     }
     expect_owner(&rt, &owner, 1, 32, 1);
-    if owner.position() == 0 {
-        return Err(Fail::from("one event"));
-    }
-    owner.back();
+    back(&mut owner)?;
     expect_owner(&rt, &owner, 0, 0, 0);
     Ok(())
 }
@@ -270,7 +258,7 @@ fn owner(alloc: Global, left: u32, width: u32) -> Result<Owner, Fail>
 fn two_tiles(alloc: Global) -> Result<EventTable, Fail>
     ensures { IfOk result (λ table. (table.width ≡ 33) × (table.height ≡ 1) × (length table.events ≡ 1)) }
 {
-    let table = read(alloc, TWO_TILES)?;
+    let table = read(alloc, TWO_TILES.as_bytes())?;
     if table.len() != 1 || table.width() != 33 || table.height() != 1 {
         return Err(Fail::from("one event"));
     }
@@ -334,23 +322,25 @@ fn pam_header(rt: HostRuntime) -> Result<(), Fail> {
     Ok(())
 }
 
+/// What comes of writing the image of a session, and how many bytes were put.
+fn written(alloc: Global, session: &Session) -> (Result<(), PamFault>, u64) {
+    let mut sink = Device::new(Counts { taken: 0 });
+    let result = write(alloc, &mut sink, session);
+    (result, sink.into_inner().taken)
+}
+
 /// On want of memory no byte is put.
 #[test]
 fn pam_write(rt: HostRuntime) -> Result<(), Fail> {
     let session = session(rt.alloc(), TWO_TILES, 1)?;
     println!(rt; "ready")?;
-    let mut sink = Device::new(Counts { taken: 0 });
-    let first = write(rt.alloc(), &mut sink, &session);
+    let (first, taken) = written(rt.alloc(), &session);
     println!(rt; "told {first:?}")?;
-    let taken = sink.into_inner().taken;
     if first.is_ok() {
         assert_eq!(rt; taken, 198);
     } else {
-        assert_eq!(rt; first, Err(PamFault::Memory));
-        assert_eq!(rt; taken, 0);
-        let mut sink = Device::new(Counts { taken: 0 });
-        assert!(rt; write(rt.alloc(), &mut sink, &session).is_ok());
-        assert_eq!(rt; sink.into_inner().taken, 198);
+        assert_eq!(rt; (first, taken), (Err(PamFault::Memory), 0));
+        assert_eq!(rt; written(rt.alloc(), &session), (Ok(()), 198));
     }
     Ok(())
 }

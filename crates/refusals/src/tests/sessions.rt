@@ -6,9 +6,37 @@ use fd_capture::read;
 use fd_crew::Free;
 use fd_events::EventTable;
 use fd_session::{Answer, Session, SessionFault};
+use std::alloc::Global;
 use std::process::Abort;
 use std::test::Fail;
 use std::thread::Threads;
+
+// What these calls promise is proved of them. What a test expects is seen at run time alone, so that no proof carries along all that they promise.
+
+fn step_of<R: Threads + Sync>(rt: &R, session: &mut Session) -> Answer {
+    session.step(rt)
+}
+
+fn go<R: Threads + Sync>(rt: &R, session: &mut Session, to: u32) -> Answer {
+    session.goto(rt, to)
+}
+
+fn go_gated<R: Threads + Sync>(rt: &R, session: &mut Session, to: u32) -> Answer {
+    session.goto_gated(rt, to, &Free)
+}
+
+fn back(session: &mut Session) -> Result<u32, SessionFault> {
+    session.back()
+}
+
+fn switch_to<R: Threads + Sync>(rt: &R, session: &mut Session, number: u32, on: bool) -> Answer {
+    session.switch(rt, number, on)
+}
+
+/// How many entries the history of pixel (0, 0) has.
+fn entries(alloc: Global, session: &Session) -> Result<usize, SessionFault> {
+    Ok(session.history(alloc, 0, 0)?.len())
+}
 
 /// What each pixel of a row of 33 shows.
 fn expect_row(rt: &impl Abort, session: &Session, position: u32, shown: Colour) {
@@ -40,11 +68,11 @@ fn expect_cleared(rt: &impl Abort, session: &Session, answer: Answer) {
 fn step(rt: HostRuntime) -> Result<(), Fail> {
     let mut session = session(rt.alloc(), TWO_TILES, 2)?;
     println!(rt; "ready")?;
-    let answer = session.step(&rt);
+    let answer = step_of(&rt, &mut session);
     println!(rt; "told {answer:?}")?;
     expect_cleared(&rt, &session, answer);
     if session.position() == 0 {
-        assert_eq!(rt; session.step(&rt), Answer::Moved { at: 1 });
+        assert_eq!(rt; step_of(&rt, &mut session), Answer::Moved { at: 1 });
     }
     expect_row(&rt, &session, 1, colour(1, 2, 3, 4));
     Ok(())
@@ -54,11 +82,11 @@ fn step(rt: HostRuntime) -> Result<(), Fail> {
 fn goto_gated(rt: HostRuntime) -> Result<(), Fail> {
     let mut session = session(rt.alloc(), TWO_TILES, 2)?;
     println!(rt; "ready")?;
-    let answer = session.goto_gated(&rt, 1, &Free);
+    let answer = go_gated(&rt, &mut session, 1);
     println!(rt; "told {answer:?}")?;
     expect_cleared(&rt, &session, answer);
     if session.position() == 0 {
-        assert_eq!(rt; session.goto_gated(&rt, 1, &Free), Answer::Moved { at: 1 });
+        assert_eq!(rt; go_gated(&rt, &mut session, 1), Answer::Moved { at: 1 });
     }
     expect_row(&rt, &session, 1, colour(1, 2, 3, 4));
     Ok(())
@@ -84,7 +112,7 @@ fn expect_masked(rt: &impl Abort, session: &Session) {
 fn goto(rt: HostRuntime) -> Result<(), Fail> {
     let mut session = session(rt.alloc(), MASKED, 3)?;
     println!(rt; "ready")?;
-    let answer = session.goto(&rt, 5);
+    let answer = go(&rt, &mut session, 5);
     println!(rt; "told {answer:?}")?;
     match answer {
         Answer::Moved { at } => assert_eq!(rt; at, 5),
@@ -95,7 +123,7 @@ fn goto(rt: HostRuntime) -> Result<(), Fail> {
         }
     }
     expect_masked(&rt, &session);
-    assert_eq!(rt; session.goto(&rt, 5), Answer::Moved { at: 5 });
+    assert_eq!(rt; go(&rt, &mut session, 5), Answer::Moved { at: 5 });
     expect_masked(&rt, &session);
     Ok(())
 }
@@ -116,13 +144,13 @@ fn expect_depth(rt: &impl Abort, session: &Session) {
 fn goto_with_depth(rt: HostRuntime) -> Result<(), Fail> {
     let mut session = session(rt.alloc(), DEPTH_TEST, 2)?;
     println!(rt; "ready")?;
-    let answer = session.goto(&rt, 5);
+    let answer = go(&rt, &mut session, 5);
     println!(rt; "told {answer:?}")?;
     expect_depth(&rt, &session);
-    assert_eq!(rt; session.goto(&rt, 5), Answer::Moved { at: 5 });
+    assert_eq!(rt; go(&rt, &mut session, 5), Answer::Moved { at: 5 });
     expect_depth(&rt, &session);
     for _ in 0..5 {
-        assert!(rt; session.back().is_ok());
+        assert!(rt; back(&mut session).is_ok());
         expect_depth(&rt, &session);
     }
     Ok(())
@@ -150,13 +178,13 @@ fn expect_picture(rt: &impl Abort, session: &Session) {
 fn goto_with_a_picture(rt: HostRuntime) -> Result<(), Fail> {
     let mut session = session(rt.alloc(), PICTURE, 2)?;
     println!(rt; "ready")?;
-    let answer = session.goto(&rt, 4);
+    let answer = go(&rt, &mut session, 4);
     println!(rt; "told {answer:?}")?;
     expect_picture(&rt, &session);
-    assert_eq!(rt; session.goto(&rt, 4), Answer::Moved { at: 4 });
+    assert_eq!(rt; go(&rt, &mut session, 4), Answer::Moved { at: 4 });
     expect_picture(&rt, &session);
     for _ in 0..4 {
-        assert!(rt; session.back().is_ok());
+        assert!(rt; back(&mut session).is_ok());
         expect_picture(&rt, &session);
     }
     Ok(())
@@ -165,11 +193,11 @@ fn goto_with_a_picture(rt: HostRuntime) -> Result<(), Fail> {
 #[test]
 fn switch(rt: HostRuntime) -> Result<(), Fail> {
     let mut session = session(rt.alloc(), BLENDED, 2)?;
-    if session.goto(&rt, 2) != (Answer::Moved { at: 2 }) {
+    if go(&rt, &mut session, 2) != (Answer::Moved { at: 2 }) {
         return Err(Fail::from("memory"));
     }
     println!(rt; "ready")?;
-    let answer = session.switch(&rt, 1, false);
+    let answer = switch_to(&rt, &mut session, 1, false);
     println!(rt; "told {answer:?}")?;
     match answer {
         Answer::Moved { at } => assert_eq!(rt; at, 2),
@@ -177,9 +205,9 @@ fn switch(rt: HostRuntime) -> Result<(), Fail> {
         Answer::Refused(_) => assert!(rt; false),
     }
     assert_eq!(rt; session.is_on(1), Ok(false));
-    let again = session.switch(&rt, 1, false);
+    let again = switch_to(&rt, &mut session, 1, false);
     assert_eq!(rt; again, Answer::Refused(SessionFault::AlreadySo));
-    assert_eq!(rt; session.goto(&rt, 2), Answer::Moved { at: 2 });
+    assert_eq!(rt; go(&rt, &mut session, 2), Answer::Moved { at: 2 });
     assert_eq!(rt; session.pixel(0, 0), Ok(colour(200, 100, 50, 128)));
     Ok(())
 }
@@ -187,20 +215,19 @@ fn switch(rt: HostRuntime) -> Result<(), Fail> {
 #[test]
 fn history(rt: HostRuntime) -> Result<(), Fail> {
     let mut session = session(rt.alloc(), THREE_VERDICTS, 1)?;
-    if session.goto(&rt, 5) != (Answer::Moved { at: 5 }) {
+    if go(&rt, &mut session, 5) != (Answer::Moved { at: 5 }) {
         return Err(Fail::from("memory"));
     }
     println!(rt; "ready")?;
-    match session.history(rt.alloc(), 0, 0) {
-        Ok(entries) => {
+    match entries(rt.alloc(), &session) {
+        Ok(count) => {
             println!(rt; "told Ok")?;
-            assert_eq!(rt; entries.len(), 3);
+            assert_eq!(rt; count, 3);
         }
         Err(fault) => {
             println!(rt; "told {fault:?}")?;
             assert_eq!(rt; fault, SessionFault::Memory);
-            let again = session.history(rt.alloc(), 0, 0);
-            assert!(rt; again.is_ok_and(|entries| entries.len() == 3));
+            assert_eq!(rt; entries(rt.alloc(), &session), Ok(3));
         }
     }
     assert_eq!(rt; session.position(), 5);
@@ -217,24 +244,22 @@ fn expect_table(rt: &impl Abort, table: &EventTable) {
 }
 
 /// What a session of these verdicts shows at its end, with the event of the second one off and then on.
-fn expect_verdicts<T: Threads + Sync + Abort + AllocGlobal>(rt: &T, session: &mut Session) {
+fn expect_verdicts<R: Threads + Sync + Abort>(rt: &R, alloc: Global, session: &mut Session) {
     assert_eq!(rt; session.table().version(), 1);
     for number in 1..6u32 {
         assert_eq!(rt; session.is_on(number), Ok(number != 3));
     }
-    assert_eq!(rt; session.goto(rt, 5), Answer::Moved { at: 5 });
+    assert_eq!(rt; go(rt, session, 5), Answer::Moved { at: 5 });
     assert_eq!(rt; session.pixel(0, 0), Ok(colour(3, 4, 5, 6)));
-    let two = session.history(rt.alloc(), 0, 0);
-    assert!(rt; two.is_ok_and(|entries| entries.len() == 2));
-    assert_eq!(rt; session.switch(rt, 3, true), Answer::Moved { at: 5 });
-    let three = session.history(rt.alloc(), 0, 0);
-    assert!(rt; three.is_ok_and(|entries| entries.len() == 3));
+    assert_eq!(rt; entries(alloc, session), Ok(2));
+    assert_eq!(rt; switch_to(rt, session, 3, true), Answer::Moved { at: 5 });
+    assert_eq!(rt; entries(alloc, session), Ok(3));
 }
 
 /// On a refusal the table is handed back as it was, its flags too.
 #[test]
 fn start(rt: HostRuntime) -> Result<(), Fail> {
-    let mut table = read(rt.alloc(), THREE_VERDICTS)?;
+    let mut table = read(rt.alloc(), THREE_VERDICTS.as_bytes())?;
     if table.len() < 3 {
         return Err(Fail::from("five events"));
     }
@@ -251,7 +276,7 @@ fn start(rt: HostRuntime) -> Result<(), Fail> {
             let Ok(mut again) = Session::start(rt.alloc(), handed_back, 2) else {
                 return Err(Fail::from("no memory"));
             };
-            expect_verdicts(&rt, &mut again);
+            expect_verdicts(&rt, rt.alloc(), &mut again);
         }
     }
     Ok(())

@@ -25,19 +25,140 @@ fn clears(alloc: Global, number: usize) -> Result<Vec<Event>, Fail> {
     Ok(events)
 }
 
+// All that a call promises is carried along to the end of a test. What follows promises nothing, so that tests are proved in seconds.
+
+/// The table of a target of this width and height.
+pub(super) fn start(
+    alloc: Global,
+    (width, height): (u32, u32),
+    events: Vec<Event>,
+) -> Result<EventTable, TableFault> {
+    EventTable::start(alloc, 3, width, height, events)
+}
+
+/// A draw without a picture.
+pub(super) fn draw_of(
+    vertices: Vec<Vertex>,
+    indices: Option<Vec<u32>>,
+    interp: Interp,
+) -> Result<Draw, DrawFault> {
+    Draw::new(vertices, indices, interp)
+}
+
+/// The draw that is a table's only event.
+fn only_draw(table: &EventTable) -> Result<&Draw, Fail> {
+    if table.len() == 1 {
+        if let Event::Draw(draw) = table.event(1) {
+            return Ok(draw);
+        }
+    }
+    Err("one draw".into())
+}
+
+/// Checks the colours and depths of a triangle.
+fn expect_triangle(
+    rt: &impl Abort,
+    draw: &Draw,
+    triangle: u32,
+    levels: [u8; 3],
+    depths: [u16; 3],
+) -> Result<(), Fail> {
+    if triangle >= draw.triangles() {
+        return Err("a triangle of the draw".into());
+    }
+    assert_eq!(rt; draw.colours(triangle), levels.map(grey));
+    assert_eq!(rt; draw.depths(triangle), depths);
+    Ok(())
+}
+
+/// Checks which triangle from one on is the next that a draw lists for a window.
+fn expect_listed(
+    rt: &impl Abort,
+    draw: &Draw,
+    from: u32,
+    window: Bounds,
+    next: u32,
+) -> Result<(), Fail> {
+    if from > draw.triangles() {
+        return Err("a triangle of the draw".into());
+    }
+    assert_eq!(rt;
+        draw.next_listed(from, window),
+        next,
+        "from {from} in {window:?}, of {}",
+        draw.triangles()
+    );
+    Ok(())
+}
+
+/// Checks the boxes of a draw's first two groups of 32 triangles.
+fn expect_groups(rt: &impl Abort, draw: &Draw, first: Bounds, second: Bounds) {
+    assert_eq!(rt;
+        (draw.group_bounds(0), draw.group_bounds(1)),
+        (first, second)
+    );
+}
+
+/// Checks the boxes of two triangles.
+fn expect_boxes(rt: &impl Abort, draw: &Draw, [(i, first), (j, second)]: [(u32, Bounds); 2]) {
+    assert_eq!(rt;
+        (draw.triangle_bounds(i), draw.triangle_bounds(j)),
+        (first, second)
+    );
+}
+
+/// Checks whether a draw is culled by each of these.
+fn expect_culled(rt: &impl Abort, draw: &Draw, culled: [bool; 5]) {
+    for ((cull, front_ccw), culled) in EACH_CULLING.into_iter().zip(culled) {
+        let raster = Raster {
+            cull,
+            front_ccw,
+            scissor: true,
+        };
+        assert_eq!(rt; draw.is_culled(&raster), culled, "{raster:?}");
+    }
+}
+
+/// Checks what an event reaches.
+pub(super) fn expect_reach(
+    rt: &impl Abort,
+    table: &EventTable,
+    number: u32,
+    reach: Bounds,
+) -> Result<(), Fail> {
+    if number == 0 || number > table.len() {
+        return Err("an event of the table".into());
+    }
+    assert_eq!(rt; table.reach(number), reach, "event {number}");
+    Ok(())
+}
+
+/// Checks a table of clears of grey 9.
+fn expect_clears(
+    rt: &impl Abort,
+    table: &EventTable,
+    (width, height): (u32, u32),
+    number: usize,
+) -> Result<(), Fail> {
+    assert_eq!(rt;
+        (table.width(), table.height(), table.version()),
+        (width, height, 3)
+    );
+    assert_eq!(rt; table.len() as usize, number);
+    if table.len() < 2 {
+        return Err("two events".into());
+    }
+    assert!(rt; matches!(table.event(2), Event::Clear(colour) if *colour == grey(9)));
+    assert!(rt; table.is_on(2));
+    assert_eq!(rt; *table.state_before(1), Pipeline::default());
+    Ok(())
+}
+
 #[test]
 fn events_start_switched_on(rt: HostRuntime) -> Result<(), Fail> {
     for (width, height, number) in [(1, 16_384, 1_000_000), (16_384, 1, 2)] {
-        let table = EventTable::start(rt.alloc(), 3, width, height, clears(rt.alloc(), number)?)?;
-        assert_eq!(rt;
-            (table.width(), table.height(), table.version()),
-            (width, height, 3)
-        );
-        assert_eq!(rt; table.len() as usize, number);
-        assert!(rt; table.len() >= 2);
-        assert!(rt; matches!(table.event(2), Event::Clear(colour) if *colour == grey(9)));
-        assert!(rt; table.is_on(2));
-        assert_eq!(rt; *table.state_before(1), Pipeline::default());
+        let table = start(rt.alloc(), (width, height), clears(rt.alloc(), number)?)?;
+        expect_clears(&rt, &table, (width, height), number)?;
     }
     Ok(())
 }
@@ -51,7 +172,7 @@ fn refused_tables_and_their_faults(rt: HostRuntime) -> Result<(), Fail> {
         (1, 16_385, 1_000_001, TableFault::Size),
         (1, 1, 1_000_001, TableFault::TooMany),
     ] {
-        let refused = EventTable::start(rt.alloc(), 3, width, height, clears(rt.alloc(), number)?);
+        let refused = start(rt.alloc(), (width, height), clears(rt.alloc(), number)?);
         assert_eq!(rt;
             refused.err(),
             Some(fault),
@@ -90,7 +211,7 @@ fn states(
     events.push(Event::SetScissor(rect))?;
     events.push(Event::SetFactor(grey(5)))?;
     events.push(Event::SetDepth(NEARER))?;
-    Ok(EventTable::start(alloc, 3, 1, 1, events)?)
+    Ok(start(alloc, (1, 1), events)?)
 }
 
 /// The state before an event of a table, or behind its last.
@@ -188,20 +309,31 @@ fn vertices(alloc: Global, number: u32) -> Result<Vec<Vertex>, Fail> {
     Ok(vertices)
 }
 
+/// Checks the second corner of a triangle, in 1/256 pixel.
+fn expect_second_corner(
+    rt: &impl Abort,
+    draw: &Draw,
+    triangle: u32,
+    corner: (i32, i32),
+) -> Result<(), Fail> {
+    if triangle >= draw.triangles() {
+        return Err("a triangle of the draw".into());
+    }
+    let triangle = draw.tri(triangle);
+    assert_eq!(rt; (triangle.b.x(), triangle.b.y()), corner);
+    Ok(())
+}
+
 #[test]
 fn left_over_vertices_are_dropped(rt: HostRuntime) -> Result<(), Fail> {
-    let draw = Draw::new(vertices(rt.alloc(), 8)?, None, Interp::Flat)?;
+    let draw = draw_of(vertices(rt.alloc(), 8)?, None, Interp::Flat)?;
     assert_eq!(rt; draw.triangles(), 2);
-    assert_eq!(rt; draw.colours(1), [grey(2), grey(2), grey(2)]);
-    assert_eq!(rt; draw.depths(1), [65_535, 65_535, 65_535]);
-    let triangle = draw.tri(1);
-    assert_eq!(rt; (triangle.b.x(), triangle.b.y()), (1, 0));
+    expect_triangle(&rt, &draw, 1, [2, 2, 2], [65_535, 65_535, 65_535])?;
+    expect_second_corner(&rt, &draw, 1, (1, 0))?;
     let indices = vec![in rt.alloc(); 7, 0, 7, 1]?;
-    let draw = Draw::new(vertices(rt.alloc(), 8)?, Some(indices), Interp::Linear)?;
+    let draw = draw_of(vertices(rt.alloc(), 8)?, Some(indices), Interp::Linear)?;
     assert_eq!(rt; (draw.triangles(), draw.interp()), (1, Interp::Linear));
-    assert_eq!(rt; draw.colours(0), [grey(2), grey(1), grey(2)]);
-    assert_eq!(rt; draw.depths(0), [65_535, 0, 65_535]);
-    Ok(())
+    expect_triangle(&rt, &draw, 0, [2, 1, 2], [65_535, 0, 65_535])
 }
 
 #[test]
@@ -213,7 +345,7 @@ fn refused_draws_and_their_faults(rt: HostRuntime) -> Result<(), Fail> {
         (3, 3, 4, Some(DrawFault::IndexRange)),
     ] {
         let indices = vec![in rt.alloc(); index; number]?;
-        let draw = Draw::new(vertices(rt.alloc(), count)?, Some(indices), Interp::Flat);
+        let draw = draw_of(vertices(rt.alloc(), count)?, Some(indices), Interp::Flat);
         assert_eq!(rt; draw.err(), fault, "{count} vertices, {number} indices");
     }
     Ok(())
@@ -272,12 +404,12 @@ const BOTH: Bounds = Bounds {
 
 #[test]
 fn the_bounds_go_round_all_triangles(rt: HostRuntime) -> Result<(), Fail> {
-    let empty = Draw::new(Vec::new(rt.alloc()), None, Interp::Flat)?;
+    let empty = draw_of(Vec::new(rt.alloc()), None, Interp::Flat)?;
     assert!(rt; empty.bounds().is_empty());
     let mut vertices = Vec::new(rt.alloc());
     push_triangle(&mut vertices, NEAR_CORNERS)?;
     push_triangle(&mut vertices, FAR_CORNERS)?;
-    let draw = Draw::new(vertices, None, Interp::Flat)?;
+    let draw = draw_of(vertices, None, Interp::Flat)?;
     assert_eq!(rt; draw.bounds(), BOTH);
     Ok(())
 }
@@ -287,21 +419,15 @@ fn each_group_has_a_box_once_a_table_starts(rt: HostRuntime) -> Result<(), Fail>
     let mut vertices = Vec::new(rt.alloc());
     push_triangles(&mut vertices, 32, NEAR_CORNERS)?;
     push_triangle(&mut vertices, FAR_CORNERS)?;
-    let draw = Draw::new(vertices, None, Interp::Flat)?;
-    assert_eq!(rt; (draw.group_bounds(0), draw.group_bounds(1)), (BOTH, BOTH));
-    assert_eq!(rt; draw.triangle_bounds(32), FAR);
+    let draw = draw_of(vertices, None, Interp::Flat)?;
+    expect_groups(&rt, &draw, BOTH, BOTH);
+    expect_boxes(&rt, &draw, [(31, NEAR), (32, FAR)]);
     let mut events = Vec::new(rt.alloc());
     events.push(Event::Draw(draw))?;
-    let table = EventTable::start(rt.alloc(), 3, 8, 8, events)?;
-    assert!(rt; table.len() == 1);
-    let Event::Draw(draw) = table.event(1) else {
-        return Err("a draw".into());
-    };
-    assert_eq!(rt; (draw.group_bounds(0), draw.group_bounds(1)), (NEAR, FAR));
-    assert_eq!(rt;
-        (draw.triangle_bounds(31), draw.triangle_bounds(32)),
-        (NEAR, FAR)
-    );
+    let table = start(rt.alloc(), (8, 8), events)?;
+    let draw = only_draw(&table)?;
+    expect_groups(&rt, draw, NEAR, FAR);
+    expect_boxes(&rt, draw, [(31, NEAR), (32, FAR)]);
     Ok(())
 }
 
@@ -342,18 +468,7 @@ fn a_draw_is_culled_where_all_its_triangles_are(rt: HostRuntime) -> Result<(), F
         ),
     ] {
         let table = table_of(rt.alloc(), 64, vertices)?;
-        assert!(rt; table.len() == 1);
-        let Event::Draw(draw) = table.event(1) else {
-            return Err("a draw".into());
-        };
-        for ((cull, front_ccw), culled) in EACH_CULLING.into_iter().zip(culled) {
-            let raster = Raster {
-                cull,
-                front_ccw,
-                scissor: true,
-            };
-            assert_eq!(rt; draw.is_culled(&raster), culled, "{raster:?}");
-        }
+        expect_culled(&rt, only_draw(&table)?, culled);
     }
     Ok(())
 }
@@ -380,8 +495,8 @@ pub(super) fn square(left: u32, top: u32, side: u32) -> Bounds {
 /// A table with one draw.
 fn table_of(alloc: Global, side: u32, vertices: Vec<Vertex>) -> Result<EventTable, Fail> {
     let mut events = Vec::new(alloc);
-    events.push(Event::Draw(Draw::new(vertices, None, Interp::Flat)?))?;
-    Ok(EventTable::start(alloc, 3, side, side, events)?)
+    events.push(Event::Draw(draw_of(vertices, None, Interp::Flat)?))?;
+    Ok(start(alloc, (side, side), events)?)
 }
 
 /// So many triangles, in turn in the first cell and in the one right of it and below.
@@ -400,14 +515,11 @@ fn in_two_cells(alloc: Global, count: u32) -> Result<Vec<Vertex>, Fail> {
 
 #[test]
 fn a_window_is_shown_the_triangles_of_its_cell(rt: HostRuntime) -> Result<(), Fail> {
-    let alone = Draw::new(in_two_cells(rt.alloc(), 40)?, None, Interp::Flat)?;
-    assert_eq!(rt; alone.next_listed(0, square(32, 32, 32)), 0);
+    let alone = draw_of(in_two_cells(rt.alloc(), 40)?, None, Interp::Flat)?;
+    expect_listed(&rt, &alone, 0, square(32, 32, 32), 0)?;
     let table = table_of(rt.alloc(), 64, in_two_cells(rt.alloc(), 40)?)?;
-    assert!(rt; table.len() == 1);
-    let Event::Draw(draw) = table.event(1) else {
-        return Err("a draw".into());
-    };
-    assert!(rt; draw.triangles() == 40);
+    let draw = only_draw(&table)?;
+    assert_eq!(rt; draw.triangles(), 40);
     for (from, window, next) in [
         (0, square(0, 0, 32), 0),
         (1, square(0, 0, 32), 2),
@@ -419,11 +531,7 @@ fn a_window_is_shown_the_triangles_of_its_cell(rt: HostRuntime) -> Result<(), Fa
         (0, square(32, 0, 32), 40),
         (0, square(0, 0, 64), 0),
     ] {
-        assert_eq!(rt;
-            draw.next_listed(from, window),
-            next,
-            "from {from} in {window:?}"
-        );
+        expect_listed(&rt, draw, from, window, next)?;
     }
     Ok(())
 }
@@ -456,18 +564,22 @@ fn few_triangles_are_in_no_cells_and_large_ones_in_large_cells(
         (256, with_large_ones(rt.alloc(), 20, 60)?, (128, 128), 80),
     ] {
         let table = table_of(rt.alloc(), side, vertices)?;
-        assert!(rt; table.len() == 1);
-        let Event::Draw(draw) = table.event(1) else {
-            return Err("a draw".into());
-        };
-        assert_eq!(rt;
-            draw.next_listed(0, square(left, top, 32)),
-            next,
-            "{} triangles, from {left}, {top} on",
-            draw.triangles()
-        );
+        let window = square(left, top, 32);
+        expect_listed(&rt, only_draw(&table)?, 0, window, next)?;
     }
     Ok(())
+}
+
+/// The indices of so many triangles, which are the first and the second by turns.
+fn by_turns(alloc: Global, number: u32) -> Result<Vec<u32>, Fail> {
+    let mut indices = Vec::new(alloc);
+    for triangle in 0..number {
+        let first = if triangle % 2 == 0 { 0u32 } else { 3u32 };
+        for corner in 0..3 {
+            indices.push(first + corner)?;
+        }
+    }
+    Ok(indices)
 }
 
 #[test]
@@ -475,27 +587,14 @@ fn triangles_of_few_vertices_are_in_no_cells(rt: HostRuntime) -> Result<(), Fail
     for (vertices, next) in [(26, 1), (28, 2)] {
         let mut corners = in_two_cells(rt.alloc(), 10)?;
         corners.truncate(vertices);
-        let mut indices = vec![in rt.alloc(); 0; 0]?;
-        for number in 0..81 {
-            let corner: u32 = if number % 2 == 0 { 0 } else { 3 };
-            for index in [corner, corner.saturating_add(1), corner.saturating_add(2)] {
-                indices.push(index)?;
-            }
-        }
+        let indices = by_turns(rt.alloc(), 81)?;
         let mut events = Vec::new(rt.alloc());
-        events.push(Event::Draw(Draw::new(corners, Some(indices), Interp::Flat)?))?;
-        let table = EventTable::start(rt.alloc(), 3, 64, 64, events)?;
-        assert!(rt; table.len() == 1);
-        let Event::Draw(draw) = table.event(1) else {
-            return Err("a draw".into());
-        };
-        assert!(rt; draw.triangles() == 81);
-        assert_eq!(rt;
-            draw.next_listed(1, square(0, 0, 32)),
-            next,
-            "{vertices} vertices"
-        );
-        assert_eq!(rt; draw.triangle_bounds(80), NEAR);
+        events.push(Event::Draw(draw_of(corners, Some(indices), Interp::Flat)?))?;
+        let table = start(rt.alloc(), (64, 64), events)?;
+        let draw = only_draw(&table)?;
+        assert_eq!(rt; draw.triangles(), 81, "{vertices} vertices");
+        expect_listed(&rt, draw, 1, square(0, 0, 32), next)?;
+        expect_boxes(&rt, draw, [(0, NEAR), (80, NEAR)]);
     }
     Ok(())
 }
@@ -524,38 +623,44 @@ fn labels_and_their_faults(rt: HostRuntime) -> Result<(), Fail> {
     Ok(())
 }
 
+/// Whether an event reaches no pixel.
+fn reaches_nothing(table: &EventTable, number: u32) -> Result<bool, Fail> {
+    if number == 0 || number > table.len() {
+        return Err("an event of the table".into());
+    }
+    Ok(table.reach(number).is_empty())
+}
+
 #[test]
 fn the_reach_of_each_event_lies_on_the_target(rt: HostRuntime) -> Result<(), Fail> {
     let mut vertices = Vec::new(rt.alloc());
     push_triangle(&mut vertices, NEAR_CORNERS)?;
     push_triangle(&mut vertices, FAR_CORNERS)?;
     let mut events = Vec::new(rt.alloc());
-    events.push(Event::Draw(Draw::new(vertices, None, Interp::Flat)?))?;
+    events.push(Event::Draw(draw_of(vertices, None, Interp::Flat)?))?;
     events.push(Event::SetFactor(grey(5)))?;
     events.push(Event::DepthClear(7))?;
-    let table = EventTable::start(rt.alloc(), 3, 4, 3, events)?;
-    assert!(rt; table.len() == 3);
+    let table = start(rt.alloc(), (4, 3), events)?;
     let cut = Bounds {
         right: 4,
         bottom: 3,
         ..BOTH
     };
-    assert_eq!(rt; table.reach(1), cut);
-    assert!(rt; table.reach(2).is_empty());
+    expect_reach(&rt, &table, 1, cut)?;
+    assert!(rt; reaches_nothing(&table, 2)?);
     let whole = Bounds {
         left: 0,
         top: 0,
         ..cut
     };
-    assert_eq!(rt; table.reach(3), whole);
-    Ok(())
+    expect_reach(&rt, &table, 3, whole)
 }
 
 /// A draw of one triangle.
 fn one_triangle(alloc: Global, corners: [(i32, i32); 3]) -> Result<Event, Fail> {
     let mut vertices = Vec::new(alloc);
     push_triangle(&mut vertices, corners)?;
-    Ok(Event::Draw(Draw::new(vertices, None, Interp::Flat)?))
+    Ok(Event::Draw(draw_of(vertices, None, Interp::Flat)?))
 }
 
 /// Checks the factor's level in the state before each event of a table, and after the last.
@@ -578,7 +683,7 @@ fn markers_and_draws_share_the_state_before_them(rt: HostRuntime) -> Result<(), 
     events.push(one_triangle(rt.alloc(), NEAR_CORNERS)?)?;
     events.push(Event::SetFactor(grey(2)))?;
     events.push(Event::DepthClear(7))?;
-    let mut table = EventTable::start(rt.alloc(), 3, 64, 64, events)?;
+    let mut table = start(rt.alloc(), (64, 64), events)?;
     let all = [255, 255, 1, 1, 2, 2];
     expect_factors(&rt, &table, &all)?;
     switch(&mut table, 1, false)?;
@@ -622,7 +727,7 @@ fn the_next_event_near_a_window(rt: HostRuntime) -> Result<(), Fail> {
     events.push(one_triangle(rt.alloc(), NEAR_CORNERS)?)?;
     events.push(one_triangle(rt.alloc(), NEXT_CELL_CORNERS)?)?;
     events.push(Event::Clear(grey(9)))?;
-    let mut table = EventTable::start(rt.alloc(), 3, 64, 64, events)?;
+    let mut table = start(rt.alloc(), (64, 64), events)?;
     expect_near(&rt, &table, (0, 4), square(0, 0, 32), 1)?;
     expect_near(&rt, &table, (2, 4), square(0, 0, 32), 3)?;
     expect_near(&rt, &table, (2, 3), square(0, 0, 32), 3)?;
@@ -640,17 +745,17 @@ fn the_next_event_near_a_window(rt: HostRuntime) -> Result<(), Fail> {
 
 #[test]
 fn far_events_are_passed_over_by_thousands(rt: HostRuntime) -> Result<(), Fail> {
-    for number in [63usize, 64, 65, 4_095, 4_096, 4_097, 10_000] {
+    for number in [63u32, 64, 65, 4_095, 4_096, 4_097, 10_000] {
         let mut events = Vec::new(rt.alloc());
         for _ in 0..number {
             events.push(one_triangle(rt.alloc(), NEXT_CELL_CORNERS)?)?;
         }
         events.push(one_triangle(rt.alloc(), NEAR_CORNERS)?)?;
-        let table = EventTable::start(rt.alloc(), 3, 64, 64, events)?;
-        assert!(rt; table.len() as usize == number.saturating_add(1));
+        let table = start(rt.alloc(), (64, 64), events)?;
         let len = table.len();
-        assert_eq!(rt; table.next_near(0, len, square(0, 0, 32)) as usize, number);
-        assert_eq!(rt; table.next_near(0, len, square(0, 32, 32)), len);
+        assert_eq!(rt; len, number.saturating_add(1));
+        expect_near(&rt, &table, (0, len), square(0, 0, 32), number)?;
+        expect_near(&rt, &table, (0, len), square(0, 32, 32), len)?;
     }
     Ok(())
 }

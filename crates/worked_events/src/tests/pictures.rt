@@ -1,6 +1,9 @@
 //! Pictures that colours of draws come from, and what a table tells of such draws.
 
-use crate::tests::events::{LARGE_CORNERS, expect_near, grey, push_triangle, square, switch};
+use crate::tests::events::{
+    LARGE_CORNERS, draw_of, expect_near, expect_reach, grey, push_triangle, square, start, switch,
+};
+use fd_blend::Colour;
 use fd_cover::{Bounds, Interp};
 use fd_events::{Draw, Event, EventTable, Picture, PictureFault};
 use std::alloc::Global;
@@ -18,12 +21,32 @@ fn texels(alloc: Global, number: u8) -> Result<Vec<u8>, Fail> {
     Ok(bytes)
 }
 
+/// A picture, or why there is none.
+fn picture_of(
+    (left, top): (u32, u32),
+    (width, height): (u32, u32),
+    texels: Vec<u8>,
+    holes: Option<Vec<u8>>,
+) -> Result<Picture, PictureFault> {
+    Picture::new(left, top, width, height, texels, holes)
+}
+
+/// Checks what a picture has for a pixel.
+fn expect_texel(rt: &impl Abort, picture: &Picture, (x, y): (u32, u32), texel: Option<Colour>) {
+    assert_eq!(rt; picture.texel(x, y), texel, "{x} {y}");
+    assert_eq!(rt;
+        picture.texel_or_none(x, y),
+        texel.unwrap_or(grey(0)),
+        "{x} {y}"
+    );
+}
+
 /// A picture of two by two texels, of which the third is a hole.
 #[test]
 fn texels_of_a_picture(rt: HostRuntime) -> Result<(), Fail> {
     let mut holes = Vec::new(rt.alloc());
     holes.push(0b1111_0100)?;
-    let picture = Picture::new(5, 7, 2, 2, texels(rt.alloc(), 4)?, Some(holes))?;
+    let picture = picture_of((5, 7), (2, 2), texels(rt.alloc(), 4)?, Some(holes))?;
     for (x, y, texel) in [
         (5, 7, Some(grey(1))),
         (6, 7, Some(grey(2))),
@@ -34,19 +57,14 @@ fn texels_of_a_picture(rt: HostRuntime) -> Result<(), Fail> {
         (5, 6, None),
         (5, 9, None),
     ] {
-        assert_eq!(rt; picture.texel(x, y), texel, "{x} {y}");
-        assert_eq!(rt;
-            picture.texel_or_none(x, y),
-            texel.unwrap_or(grey(0)),
-            "{x} {y}"
-        );
+        expect_texel(&rt, &picture, (x, y), texel);
     }
     Ok(())
 }
 
 /// A draw of a triangle over the whole target, whose colours come from a picture of two by two texels in the last cell.
 fn painted(alloc: Global) -> Result<Draw, Fail> {
-    let picture = Picture::new(40, 41, 2, 2, texels(alloc, 4)?, None)?;
+    let picture = picture_of((40, 41), (2, 2), texels(alloc, 4)?, None)?;
     let mut vertices = Vec::new(alloc);
     push_triangle(&mut vertices, LARGE_CORNERS)?;
     Ok(Draw::painted(vertices, None, fd_memory::boxed(alloc, picture)?)?)
@@ -78,14 +96,14 @@ fn a_draw_ends_where_its_picture_does(rt: HostRuntime) -> Result<(), Fail> {
     expect_clipped(&rt, &draw, square(0, 9, 33), corner);
     let mut vertices = Vec::new(rt.alloc());
     push_triangle(&mut vertices, LARGE_CORNERS)?;
-    let plain = Draw::new(vertices, None, Interp::Flat)?;
+    let plain = draw_of(vertices, None, Interp::Flat)?;
     expect_clipped(&rt, &plain, square(0, 9, 33), square(0, 9, 33));
     Ok(())
 }
 
 /// Whether a picture of two texels is whole.
 fn is_whole(alloc: Global, holes: Option<Vec<u8>>) -> Result<bool, Fail> {
-    let picture = Picture::new(0, 0, 2, 1, texels(alloc, 2)?, holes)?;
+    let picture = picture_of((0, 0), (2, 1), texels(alloc, 2)?, holes)?;
     Ok(picture.is_whole())
 }
 
@@ -124,9 +142,8 @@ fn a_draw_is_near_its_picture_and_over_more(rt: HostRuntime) -> Result<(), Fail>
     let mut events = Vec::new(rt.alloc());
     events.push(Event::Draw(painted(rt.alloc())?))?;
     events.push(Event::SetFactor(grey(1)))?;
-    let mut table = EventTable::start(rt.alloc(), 3, 64, 64, events)?;
-    assert!(rt; table.len() == 2);
-    assert_eq!(rt; table.reach(1), PAINTED);
+    let mut table = start(rt.alloc(), (64, 64), events)?;
+    expect_reach(&rt, &table, 1, PAINTED)?;
     expect_near(&rt, &table, (0, 2), square(0, 0, 32), 2)?;
     expect_near(&rt, &table, (0, 2), square(32, 32, 32), 0)?;
     expect_over(&rt, &table, (0, 2), square(0, 0, 32), 0)?;
@@ -148,11 +165,12 @@ fn refused_pictures_and_their_faults(rt: HostRuntime) -> Result<(), Fail> {
         (0, 0, 2, 1, 1, Some(PictureFault::Texels)),
         (0, 0, 2, 1, 3, Some(PictureFault::Texels)),
     ] {
-        let picture = Picture::new(left, top, width, height, texels(rt.alloc(), number)?, None);
+        let texels = texels(rt.alloc(), number)?;
+        let picture = picture_of((left, top), (width, height), texels, None);
         assert_eq!(rt; picture.err(), fault, "{left} {top} {width} {height}");
     }
     let holes = Some(Vec::new(rt.alloc()));
-    let picture = Picture::new(0, 0, 2, 1, texels(rt.alloc(), 2)?, holes);
+    let picture = picture_of((0, 0), (2, 1), texels(rt.alloc(), 2)?, holes);
     assert_eq!(rt; picture.err(), Some(PictureFault::Holes));
     Ok(())
 }
