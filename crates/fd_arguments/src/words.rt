@@ -30,7 +30,8 @@ const SESSION: &str = "Commands, one a line on standard input:
   show           the image: a line with its number of bytes, and then so many bytes of PAM
   quit           ends the run
 
-Each command is answered before more input is asked for: 'at K' where it moved, 'refused N WHY' where it changed nothing, 'stopped K' where memory was wanted on the way to a later position, 'bad N WHY' where the line is no command.
+Each command is answered before more input is asked for: 'at K' where it moved, 'refused N WHY' where it changed nothing, \
+'stopped K' where memory was wanted on the way to a later position, 'bad N WHY' where the line is no command.
 
 Example: which triangles painted a pixel?
   $ printf 'goto 13\\nhistory 50 50\\nquit\\n' | framedbg run examples/house.json

@@ -35,12 +35,17 @@ pub record IsFoundOn (t : Triangle) (s : Pipeline) (p : Place) (f : Found) : Typ
   pub inside : LiesIn f.area p
   pub reached : IsWrittenIn (is_reached t s) (covers t.corners) p f.area
 
+-- of the triangles from number first on, this one is reached on a place as it was found, and none before it
+pub record IsNextFound (d : DrawList) (s : Pipeline) (p : Place) (first : ℕ) (next : Planned) : Type 0 where
+  pub from : first ≤ next.triangle
+  pub below : next.triangle < length (triangles_of d)
+  pub passed : AreUnreached (triangles_of d) s p first next.triangle
+  pub found : IsFoundOn (triangle_at d next.triangle) s p next.found
+
 -- the planned triangles are in the order of their numbers, and of those from number first up to number rest no other is reached
 abbrev pub ArePlanned : DrawList → Pipeline → Place → ℕ → List Planned → ℕ → Type 0
 ArePlanned d s p first [] rest = (first ≤ rest) × (rest ≤ length (triangles_of d)) × AreUnreached (triangles_of d) s p first rest
-ArePlanned d s p first (next ∷ more) rest =
-    (first ≤ next.triangle) × (next.triangle < length (triangles_of d)) × AreUnreached (triangles_of d) s p first next.triangle
-    × IsFoundOn (triangle_at d next.triangle) s p next.found × ArePlanned d s p (next.triangle + 1) more rest
+ArePlanned d s p first (next ∷ more) rest = IsNextFound d s p first next × ArePlanned d s p (next.triangle + 1) more rest
 
 -- an event's plan has its first triangles
 abbrev pub IsPlan : Plan → Event → Pipeline → Place → Type 0

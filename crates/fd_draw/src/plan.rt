@@ -8,12 +8,13 @@ ghost use Rattle.fd_events.specs.Draw.{triangles_of};
 ghost use Rattle.fd_events.specs.declared.pipeline.Pipeline.{Pipeline};
 ghost use Rattle.fd_tile.specs.Place.{IsTilePlace};
 ghost use Rattle.fd_tile.specs.declared.place.TheConstants.{TILE_SIDE};
-ghost use Rattle.fd_draw.specs.Area.{LiesIn, IsOpen, IsWindow, box_of_place};
+ghost use Rattle.fd_draw.specs.Area.{LiesIn, IsOpen, IsSmall, IsWindow, box_of_place};
 ghost use Rattle.fd_draw.specs.Demand.{pixels_in, spans_in, triangle_pixels, triangle_spans, event_pixels, event_spans};
 ghost use Rattle.fd_draw.specs.declared.plan.TheConstants.{MOST_PLANNED};
 ghost use Rattle.arrayvec.specs.ArrayVec.{array_vec_len};
 ghost use Rattle.fd_cover.specs.declared.depth.Func.TheVariants.{Never};
-ghost use Rattle.fd_draw.specs.Plan.{ArePlanned, IsPlan, MayBeginAt, WritesNothing};
+ghost use Rattle.fd_draw.specs.Plan.{ArePlanned, AreUnreached, IsNextFound, IsPlan, MayBeginAt, WritesNothing};
+ghost use Rattle.fd_tile.specs.declared.place.Place.{Place};
 
 use crate::demand::{Demand, NOTHING};
 use crate::found::{Found, find};
@@ -31,6 +32,30 @@ const MOST_PLANNED: usize = 8;
 pub(crate) struct Planned {
     pub triangle: u32,
     pub found: Found,
+}
+
+impl Planned {
+    /// The first triangle of a draw from a number on that is reached in a window, which is the draw's on whatever tile. It stands in its callers, since
+    /// what it answers is large.
+    #[inline(always)]
+    pub(crate) fn next(draw: &Draw, from: u32, state: &Pipeline, window: Bounds) -> Option<Planned>
+        requires within { from ≤ length (triangles_of draw.now) }
+        requires small { IsSmall window }
+        ensures found { IfSome result (λ next. (place : Place) → LiesIn window place → IsWindow window draw.now.picture state.now place
+            → IsNextFound draw.now state.now place from next) }
+        ensures none { IfNone result ((place : Place) → LiesIn window place → IsWindow window draw.now.picture state.now place
+            → AreUnreached (triangles_of draw.now) state.now place from (length (triangles_of draw.now))) }
+    {
+        let count = draw.triangles();
+        let mut triangle = draw.next_listed(from, window);
+        while triangle < count {
+            if let Some(found) = find(&draw.tri(triangle), &state.raster, window) {
+                return Some(Planned { triangle, found });
+            }
+            triangle = draw.next_listed(triangle + 1, window);
+        }
+        None
+    }
 }
 
 /// What an event writes at most on a tile, and of a draw the first triangles that it draws there. From number `rest` on none is kept.
@@ -73,25 +98,26 @@ impl Plan {
     }
 
     /// Adds a triangle that was found, which is kept unless the plan is full.
-    fn add(&mut self, triangle: u32, found: Found, tested: bool)
-        requires few_spans { found.demand.spans ≤ TILE_SIDE }
-        requires few_pixels { found.demand.pixels ≤ TILE_SIDE * TILE_SIDE }
+    fn add(&mut self, next: Planned, tested: bool)
+        requires few_spans { next.found.demand.spans ≤ TILE_SIDE }
+        requires few_pixels { next.found.demand.pixels ≤ TILE_SIDE * TILE_SIDE }
         requires room_spans { self.old.demand.spans + TILE_SIDE * TILE_SIDE < 2 ^ 64 }
         requires room_pixels { self.old.demand.pixels + TILE_SIDE * TILE_SIDE < 2 ^ 64 }
-        ensures spans { self.new.demand.spans ≡ self.old.demand.spans + (if tested then found.demand.pixels else found.demand.spans) }
-        ensures pixels { self.new.demand.pixels ≡ self.old.demand.pixels + found.demand.pixels }
+        ensures spans { self.new.demand.spans ≡ self.old.demand.spans + (if tested then next.found.demand.pixels else next.found.demand.spans) }
+        ensures pixels { self.new.demand.pixels ≡ self.old.demand.pixels + next.found.demand.pixels }
         ensures room { array_vec_len self.old.planned < MOST_PLANNED
-            → (self.new.planned.items ≡ self.old.planned.items ++ (record { triangle = triangle; found = found }) ∷ []) × (self.new.rest ≡ self.old.rest) }
-        ensures full { array_vec_len self.old.planned ≡ MOST_PLANNED → (self.new.planned ≡ self.old.planned) × (self.new.rest ≡ min self.old.rest triangle) }
+            → (self.new.planned.items ≡ self.old.planned.items ++ next ∷ []) × (self.new.rest ≡ self.old.rest) }
+        ensures full { array_vec_len self.old.planned ≡ MOST_PLANNED
+            → (self.new.planned ≡ self.old.planned) × (self.new.rest ≡ min self.old.rest next.triangle) }
     {
-        let Demand { spans, pixels } = found.demand;
+        let Demand { spans, pixels } = next.found.demand;
         // with a test each pixel is a span of its own, as any of them may fail
         self.demand.spans += if tested { pixels } else { spans };
         self.demand.pixels += pixels;
         if self.planned.is_full() {
-            self.rest = self.rest.min(triangle);
+            self.rest = self.rest.min(next.triangle);
         } else {
-            self.planned.push(Planned { triangle, found });
+            self.planned.push(next);
         }
     }
 }
@@ -126,12 +152,10 @@ fn plan_draw(draw: &Draw, state: &Pipeline, place: Place, first: u32) -> Plan
     if is_idle(draw, &state.raster, window) {
         return plan;
     }
-    let mut triangle = first;
-    while triangle < count {
-        if let Some(found) = find(&draw.tri(triangle), &state.raster, window) {
-            plan.add(triangle, found, tested);
-        }
-        triangle = draw.next_listed(triangle + 1, window);
+    let mut from = first;
+    while let Some(next) = Planned::next(draw, from, state, window) {
+        from = next.triangle + 1;
+        plan.add(next, tested);
     }
     plan
 }

@@ -15,7 +15,7 @@ ghost use Rattle.fd_draw.specs.Plan.{ArePlanned, IsFoundOn, IsPlan};
 ghost use Rattle.fd_draw.specs.Writing.{ChangesRun, HasRoom, HasRun, WritesRegion, WritesRun, in_row, keep_each};
 
 use crate::clear::{Clear, clear_tile};
-use crate::found::{Found, find};
+use crate::found::Found;
 use crate::plan::{Plan, Planned, window_of};
 use crate::primitive::{Ink, Primitive};
 use crate::run::Run;
@@ -192,13 +192,11 @@ fn draw_triangles(draw: &Draw, state: &Pipeline, plan: &Plan, tile: &mut Tile, u
         return;
     }
     let window = window_of(draw, state, place);
-    let mut triangle = draw.next_listed(plan.rest, window);
-    while triangle < count {
-        if let Some(found) = find(&draw.tri(triangle), &state.raster, window) {
-            let primitive = Primitive::of(draw, triangle, state);
-            draw_primitive(&primitive, &found, tile, undo);
-        }
-        triangle = draw.next_listed(triangle + 1, window);
+    let mut from = plan.rest;
+    while let Some(next) = Planned::next(draw, from, state, window) {
+        from = next.triangle + 1;
+        let primitive = Primitive::of(draw, next.triangle, state);
+        draw_primitive(&primitive, &next.found, tile, undo);
     }
 }
 

@@ -6,17 +6,17 @@ use Rattle.fd_draw.proofs.Triangles.{IsPlannedTo}
 use Rattle.fd_draw.proofs.plan.plan_draw.Given as goal
 
 -- what was counted and what the triangles that are left write is what all write; where there is room, all that were found are kept
-abbrev pub invariant-loop-triangle : goal.invariant-loop-triangle
-invariant-loop-triangle l = record {
-  spans : l.plan.demand.spans + sum_by (triangle_spans l.state l.fn.place) (drop l.triangle (triangles_of l.draw))
+abbrev pub invariant-loop-next : goal.invariant-loop-next
+invariant-loop-next l = record {
+  spans : l.plan.demand.spans + sum_by (triangle_spans l.state l.fn.place) (drop l.from (triangles_of l.draw))
       ≡ sum_by (triangle_spans l.state l.fn.place) (triangles_of l.draw);
-  pixels : l.plan.demand.pixels + sum_by (triangle_pixels l.state l.fn.place) (drop l.triangle (triangles_of l.draw))
+  pixels : l.plan.demand.pixels + sum_by (triangle_pixels l.state l.fn.place) (drop l.from (triangles_of l.draw))
       ≡ sum_by (triangle_pixels l.state l.fn.place) (triangles_of l.draw);
-  within : l.triangle ≤ length (triangles_of l.draw);
-  few_spans : l.plan.demand.spans ≤ 1024 * l.triangle;
-  few_pixels : l.plan.demand.pixels ≤ 1024 * l.triangle;
-  kept : IsPlannedTo l.draw l.state l.fn.place l.plan l.triangle;
+  within : l.from ≤ length (triangles_of l.draw);
+  few_spans : l.plan.demand.spans ≤ 1024 * l.from;
+  few_pixels : l.plan.demand.pixels ≤ 1024 * l.from;
+  kept : IsPlannedTo l.draw l.state l.fn.place l.plan l.from;
 }
 
-abbrev pub decreases-loop-triangle : goal.decreases-loop-triangle
-decreases-loop-triangle l = l.count - l.triangle
+abbrev pub decreases-loop-next : goal.decreases-loop-next
+decreases-loop-next l = l.count - l.from
