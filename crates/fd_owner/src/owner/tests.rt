@@ -1,5 +1,6 @@
 ghost use Rattle.std.specs.Prelude.{◌≡◌, false, IfOk};
 ghost use Rattle.fd_events.specs.Table.{is_of_depth};
+ghost use Rattle.fd_tile.specs.Place.{IsTilePlace};
 
 use super::*;
 use fd_blend::{BlendOp, BlendState, Factor, Mask, Part};
@@ -7,6 +8,7 @@ use fd_cover::{Depth, Func, Interp};
 use fd_events::{Draw, Event, Vertex};
 use fd_snap::Pos;
 use fd_tile::Grid;
+use std::process::Abort;
 use std::test::Fail;
 
 fn colour(r: u8, g: u8, b: u8, a: u8) -> Colour {
@@ -50,11 +52,31 @@ fn additive() -> Result<Event, Fail>
     Ok(Event::SetBlend(BlendState::new(true, part, part, mask)?))
 }
 
+// All that a call promises is carried along to the end of a test. What follows promises nothing, so that tests are proved in seconds.
+
+/// The table of some events.
+fn start(
+    alloc: Global,
+    (width, height): (u32, u32),
+    events: Vec<Event>,
+) -> Result<EventTable, Fail> {
+    Ok(EventTable::start(alloc, 3, width, height, events)?)
+}
+
 /// The table of one event.
-fn table(alloc: Global, width: u32, height: u32, event: Event) -> Result<EventTable, Fail> {
+fn table(alloc: Global, size: (u32, u32), event: Event) -> Result<EventTable, Fail> {
     let mut events = Vec::new(alloc);
     events.push(event)?;
-    Ok(EventTable::start(alloc, 3, width, height, events)?)
+    start(alloc, size, events)
+}
+
+/// Switches the first event of a table off.
+fn switch_off(table: &mut EventTable) -> Result<(), Fail> {
+    if table.len() == 0 {
+        return Err(Fail::from("no event"));
+    }
+    table.set_on(1, false);
+    Ok(())
 }
 
 /// A tile of one pixel with this colour and depth.
@@ -72,6 +94,33 @@ fn one_pixel(alloc: Global, colour: Colour, depth: u16) -> Result<Tile, Fail> {
     tile.set(0, 0, colour);
     tile.set_depth(0, 0, depth);
     Ok(tile)
+}
+
+/// The owner of a tile of one pixel with this colour and depth.
+fn of_one_pixel(alloc: Global, (colour, depth): (Colour, u16)) -> Result<Owner, Fail> {
+    Ok(Owner::of(alloc, one_pixel(alloc, colour, depth)?))
+}
+
+/// Two by two pixels.
+const FOUR: Place = Place {
+    left: 0,
+    top: 0,
+    width: 2,
+    height: 2,
+};
+
+/// The owner of a fresh tile.
+fn of_fresh_tile(alloc: Global, place: Place) -> Result<Owner, Fail>
+    requires { IsTilePlace place }
+{
+    Ok(Owner::of(alloc, Tile::fresh(alloc, place)?))
+}
+
+/// The owner of a tile that isn't made.
+fn of_blank_tile(alloc: Global, place: Place) -> Owner
+    requires { IsTilePlace place }
+{
+    Owner::of(alloc, Tile::blank(alloc, place))
 }
 
 /// Goes through the next event, where there is one.
@@ -111,7 +160,7 @@ fn there_and_back(alloc: Global, table: &EventTable, tile: usize) -> Result<[Sho
     if tile >= grid.count() {
         return Err(Fail::from("no such tile"));
     }
-    let mut owner = Owner::of(alloc, Tile::fresh(alloc, grid.place(tile))?);
+    let mut owner = of_fresh_tile(alloc, grid.place(tile))?;
     forward(&mut owner, table)?;
     let there = shown(&owner);
     back(&mut owner)?;
@@ -133,7 +182,7 @@ fn kept_by_the_second(owner: &Owner) -> Result<[Option<(Colour, u16)>; 3], Fail>
 #[test]
 fn the_bounds_are_those_of_the_tile(rt: HostRuntime) -> Result<(), Fail> {
     let alloc = rt.alloc();
-    let owner = Owner::of(alloc, one_pixel(alloc, colour(1, 2, 3, 4), 5)?);
+    let owner = of_one_pixel(alloc, (colour(1, 2, 3, 4), 5))?;
     let pixel = Bounds {
         left: 0,
         top: 0,
@@ -159,7 +208,7 @@ fn back_returns_to_the_image_before_the_draw(rt: HostRuntime) -> Result<(), Fail
     let alloc = rt.alloc();
     let before = (colour(5, 6, 7, 8), 500);
     let table = added_twice(alloc, 400)?;
-    let mut owner = Owner::of(alloc, one_pixel(alloc, before.0, before.1)?);
+    let mut owner = of_one_pixel(alloc, before)?;
     forward(&mut owner, &table)?;
     forward(&mut owner, &table)?;
     assert_eq!(rt; shown(&owner), (2, 2, (colour(25, 26, 27, 28), 500)));
@@ -180,13 +229,13 @@ fn a_frame_is_put_back(rt: HostRuntime) -> Result<(), Fail> {
     let green = colour(0, 255, 0, 255);
     let fresh = (0, 0, (colour(0, 0, 0, 0), 65535));
     let shows_red = |count: u64| (1, count, (red, 65535));
-    let across = table(alloc, 33, 1, Event::Clear(red))?;
+    let across = table(alloc, (33, 1), Event::Clear(red))?;
     assert_eq!(rt; there_and_back(alloc, &across, 0)?, [shows_red(32), fresh]);
     assert_eq!(rt; there_and_back(alloc, &across, 1)?, [shows_red(1), fresh]);
     let halves = flat(alloc, &[(UPPER_LEFT, red, 0), (LOWER_RIGHT, green, 0)])?;
-    let square = table(alloc, 2, 2, halves)?;
+    let square = table(alloc, (2, 2), halves)?;
     assert_eq!(rt; there_and_back(alloc, &square, 0)?, [shows_red(4), fresh]);
-    let deep = table(alloc, 33, 1, Event::DepthClear(7))?;
+    let deep = table(alloc, (33, 1), Event::DepthClear(7))?;
     let cleared = (1, 32, (colour(0, 0, 0, 0), 7));
     assert_eq!(rt; there_and_back(alloc, &deep, 0)?, [cleared, fresh]);
     Ok(())
@@ -199,7 +248,7 @@ fn cleared_and_drawn(alloc: Global) -> Result<EventTable, Fail> {
     events.push(Event::Clear(colour(255, 0, 0, 255)))?;
     events.push(flat(alloc, &[half])?)?;
     events.push(Event::DepthClear(7))?;
-    Ok(EventTable::start(alloc, 3, 2, 2, events)?)
+    start(alloc, (2, 2), events)
 }
 
 /// A tile that is made when the second event draws on it.
@@ -207,11 +256,7 @@ fn cleared_and_drawn(alloc: Global) -> Result<EventTable, Fail> {
 fn a_tile_is_made_when_it_is_drawn_on(rt: HostRuntime) -> Result<(), Fail> {
     let alloc = rt.alloc();
     let table = cleared_and_drawn(alloc)?;
-    let grid = Grid::new(2, 2).ok_or("a grid")?;
-    if grid.count() == 0 {
-        return Err(Fail::from("no tile"));
-    }
-    let mut owner = Owner::of(alloc, Tile::blank(alloc, grid.place(0)));
+    let mut owner = of_blank_tile(alloc, FOUR);
     let fresh = (colour(0, 0, 0, 0), 65535);
     let red = (colour(255, 0, 0, 255), 65535);
     let green = (colour(0, 255, 0, 255), 65535);
@@ -231,20 +276,21 @@ fn a_tile_is_made_when_it_is_drawn_on(rt: HostRuntime) -> Result<(), Fail> {
     Ok(())
 }
 
+/// Goes back over all events at once.
+fn back_to_start(owner: &mut Owner) {
+    owner.back_to(0);
+}
+
 /// At once to the start: the tile gives its memory back.
 #[test]
 fn the_start_of_a_fresh_tile_is_near(rt: HostRuntime) -> Result<(), Fail> {
     let alloc = rt.alloc();
     let table = cleared_and_drawn(alloc)?;
-    let grid = Grid::new(2, 2).ok_or("a grid")?;
-    if grid.count() == 0 {
-        return Err(Fail::from("no tile"));
-    }
-    let mut owner = Owner::of(alloc, Tile::fresh(alloc, grid.place(0))?);
+    let mut owner = of_fresh_tile(alloc, FOUR)?;
     for _ in 0..3 {
         forward(&mut owner, &table)?;
     }
-    owner.back_to(0);
+    back_to_start(&mut owner);
     assert!(rt; !owner.tile.is_made());
     assert_eq!(rt; shown(&owner), (0, 0, (colour(0, 0, 0, 0), 65535)));
     forward(&mut owner, &table)?;
@@ -268,7 +314,16 @@ fn hidden_and_shown(alloc: Global) -> Result<EventTable, Fail> {
     events.push(flat(alloc, &[far])?)?;
     events.push(Event::DepthClear(65535))?;
     events.push(flat(alloc, &[far])?)?;
-    Ok(EventTable::start(alloc, 3, 1, 1, events)?)
+    start(alloc, (1, 1), events)
+}
+
+/// The colours and depths that all events kept of pixel (0, 0).
+fn all_kept(alloc: Global, owner: &Owner) -> Result<Vec<(Colour, u16)>, Fail> {
+    let mut kept = Vec::new(alloc);
+    for event in 1..=owner.position() {
+        owner.add_kept(event, (0, 0), 9, &mut kept)?;
+    }
+    Ok(kept)
 }
 
 #[test]
@@ -280,18 +335,16 @@ fn depths_go_back_with_colours(rt: HostRuntime) -> Result<(), Fail> {
     let cleared = (colour(1, 1, 1, 1), 65535);
     let far = (colour(2, 2, 2, 2), 2000);
     let passed = [(0, first), (0, first), (1, near), (1, near), (2, cleared)];
-    let mut owner = Owner::of(alloc, one_pixel(alloc, first.0, first.1)?);
+    let mut owner = of_one_pixel(alloc, first)?;
     for (position, (recorded, pixel)) in passed.iter().enumerate() {
         assert_eq!(rt; shown(&owner), (position as u32, *recorded, *pixel));
         forward(&mut owner, &table)?;
     }
     assert_eq!(rt; shown(&owner), (5, 3, far));
-    let mut kept = Vec::new(alloc);
-    for event in 1..=5 {
-        assert!(rt; event <= owner.position());
-        owner.add_kept(event, (0, 0), 9, &mut kept)?;
-    }
-    assert_eq!(rt; kept.as_slice(), [first, near, cleared].as_slice());
+    assert_eq!(rt;
+        all_kept(alloc, &owner)?.as_slice(),
+        [first, near, cleared].as_slice()
+    );
     for (position, (recorded, pixel)) in passed.iter().enumerate().rev() {
         back(&mut owner)?;
         assert_eq!(rt; shown(&owner), (position as u32, *recorded, *pixel));
@@ -299,26 +352,32 @@ fn depths_go_back_with_colours(rt: HostRuntime) -> Result<(), Fail> {
     Ok(())
 }
 
+/// Checks the colours of row 0.
+fn expect_first_row(rt: &impl Abort, owner: &Owner, colours: &[Colour]) -> Result<(), Fail> {
+    if !owner.place().holds(0, 0) {
+        return Err(Fail::from("no row"));
+    }
+    assert_eq!(rt; owner.row(0), colours);
+    Ok(())
+}
+
 #[test]
 fn an_event_switched_off_adds_an_image_and_keeps_nothing(rt: HostRuntime) -> Result<(), Fail> {
     let alloc = rt.alloc();
     let green = colour(0, 255, 0, 255);
-    let mut table = table(alloc, 1, 1, Event::Clear(colour(255, 0, 0, 255)))?;
-    assert!(rt; table.len() == 1);
-    table.set_on(1, false);
-    let mut owner = Owner::of(alloc, one_pixel(alloc, green, 6)?);
+    let mut table = table(alloc, (1, 1), Event::Clear(colour(255, 0, 0, 255)))?;
+    switch_off(&mut table)?;
+    let mut owner = of_one_pixel(alloc, (green, 6))?;
     forward(&mut owner, &table)?;
     assert_eq!(rt; shown(&owner), (1, 0, (green, 6)));
-    assert!(rt; owner.place().holds(0, 0));
-    assert_eq!(rt; owner.row(0), [green].as_slice());
-    Ok(())
+    expect_first_row(&rt, &owner, &[green])
 }
 
 /// An owner holds no whole copy of an image: there is no field but these four.
 #[test]
 fn an_owner_has_no_further_field(rt: HostRuntime) -> Result<(), Fail> {
     let alloc = rt.alloc();
-    let owner = Owner::of(alloc, one_pixel(alloc, colour(1, 2, 3, 4), 5)?);
+    let owner = of_one_pixel(alloc, (colour(1, 2, 3, 4), 5))?;
     let Owner {
         tile,
         undo,
