@@ -28,7 +28,8 @@ use Rattle.fd_capture.specs.declared.members.Draft.{Draft}
 use Rattle.fd_capture.specs.declared.spelling.Paint.TheVariants as paint
 use Rattle.fd_capture.specs.Capture.{event_of, event_of_kind}
 use Rattle.fd_capture.specs.Streamed.{is_small, Clips, indices_of_array, if_any, well_formed, picture_read, picture_from, spelled_paint, large_of}
-use Rattle.fd_capture.specs.Drafted.{IsDraft, mask_of_data, kind_of, interp_of, is_painted, blend_of, marker_of, depth_drafted, depth_clear_of, draw_drafted, shaded_draw_of}
+use Rattle.fd_capture.specs.Drafted.{IsDraft, mask_of_data, kind_of, interp_of, is_painted, blend_of, marker_of}
+use Rattle.fd_capture.specs.Drafted.{depth_drafted, depth_clear_of, draw_drafted, shaded_draw_of}
 use Rattle.fd_capture.specs.Drafted.{painted_draw_of, event_of_known, with_kind, event_from}
 use Rattle.fd_capture.proofs.Coloured.{coloured-found, painted-found}
 use Rattle.fd_capture.proofs.Outer.{number-clipped}
