@@ -52,7 +52,7 @@ fn additive() -> Result<Event, Fail>
     Ok(Event::SetBlend(BlendState::new(true, part, part, mask)?))
 }
 
-// All that a call promises is carried along to the end of a test. What follows promises nothing, so that tests are proved in seconds.
+// All that a call promises is carried along to the end of a test. What follows promises nothing, so that no proof of a test carries it.
 
 /// The table of some events.
 fn start(

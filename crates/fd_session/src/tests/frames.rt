@@ -185,7 +185,7 @@ pub(crate) fn added_twice(alloc: Global) -> Result<Vec<Event>, Fail> {
     Ok(vec![in alloc; adding, draw(alloc, Interp::Flat, &twice)?]?)
 }
 
-// All that a call promises is carried along to the end of a test. These functions promise nothing, so that tests are proved in seconds.
+// All that a call promises is carried along to the end of a test. These functions promise nothing, so that no proof of a test carries it.
 
 /// Checks that a move was carried out, and where it ended.
 pub(crate) fn expect_moved(rt: &impl Abort, answer: Answer, at: u32) {

@@ -45,7 +45,7 @@ fn expect_counts(
     Ok(())
 }
 
-// All that a call promises is carried along to the end of a test. What follows promises next to nothing, so that tests are proved in seconds.
+// All that a call promises is carried along to the end of a test. What follows promises next to nothing, so that no proof of a test carries it.
 
 /// Begins a frame with room for so many spans and pixels.
 fn begin(undo: &mut UndoStack, spans: usize, pixels: usize) -> Result<(), Fail> {

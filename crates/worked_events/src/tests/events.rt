@@ -25,7 +25,7 @@ fn clears(alloc: Global, number: usize) -> Result<Vec<Event>, Fail> {
     Ok(events)
 }
 
-// All that a call promises is carried along to the end of a test. What follows promises nothing, so that tests are proved in seconds.
+// All that a call promises is carried along to the end of a test. What follows promises nothing, so that no proof of a test carries it.
 
 /// The table of a target of this width and height.
 pub(super) fn start(
