@@ -16,7 +16,7 @@ use Rattle.fd_events.specs.declared.index.EventIndex.{EventIndex}
 use Rattle.fd_events.specs.Draw.{triangles_of}
 use Rattle.fd_events.specs.Reach.{reach_of, may_write, may_write_at}
 use Rattle.fd_events.specs.Table.{Table, is_set, event_at, active_event}
-use Rattle.fd_events.specs.declared.grid.Grid.{Grid}
+use Rattle.fd_events.specs.declared.cells.CellGrid.{CellGrid}
 use Rattle.fd_events.specs.declared.packed.Packed.{Packed}
 use Rattle.fd_events.specs.Cells.{HasCell, cell_at, cell_count}
 use Rattle.fd_events.specs.Index.{ListsPixel, ListsEvent, ListEvents, IsIndex, IsUnlisted, IsPassedOver}
@@ -28,14 +28,14 @@ use Rattle.fd_events.proofs.ReachLemmas.{outside_reach}
 
 -- ---- lists that grow keep what they list
 
-pub ListsPixel-grown : (grid : Grid) (before after : List (List ℕ)) (number event x y : ℕ) → Grow number before after
+pub ListsPixel-grown : (grid : CellGrid) (before after : List (List ℕ)) (number event x y : ℕ) → Grow number before after
     → ListsPixel grid (listed_at before) event x y → ListsPixel grid (listed_at after) event x y
 ListsPixel-grown grid before after number event x y grown lists has = elim (lists has) [
   | inl cell ↦ inl (grown.kept (cell_at grid x y) event cell)
   | inr wide ↦ inr (grown.kept (cell_count grid) event wide)
 ]
 
-pub ListsEvent-grown : (grid : Grid) (before after : List (List ℕ)) (number other : ℕ) (event : Event) → Grow number before after
+pub ListsEvent-grown : (grid : CellGrid) (before after : List (List ℕ)) (number other : ℕ) (event : Event) → Grow number before after
     → ListsEvent grid (listed_at before) other event → ListsEvent grid (listed_at after) other event
 ListsEvent-grown grid before after number other (Clear colour) grown lists = grown.kept (cell_count grid) other lists
 ListsEvent-grown grid before after number other (DepthClear depth) grown lists = grown.kept (cell_count grid) other lists
@@ -45,14 +45,14 @@ ListsEvent-grown grid before after number other event grown lists = tt
 
 -- ---- the same lists, packed
 
-ListsPixel-same : (grid : Grid) (listed same : ℕ → List ℕ) (event x y : ℕ) → ((cell : ℕ) → same cell ≡ listed cell)
+ListsPixel-same : (grid : CellGrid) (listed same : ℕ → List ℕ) (event x y : ℕ) → ((cell : ℕ) → same cell ≡ listed cell)
     → ListsPixel grid listed event x y → ListsPixel grid same event x y
 ListsPixel-same grid listed same event x y are lists has = elim (lists has) [
   | inl cell ↦ inl (subst (λ (xs : List ℕ). Contains xs event) (sym (are (cell_at grid x y))) cell)
   | inr wide ↦ inr (subst (λ (xs : List ℕ). Contains xs event) (sym (are (cell_count grid))) wide)
 ]
 
-ListsEvent-same : (grid : Grid) (listed same : ℕ → List ℕ) (number : ℕ) (event : Event) → ((cell : ℕ) → same cell ≡ listed cell)
+ListsEvent-same : (grid : CellGrid) (listed same : ℕ → List ℕ) (number : ℕ) (event : Event) → ((cell : ℕ) → same cell ≡ listed cell)
     → ListsEvent grid listed number event → ListsEvent grid same number event
 ListsEvent-same grid listed same number (Clear colour) are lists = subst (λ (xs : List ℕ). Contains xs number) (sym (are (cell_count grid))) lists
 ListsEvent-same grid listed same number (DepthClear depth) are lists = subst (λ (xs : List ℕ). Contains xs number) (sym (are (cell_count grid))) lists
@@ -60,7 +60,7 @@ ListsEvent-same grid listed same number (Draw draw) are lists = λ i t below at 
     ListsPixel-same grid listed same number x y are (lists i t below at x y covered)
 ListsEvent-same grid listed same number other are lists = tt
 
-pub packed_events : (grid : Grid) (lists : List (List ℕ)) (found : Option Packed) (count : ℕ) (events : List Event)
+pub packed_events : (grid : CellGrid) (lists : List (List ℕ)) (found : Option Packed) (count : ℕ) (events : List Event)
     → IfSome found (λ packed. (cell : ℕ) → listed_in packed cell ≡ listed_at lists cell) → AreOrdered count lists
     → ((number : ℕ) (event : Event) → slice_get events number ≡ Some event → ListsEvent grid (listed_at lists) number event)
     → IfSome found (λ packed. ListEvents grid (listed_in packed) events)
@@ -72,7 +72,7 @@ packed_events grid lists (Some packed) count events are ordered all = record {
 
 -- ---- what the index passes over has nothing to do with the window
 
-passed : (grid : Grid) (listed : ℕ → List ℕ) (number : ℕ) (event : Event) (x y : ℕ) → ListsEvent grid listed number event → HasCell grid x y
+passed : (grid : CellGrid) (listed : ℕ → List ℕ) (number : ℕ) (event : Event) (x y : ℕ) → ListsEvent grid listed number event → HasCell grid x y
     → (Contains (listed (cell_at grid x y)) number → ⊥) → (Contains (listed (cell_count grid)) number → ⊥) → PassesBy event x y
 passed grid listed number (Clear colour) x y lists has unlisted unwide = unwide lists
 passed grid listed number (DepthClear depth) x y lists has unlisted unwide = unwide lists
@@ -83,7 +83,7 @@ passed grid listed number (Draw draw) x y lists has unlisted unwide = λ i t at.
     ])
 passed grid listed number other x y lists has unlisted unwide = tt
 
-unlisted_passed : (grid : Grid) (lists : Option Packed) (events : List Event) (k : ℕ) (event : Event) (x y : ℕ)
+unlisted_passed : (grid : CellGrid) (lists : Option Packed) (events : List Event) (k : ℕ) (event : Event) (x y : ℕ)
     → IfSome lists (λ packed. ListEvents grid (listed_in packed) events) → slice_get events k ≡ Some event → IsUnlisted grid lists k x y
     → PassesBy event x y
 unlisted_passed grid None events k event x y is at unlisted = absurd unlisted

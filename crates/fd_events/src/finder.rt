@@ -3,7 +3,7 @@ ghost use Rattle.fd_events.specs.Draw.{triangles_of};
 ghost use Rattle.fd_events.specs.Finder.{Finds};
 ghost use Rattle.fd_memory.specs.Wanting.{Wanted};
 
-use crate::grid::Cells;
+use crate::cells::Cells;
 use crate::list::TriangleList;
 use fd_cover::Bounds;
 use std::alloc::{AllocError, Global};

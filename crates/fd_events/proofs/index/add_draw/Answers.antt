@@ -2,7 +2,7 @@ use Rattle.std.proofs.Common.{◌≡◌, ◌∙◌, inl, inr, arith}
 use Rattle.std.proofs.lemmas.Bool.{cases_lt}
 use Rattle.fd_events.specs.Draw.{triangles_of}
 use Rattle.fd_events.proofs.CellLemmas.{Grow-then}
-use Rattle.fd_events.proofs.GridLemmas.{corners_there, box_holds}
+use Rattle.fd_events.proofs.CellGridLemmas.{corners_there, box_holds}
 use Rattle.fd_events.proofs.IndexLemmas.{ListsPixel-grown}
 use Rattle.fd_events.proofs.index.add_draw.Goals as goal
 

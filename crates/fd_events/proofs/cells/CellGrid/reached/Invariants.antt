@@ -1,6 +1,6 @@
 use Rattle.std.proofs.Common.{◌-◌, ℕ, ◌<◌, ◌≤◌}
 use Rattle.fd_events.specs.Cells.{IsBeyond}
-use Rattle.fd_events.proofs.grid.Grid.reached.Given as goal
+use Rattle.fd_events.proofs.cells.CellGrid.reached.Given as goal
 
 -- the columns so far lie beyond an edge
 abbrev pub invariant-loop-left : goal.invariant-loop-left

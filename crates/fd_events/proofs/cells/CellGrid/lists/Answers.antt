@@ -4,8 +4,8 @@ use Rattle.std.proofs.lemmas.Option.{slice_get_within, slice_get-get_or}
 use Rattle.fd_cover.specs.declared.bounds.Bounds.{Bounds}
 use Rattle.fd_events.specs.Draw.{triangles_of}
 use Rattle.fd_events.proofs.CellLemmas.{AreOrdered-more}
-use Rattle.fd_events.proofs.GridLemmas.{corners_there, box_holds}
-use Rattle.fd_events.proofs.grid.Grid.lists.Goals as goal
+use Rattle.fd_events.proofs.CellGridLemmas.{corners_there, box_holds}
+use Rattle.fd_events.proofs.cells.CellGrid.lists.Goals as goal
 
 pub add-requires-clause-covered : goal.add-requires-clause-covered
 add-requires-clause-covered c =

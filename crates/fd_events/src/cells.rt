@@ -9,7 +9,8 @@ ghost use Rattle.fd_events.specs.Draw.{triangles_of};
 ghost use Rattle.fd_events.specs.Numbers.{numbers_of, AreOrdered, Grow};
 ghost use Rattle.fd_events.specs.Packed.{listed_in};
 ghost use Rattle.fd_events.specs.Under.{AreUnder};
-ghost use Rattle.fd_events.specs.Cells.{cell_count, cell_at, cell_place, IsGrid, IsPartUnder, HasCell, IsBeyond, ListCovered, ListAllCovered, ListTriangles};
+ghost use Rattle.fd_events.specs.Cells.{cell_count, cell_at, cell_place, IsCellGrid, IsPartUnder, HasCell, IsBeyond};
+ghost use Rattle.fd_events.specs.Cells.{ListCovered, ListAllCovered, ListTriangles};
 ghost use Rattle.fd_memory.specs.Wanting.{Wanted};
 
 use crate::list::TriangleList;
@@ -41,7 +42,7 @@ const MOST_COLUMNS: u32 = 64;
 
 /// Square cells that lie side by side, aligned to the target's corner.
 #[derive(Clone, Copy, Debug)]
-pub(crate) struct Grid {
+pub(crate) struct CellGrid {
     // a cell's side is this power of two
     shift: u32,
     // which cells there are, in columns and rows of cells
@@ -51,7 +52,7 @@ pub(crate) struct Grid {
 /// The cells of a grid, each with the numbers of the triangles that may reach it.
 #[derive(Debug, Drop)]
 pub(crate) struct Cells {
-    grid: Grid,
+    grid: CellGrid,
     lists: Packed,
 }
 
@@ -88,17 +89,17 @@ pub(crate) fn first_from(numbers: &[u32], number: u32, end: u32) -> u32
     }
 }
 
-impl Grid {
+impl CellGrid {
     /// The finest grid over a box that has more than one cell and not too many, of which the triangles reach not too many.
-    fn over(bounds: Bounds, list: &TriangleList, boxes: &[Bounds]) -> Option<Grid>
+    fn over(bounds: Bounds, list: &TriangleList, boxes: &[Bounds]) -> Option<CellGrid>
         requires few { length boxes.now ≤ most_triangles }
         requires all { length boxes.now ≡ length (triangles_of list.now) }
-        ensures { IfSome result (λ grid. IsGrid grid) }
+        ensures { IfSome result (λ grid. IsCellGrid grid) }
     {
         let weight = boxes.len().min(list.vertex_count());
         for shift in LEAST_SHIFT..GREATEST_SHIFT + 1 {
             let area = cells_under(bounds, shift);
-            let grid = Grid { shift, area };
+            let grid = CellGrid { shift, area };
             if grid.len() <= 1 {
                 return None;
             }
@@ -112,8 +113,8 @@ impl Grid {
     }
 
     /// The finest grid over a target of this size that has no more than so many cells, or the coarsest one.
-    pub(crate) fn on_target(width: u32, height: u32, most: usize) -> Grid
-        ensures { IsGrid result }
+    pub(crate) fn on_target(width: u32, height: u32, most: usize) -> CellGrid
+        ensures { IsCellGrid result }
     {
         let bounds = Bounds {
             left: 0,
@@ -124,10 +125,10 @@ impl Grid {
         for shift in LEAST_SHIFT..GREATEST_SHIFT {
             let area = cells_under(bounds, shift);
             if area.count() <= most {
-                return Grid { shift, area };
+                return CellGrid { shift, area };
             }
         }
-        Grid {
+        CellGrid {
             shift: GREATEST_SHIFT,
             area: cells_under(bounds, GREATEST_SHIFT),
         }
@@ -135,7 +136,7 @@ impl Grid {
 
     /// The number of cells.
     pub(crate) fn len(self) -> usize
-        requires { IsGrid self }
+        requires { IsCellGrid self }
         ensures { result ≡ cell_count self }
     {
         self.area.count()
@@ -143,7 +144,7 @@ impl Grid {
 
     /// The place of a cell among all, row by row.
     fn place(self, column: u32, row: u32) -> usize
-        requires grid { IsGrid self }
+        requires grid { IsCellGrid self }
         requires left { self.area.left ≤ column }
         requires right { column ≤ self.area.right }
         requires top { self.area.top ≤ row }
@@ -156,7 +157,7 @@ impl Grid {
 
     /// The part of the grid that a box of pixels meets.
     pub(crate) fn part_under(self, bounds: Bounds) -> Bounds
-        requires { IsGrid self }
+        requires { IsCellGrid self }
         ensures { IsPartUnder self result bounds }
     {
         cells_under(bounds, self.shift).meet(self.area)
@@ -164,7 +165,7 @@ impl Grid {
 
     /// The side of a cell, in pixels.
     fn side(self) -> u32
-        requires { IsGrid self }
+        requires { IsCellGrid self }
         ensures { result ≡ 2 ^ self.shift }
     {
         1 << self.shift
@@ -172,7 +173,7 @@ impl Grid {
 
     /// Whether a cell lies beyond one edge of a triangle, whose rows stand at the cell's first one.
     fn is_beyond(self, edges: &Rows, column: u32) -> bool
-        requires grid { IsGrid self }
+        requires grid { IsCellGrid self }
         requires rows { edges.now.1 + 2 ^ self.shift ≤ most_pixels }
         ensures { IsTrue result → (row : ℕ) → edges.now.1 ≡ row * 2 ^ self.shift → IsBeyond self edges.now.0 column row }
     {
@@ -184,7 +185,7 @@ impl Grid {
     /// The columns from one up to another of a part of the grid, of whose cells in this row a triangle may reach all. The others of the row it
     /// doesn't reach.
     fn reached(self, triangle: &Tri, part: Bounds, row: u32) -> (u32, u32)
-        requires grid { IsGrid self }
+        requires grid { IsCellGrid self }
         requires columns { part.left ≤ part.right }
         ensures first { part.left ≤ result.0 }
         ensures order { result.0 ≤ result.1 }
@@ -213,7 +214,7 @@ impl Grid {
 
     /// Whether the triangles may reach more cells than these, each cell counted for each of them.
     fn has_more_meetings(self, list: &TriangleList, boxes: &[Bounds], most: usize) -> bool
-        requires grid { IsGrid self }
+        requires grid { IsCellGrid self }
         requires few { length boxes.now ≤ most_triangles }
         requires all { length boxes.now ≡ length (triangles_of list.now) }
     {
@@ -243,7 +244,7 @@ impl Grid {
         number: u32,
         lists: &mut Vec<Vec<u32>>,
     ) -> Result<(), AllocError>
-        requires grid { IsGrid self }
+        requires grid { IsCellGrid self }
         requires covered { HoldsCovered bounds triangle.now }
         requires lists { cell_count self ≤ vec_len lists.old }
         ensures listed { IfOk result (λ _. Grow number (numbers_of lists.old.items) (numbers_of lists.new.items)
@@ -268,7 +269,7 @@ impl Grid {
         boxes: &[Bounds],
         alloc: Global,
     ) -> Result<Vec<Vec<u32>>, AllocError>
-        requires grid { IsGrid self }
+        requires grid { IsCellGrid self }
         requires few { length boxes.now ≤ most_triangles }
         requires all { length boxes.now ≡ length (triangles_of list.now) }
         requires boxes { AreTriangleBoxes boxes.now (triangles_of list.now) }
@@ -286,7 +287,7 @@ impl Grid {
 
     /// The place of the cell in which a window lies, where it lies in one.
     pub(crate) fn place_under(self, window: Bounds) -> Option<usize>
-        requires { IsGrid self }
+        requires { IsCellGrid self }
         ensures { IfSome result (λ place. (x y : ℕ) → IsTrue (is_within window x y) → HasCell self x y × (cell_at self x y ≡ place)) }
     {
         let under = cells_under(window, self.shift);
@@ -319,7 +320,7 @@ impl Cells {
         if boxes.len() < FEWEST_LISTED {
             return Ok(None);
         }
-        let Some(grid) = Grid::over(bounds, list, boxes) else {
+        let Some(grid) = CellGrid::over(bounds, list, boxes) else {
             return Ok(None);
         };
         let lists = grid.lists(list, boxes, alloc)?;
@@ -355,7 +356,7 @@ impl Cells {
 
     /// The numbers that the cell lists in which a window lies, where it lies in one.
     fn listed(&self, window: Bounds) -> Option<&[u32]>
-        requires grid { IsGrid self.now.grid }
+        requires grid { IsCellGrid self.now.grid }
         requires rise { (cell : ℕ) → IsNonDecreasing (listed_in self.now.lists cell) }
         ensures rise { IfSome result (λ numbers. IsNonDecreasing numbers.now) }
         ensures there { IfSome result (λ numbers. (x y : ℕ) → IsTrue (is_within window x y) → HasCell self.now.grid x y
@@ -368,7 +369,7 @@ impl Cells {
     /// number. No triangle that is passed over covers a pixel of the window.
     pub(crate) fn next(&self, number: u32, end: u32, window: Bounds) -> u32
         requires order { number ≤ end }
-        requires grid { IsGrid self.now.grid }
+        requires grid { IsCellGrid self.now.grid }
         requires rise { (cell : ℕ) → IsNonDecreasing (listed_in self.now.lists cell) }
         ensures from { number ≤ result }
         ensures last { result ≤ end }

@@ -1,6 +1,6 @@
 use Rattle.std.proofs.Common.{ℕ, List, subst}
 use Rattle.std.specs.List.{Contains}
-use Rattle.fd_events.proofs.grid.Cells.next.Goals as goal
+use Rattle.fd_events.proofs.cells.Cells.next.Goals as goal
 
 pub returns-in-Some-clause-missed : goal.returns-in-Some-clause-missed
 returns-in-Some-clause-missed c = λ i x y from to within.

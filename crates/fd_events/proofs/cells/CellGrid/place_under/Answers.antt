@@ -1,6 +1,6 @@
 use Rattle.std.proofs.Common.{◌≡◌, ◌/◌, ◌^◌, sym, arith, ◌∙◌}
-use Rattle.fd_events.proofs.GridLemmas.{from_left, to_right, from_top, to_bottom}
-use Rattle.fd_events.proofs.grid.Grid.place_under.Goals as goal
+use Rattle.fd_events.proofs.CellGridLemmas.{from_left, to_right, from_top, to_bottom}
+use Rattle.fd_events.proofs.cells.CellGrid.place_under.Goals as goal
 
 pub returns-then-holds : goal.returns-then-holds
 returns-then-holds c = λ x y within.

@@ -1,8 +1,8 @@
 use Rattle.std.proofs.Common.{◌≡◌, ℕ}
 use Rattle.fd_events.specs.Numbers.{numbers_of, listed_at}
 use Rattle.fd_events.specs.Packed.{listed_in}
-use Rattle.fd_events.proofs.GridLemmas.{ListTriangles-from}
-use Rattle.fd_events.proofs.grid.Cells.over.Goals as goal
+use Rattle.fd_events.proofs.CellGridLemmas.{ListTriangles-from}
+use Rattle.fd_events.proofs.cells.Cells.over.Goals as goal
 
 pub returns-in-Some-2-clause-cells : goal.returns-in-Some-2-clause-cells
 returns-in-Some-2-clause-cells c =

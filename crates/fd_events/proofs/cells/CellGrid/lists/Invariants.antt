@@ -2,7 +2,7 @@ use Rattle.std.proofs.Common.{◌≡◌, ℕ, ◌<◌, length, Some, slice_get}
 use Rattle.fd_events.specs.Draw.{Triangle, triangles_of}
 use Rattle.fd_events.specs.Numbers.{numbers_of, AreOrdered}
 use Rattle.fd_events.specs.Cells.{cell_count, ListCovered}
-use Rattle.fd_events.proofs.grid.Grid.lists.Given as goal
+use Rattle.fd_events.proofs.cells.CellGrid.lists.Given as goal
 
 -- the triangles so far are listed
 abbrev pub invariant-loop-number : goal.invariant-loop-number

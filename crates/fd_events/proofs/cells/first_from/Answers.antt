@@ -2,7 +2,7 @@ use Rattle.std.proofs.Common.{◌≡◌, ℕ, ◌<◌, ◌≤◌, inl, inr, get_
 use Rattle.std.specs.List.Sorted.{IsPartitionPoint}
 use Rattle.std.proofs.lemmas.Bool.{cases_lt, ltb-true, ltb-false}
 use Rattle.std.proofs.lemmas.List.Sorted.{IsPartitionPoint-from_clause, IsPartitionedBy-ltb}
-use Rattle.fd_events.proofs.grid.first_from.Goals as goal
+use Rattle.fd_events.proofs.cells.first_from.Goals as goal
 
 -- what stands before the place is less than the number, and what stands there or behind it is not
 abbrev Parts : List ℕ → ℕ → ℕ → Type 0

@@ -2,8 +2,8 @@ use Rattle.std.proofs.Common.{◌≡◌, ◌<◌, ◌≤◌, inl, inr, refl, ari
 use Rattle.std.proofs.lemmas.Bool.{cases_lt}
 use Rattle.fd_events.specs.Cells.{cell_place, cell_over}
 use Rattle.fd_events.proofs.CellLemmas.{Grow-then}
-use Rattle.fd_events.proofs.GridLemmas.{from_left, to_right, to_bottom}
-use Rattle.fd_events.proofs.grid.Grid.add.Goals as goal
+use Rattle.fd_events.proofs.CellGridLemmas.{from_left, to_right, to_bottom}
+use Rattle.fd_events.proofs.cells.CellGrid.add.Goals as goal
 
 pub loop-row-preserved : goal.loop-row-preserved
 loop-row-preserved c =

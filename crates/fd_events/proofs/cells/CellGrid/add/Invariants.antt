@@ -4,7 +4,7 @@ use Rattle.fd_cover.specs.Bounds.{is_within}
 use Rattle.fd_cover.specs.Covers.{covers}
 use Rattle.fd_events.specs.Numbers.{numbers_of, listed_at, Grow}
 use Rattle.fd_events.specs.Cells.{cell_at, cell_over}
-use Rattle.fd_events.proofs.grid.Grid.add.Given as goal
+use Rattle.fd_events.proofs.cells.CellGrid.add.Given as goal
 
 -- the rows of cells so far list the number where the triangle covers a pixel
 abbrev pub invariant-loop-row : goal.invariant-loop-row
