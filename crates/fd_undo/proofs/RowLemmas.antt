@@ -234,8 +234,8 @@ module _ {h : Held} {first : ℕ} {row grown : Span} {old : List Colour} {deep :
 -- ---- what the goals of a function want, which names it in its attribute
 pub ruleset kept_pixel_of_steps = (length-drop, drop-drop, get_or-zip, length-colours_in, length-depths_in, colours_behind, depths_behind)
 
-pub ruleset rows_drop_from_steps = (rows_before, pixels_behind, take_rest, length-take, sum_by-take-le)
+pub ruleset lists_drop_from_steps = (rows_before, pixels_behind, take_rest, length-take, sum_by-take-le)
 
-pub ruleset rows_parts_steps = (rows_before, rows_behind, sum_by-take-drop, count_between, count_rises, length-take, length-drop, sum_by-take-le)
+pub ruleset lists_parts_steps = (rows_before, rows_behind, sum_by-take-drop, count_between, count_rises, length-take, length-drop, sum_by-take-le)
 
 pub ruleset parts_split_last_steps = (rows-last, joined-push)

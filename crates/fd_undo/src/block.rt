@@ -11,8 +11,8 @@ ghost use Rattle.fd_memory.specs.Wanting.{Wanted};
 
 use crate::parts::{Cut, Parts};
 use crate::room::Room;
-use crate::rows::Rows;
 use crate::span::Span;
+use crate::span_lists::SpanLists;
 use crate::whole::have_all_rows;
 use fd_blend::Colour;
 use fd_memory::small_room;
@@ -52,7 +52,7 @@ impl Mark {
 #[derive(Drop)]
 pub(crate) struct Block {
     marks: SmallVec<Mark, MARKS_INSIDE>,
-    rows: Rows,
+    lists: SpanLists,
 }
 
 impl Model for Block {
@@ -63,14 +63,14 @@ impl Model for Block {
     ghost Value = { Filled };
 
     ghost view = { λ b. record {
-      frames = marked b.marks.items (rows_of b.rows) (length b.rows.spans);
-      frames_left = marks_left b.rows (b.marks.capacity - length b.marks.items);
-      spans_left = b.rows.spans_left;
-      colours_left = b.rows.colours_left;
-      depths_left = b.rows.depths_left;
+      frames = marked b.marks.items (rows_of b.lists) (length b.lists.spans);
+      frames_left = marks_left b.lists (b.marks.capacity - length b.marks.items);
+      spans_left = b.lists.spans_left;
+      colours_left = b.lists.colours_left;
+      depths_left = b.lists.depths_left;
     } };
 
-    ghost invariant = { λ b. AreInOrder b.marks.items b.rows.spans (length b.rows.spans) };
+    ghost invariant = { λ b. AreInOrder b.marks.items b.lists.spans (length b.lists.spans) };
 }
 
 impl Block {
@@ -83,7 +83,7 @@ impl Block {
     {
         Ok(Block {
             marks: small_room(alloc, room.frames)?,
-            rows: Rows::with_room(alloc, room)?,
+            lists: SpanLists::with_room(alloc, room)?,
         })
     }
 
@@ -93,7 +93,7 @@ impl Block {
     {
         Block {
             marks: SmallVec::new(alloc),
-            rows: Rows::empty(alloc),
+            lists: SpanLists::empty(alloc),
         }
     }
 
@@ -112,13 +112,13 @@ impl Block {
             × (more.colours ≤ self.now.colours_left) × (more.depths ≤ self.now.depths_left) }
     {
         self.marks.len() < self.marks.capacity()
-            && is_countable(&self.rows)
-            && self.rows.takes(more)
+            && is_countable(&self.lists)
+            && self.lists.takes(more)
     }
 
     /// How many frames, spans, colours and depths it holds.
     pub(crate) fn held(&self) -> Room {
-        let end = self.rows.end();
+        let end = self.lists.end();
         Room {
             frames: self.marks.len(),
             spans: end.span,
@@ -157,7 +157,7 @@ impl Block {
         ensures colours_left { self.new.colours_left ≡ self.old.colours_left }
         ensures depths_left { self.new.depths_left ≡ self.old.depths_left }
     {
-        let end = self.rows.end();
+        let end = self.lists.end();
         let mark = Mark {
             number: number as u32,
             span: end.span as u32,
@@ -192,7 +192,7 @@ impl Block {
     {
         let first = newest_mark(self.marks.as_slice()).span as usize;
         let row = Span::of(x, y, old, depths, known);
-        self.rows.keep(first, row, old, depths);
+        self.lists.keep(first, row, old, depths);
     }
 
     /// The same of a place, whose colours and depths stand row after row.
@@ -217,7 +217,7 @@ impl Block {
         ensures colours_left { self.old.colours_left ≤ self.new.colours_left + length old.now }
         ensures depths_left { self.old.depths_left ≤ self.new.depths_left + length depths.now }
     {
-        self.rows.keep_place(place, old, depths, known);
+        self.lists.keep_place(place, old, depths, known);
     }
 
     /// Keeps a whole place in the newest frame, which is of one colour and one depth.
@@ -229,7 +229,7 @@ impl Block {
         requires colours { 0 < self.old.colours_left }
         ensures { self.new.frames ≡ keeping_row self.old.frames (alike place (colour, depth)) }
     {
-        self.rows.keep_alike(place, colour, depth);
+        self.lists.keep_alike(place, colour, depth);
     }
 
     /// Drops the newest frame, unread, and says how many pixels it kept.
@@ -241,7 +241,7 @@ impl Block {
         ensures frames { self.new.frames ≡ others self.old.frames }
     {
         let mark = take_last(&mut self.marks);
-        self.rows.drop_from(mark.cut())
+        self.lists.drop_from(mark.cut())
     }
 
     /// The number of the oldest frame from this number on that is seen to keep a whole place.
@@ -291,16 +291,16 @@ impl Block {
         ensures there { kept_in_parts result ≡ (slice_index_or self.now.frames place no_frame).kept }
     {
         let marks = self.marks.as_slice();
-        let end = end_of(marks, place, &self.rows);
-        self.rows.parts(mark_at(marks, place).cut(), end)
+        let end = end_of(marks, place, &self.lists);
+        self.lists.parts(mark_at(marks, place).cut(), end)
     }
 }
 
 /// Whether each place behind what is listed can be said by a mark.
-fn is_countable(rows: &Rows) -> bool
-    ensures { result ≡ true → (length rows.now.spans < 2 ^ 32) × (length rows.now.colours < 2 ^ 32) × (length rows.now.depths < 2 ^ 32) }
+fn is_countable(lists: &SpanLists) -> bool
+    ensures { result ≡ true → (length lists.now.spans < 2 ^ 32) × (length lists.now.colours < 2 ^ 32) × (length lists.now.depths < 2 ^ 32) }
 {
-    let (end, most) = (rows.end(), u32::MAX as usize);
+    let (end, most) = (lists.end(), u32::MAX as usize);
     end.span <= most && end.colour <= most && end.depth <= most
 }
 
@@ -343,15 +343,15 @@ fn place_of(marks: &[Mark], number: usize) -> Option<usize>
 
 /// Where the frame of a mark ends: where the next one begins, or at the end.
 #[tactic(auto, using(crate::proofs::BlockLemmas::end_of_steps))]
-fn end_of(marks: &[Mark], place: usize, rows: &Rows) -> Cut
+fn end_of(marks: &[Mark], place: usize, lists: &SpanLists) -> Cut
     requires within { place < length marks.now }
-    requires order { AreInOrder marks.now rows.now.spans (length rows.now.spans) }
-    ensures span { result.span ≡ next (drop (place + 1) marks.now) (length rows.now.spans) }
-    ensures cut { IsCut result rows.now.spans }
+    requires order { AreInOrder marks.now lists.now.spans (length lists.now.spans) }
+    ensures span { result.span ≡ next (drop (place + 1) marks.now) (length lists.now.spans) }
+    ensures cut { IsCut result lists.now.spans }
 {
     if place + 1 < marks.len() {
         mark_at(marks, place + 1).cut()
     } else {
-        rows.end()
+        lists.end()
     }
 }

@@ -8,7 +8,7 @@ mod kept;
 mod parts;
 mod restore;
 mod room;
-mod rows;
 mod span;
+mod span_lists;
 mod stack;
 mod whole;

@@ -1,5 +1,5 @@
 use Rattle.fd_undo.proofs.RowLemmas.{span_pixels-place}
-use Rattle.fd_undo.proofs.rows.Rows.keep_place.Goals as goal
+use Rattle.fd_undo.proofs.span_lists.SpanLists.keep_place.Goals as goal
 
 pub returns-clause-more : goal.returns-clause-more
 returns-clause-more c = λ first low.

@@ -23,7 +23,7 @@ use std::marker::Model;
 
 /// Spans that follow one another: the colours and the depths of each stand behind those of the spans before it.
 #[derive(Drop)]
-pub(crate) struct Rows {
+pub(crate) struct SpanLists {
     spans: SmallVec<Span, SPANS_INSIDE>,
     // one for a span whose pixels are all alike
     colours: Vec<Colour>,
@@ -31,32 +31,32 @@ pub(crate) struct Rows {
     depths: Vec<u16>,
 }
 
-impl Model for Rows {
+impl Model for SpanLists {
     ghost use Rattle.std.specs.Prelude.{◌-◌, length, vec_capacity};
     ghost use Rattle.fd_undo.specs.Rows.{Held, IsHeld};
 
     ghost Value = { Held };
 
-    ghost view = { λ r. record {
-      spans = r.spans.items;
-      colours = r.colours.items;
-      depths = r.depths.items;
-      spans_left = r.spans.capacity - length r.spans.items;
-      colours_left = vec_capacity r.colours - length r.colours.items;
-      depths_left = vec_capacity r.depths - length r.depths.items;
+    ghost view = { λ l. record {
+      spans = l.spans.items;
+      colours = l.colours.items;
+      depths = l.depths.items;
+      spans_left = l.spans.capacity - length l.spans.items;
+      colours_left = vec_capacity l.colours - length l.colours.items;
+      depths_left = vec_capacity l.depths - length l.depths.items;
     } };
 
-    ghost invariant = { λ r. IsHeld r.spans.items r.colours.items r.depths.items };
+    ghost invariant = { λ l. IsHeld l.spans.items l.colours.items l.depths.items };
 }
 
-impl Rows {
+impl SpanLists {
     /// No spans, and room for so many spans, colours and depths.
-    pub(crate) fn with_room(alloc: Global, room: Room) -> Result<Rows, AllocError>
-        ensures spans { IfOk result (λ r. (r.spans ≡ []) × (r.colours ≡ []) × (r.depths ≡ [])) }
-        ensures room { IfOk result (λ r. (room.spans ≤ r.spans_left) × (room.colours ≤ r.colours_left) × (room.depths ≤ r.depths_left)) }
+    pub(crate) fn with_room(alloc: Global, room: Room) -> Result<SpanLists, AllocError>
+        ensures spans { IfOk result (λ l. (l.spans ≡ []) × (l.colours ≡ []) × (l.depths ≡ [])) }
+        ensures room { IfOk result (λ l. (room.spans ≤ l.spans_left) × (room.colours ≤ l.colours_left) × (room.depths ≤ l.depths_left)) }
         ensures wanted { OnErr result Wanted }
     {
-        Ok(Rows {
+        Ok(SpanLists {
             spans: small_room(alloc, room.spans)?,
             colours: fd_memory::room(alloc, room.colours)?,
             depths: fd_memory::room(alloc, room.depths)?,
@@ -64,10 +64,10 @@ impl Rows {
     }
 
     /// No spans, and no room for pixels, which takes no memory.
-    pub(crate) fn empty(alloc: Global) -> Rows
+    pub(crate) fn empty(alloc: Global) -> SpanLists
         ensures { (result.spans ≡ []) × (result.colours ≡ []) × (result.depths ≡ []) }
     {
-        Rows {
+        SpanLists {
             spans: SmallVec::new(alloc),
             colours: Vec::new(alloc),
             depths: Vec::new(alloc),
@@ -188,7 +188,7 @@ impl Rows {
     }
 
     /// Drops the spans behind a place, unread, and says how many pixels they had.
-    #[tactic(auto, using(crate::proofs::RowLemmas::rows_drop_from_steps))]
+    #[tactic(auto, using(crate::proofs::RowLemmas::lists_drop_from_steps))]
     pub(crate) fn drop_from(&mut self, first: Cut) -> usize
         requires first { IsCut first self.old.spans }
         requires countable { length (joined (drop first.span (rows_of self.old))) < 2 ^ 64 }
@@ -204,7 +204,7 @@ impl Rows {
     }
 
     /// The spans from one place up to another.
-    #[tactic(auto, using(crate::proofs::RowLemmas::rows_parts_steps))]
+    #[tactic(auto, using(crate::proofs::RowLemmas::lists_parts_steps))]
     pub(crate) fn parts(&self, first: Cut, end: Cut) -> Parts<'_>
         requires ordered { first.span ≤ end.span }
         requires first { IsCut first self.now.spans }

@@ -1,6 +1,6 @@
 use Rattle.std.proofs.Common.{arith}
 use Rattle.fd_undo.proofs.RowLemmas.{span_pixels-row, keeps-grown, held-grown}
-use Rattle.fd_undo.proofs.rows.Rows.keep.Goals as goal
+use Rattle.fd_undo.proofs.span_lists.SpanLists.keep.Goals as goal
 
 pub invariant_of-self : goal.invariant_of-self
 invariant_of-self c = held-grown c.in-Some.ensures c.requires.row (grind arith) (grind arith) (grind arith) (grind arith)
