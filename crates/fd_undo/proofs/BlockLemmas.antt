@@ -5,11 +5,11 @@ use Rattle.std.proofs.Common.{Result, Ok, Err, None, IfSome}
 use Rattle.std.proofs.lemmas.Bool.Decides.{nat_tests}
 use Rattle.std.proofs.lemmas.List.{length-take, take-take, drop-take, take_rest, drop_more}
 use Rattle.fd_undo.specs.declared.block.Mark.{Mark}
-use Rattle.fd_undo.specs.declared.parts.Cut.{Cut}
+use Rattle.fd_undo.specs.declared.span_slices.Cut.{Cut}
 use Rattle.fd_undo.specs.Span.{Span}
 use Rattle.fd_undo.specs.Frame.{KeptPixel}
 use Rattle.fd_undo.specs.Rows.{Held, rows_of, joined, KeepsMore}
-use Rattle.fd_undo.specs.Parts.{cut_of}
+use Rattle.fd_undo.specs.SpanSlices.{cut_of}
 use Rattle.fd_undo.specs.Block.{KeptFrame, no_frame, newest, others, keeping_row, found, Rise, next, marked}
 use Rattle.fd_undo.specs.Block.{IsMark, AreInOrder, no_mark, last_mark, number_at, NumbersRise}
 use Rattle.fd_undo.proofs.FrameLemmas.{others-push, newest-push, others-newest}
@@ -153,7 +153,7 @@ searched marks n (Err p) rising in_range parted =
 -- ---- what the goals of a function want, which names it in its attribute
 pub ruleset block_begin_steps = (marked-push, marks-push)
 
-pub ruleset block_parts_of_steps = (rising, found-place, found-none, marked-at, length-marked)
+pub ruleset block_slices_of_steps = (rising, found-place, found-none, marked-at, length-marked)
 
 pub ruleset block_keep_steps = (below, grown_marks, grown_frames)
 

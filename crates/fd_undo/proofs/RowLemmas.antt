@@ -236,6 +236,6 @@ pub ruleset kept_pixel_of_steps = (length-drop, drop-drop, get_or-zip, length-co
 
 pub ruleset lists_drop_from_steps = (rows_before, pixels_behind, take_rest, length-take, sum_by-take-le)
 
-pub ruleset lists_parts_steps = (rows_before, rows_behind, sum_by-take-drop, count_between, count_rises, length-take, length-drop, sum_by-take-le)
+pub ruleset lists_slices_steps = (rows_before, rows_behind, sum_by-take-drop, count_between, count_rises, length-take, length-drop, sum_by-take-le)
 
-pub ruleset parts_split_last_steps = (rows-last, joined-push)
+pub ruleset slices_split_last_steps = (rows-last, joined-push)

@@ -279,7 +279,7 @@ pub ruleset stack_keep_known_steps = (
   length-frames,
 )
 
-pub ruleset stack_parts_of_steps = (found-frames)
+pub ruleset stack_slices_of_steps = (found-frames)
 
 pub ruleset stack_is_stored_steps = (missed)
 

@@ -4,15 +4,15 @@ ghost use Rattle.std.specs.List.{zip};
 ghost use Rattle.fd_snap.specs.Limits.{most_pixels};
 ghost use Rattle.fd_tile.specs.Place.{IsTilePlace};
 ghost use Rattle.fd_undo.specs.Frame.{kept_row, kept_place, alike, KeepsAll};
-ghost use Rattle.fd_undo.specs.Parts.{AreParts, IsCut, kept_in_parts};
+ghost use Rattle.fd_undo.specs.SpanSlices.{AreSpanSlices, IsCut, kept_in_slices};
 ghost use Rattle.fd_undo.specs.Block.{KeptFrame, Filled, no_frame, newest, others, keeping_row, found, first_number, Rise};
 ghost use Rattle.fd_undo.specs.Block.{NumbersRise, AreInOrder, no_mark, last_mark, next};
 ghost use Rattle.fd_memory.specs.Wanting.{Wanted};
 
-use crate::parts::{Cut, Parts};
 use crate::room::Room;
 use crate::span::Span;
 use crate::span_lists::SpanLists;
+use crate::span_slices::{Cut, SpanSlices};
 use crate::whole::have_all_rows;
 use fd_blend::Colour;
 use fd_memory::small_room;
@@ -34,7 +34,7 @@ pub(crate) struct Mark {
 }
 
 impl Mark {
-    ghost use Rattle.fd_undo.specs.Parts.{cut_of};
+    ghost use Rattle.fd_undo.specs.SpanSlices.{cut_of};
 
     /// Where its frame begins.
     fn cut(self) -> Cut
@@ -254,7 +254,7 @@ impl Block {
         let first = marks.partition_point(|mark| (mark.number as usize) < from);
         for at in first..marks.len() {
             let number = mark_at(marks, at).number as usize;
-            if number >= from && have_all_rows(self.parts_at(at).spans, place) {
+            if number >= from && have_all_rows(self.slices_at(at).spans, place) {
                 return Some(number);
             }
         }
@@ -262,37 +262,37 @@ impl Block {
     }
 
     /// What the frame of this number keeps.
-    #[tactic(auto, using(crate::proofs::BlockLemmas::block_parts_of_steps))]
-    pub(crate) fn parts_of(&self, number: usize) -> Option<Parts<'_>>
+    #[tactic(auto, using(crate::proofs::BlockLemmas::block_slices_of_steps))]
+    pub(crate) fn slices_of(&self, number: usize) -> Option<SpanSlices<'_>>
         requires { (count : ℕ) × Rise 0 self.now.frames count }
-        ensures whole { IfSome result AreParts }
-        ensures there { IfSome result (λ parts. kept_in_parts parts ≡ found number self.now.frames) }
+        ensures whole { IfSome result AreSpanSlices }
+        ensures there { IfSome result (λ slices. kept_in_slices slices ≡ found number self.now.frames) }
         ensures absent { result ≡ None → found number self.now.frames ≡ [] }
     {
         let place = place_of(self.marks.as_slice(), number)?;
-        Some(self.parts_at(place))
+        Some(self.slices_at(place))
     }
 
     /// The same of the newest frame.
     #[tactic(auto, using(crate::proofs::BlockLemmas::mark_steps))]
-    pub(crate) fn newest_parts(&self) -> Parts<'_>
+    pub(crate) fn newest_slices(&self) -> SpanSlices<'_>
         requires { 0 < length self.now.frames }
-        ensures whole { AreParts result }
-        ensures there { kept_in_parts result ≡ (newest self.now.frames).kept }
+        ensures whole { AreSpanSlices result }
+        ensures there { kept_in_slices result ≡ (newest self.now.frames).kept }
     {
-        self.parts_at(self.marks.len() - 1)
+        self.slices_at(self.marks.len() - 1)
     }
 
     /// The same of the frame at a place.
     #[tactic(auto, using(crate::proofs::BlockLemmas::mark_steps))]
-    fn parts_at(&self, place: usize) -> Parts<'_>
+    fn slices_at(&self, place: usize) -> SpanSlices<'_>
         requires { place < length self.now.frames }
-        ensures whole { AreParts result }
-        ensures there { kept_in_parts result ≡ (slice_index_or self.now.frames place no_frame).kept }
+        ensures whole { AreSpanSlices result }
+        ensures there { kept_in_slices result ≡ (slice_index_or self.now.frames place no_frame).kept }
     {
         let marks = self.marks.as_slice();
         let end = end_of(marks, place, &self.lists);
-        self.lists.parts(mark_at(marks, place).cut(), end)
+        self.lists.slices(mark_at(marks, place).cut(), end)
     }
 }
 

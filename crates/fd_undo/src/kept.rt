@@ -2,25 +2,25 @@ ghost use Rattle.std.specs.Prelude.{◌≡◌, ◌+◌, ◌-◌, ◌≤◌, ◌+
 ghost use Rattle.fd_tile.specs.Tile.{fresh_pixel};
 ghost use Rattle.fd_undo.specs.Frame.{kept_at};
 ghost use Rattle.fd_undo.specs.Rows.{span_holds, listed_colours, listed_depths, pixels_of_row};
-ghost use Rattle.fd_undo.specs.Parts.{AreParts, kept_in_parts};
+ghost use Rattle.fd_undo.specs.SpanSlices.{AreSpanSlices, kept_in_slices};
 ghost use Rattle.fd_memory.specs.Wanting.{Wanted};
 
-use crate::parts::Parts;
 use crate::span::Span;
+use crate::span_slices::SpanSlices;
 use fd_blend::Colour;
 use std::alloc::AllocError;
 
 /// The n-th colour and depth, from 0, that some spans keep of pixel (x, y).
-pub(crate) fn kept_in(parts: Parts<'_>, x: u32, y: u32, n: usize) -> Option<(Colour, u16)>
-    requires { AreParts parts }
-    ensures { result ≡ slice_get (kept_at (kept_in_parts parts.entry) x y) n }
+pub(crate) fn kept_in(slices: SpanSlices<'_>, x: u32, y: u32, n: usize) -> Option<(Colour, u16)>
+    requires { AreSpanSlices slices }
+    ensures { result ≡ slice_get (kept_at (kept_in_slices slices.entry) x y) n }
 {
     let (mut first_colour, mut first_depth) = (0, 0);
     let mut left = n;
-    for span in parts.spans {
+    for span in slices.spans {
         if span.holds(x, y) {
             if left == 0 {
-                return Some(pixel_of(span, parts, first_colour, first_depth, (x, y)));
+                return Some(pixel_of(span, slices, first_colour, first_depth, (x, y)));
             }
             left -= 1;
         }
@@ -32,23 +32,23 @@ pub(crate) fn kept_in(parts: Parts<'_>, x: u32, y: u32, n: usize) -> Option<(Col
 
 /// Adds the first colours and depths, at most so many, that some spans keep of a pixel.
 pub(crate) fn add_kept_in(
-    parts: Parts<'_>,
+    slices: SpanSlices<'_>,
     pixel: (u32, u32),
     count: usize,
     kept: &mut Vec<(Colour, u16)>,
 ) -> Result<(), AllocError>
-    requires { AreParts parts }
-    ensures kept { OnOk result (kept.new.items ≡ kept.old.items ++ take count (kept_at (kept_in_parts parts.entry) pixel.0 pixel.1)) }
+    requires { AreSpanSlices slices }
+    ensures kept { OnOk result (kept.new.items ≡ kept.old.items ++ take count (kept_at (kept_in_slices slices.entry) pixel.0 pixel.1)) }
     ensures wanted { OnErr result Wanted }
 {
     let (mut first_colour, mut first_depth) = (0, 0);
     let mut left = count;
-    for span in parts.spans {
+    for span in slices.spans {
         if left == 0 {
             return Ok(());
         }
         if span.holds(pixel.0, pixel.1) {
-            let before = pixel_of(span, parts, first_colour, first_depth, pixel);
+            let before = pixel_of(span, slices, first_colour, first_depth, pixel);
             fd_memory::push(kept, before)?;
             left -= 1;
         }
@@ -63,23 +63,23 @@ pub(crate) fn add_kept_in(
 #[tactic(auto, using(crate::proofs::RowLemmas::kept_pixel_of_steps))]
 fn pixel_of(
     span: &Span,
-    parts: Parts<'_>,
+    slices: SpanSlices<'_>,
     colour: usize,
     depth: usize,
     pixel: (u32, u32),
 ) -> (Colour, u16)
     requires held { span_holds span.now pixel.0 pixel.1 ≡ true }
-    requires colours { colour + listed_colours span.now ≤ length parts.colours.now }
-    requires depths { depth + listed_depths span.now ≤ length parts.depths.now }
+    requires colours { colour + listed_colours span.now ≤ length slices.colours.now }
+    requires depths { depth + listed_depths span.now ≤ length slices.depths.now }
     ensures { result ≡ slice_index_or
-        (pixels_of_row span.now (drop colour parts.entry.colours.now) (drop depth parts.entry.depths.now) (pixel.1 - span.now.y))
+        (pixels_of_row span.now (drop colour slices.entry.colours.now) (drop depth slices.entry.depths.now) (pixel.1 - span.now.y))
         (pixel.0 - span.now.x) fresh_pixel }
 {
     let (row, column) = (pixel.1 - span.y(), (pixel.0 - span.x()) as usize);
     let first_colour = colour + span.colours_above(row);
     let first_depth = depth + span.depths_above(row);
     (
-        span.colour(parts.colours, first_colour, column),
-        span.depth(parts.depths, first_depth, column),
+        span.colour(slices.colours, first_colour, column),
+        span.depth(slices.depths, first_depth, column),
     )
 }

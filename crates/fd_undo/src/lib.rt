@@ -5,10 +5,10 @@ pub use stack::{Full, UndoStack};
 
 mod block;
 mod kept;
-mod parts;
 mod restore;
 mod room;
 mod span;
 mod span_lists;
+mod span_slices;
 mod stack;
 mod whole;

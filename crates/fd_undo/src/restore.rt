@@ -4,40 +4,40 @@ ghost use Rattle.fd_tile.specs.Place.{Holds};
 ghost use Rattle.fd_tile.specs.Tile.{row_of, with_row_left, IsFlat, IsTileImage};
 ghost use Rattle.fd_undo.specs.Frame.{restored, IsAlike};
 ghost use Rattle.fd_undo.specs.Rows.{row_colours, listed_colours, colours_in, row_depths, listed_depths, depths_in, row_of_span, span_pixels};
-ghost use Rattle.fd_undo.specs.Parts.{AreParts, kept_in_parts};
+ghost use Rattle.fd_undo.specs.SpanSlices.{AreSpanSlices, kept_in_slices};
 ghost use Rattle.fd_undo.specs.Whole.{AreWholeRows, HoldsSpan};
 
 use crate::kept::kept_in;
-use crate::parts::Parts;
 use crate::span::Span;
+use crate::span_slices::SpanSlices;
 use crate::whole::have_all_rows;
 use fd_blend::Colour;
 use fd_tile::{Tile, fill};
 
 /// Writes what some spans keep back, the last kept first. On a tile that isn't made they keep nothing, or all of it, which was alike.
-pub(crate) fn put_frame(parts: Parts<'_>, tile: &mut Tile)
-    requires whole { AreParts parts }
-    requires alike { tile.old.made ≡ false → IsAlike tile.old.place (kept_in_parts parts) }
-    requires inside { All (λ k. Holds tile.old.place k.x k.y) (kept_in_parts parts) }
-    ensures { tile.new ≡ restored (kept_in_parts parts.entry) tile.old }
+pub(crate) fn put_frame(slices: SpanSlices<'_>, tile: &mut Tile)
+    requires whole { AreSpanSlices slices }
+    requires alike { tile.old.made ≡ false → IsAlike tile.old.place (kept_in_slices slices) }
+    requires inside { All (λ k. Holds tile.old.place k.x k.y) (kept_in_slices slices) }
+    ensures { tile.new ≡ restored (kept_in_slices slices.entry) tile.old }
 {
     if tile.is_made() {
-        level(parts, tile);
-        put_spans(parts, tile);
+        level(slices, tile);
+        put_spans(slices, tile);
     } else {
-        put_alike(parts, tile);
+        put_alike(slices, tile);
     }
 }
 
 /// The same of spans that keep nothing of the tile, or all of it, which was alike.
 #[tactic(auto, using(crate::proofs::Pixelwise::restored_as_read))]
-fn put_alike(parts: Parts<'_>, tile: &mut Tile)
-    requires whole { AreParts parts }
-    requires alike { IsAlike tile.old.place (kept_in_parts parts) }
-    ensures { tile.new ≡ restored (kept_in_parts parts.entry) tile.old }
+fn put_alike(slices: SpanSlices<'_>, tile: &mut Tile)
+    requires whole { AreSpanSlices slices }
+    requires alike { IsAlike tile.old.place (kept_in_slices slices) }
+    ensures { tile.new ≡ restored (kept_in_slices slices.entry) tile.old }
 {
     let place = tile.place();
-    if let Some((colour, depth)) = kept_in(parts, place.left, place.top, 0) {
+    if let Some((colour, depth)) = kept_in(slices, place.left, place.top, 0) {
         tile.fill_colours(colour);
         tile.fill_depths(depth);
     }
@@ -45,14 +45,14 @@ fn put_alike(parts: Parts<'_>, tile: &mut Tile)
 
 /// Where some spans have all rows of a tile all its pixels are made as deep as the first of them: those that are so deep then need their colours alone, and
 /// the tile knows of its depth.
-fn level(parts: Parts<'_>, tile: &mut Tile)
-    requires whole { AreParts parts }
-    requires inside { All (λ k. Holds tile.old.place k.x k.y) (kept_in_parts parts) }
+fn level(slices: SpanSlices<'_>, tile: &mut Tile)
+    requires whole { AreSpanSlices slices }
+    requires inside { All (λ k. Holds tile.old.place k.x k.y) (kept_in_slices slices) }
     ensures place { tile.new.place ≡ tile.old.place }
     ensures made { tile.new.made ≡ tile.old.made }
-    ensures same { restored (kept_in_parts parts.entry) tile.new ≡ restored (kept_in_parts parts.entry) tile.old }
+    ensures same { restored (kept_in_slices slices.entry) tile.new ≡ restored (kept_in_slices slices.entry) tile.old }
 {
-    let spans = parts.spans;
+    let spans = slices.spans;
     let place = tile.place();
     if let [first, ..] = spans {
         if let Some(deep) = first.same_depth() {
@@ -65,13 +65,13 @@ fn level(parts: Parts<'_>, tile: &mut Tile)
 
 /// Writes what some spans keep back on a tile that is made.
 #[tactic(auto, using(crate::proofs::Restored::put_spans_steps))]
-fn put_spans(parts: Parts<'_>, tile: &mut Tile)
+fn put_spans(slices: SpanSlices<'_>, tile: &mut Tile)
     requires made { tile.old.made ≡ true }
-    requires whole { AreParts parts }
-    requires inside { All (λ k. Holds tile.old.place k.x k.y) (kept_in_parts parts) }
-    ensures { tile.new ≡ restored (kept_in_parts parts.entry) tile.old }
+    requires whole { AreSpanSlices slices }
+    requires inside { All (λ k. Holds tile.old.place k.x k.y) (kept_in_slices slices) }
+    ensures { tile.new ≡ restored (kept_in_slices slices.entry) tile.old }
 {
-    let mut left = parts;
+    let mut left = slices;
     while !left.spans.is_empty() {
         let (rest, span, last) = left.split_last();
         put_back(tile, &span, last.colours, last.depths);

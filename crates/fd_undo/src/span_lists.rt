@@ -8,12 +8,12 @@ ghost use Rattle.fd_tile.specs.Place.{IsTilePlace};
 ghost use Rattle.fd_undo.specs.Frame.{kept_row, kept_place, alike};
 ghost use Rattle.fd_undo.specs.Rows.{colour_count, depth_count, pixel_count, rows_of, joined, no_span, listed_colours, listed_depths, span_pixels};
 ghost use Rattle.fd_undo.specs.Rows.{KeepsMore, GrowsBy};
-ghost use Rattle.fd_undo.specs.Parts.{AreParts, IsCut, rows_in_parts};
+ghost use Rattle.fd_undo.specs.SpanSlices.{AreSpanSlices, IsCut, rows_in_slices};
 ghost use Rattle.fd_memory.specs.Wanting.{Wanted};
 
-use crate::parts::{Cut, Parts, part};
 use crate::room::{Room, SPANS_INSIDE};
 use crate::span::{Span, last_of};
+use crate::span_slices::{Cut, SpanSlices, part};
 use fd_blend::Colour;
 use fd_memory::small_room;
 use fd_tile::Place;
@@ -204,15 +204,15 @@ impl SpanLists {
     }
 
     /// The spans from one place up to another.
-    #[tactic(auto, using(crate::proofs::RowLemmas::lists_parts_steps))]
-    pub(crate) fn parts(&self, first: Cut, end: Cut) -> Parts<'_>
+    #[tactic(auto, using(crate::proofs::RowLemmas::lists_slices_steps))]
+    pub(crate) fn slices(&self, first: Cut, end: Cut) -> SpanSlices<'_>
         requires ordered { first.span ≤ end.span }
         requires first { IsCut first self.now.spans }
         requires end { IsCut end self.now.spans }
-        ensures whole { AreParts result }
-        ensures rows { rows_in_parts result ≡ take (end.span - first.span) (drop first.span (rows_of self.now)) }
+        ensures whole { AreSpanSlices result }
+        ensures rows { rows_in_slices result ≡ take (end.span - first.span) (drop first.span (rows_of self.now)) }
     {
-        Parts {
+        SpanSlices {
             spans: part(self.spans.as_slice(), first.span, end.span),
             colours: part(&self.colours, first.colour, end.colour),
             depths: part(&self.depths, first.depth, end.depth),

@@ -6,6 +6,6 @@ use Rattle.fd_undo.proofs.kept.kept_in.Given as goal
 -- what the spans that are left keep of the pixel goes on where the search stands
 abbrev pub invariant-loop-span : goal.invariant-loop-span
 invariant-loop-span l = record {
-  at : StandsAt l.parts l.span-index l.first_colour l.first_depth;
-  same : slice_get (kept_from l.parts l.span-index l.first_colour l.first_depth l.x l.y) l.left ≡ slice_get (kept_from l.parts 0 0 0 l.x l.y) l.n;
+  at : StandsAt l.slices l.span-index l.first_colour l.first_depth;
+  same : slice_get (kept_from l.slices l.span-index l.first_colour l.first_depth l.x l.y) l.left ≡ slice_get (kept_from l.slices 0 0 0 l.x l.y) l.n;
 }

@@ -16,13 +16,13 @@ top c is =
 pub put_frame-requires-clause-inside : goal.put_frame-requires-clause-inside
 put_frame-requires-clause-inside c =
     let t = top (goal.at-put_frame-requires-clause-inside c).After-is_stored c.loop-self-test.true in
-    rw (c.newest_parts.ensures.there, t.own, c.loop-self.invariant.tile, all_restored-place)
+    rw (c.newest_slices.ensures.there, t.own, c.loop-self.invariant.tile, all_restored-place)
     (c.requires.inside (newest c.is_stored.new.last.frames).number t.left.least t.within)
 
 pub put_frame-requires-clause-alike : goal.put_frame-requires-clause-alike
 put_frame-requires-clause-alike c =
     let t = top (goal.at-put_frame-requires-clause-alike c).After-is_stored c.loop-self-test.true in
-    rw (c.newest_parts.ensures.there, t.own, c.loop-self.invariant.tile, all_restored-place, all_restored-made)
+    rw (c.newest_slices.ensures.there, t.own, c.loop-self.invariant.tile, all_restored-place, all_restored-made)
     (λ not. c.requires.alike not (newest c.is_stored.new.last.frames).number t.left.least t.within)
 
 pub loop-self-init : goal.loop-self-init

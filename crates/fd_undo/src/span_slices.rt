@@ -1,13 +1,13 @@
 ghost use Rattle.std.specs.Prelude.{◌≡◌, ◌-◌, ◌<◌, ◌≤◌, ◌++◌, length, take, drop};
 ghost use Rattle.fd_undo.specs.Rows.{listed_colours, listed_depths, span_pixels};
-ghost use Rattle.fd_undo.specs.Parts.{AreParts, kept_in_parts};
+ghost use Rattle.fd_undo.specs.SpanSlices.{AreSpanSlices, kept_in_slices};
 
 use crate::span::{Span, last_of};
 use fd_blend::Colour;
 
 /// Spans that follow one another, and the lists with their values.
 #[derive(Clone, Copy)]
-pub(crate) struct Parts<'a> {
+pub(crate) struct SpanSlices<'a> {
     pub(crate) spans: &'a [Span],
     pub(crate) colours: &'a [Colour],
     pub(crate) depths: &'a [u16],
@@ -21,17 +21,17 @@ pub(crate) struct Cut {
     pub(crate) depth: usize,
 }
 
-impl<'a> Parts<'a> {
+impl<'a> SpanSlices<'a> {
     /// All but the last span, and that with its own values.
-    #[tactic(auto, using(crate::proofs::RowLemmas::parts_split_last_steps))]
-    pub(crate) fn split_last(self) -> (Parts<'a>, Span, Parts<'a>)
-        requires whole { AreParts self }
+    #[tactic(auto, using(crate::proofs::RowLemmas::slices_split_last_steps))]
+    pub(crate) fn split_last(self) -> (SpanSlices<'a>, Span, SpanSlices<'a>)
+        requires whole { AreSpanSlices self }
         requires some { 0 < length self.spans.now }
-        ensures whole { AreParts result.0 }
+        ensures whole { AreSpanSlices result.0 }
         ensures fewer { length result.0.spans.now < length self.entry.spans.now }
         ensures coloured { length result.2.colours.now ≡ listed_colours result.1 }
         ensures deep { length result.2.depths.now ≡ listed_depths result.1 }
-        ensures kept { kept_in_parts self.entry ≡ kept_in_parts result.0 ++ span_pixels result.1 result.2.colours.now result.2.depths.now }
+        ensures kept { kept_in_slices self.entry ≡ kept_in_slices result.0 ++ span_pixels result.1 result.2.colours.now result.2.depths.now }
     {
         let span = last_of(self.spans);
         let spans = self.spans.split_at(self.spans.len() - 1);
@@ -41,12 +41,12 @@ impl<'a> Parts<'a> {
         let depths = self
             .depths
             .split_at(self.depths.len() - span.listed_depths());
-        let rest = Parts {
+        let rest = SpanSlices {
             spans: spans.0,
             colours: colours.0,
             depths: depths.0,
         };
-        let last = Parts {
+        let last = SpanSlices {
             spans: spans.1,
             colours: colours.1,
             depths: depths.1,
