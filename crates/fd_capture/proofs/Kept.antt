@@ -148,7 +148,7 @@ module _ (version : ℕ) (found : Members) (draft : Draft) (is : IsDraft version
   picture-named = ap is_painted (is.paint ∙ text-then spelled_paint (get_member (codes "interp") found))
       ∙ painted-spelled (text_member "interp" (object found))
 
-  shaded-found : shaded_draw_of draft.paint (large_of draft.parts) ≡ shaded_draw version (object found)
+  shaded-found : shaded_draw_of draft.paint (large_of draft.large) ≡ shaded_draw version (object found)
   shaded-found =
       rw (
         interp-found,
@@ -158,7 +158,7 @@ module _ (version : ℕ) (found : Members) (draft : Draft) (is : IsDraft version
         indices_from (get_member (codes "indices") found),
       ) refl
 
-  painted-found_in : version ≡ 3 → painted_draw_of (large_of draft.parts) ≡ painted_draw version (object found)
+  painted-found_in : version ≡ 3 → painted_draw_of (large_of draft.large) ≡ painted_draw version (object found)
   painted-found_in third =
       rw (
         is.picture,
@@ -172,7 +172,7 @@ module _ (version : ℕ) (found : Members) (draft : Draft) (is : IsDraft version
 
   -- version 3 alone looks for a picture
   by_version : (b : Bool) → (version == 3) ≡ b
-      → cond (b && is_painted draft.paint) (painted_draw_of (large_of draft.parts)) (shaded_draw_of draft.paint (large_of draft.parts))
+      → cond (b && is_painted draft.paint) (painted_draw_of (large_of draft.large)) (shaded_draw_of draft.paint (large_of draft.large))
       ≡ cond (b && is_picture (text_member "interp" (object found))) (painted_draw version (object found)) (shaded_draw version (object found))
   by_version false other = shaded-found
   by_version true third =

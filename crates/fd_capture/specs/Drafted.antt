@@ -84,9 +84,9 @@ pub record IsDraft (version : ℕ) (found : Members) (draft : Draft) : Type 0 wh
   pub write : draft.write ≡ found_as "write" as_bool found
   pub func : draft.func ≡ found_as "func" func_of_data found
   pub depth : draft.depth ≡ found_as "depth" (number_between 0 65535) found
-  pub vertices : (large_of draft.parts).vertices ≡ option_map (vertices_read version) (get_member (codes "vertices") found)
-  pub indices : (large_of draft.parts).indices ≡ option_map indices_of_array (get_member (codes "indices") found)
-  pub picture : (large_of draft.parts).picture ≡ option_map (picture_read version) (get_member (codes "picture") found)
+  pub vertices : (large_of draft.large).vertices ≡ option_map (vertices_read version) (get_member (codes "vertices") found)
+  pub indices : (large_of draft.large).indices ≡ option_map indices_of_array (get_member (codes "indices") found)
+  pub picture : (large_of draft.large).picture ≡ option_map (picture_read version) (get_member (codes "picture") found)
 
 -- what stands under a member's own name once a member of any name was read: that one's value where the names are the same, else what stood before
 abbrev pub member_or : {X : Type 0} → String → List ℕ → (Data → Option X) → Data → Option X → Option X
@@ -109,9 +109,9 @@ pub record IsDraftWith (version : ℕ) (name : List ℕ) (d : Data) (old new : D
   pub write : new.write ≡ member_or "write" name as_bool d old.write
   pub func : new.func ≡ member_or "func" name func_of_data d old.func
   pub depth : new.depth ≡ member_or "depth" name (number_between 0 65535) d old.depth
-  pub vertices : (large_of new.parts).vertices ≡ member_or "vertices" name (λ e. Some (vertices_read version e)) d (large_of old.parts).vertices
-  pub indices : (large_of new.parts).indices ≡ member_or "indices" name (λ e. Some (indices_of_array e)) d (large_of old.parts).indices
-  pub picture : (large_of new.parts).picture ≡ member_or "picture" name (λ e. Some (picture_read version e)) d (large_of old.parts).picture
+  pub vertices : (large_of new.large).vertices ≡ member_or "vertices" name (λ e. Some (vertices_read version e)) d (large_of old.large).vertices
+  pub indices : (large_of new.large).indices ≡ member_or "indices" name (λ e. Some (indices_of_array e)) d (large_of old.large).indices
+  pub picture : (large_of new.large).picture ≡ member_or "picture" name (λ e. Some (picture_read version e)) d (large_of old.large).picture
 
 -- ---- the event
 
@@ -189,7 +189,7 @@ painted_draw_of large = do
 -- pictures are of version 3
 abbrev pub draw_drafted : ℕ → Draft → Option Event
 draw_drafted version draft =
-    if version == 3 && is_painted draft.paint then painted_draw_of (large_of draft.parts) else shaded_draw_of draft.paint (large_of draft.parts)
+    if version == 3 && is_painted draft.paint then painted_draw_of (large_of draft.large) else shaded_draw_of draft.paint (large_of draft.large)
 
 abbrev pub event_of_kind_from : ℕ → Kind → Draft → Option Event
 event_of_kind_from version kind.Clear draft = clear_of draft

@@ -7,7 +7,7 @@ use Rattle.fd_cover.specs.declared.shading.Interp.TheVariants.{Flat, Linear}
 use Rattle.fd_events.specs.Picture.{Painting, made_painting, no_colour}
 use Rattle.fd_capture.specs.Picture.{picture_of_data}
 use Rattle.fd_capture.specs.declared.vertices.VertexList.{VertexList}
-use Rattle.fd_capture.specs.declared.parts.Parts.{Parts}
+use Rattle.fd_capture.specs.declared.large_members.LargeMembers.{LargeMembers}
 use Rattle.fd_capture.specs.Spelling.{spelled_factor, spelled_op}
 use Rattle.fd_capture.specs.declared.spelling.Paint.{Paint}
 use Rattle.fd_capture.specs.declared.spelling.Paint.TheVariants as paint
@@ -130,9 +130,9 @@ pub record Large : Type 0 where
   pub indices : Option (Option (List ℕ))
   pub picture : Option (Option Painting)
 
-abbrev pub large_of : Parts → Large
-large_of parts = record {
-  vertices = option_map (option_map vertices_seen) parts.vertices;
-  indices = option_map (option_map (λ v. v.items)) parts.indices;
-  picture = option_map (option_map (λ p. p.value)) parts.picture;
+abbrev pub large_of : LargeMembers → Large
+large_of large = record {
+  vertices = option_map (option_map vertices_seen) large.vertices;
+  indices = option_map (option_map (λ v. v.items)) large.indices;
+  picture = option_map (option_map (λ p. p.value)) large.picture;
 }

@@ -8,7 +8,7 @@ ghost use Rattle.fd_capture.specs.Drafted.{IsDraft, IsDraftWith, label_of, event
 use crate::fault::EventFault;
 use crate::from_tokens::FromTokens;
 use crate::kind::{self, Kind};
-use crate::parts::{Parts, draw};
+use crate::large_members::{LargeMembers, draw};
 use crate::picture::picture;
 use crate::scope::Scope;
 use crate::spelling::{Paint, spelled};
@@ -40,7 +40,7 @@ pub(crate) struct Draft {
     pub(crate) write: Option<bool>,
     pub(crate) func: Option<Func>,
     pub(crate) depth: Option<u16>,
-    pub(crate) parts: Parts,
+    pub(crate) large: LargeMembers,
 }
 
 /// The next value as the name of a marker.
@@ -84,9 +84,9 @@ fn event_member(
         "write" => draft.write = bool::next(reader, scope)?,
         "func" => draft.func = spelled(reader, scope)?,
         "depth" => draft.depth = u16::next(reader, scope)?,
-        "vertices" => draft.parts.vertices = Some(vertices(reader, scope)?),
-        "indices" => draft.parts.indices = Some(indices(reader, scope)?),
-        "picture" => draft.parts.picture = Some(picture(reader, scope)?),
+        "vertices" => draft.large.vertices = Some(vertices(reader, scope)?),
+        "indices" => draft.large.indices = Some(indices(reader, scope)?),
+        "picture" => draft.large.picture = Some(picture(reader, scope)?),
         _ => pass(reader, scope.depth)?,
     }
     Ok(())

@@ -8,7 +8,7 @@ ghost use Rattle.fd_capture.specs.Picture.{bytes_of_data, decoded, picture_of_da
 ghost use Rattle.fd_capture.specs.Streamed.{picture_from, picture_read};
 
 use crate::from_tokens::FromTokens;
-use crate::parts::{Member, if_any};
+use crate::large_members::{Member, if_any};
 use crate::scope::Scope;
 use base64::DecodeAllocError;
 use base64::engine::general_purpose::STANDARD;
@@ -46,7 +46,7 @@ fn bytes(reader: &mut Reader<'_>, scope: Scope) -> Result<Option<Vec<u8>>, Stop>
 
 /// What the members of a picture stand for, each if it is there and well formed; holes may be missing.
 #[derive(Default, Drop)]
-struct PictureParts {
+struct PictureMembers {
     left: Option<u32>,
     top: Option<u32>,
     width: Option<u32>,
@@ -55,19 +55,19 @@ struct PictureParts {
     holes: Member<Vec<u8>>,
 }
 
-/// The picture of these parts.
-fn picture_from(parts: PictureParts) -> Option<Picture>
-    ensures { result ≡ picture_from parts.left parts.top parts.width parts.height (option_map (λ v. v.items) parts.texels)
-        (option_map (option_map (λ v. v.items)) parts.holes) }
+/// The picture of these members.
+fn picture_from(members: PictureMembers) -> Option<Picture>
+    ensures { result ≡ picture_from members.left members.top members.width members.height (option_map (λ v. v.items) members.texels)
+        (option_map (option_map (λ v. v.items)) members.holes) }
 {
-    let PictureParts {
+    let PictureMembers {
         left,
         top,
         width,
         height,
         texels,
         holes,
-    } = parts;
+    } = members;
     let left = left?;
     let top = top?;
     let width = width?;
@@ -88,32 +88,32 @@ fn boxed(alloc: Global, picture: Option<Picture>) -> Result<Option<Box<Picture>>
     }
 }
 
-/// The next value is the member of this name, and goes in among the parts if a picture has one.
+/// The next value is the member of this name, and goes in among the others if a picture has one.
 fn picture_member(
     reader: &mut Reader<'_>,
     scope: Scope,
     name: &str,
-    parts: &mut PictureParts,
+    members: &mut PictureMembers,
 ) -> Result<(), Stop>
     ensures ok { OnOk result ((d : Data) × (taken scope.depth reader.old ≡ Some (d, reader.new))
-        × (parts.new.left ≡ cond (bytes_eq name.now (codes "left")) (unsigned_32 d) parts.old.left)
-        × (parts.new.top ≡ cond (bytes_eq name.now (codes "top")) (unsigned_32 d) parts.old.top)
-        × (parts.new.width ≡ cond (bytes_eq name.now (codes "width")) (unsigned_32 d) parts.old.width)
-        × (parts.new.height ≡ cond (bytes_eq name.now (codes "height")) (unsigned_32 d) parts.old.height)
-        × (option_map (λ v. v.items) parts.new.texels
-        ≡ cond (bytes_eq name.now (codes "texels")) (bytes_of_data d) (option_map (λ v. v.items) parts.old.texels))
-        × (option_map (option_map (λ v. v.items)) parts.new.holes
-        ≡ cond (bytes_eq name.now (codes "holes")) (Some (bytes_of_data d)) (option_map (option_map (λ v. v.items)) parts.old.holes))) }
+        × (members.new.left ≡ cond (bytes_eq name.now (codes "left")) (unsigned_32 d) members.old.left)
+        × (members.new.top ≡ cond (bytes_eq name.now (codes "top")) (unsigned_32 d) members.old.top)
+        × (members.new.width ≡ cond (bytes_eq name.now (codes "width")) (unsigned_32 d) members.old.width)
+        × (members.new.height ≡ cond (bytes_eq name.now (codes "height")) (unsigned_32 d) members.old.height)
+        × (option_map (λ v. v.items) members.new.texels
+        ≡ cond (bytes_eq name.now (codes "texels")) (bytes_of_data d) (option_map (λ v. v.items) members.old.texels))
+        × (option_map (option_map (λ v. v.items)) members.new.holes
+        ≡ cond (bytes_eq name.now (codes "holes")) (Some (bytes_of_data d)) (option_map (option_map (λ v. v.items)) members.old.holes))) }
     ensures refused { result ≡ Err Stop.NotJson → taken scope.depth reader.old ≡ None }
     ensures shorter { OnOk result (length reader.new < length reader.old) }
 {
     match name {
-        "left" => parts.left = u32::next(reader, scope)?,
-        "top" => parts.top = u32::next(reader, scope)?,
-        "width" => parts.width = u32::next(reader, scope)?,
-        "height" => parts.height = u32::next(reader, scope)?,
-        "texels" => parts.texels = bytes(reader, scope)?,
-        "holes" => parts.holes = Some(bytes(reader, scope)?),
+        "left" => members.left = u32::next(reader, scope)?,
+        "top" => members.top = u32::next(reader, scope)?,
+        "width" => members.width = u32::next(reader, scope)?,
+        "height" => members.height = u32::next(reader, scope)?,
+        "texels" => members.texels = bytes(reader, scope)?,
+        "holes" => members.holes = Some(bytes(reader, scope)?),
         _ => pass(reader, scope.depth)?,
     }
     Ok(())
@@ -126,11 +126,11 @@ fn picture_members(reader: &mut Reader<'_>, scope: Scope) -> Result<Option<Box<P
     ensures refused { result ≡ Err Stop.NotJson → members_taken scope.depth reader.old ≡ None }
     ensures shorter { OnOk result (length reader.new < length reader.old) }
 {
-    let mut parts = PictureParts::default();
+    let mut members = PictureMembers::default();
     'members: while let Some(name) = reader.next_key()? {
-        picture_member(reader, scope, name, &mut parts)?;
+        picture_member(reader, scope, name, &mut members)?;
     }
-    boxed(scope.alloc, picture_from(parts))
+    boxed(scope.alloc, picture_from(members))
 }
 
 /// The next value as a picture, which versions before 3 don't look at.

@@ -14,7 +14,7 @@ pub(crate) type Member<T> = Option<Option<T>>;
 
 /// What the large members of an event stand for.
 #[derive(Default, Drop)]
-pub(crate) struct Parts {
+pub(crate) struct LargeMembers {
     pub(crate) vertices: Member<VertexList>,
     pub(crate) indices: Member<Vec<u32>>,
     pub(crate) picture: Member<Box<Picture>>,
@@ -49,14 +49,14 @@ fn interp_of(paint: Paint) -> Option<Interp>
 }
 
 /// A draw whose colours come from its vertices.
-fn shaded_draw(paint: Option<Paint>, parts: Parts) -> Option<Event>
-    ensures { result ≡ shaded_draw_of paint (large_of parts) }
+fn shaded_draw(paint: Option<Paint>, large: LargeMembers) -> Option<Event>
+    ensures { result ≡ shaded_draw_of paint (large_of large) }
 {
-    let Parts {
+    let LargeMembers {
         vertices,
         indices,
         ..
-    } = parts;
+    } = large;
     let interp = paint.and_then(interp_of)?;
     let vertices = coloured(vertices??)?;
     let indices = if_any(indices)?;
@@ -65,14 +65,14 @@ fn shaded_draw(paint: Option<Paint>, parts: Parts) -> Option<Event>
 }
 
 /// A draw whose colours come from a picture.
-fn painted_draw(parts: Parts) -> Option<Event>
-    ensures { result ≡ painted_draw_of (large_of parts) }
+fn painted_draw(large: LargeMembers) -> Option<Event>
+    ensures { result ≡ painted_draw_of (large_of large) }
 {
-    let Parts {
+    let LargeMembers {
         vertices,
         indices,
         picture,
-    } = parts;
+    } = large;
     let picture = picture??;
     let vertices = vertices??;
     let indices = if_any(indices)?;
@@ -85,7 +85,7 @@ pub(crate) fn draw(version: u32, draft: Draft) -> Option<Event>
     ensures { result ≡ draw_drafted version draft }
 {
     match draft.paint {
-        Some(Paint::Picture) if version == 3 => painted_draw(draft.parts),
-        _ => shaded_draw(draft.paint, draft.parts),
+        Some(Paint::Picture) if version == 3 => painted_draw(draft.large),
+        _ => shaded_draw(draft.paint, draft.large),
     }
 }
