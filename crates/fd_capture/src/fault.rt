@@ -4,8 +4,8 @@ use fd_events::TableFault;
 use fd_json::Stop;
 use thiserror::Error;
 
-/// Why a capture is refused: the first fault in this order, but memory may run out at any time after the first check.
-/// Events are numbered from 1, and the first one that isn't well formed counts.
+/// Why a capture is refused. The faults are checked in this order, those of events event by event, and memory may run out at any time after the first check.
+/// Events are numbered from 1. What the program prints of each fault stands in `ending.rt` of `fd_words`, and it prints none of the texts here.
 #[derive(Clone, Copy, PartialEq, Eq, Debug, Error)]
 pub enum CaptureFault {
     /// There are more than `MAX_CAPTURE_LEN` bytes.
