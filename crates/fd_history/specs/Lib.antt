@@ -4,4 +4,4 @@ pub mod Settled
 pub mod Chain
 pub mod VersionOne
 pub mod VersionTwo
-pub mod Primitive
+pub mod ListedTriangle

@@ -7,7 +7,7 @@ ghost use Rattle.fd_events.specs.Limits.{most_triangles};
 ghost use Rattle.fd_memory.specs.Wanting.{Wanted};
 
 use crate::entry::Entry;
-use crate::primitive::Primitive;
+use crate::listed_triangle::ListedTriangle;
 use fd_blend::Colour;
 use fd_cover::{Bounds, Verdict};
 use fd_events::{Draw, Event, Pipeline};
@@ -74,13 +74,13 @@ impl Gather {
         if !Bounds::of(&tri).holds(self.x, self.y) {
             return Ok(());
         }
-        let primitive = Primitive::of(draw, triangle);
-        let verdict = primitive.verdict(state, self.depth, self.x, self.y);
+        let listed = ListedTriangle::of(draw, triangle);
+        let verdict = listed.verdict(state, self.depth, self.x, self.y);
         if verdict == Verdict::Missed {
             return Ok(());
         }
-        let source = primitive.source(self.x, self.y);
-        let source_depth = primitive.depth(self.x, self.y);
+        let source = listed.source(self.x, self.y);
+        let source_depth = listed.depth(self.x, self.y);
         let depth_after = if verdict == Verdict::Drawn {
             state.depth.stored_past(source_depth, self.depth)
         } else {

@@ -3,7 +3,7 @@ ghost use Rattle.fd_cover.specs.Covers.{covers};
 ghost use Rattle.fd_snap.specs.Limits.{most_pixels};
 ghost use Rattle.fd_events.specs.Draw.{triangles_of};
 ghost use Rattle.fd_events.specs.Image.{depth_of, is_discarded, source_of, verdict_of};
-ghost use Rattle.fd_history.specs.Primitive.{whole_triangle};
+ghost use Rattle.fd_history.specs.ListedTriangle.{whole_triangle};
 
 use fd_blend::Colour;
 use fd_cover::{Tri, Verdict, depth_at, shade, verdict_at};
@@ -11,21 +11,21 @@ use fd_events::{Draw, Pipeline};
 
 /// A triangle of a draw: its snapped corners, their colours and depths. The draw says how its colour comes from theirs, or which picture it comes from.
 #[derive(Drop)]
-pub(crate) struct Primitive<'a> {
+pub(crate) struct ListedTriangle<'a> {
     pub(crate) draw: &'a Draw,
     pub(crate) corners: Tri,
     pub(crate) colours: [Colour; 3],
     pub(crate) depths: [u16; 3],
 }
 
-impl<'a> Primitive<'a> {
+impl<'a> ListedTriangle<'a> {
     /// The triangle of a number.
-    pub(crate) fn of(draw: &'a Draw, triangle: u32) -> Primitive<'a>
+    pub(crate) fn of(draw: &'a Draw, triangle: u32) -> ListedTriangle<'a>
         requires { triangle < length (triangles_of draw.now) }
         ensures triangle { slice_get (triangles_of draw.now) triangle ≡ Some (whole_triangle result) }
         ensures draw { result.draw.now ≡ draw.now }
     {
-        Primitive {
+        ListedTriangle {
             draw,
             corners: draw.tri(triangle),
             colours: draw.colours(triangle),

@@ -1,5 +1,5 @@
 use Rattle.fd_events.proofs.Triangles.{triangle_at}
-use Rattle.fd_history.proofs.primitive.Primitive.of.Goals as goal
+use Rattle.fd_history.proofs.listed_triangle.ListedTriangle.of.Goals as goal
 
 pub returns-clause-triangle : goal.returns-clause-triangle
 returns-clause-triangle c =
