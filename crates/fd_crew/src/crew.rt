@@ -36,7 +36,7 @@ pub enum Outcome {
 
 /// A run forward: through the events of which table, to which position, and by how many workers.
 #[derive(Clone, Copy)]
-pub struct Run<'a> {
+pub struct Advance<'a> {
     pub table: &'a EventTable,
     pub target: u32,
     /// From 1 to `MOST_WORKERS`.
@@ -235,28 +235,28 @@ pub fn run_shared<R: Threads + Sync, L: Lane, G: Gate>(
     rt: &R,
     alloc: Global,
     lanes: &mut [L],
-    run: &Run<'_>,
+    advance: &Advance<'_>,
     gate: &G,
 ) -> Result<Outcome, AllocError>
-    requires target { run.now.target ≤ length run.now.table.now.events }
-    requires workers { (1 ≤ run.now.workers) × (run.now.workers ≤ 64) }
-    requires fits { All (λ l. L.fits l run.now.table.now) lanes.old }
-    ensures ended { MatchResult result (λ outcome. EndsApart L.shown run.now.table.now run.now.target lanes.old lanes.new outcome)
+    requires target { advance.now.target ≤ length advance.now.table.now.events }
+    requires workers { (1 ≤ advance.now.workers) × (advance.now.workers ≤ 64) }
+    requires fits { All (λ l. L.fits l advance.now.table.now) lanes.old }
+    ensures ended { MatchResult result (λ outcome. EndsApart L.shown advance.now.table.now advance.now.target lanes.old lanes.new outcome)
         (λ _. lanes.new ≡ lanes.old) }
     ensures wanted { MatchResult result (OnStop L.wanted) (λ _. Wanted) }
     ensures passed { ArePassed L.shown (G.opened gate.now) 0 lanes.old lanes.new }
-    ensures fits { All (λ l. L.fits l run.now.table.now) lanes.new }
+    ensures fits { All (λ l. L.fits l advance.now.table.now) lanes.new }
 {
-    let (fence, mut seat) = Fence::raise(alloc, run.target, run.workers)?;
-    let team = Team::whole(run.workers, run.firsts);
+    let (fence, mut seat) = Fence::raise(alloc, advance.target, advance.workers)?;
+    let team = Team::whole(advance.workers, advance.firsts);
     let course = Course {
         fence: &fence,
         gate,
-        table: run.table,
+        table: advance.table,
     };
     run_range(rt, &course, &team, &mut seat, lanes);
     let at = fence.close(seat) as u32;
-    if at == run.target {
+    if at == advance.target {
         return Ok(Outcome::Reached);
     }
     run_back(lanes, at);
@@ -283,11 +283,11 @@ pub fn run_forward<R: Threads + Sync, L: Lane, G: Gate>(
     ensures fits { All (λ l. L.fits l table.now) lanes.new }
 {
     let firsts = even_firsts(lanes.len(), workers);
-    let run = Run {
+    let advance = Advance {
         table,
         target,
         workers,
         firsts: &firsts[..workers as usize],
     };
-    run_shared(rt, alloc, lanes, &run, gate)
+    run_shared(rt, alloc, lanes, &advance, gate)
 }

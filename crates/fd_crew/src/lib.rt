@@ -1,7 +1,7 @@
 //! Workers that take the lanes of a frame forward side by side, each lane at its own pace, and leave all of them at one position.
 #![tactic(auto)]
 
-pub use crew::{MOST_WORKERS, Outcome, Run, run_back, run_forward, run_shared};
+pub use crew::{Advance, MOST_WORKERS, Outcome, run_back, run_forward, run_shared};
 pub use lane::{Free, Gate, Lane};
 
 mod crew;

@@ -41,8 +41,8 @@ fn run_on<R: Threads + Sync, G: Gate>(
     ensures wanted { MatchResult result (λ at. at < slice.now.end → Wanted) (λ _. Wanted) }
     ensures passed { ArePassed (λ o. o) (G.opened drive.now.gate.now) 0 owners.old owners.new }
 {
-    let run = slice.run(way.table);
-    let outcome = run_shared(rt, drive.alloc, owners, &run, drive.gate)?;
+    let advance = slice.advance(way.table);
+    let outcome = run_shared(rt, drive.alloc, owners, &advance, drive.gate)?;
     settle(owners, drive.policy.forgets());
     match outcome {
         Outcome::Reached => Ok(slice.end),

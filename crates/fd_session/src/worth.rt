@@ -3,7 +3,7 @@ ghost use Rattle.std.specs.Prelude.{◌≡◌, ◌<◌, ◌≤◌, length};
 
 use crate::estimate::{Estimate, Firsts};
 use crate::way::Way;
-use fd_crew::Run;
+use fd_crew::Advance;
 use fd_events::EventTable;
 
 /// The work that a worker must have to be worth its thread, in nanoseconds: a thread takes 30 to 50 microseconds to start.
@@ -51,12 +51,12 @@ impl Slice {
     }
 
     /// How the crew goes through these events of a table.
-    pub(crate) fn run<'a>(&'a self, table: &'a EventTable) -> Run<'a>
+    pub(crate) fn advance<'a>(&'a self, table: &'a EventTable) -> Advance<'a>
         ensures table { result.table.now ≡ table.now }
         ensures target { result.target ≡ self.now.end }
         ensures workers { result.workers ≡ self.now.workers }
     {
-        Run {
+        Advance {
             table,
             target: self.end,
             workers: self.workers,

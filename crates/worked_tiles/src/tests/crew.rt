@@ -3,7 +3,7 @@ ghost use Rattle.std.specs.Prelude.{◌≡◌, ◌≤◌, length, IfOk};
 ghost use Rattle.fd_owner.specs.History.{position};
 
 use fd_blend::Colour;
-use fd_crew::{Free, Gate, Lane, Outcome, Run, run_back, run_forward, run_shared};
+use fd_crew::{Advance, Free, Gate, Lane, Outcome, run_back, run_forward, run_shared};
 use fd_events::{Event, EventTable, Label};
 use fd_owner::{Owner, Refused};
 use fd_tile::{Place, Tile};
@@ -393,13 +393,13 @@ fn a_worker_begins_at_the_lane_that_it_is_given(rt: HostRuntime) -> Result<(), F
         Fake::new(None),
         Fake::new(None),
     ];
-    let run = Run {
+    let advance = Advance {
         table: &table,
         target: 1,
         workers: 2,
         firsts: &[0, 1],
     };
-    let outcome = run_shared(&rt, rt.alloc(), &mut lanes, &run, &gate)?;
+    let outcome = run_shared(&rt, rt.alloc(), &mut lanes, &advance, &gate)?;
     assert!(rt; outcome == Outcome::Reached && gate.gave_up.load(Ordering::SeqCst) == 0);
     assert!(rt;
         lanes
@@ -435,13 +435,13 @@ fn four_workers_begin_at_the_lanes_that_they_are_given(rt: HostRuntime) -> Resul
         Fake::new(None),
     ];
     let firsts = [0, 1, 2, 3];
-    let run = Run {
+    let advance = Advance {
         table: &table,
         target: 1,
         workers: 4,
         firsts: &firsts,
     };
-    let outcome = run_shared(&rt, rt.alloc(), &mut lanes, &run, &gate)?;
+    let outcome = run_shared(&rt, rt.alloc(), &mut lanes, &advance, &gate)?;
     assert!(rt; outcome == Outcome::Reached && gate.gave_up.load(Ordering::SeqCst) == 0);
     Ok(())
 }
@@ -456,13 +456,13 @@ fn all_go<R: Threads + Sync + Abort>(
     requires { length table.now.events ≡ 9 }
 {
     let mut lanes = [Fake::new(None), Fake::new(None), Fake::new(Some(4))];
-    let run = Run {
+    let advance = Advance {
         table: table,
         target: 9,
         workers: 3,
         firsts: firsts,
     };
-    let outcome = run_shared(rt, alloc, &mut lanes, &run, &Free)?;
+    let outcome = run_shared(rt, alloc, &mut lanes, &advance, &Free)?;
     assert!(rt; outcome == Outcome::Stopped { at: 3 });
     assert!(rt; lanes.iter().all(|lane| lane.position == 3));
     Ok(())
@@ -474,22 +474,22 @@ fn lanes_may_begin_apart(rt: HostRuntime) -> Result<(), Fail> {
     let table = markers(rt.alloc(), 9)?;
     let mut lanes = [Fake::new(None), Fake::new(Some(6)), Fake::new(None)];
     lanes[2].position = 7;
-    let run = Run {
+    let advance = Advance {
         table: &table,
         target: 3,
         workers: 2,
         firsts: &[],
     };
-    let outcome = run_shared(&rt, rt.alloc(), &mut lanes, &run, &Free)?;
+    let outcome = run_shared(&rt, rt.alloc(), &mut lanes, &advance, &Free)?;
     assert!(rt; outcome == Outcome::Reached);
     assert!(rt; lanes[0].position == 3 && lanes[1].position == 3 && lanes[2].position == 7);
-    let run = Run {
+    let advance = Advance {
         table: &table,
         target: 9,
         workers: 2,
         firsts: &[],
     };
-    let outcome = run_shared(&rt, rt.alloc(), &mut lanes, &run, &Free)?;
+    let outcome = run_shared(&rt, rt.alloc(), &mut lanes, &advance, &Free)?;
     assert!(rt; outcome == Outcome::Stopped { at: 5 });
     assert!(rt; lanes.iter().all(|lane| lane.position == 5));
     lanes[0].back_to(2);

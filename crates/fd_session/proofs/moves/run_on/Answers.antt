@@ -6,12 +6,12 @@ use Rattle.fd_session.proofs.moves.run_on.Goals as goal
 pub returns-in-Reached-clause-comes : goal.returns-in-Reached-clause-comes
 returns-in-Reached-clause-comes g c = run_reached _ _ c.requires.forgotten _ _ _ _ _ _ c.requires.stand
     (rw c.forgets.ensures at c.settle.ensures) c.requires.ahead
-    (rw (c.run-run.ensures.table, c.run-run.ensures.target, c.in-Reached.is) at c.in_ok-outcome.ensures.ended)
+    (rw (c.advance-advance.ensures.table, c.advance-advance.ensures.target, c.in-Reached.is) at c.in_ok-outcome.ensures.ended)
 
 pub returns-in-Stopped-clause-comes : goal.returns-in-Stopped-clause-comes
 returns-in-Stopped-clause-comes g c = run_stopped _ _ c.requires.forgotten _ _ _ _ _ _ c.requires.stand
     (rw c.forgets.ensures at c.settle.ensures) c.in-Stopped.at
-    (rw (c.run-run.ensures.table, c.run-run.ensures.target, c.in-Stopped.is) at c.in_ok-outcome.ensures.ended)
+    (rw (c.advance-advance.ensures.table, c.advance-advance.ensures.target, c.in-Stopped.is) at c.in_ok-outcome.ensures.ended)
 
 pub returns-in-Reached-clause-passed : goal.returns-in-Reached-clause-passed
 returns-in-Reached-clause-passed g c = passed_settled (forgets_by c.args.drive.now.policy) (g.G.Gate.opened c.args.drive.now.gate.now) 0 _ _ _
