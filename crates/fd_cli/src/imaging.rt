@@ -10,20 +10,20 @@ use fd_device::Sink;
 use fd_events::EventTable;
 use fd_listing::open;
 use fd_pam::{PamFault, pam_len, write};
-use fd_session::{Answer, Picture, SessionFault};
+use fd_session::{Answer, SessionFault, Still};
 use fd_words::Ending;
 use std::alloc::Global;
 use std::thread::Threads;
 
-/// Writes a picture, and flushes.
-fn write_shown<W: Sink>(alloc: Global, picture: &Picture, sink: &mut W) -> Ending
-    ensures writes { (written : List ℕ) × Appends (W.contents sink.old) (W.contents sink.new) written × ShowsState picture.now written result }
+/// Writes a still, and flushes.
+fn write_shown<W: Sink>(alloc: Global, still: &Still, sink: &mut W) -> Ending
+    ensures writes { (written : List ℕ) × Appends (W.contents sink.old) (W.contents sink.new) written × ShowsState still.now written result }
     ensures failures { CountsWriter result (W.failure_count sink.old) (W.failure_count sink.new) }
     ensures flushed { EndsFlushed result (W.is_flushed sink.old) (W.is_flushed sink.new) }
 {
-    let table = picture.table();
+    let table = still.table();
     let sent = pam_len(table.width(), table.height());
-    match write(alloc, sink, picture) {
+    match write(alloc, sink, still) {
         Err(PamFault::Memory) => Ending::Memory,
         Err(PamFault::Write { sent }) => Ending::Write { sent },
         Ok(()) => match sink.flush() {
@@ -47,11 +47,11 @@ fn write_table<T: Threads + Sync, W: Sink>(
     ensures flushed { EndsFlushed result (W.is_flushed sink.old) (W.is_flushed sink.new) }
 {
     let to = at.unwrap_or(table.len());
-    let Ok(mut picture) = Picture::start(host.alloc, table, workers) else {
+    let Ok(mut still) = Still::start(host.alloc, table, workers) else {
         return Ending::Memory;
     };
-    match picture.go(host.rt, to, sink) {
-        Answer::Moved { .. } => write_shown(host.alloc, &picture, sink),
+    match still.go(host.rt, to, sink) {
+        Answer::Moved { .. } => write_shown(host.alloc, &still, sink),
         Answer::Refused(SessionFault::NoSuchPosition) => Ending::NoSuchPosition,
         Answer::Stopped { .. } | Answer::Refused(_) => Ending::Memory,
     }

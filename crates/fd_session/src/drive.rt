@@ -3,7 +3,7 @@ ghost use Rattle.std.specs.Prelude.{◌≡◌, ◌<◌, ◌≤◌, length};
 ghost use Rattle.fd_session.specs.Moves.{forgets_by};
 
 use crate::way::Way;
-use crate::worth::{MOVE_WORK, PICTURE_WORK, Slice, next_slice};
+use crate::worth::{MOVE_WORK, STILL_WORK, Slice, next_slice};
 use fd_crew::Gate;
 use std::alloc::Global;
 
@@ -15,7 +15,7 @@ pub(crate) enum Policy {
     /// Slice by slice, each by as many workers as it is worth. All that was done stays where memory runs out.
     Slices,
     /// The same, and after each slice the owners forget what it overwrote. So they take little memory, and a slice may begin wherever one ended.
-    Picture,
+    Still,
 }
 
 impl Policy {
@@ -25,7 +25,7 @@ impl Policy {
     {
         match self {
             Policy::Whole | Policy::Slices => false,
-            Policy::Picture => true,
+            Policy::Still => true,
         }
     }
 
@@ -41,7 +41,7 @@ impl Policy {
                 let was_alone = slice.workers == 1 && slice.end - at == 1;
                 if was_alone { at } else { slice.end }
             }
-            Policy::Picture => slice.from.saturating_add(1).min(slice.end),
+            Policy::Still => slice.from.saturating_add(1).min(slice.end),
         }
     }
 }
@@ -71,7 +71,7 @@ impl<G: Gate> Drive<'_, G> {
         match self.policy {
             Policy::Whole => Slice::even(at, way.to, self.workers),
             Policy::Slices => next_slice(way, at, self.workers, MOVE_WORK),
-            Policy::Picture => next_slice(way, at, self.workers, PICTURE_WORK),
+            Policy::Still => next_slice(way, at, self.workers, STILL_WORK),
         }
     }
 }

@@ -1,4 +1,4 @@
-//! The frame under a session and under a picture: an owner for each tile of a table's target.
+//! The frame under a session and under a still: an owner for each tile of a table's target.
 ghost use Rattle.std.specs.Prelude.{◌≡◌, ℕ, ◌+◌, ◌<◌, ◌≤◌, Bool, length, map, All, IfOk, IfErr, OnErr};
 ghost use Rattle.std.specs.List.{range_with_len};
 ghost use Rattle.fd_tile.specs.Grid.{tile_count};

@@ -4,8 +4,8 @@
 pub use answer::{Answer, SessionFault};
 pub use fd_crew::MOST_WORKERS;
 pub use fd_frame::Shows;
-pub use picture::Picture;
 pub use session::Session;
+pub use still::Still;
 
 mod answer;
 mod drive;
@@ -14,9 +14,9 @@ mod frame;
 pub mod laws;
 mod moves;
 mod near;
-mod picture;
 mod redraw;
 mod session;
+mod still;
 mod switch;
 #[cfg(test)]
 mod tests;

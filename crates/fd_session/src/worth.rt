@@ -13,8 +13,8 @@ const WORKER_WORK: usize = 130_000;
 /// goes through fewer events while it is in the cache.
 pub(crate) const MOVE_WORK: usize = 60_000_000;
 
-/// The same for a picture, whose records are gone after each slice, so that they take little memory.
-pub(crate) const PICTURE_WORK: usize = 17_000_000;
+/// The same for a still, whose records are gone after each slice, so that they take little memory.
+pub(crate) const STILL_WORK: usize = 17_000_000;
 
 /// The work of a slice for each tile beside that, in nanoseconds, so that on many tiles a slice does more than fetch them all.
 const FETCHED_WORK: usize = 500;

@@ -9,13 +9,13 @@ use Rattle.fd_cli.proofs.imaging.write_shown.Goals as goal
 pub returns-in-Err-Write-clause-writes : goal.returns-in-Err-Write-clause-writes
 returns-in-Err-Write-clause-writes g c =
     let bytes = rw c.in-Err-Write.field-0-is at c.in-Err-Write.ensures.bytes in
-    let text = pam c.args.picture.now in
+    let text = pam c.args.still.now in
     let sent = c.in-Err-Write.sent in
     (take sent text, bytes.1, (drop sent text, take-append-drop sent text, omega (arith, length-take sent text, bytes.0)))
 
 pub returns-in-Err-clause-writes : goal.returns-in-Err-clause-writes
 returns-in-Err-clause-writes g c =
-    let state = c.args.picture.now in
+    let state = c.args.still.now in
     let contents = g.W.Sink.contents in
     let count =
     c.pam_len-sent.ensures

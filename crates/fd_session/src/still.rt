@@ -18,12 +18,12 @@ use std::thread::Threads;
 
 /// The image of a frame at a position, drawn forward alone. What events overwrite is kept no longer than a slice.
 #[derive(Drop)]
-pub struct Picture {
+pub struct Still {
     // all owners stand at one position, and none of them keeps anything
     frame: Frame,
 }
 
-impl Model for Picture {
+impl Model for Still {
     ghost use Rattle.std.specs.Prelude.{◌≤◌, true};
     ghost use Rattle.fd_crew.specs.Lanes.{opening_position};
     ghost use Rattle.fd_session.specs.Held.{HoldsAll};
@@ -31,12 +31,12 @@ impl Model for Picture {
 
     ghost Value = { State };
 
-    ghost view = { λ p. record { table = p.frame.table; position = opening_position p.frame.owners.items } };
+    ghost view = { λ s. record { table = s.frame.table; position = opening_position s.frame.owners.items } };
 
-    ghost invariant = { λ p. HoldsAll true p.frame.table p.frame.grid p.frame.owners.items × (1 ≤ p.frame.workers) × (p.frame.workers ≤ 64) };
+    ghost invariant = { λ s. HoldsAll true s.frame.table s.frame.grid s.frame.owners.items × (1 ≤ s.frame.workers) × (s.frame.workers ≤ 64) };
 }
 
-impl Picture {
+impl Still {
     ghost use Rattle.fd_frame.specs.State.{opening, at_position};
     ghost use Rattle.fd_session.specs.Machine.{Jumps, OnWant};
 
@@ -45,14 +45,14 @@ impl Picture {
         alloc: Global,
         table: EventTable,
         workers: u32,
-    ) -> Result<Picture, (EventTable, AllocError)>
+    ) -> Result<Still, (EventTable, AllocError)>
         requires { (1 ≤ workers) × (workers ≤ 64) }
-        ensures ok { IfOk result (λ picture. picture ≡ opening table) }
+        ensures ok { IfOk result (λ still. still ≡ opening table) }
         ensures err { IfErr result (λ e. e.0 ≡ table) }
         ensures wanted { OnErr result Wanted }
     {
         let frame = Frame::open(alloc, table, workers)?;
-        Ok(Picture { frame })
+        Ok(Still { frame })
     }
 
     /// Draws on to a position, or to the one before the first event that is refused memory, and gives that position.
@@ -66,7 +66,7 @@ impl Picture {
         ensures told { T.kept teller.new ≡ T.kept teller.old }
     {
         let from = self.position();
-        let drive = self.frame.drive(Policy::Picture, &Free);
+        let drive = self.frame.drive(Policy::Still, &Free);
         let way = Way::of(&self.frame.table, from, to);
         go_forward(rt, &mut self.frame.owners, &way, &drive, teller).unwrap_or(from)
     }
@@ -101,8 +101,8 @@ impl Picture {
     }
 }
 
-impl Shows for Picture {
-    ghost state = { λ picture. picture };
+impl Shows for Still {
+    ghost state = { λ still. still };
 
     fn table(&self) -> &EventTable {
         &self.frame.table

@@ -1,5 +1,5 @@
 use Rattle.std.proofs.Common.{refl, true}
-use Rattle.fd_session.proofs.picture.Picture.start.Goals as goal
+use Rattle.fd_session.proofs.still.Still.start.Goals as goal
 
 pub invariant_of-result : goal.invariant_of-result
 invariant_of-result c = ((c.in_ok-frame.ensures.opened true).0, rw c.in_ok-frame.ensures.workers c.requires.0, rw c.in_ok-frame.ensures.workers c.requires.1)

@@ -1,7 +1,7 @@
 use Rattle.std.proofs.Common.{◌∙◌, ap, length, arith, true, sym}
 use Rattle.fd_frame.specs.State.{State, at_position, opening}
 use Rattle.fd_session.proofs.Frames.{held_back}
-use Rattle.fd_session.proofs.picture.Picture.draw.Goals as goal
+use Rattle.fd_session.proofs.still.Still.draw.Goals as goal
 
 pub invariant_of-self : goal.invariant_of-self
 invariant_of-self g c =

@@ -4,7 +4,7 @@ use Rattle.fd_events.specs.Image.{colour_at}
 use Rattle.fd_crew.specs.Lanes.{opening_position}
 use Rattle.fd_frame.specs.State.{State}
 use Rattle.fd_session.proofs.Showing.{all_show}
-use Rattle.fd_session.proofs.picture.PictureShows.row_from.Goals as goal
+use Rattle.fd_session.proofs.still.StillShows.row_from.Goals as goal
 
 pub returns-clause-colours : goal.returns-clause-colours
 returns-clause-colours c =
