@@ -13,7 +13,7 @@ use Rattle.fd_blend.specs.declared.equation.BlendOp.{BlendOp}
 use Rattle.fd_blend.specs.declared.equation.BlendOp.TheVariants.{Add, Subtract, RevSubtract, Min, Max}
 use Rattle.fd_blend.specs.Channel.{channel_of}
 use Rattle.fd_blend.specs.Equation.{factor_value, looks_at_destination, is_add, adds_unseen}
-use Rattle.fd_blend.specs.Lanes.{units}
+use Rattle.fd_blend.specs.Vectors.{units}
 use Rattle.fd_blend.specs.Resolved.{bit, weighted_channel}
 use Rattle.fd_blend.proofs.ResolvedLemmas.{channel_by}
 use Rattle.fd_blend.proofs.RowLemmas.{blend_replaced}
@@ -61,7 +61,7 @@ known_adds part h =
       dst = each.1.1;
     }
 
--- a lane of a channel, its factors as they are over the destination that is seen
+-- an element of a channel, its factors as they are over the destination that is seen
 pub added_by : (w : Bool) (part : Part) (channel : Channel) (factor s d e : Colour) → adds_unseen part ≡ true
     → (if bit w == 0 then channel_of channel d
     else (units Add (channel_of channel s * factor_value part.src channel factor s e) (channel_of channel d * factor_value part.dst channel factor s e)

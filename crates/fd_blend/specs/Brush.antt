@@ -22,23 +22,23 @@ weighted_source part channel factor source = channel_of channel source * factor_
 abbrev pub destination_factor : Part → Channel → Colour → Colour → ℕ
 destination_factor part channel factor source = factor_value part.dst channel factor source fresh
 
--- eight lanes: the channels of two pixels
-abbrev pub in_lanes : (Part → Channel → ℕ) → Part → Part → List ℕ
-in_lanes of rgb alpha =
+-- eight elements: the channels of two pixels
+abbrev pub in_elements : (Part → Channel → ℕ) → Part → Part → List ℕ
+in_elements of rgb alpha =
     of rgb Red ∷ of rgb Green ∷ of rgb Blue ∷ of alpha Alpha ∷ of rgb Red ∷ of rgb Green ∷ of rgb Blue ∷ of alpha Alpha ∷ []
 
--- eight lanes of products, and eight of factors
+-- eight elements of products, and eight of factors
 pub record AreWeights (sources factors : List ℕ) : Type 0 where
   pub eight_sources : length sources ≡ 8
   pub eight_factors : length factors ≡ 8
   pub bytes : (k : ℕ) → k < 8 → slice_index factors k < 256
 
--- both parts add, no factor comes from the destination, and the lanes hold the weighted sources and the destinations' factors
+-- both parts add, no factor comes from the destination, and the elements hold the weighted sources and the destinations' factors
 pub record IsSettled (rgb alpha : Part) (factor source : Colour) (sources factors : List ℕ) : Type 0 where
   pub rgb_adds : adds_unseen rgb ≡ true
   pub alpha_adds : adds_unseen alpha ≡ true
-  pub of_sources : sources ≡ in_lanes (λ part channel. weighted_source part channel factor source) rgb alpha
-  pub of_factors : factors ≡ in_lanes (λ part channel. destination_factor part channel factor source) rgb alpha
+  pub of_sources : sources ≡ in_elements (λ part channel. weighted_source part channel factor source) rgb alpha
+  pub of_factors : factors ≡ in_elements (λ part channel. destination_factor part channel factor source) rgb alpha
   pub weights : AreWeights sources factors
   pub source_r : source.r < 256
   pub source_g : source.g < 256

@@ -3,7 +3,7 @@ ghost use Rattle.std.specs.Prelude.{◌≡◌, IfSome};
 ghost use Rattle.fd_blend.specs.Blend.{blend};
 ghost use Rattle.fd_blend.specs.Blending.{Blending};
 ghost use Rattle.fd_blend.specs.Brush.{IsSettled};
-ghost use Rattle.fd_blend.specs.Resolved.{IsOf, IsInLanes};
+ghost use Rattle.fd_blend.specs.Resolved.{IsOf, IsInElements};
 ghost use Rattle.fd_blend.specs.Row.{drawn_row};
 
 use crate::channel::Colour;
@@ -24,14 +24,14 @@ pub struct Brush {
 impl Model for Brush {
     ghost use Rattle.std.specs.Prelude.{IfSome};
     ghost use Rattle.fd_blend.specs.Brush.{Stroke, IsSettled};
-    ghost use Rattle.fd_blend.specs.Resolved.{IsOf, IsInLanes};
+    ghost use Rattle.fd_blend.specs.Resolved.{IsOf, IsInElements};
 
     ghost Value = { Stroke };
 
     ghost view = { λ b. record { state = b.state; factor = b.equation.factor; source = b.source } };
 
     ghost invariant = { λ b. IsOf b.state b.equation.rgb b.equation.alpha b.equation.mask
-        × (IsInLanes b.equation.rgb b.equation.alpha b.equation.mask b.equation.factor b.equation.positions b.equation.flips b.equation.written
+        × (IsInElements b.equation.rgb b.equation.alpha b.equation.mask b.equation.factor b.equation.positions b.equation.flips b.equation.written
         × IfSome b.settled (λ s. IsSettled b.equation.rgb b.equation.alpha b.equation.factor b.source s.sources s.factors)) };
 }
 
@@ -74,7 +74,7 @@ fn pair(
     d: Colour,
     e: Colour,
 ) -> (Colour, Colour)
-    requires lanes { IsInLanes equation.rgb equation.alpha equation.mask equation.factor equation.positions equation.flips equation.written }
+    requires elements { IsInElements equation.rgb equation.alpha equation.mask equation.factor equation.positions equation.flips equation.written }
     requires settled { IfSome settled (λ s. IsSettled equation.rgb equation.alpha equation.factor source s.sources s.factors) }
     ensures first { (state : Blending) → IsOf state equation.rgb equation.alpha equation.mask → result.0 ≡ blend state equation.factor source d }
     ensures second { (state : Blending) → IsOf state equation.rgb equation.alpha equation.mask → result.1 ≡ blend state equation.factor source e }
@@ -89,7 +89,7 @@ fn pair(
 /// and it stands in its caller, where what is known of the equation makes the loop shorter.
 #[inline(always)]
 fn draw_pairs(equation: Equation, settled: Option<Settled>, source: Colour, dst: &mut [Colour])
-    requires lanes { IsInLanes equation.rgb equation.alpha equation.mask equation.factor equation.positions equation.flips equation.written }
+    requires elements { IsInElements equation.rgb equation.alpha equation.mask equation.factor equation.positions equation.flips equation.written }
     requires settled { IfSome settled (λ s. IsSettled equation.rgb equation.alpha equation.factor source s.sources s.factors) }
     ensures { (state : Blending) → IsOf state equation.rgb equation.alpha equation.mask → dst.new ≡ drawn_row state equation.factor source dst.old }
 {

@@ -1,15 +1,15 @@
-//! The blend equation of a state as lanes take it, resolved once for a row.
+//! The blend equation of a state as elements take it, resolved once for a row.
 ghost use Rattle.std.specs.Prelude.{◌≡◌, ℕ, ◌+◌, ◌<◌, ◌≤◌, length, [], ◌∷◌, IsTrue, ◌||◌, nat_lt, nat_le, slice_index, if◌then◌else◌};
 ghost use Rattle.fd_blend.specs.Mask.{writes};
 ghost use Rattle.fd_blend.specs.Resolved.{channel_place, factor_position, flip_of, weighted_part, positions_of, flips_of, written_of};
 
 use crate::channel::{Channel, Colour};
 use crate::equation::{BlendOp, Factor, Part};
-use crate::lanes::{added, blended};
 use crate::mask::Mask;
 use crate::packing::{bytes_of, colours_of, pair_bytes};
 use crate::settled::Settled;
 use crate::state::BlendState;
+use crate::vectors::{added, blended};
 use std::simd::prelude::*;
 
 /// The part that leaves the source.
@@ -172,13 +172,13 @@ impl Equation {
     ghost use Rattle.fd_blend.specs.Blend.{blend};
     ghost use Rattle.fd_blend.specs.Blending.{Blending};
     ghost use Rattle.fd_blend.specs.Brush.{AreWeights, IsSettled};
-    ghost use Rattle.fd_blend.specs.Resolved.{IsOf, IsInLanes};
+    ghost use Rattle.fd_blend.specs.Resolved.{IsOf, IsInElements};
 
     /// The equation of a state and a blend factor.
     pub(crate) fn of(state: &BlendState, factor: Colour) -> Equation
         ensures state { IsOf state.now result.rgb result.alpha result.mask }
         ensures factor { result.factor ≡ factor }
-        ensures lanes { IsInLanes result.rgb result.alpha result.mask result.factor result.positions result.flips result.written }
+        ensures elements { IsInElements result.rgb result.alpha result.mask result.factor result.positions result.flips result.written }
     {
         let rgb = state.rgb().weighted(state.enable());
         let alpha = state.alpha().weighted(state.enable());
@@ -196,11 +196,11 @@ impl Equation {
 
     /// Two sources over two destinations.
     pub(crate) fn pair(&self, s: Colour, t: Colour, d: Colour, e: Colour) -> (Colour, Colour)
-        requires { IsInLanes self.now.rgb self.now.alpha self.now.mask self.now.factor self.now.positions self.now.flips self.now.written }
+        requires { IsInElements self.now.rgb self.now.alpha self.now.mask self.now.factor self.now.positions self.now.flips self.now.written }
         ensures first { (state : Blending) → IsOf state self.now.rgb self.now.alpha self.now.mask → result.0 ≡ blend state self.now.factor s d }
         ensures second { (state : Blending) → IsOf state self.now.rgb self.now.alpha self.now.mask → result.1 ≡ blend state self.now.factor t e }
     {
-        let lanes = blended(
+        let elements = blended(
             bytes_of(s, t, d, e),
             self.positions,
             self.flips,
@@ -208,12 +208,12 @@ impl Equation {
             self.rgb.op,
             self.alpha.op,
         );
-        colours_of(lanes)
+        colours_of(elements)
     }
 
     /// One source over one destination.
     pub(crate) fn one(&self, s: Colour, d: Colour) -> Colour
-        requires { IsInLanes self.now.rgb self.now.alpha self.now.mask self.now.factor self.now.positions self.now.flips self.now.written }
+        requires { IsInElements self.now.rgb self.now.alpha self.now.mask self.now.factor self.now.positions self.now.flips self.now.written }
         ensures { (state : Blending) → IsOf state self.now.rgb self.now.alpha self.now.mask → result ≡ blend state self.now.factor s d }
     {
         self.pair(s, s, d, d).0
@@ -251,9 +251,9 @@ impl Equation {
         Settled::of(self.rgb, self.alpha, self.factor, source)
     }
 
-    /// The source that the lanes were settled for over two destinations.
+    /// The source that the elements were settled for over two destinations.
     pub(crate) fn over(&self, settled: Settled, d: Colour, e: Colour) -> (Colour, Colour)
-        requires lanes { IsInLanes self.now.rgb self.now.alpha self.now.mask self.now.factor self.now.positions self.now.flips self.now.written }
+        requires elements { IsInElements self.now.rgb self.now.alpha self.now.mask self.now.factor self.now.positions self.now.flips self.now.written }
         requires weights { AreWeights settled.sources settled.factors }
         ensures first { (state : Blending) (source : Colour) → IsOf state self.now.rgb self.now.alpha self.now.mask
             → IsSettled self.now.rgb self.now.alpha self.now.factor source settled.sources settled.factors → result.0 ≡ blend state self.now.factor source d }
@@ -261,7 +261,7 @@ impl Equation {
             → IsSettled self.now.rgb self.now.alpha self.now.factor source settled.sources settled.factors → result.1 ≡ blend state self.now.factor source e }
     {
         let bytes = pair_bytes(d, e);
-        let lanes = added(bytes, settled.sources, settled.factors, self.written);
-        colours_of(lanes)
+        let elements = added(bytes, settled.sources, settled.factors, self.written);
+        colours_of(elements)
     }
 }

@@ -31,7 +31,7 @@ fn destination_factor(part: Part, channel: Channel, factor: Colour, source: Colo
     u16::from(part.dst.value(channel, factor, source, UNSEEN))
 }
 
-/// The weighted channels of a source and the factors of destinations, in lanes for two pixels.
+/// The weighted channels of a source and the factors of destinations, in elements for two pixels.
 #[derive(Clone, Copy)]
 pub(crate) struct Settled {
     pub(crate) sources: u16x8,

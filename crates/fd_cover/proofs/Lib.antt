@@ -9,4 +9,4 @@ pub mod HalfLineLemmas
 pub mod VersionOnes
 pub mod ReciprocalLemmas
 pub mod WalkLemmas
-pub mod RowsLemmas
+pub mod ScanlinesLemmas

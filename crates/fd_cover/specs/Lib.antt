@@ -3,7 +3,7 @@ pub mod Covers
 pub mod Cross
 pub mod Depth
 pub mod Limits
-pub mod Rows
+pub mod Scanlines
 pub mod Shade
 pub mod SharedEdge
 pub mod Slope

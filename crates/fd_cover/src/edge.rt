@@ -1,5 +1,5 @@
 ghost use Rattle.std.specs.Prelude.{◌≡◌, ℕ, ◌<◌, ◌≤◌, ◌^◌, ◌↔◌, ℤ, pos, ◌+ℤ◌, ◌-ℤ◌, ◌*ℤ◌, ◌≤ℤ◌, ◌<ℤ◌, IsTrue, unsigned_abs};
-ghost use Rattle.fd_cover.specs.Rows.{IsEdge, margin};
+ghost use Rattle.fd_cover.specs.Scanlines.{IsEdge, margin};
 ghost use Rattle.fd_snap.specs.Limits.{most_pixels};
 
 use crate::coverage::is_top;

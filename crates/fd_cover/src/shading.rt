@@ -5,10 +5,10 @@ ghost use Rattle.fd_cover.specs.Limits.{most_in_row};
 ghost use Rattle.fd_cover.specs.Shade.{area_of, weight_a, weight_b, weight_c, IsNearestLarger, IsNearestMean, rounded_quotient, colour_of, shaded};
 ghost use Rattle.fd_snap.specs.Limits.{most_pixels};
 
-use crate::lanes::{colour_of, moved};
 use crate::point::{Point, doubled_area};
 use crate::reciprocal::Reciprocal;
 use crate::triangle::Tri;
+use crate::vectors::{colour_of, moved};
 use fd_blend::Colour;
 use std::simd::prelude::*;
 

@@ -1,6 +1,6 @@
 ghost use Rattle.std.specs.Prelude.{◌≡◌, ◌≤◌, ◌^◌, unsigned_abs};
 ghost use Rattle.fd_cover.specs.Cross.{cross};
-ghost use Rattle.fd_cover.specs.Rows.{clockwise};
+ghost use Rattle.fd_cover.specs.Scanlines.{clockwise};
 
 use crate::point::{Point, cross};
 use fd_snap::Snapped;
@@ -27,7 +27,7 @@ impl Tri {
     }
 
     /// The same triangle with its vertices clockwise.
-    #[tactic(auto, unfolding(crate::specs::Rows::clockwise))]
+    #[tactic(auto, unfolding(crate::specs::Scanlines::clockwise))]
     pub(crate) fn clockwise(&self) -> Tri
         ensures { result ≡ clockwise self.now }
     {

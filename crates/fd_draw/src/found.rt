@@ -11,7 +11,7 @@ ghost use Rattle.fd_draw.specs.Span.{IsRowSpan};
 use crate::demand::{Demand, NOTHING};
 use crate::run::Run;
 use crate::write::WIDEST;
-use fd_cover::{Bounds, Raster, Rows, Tri};
+use fd_cover::{Bounds, Raster, Scanlines, Tri};
 
 /// Neighbouring pixels of a row, by columns counted from a box's left: the first, and one past the last. There are none where these are
 /// the same.
@@ -62,8 +62,8 @@ impl RowSpan {
 }
 
 impl Found {
-    /// What the triangle of these rows, the first of which is the box's, covers in a box.
-    fn of(mut edges: Rows, area: Bounds) -> Found
+    /// What the triangle of these scanlines, the first of which is the box's, covers in a box.
+    fn of(mut edges: Scanlines, area: Bounds) -> Found
         requires small { IsSmall area }
         requires some { area.top < area.bottom }
         requires top { edges.1 ≡ area.top }
@@ -117,7 +117,7 @@ pub(crate) fn find(triangle: &Tri, raster: &Raster, window: Bounds) -> Option<Fo
     ensures none { IfNone result ((x y : ℕ) → is_drawn_in window raster.now triangle.now x y ≡ false) }
 {
     let area = drawn_area(triangle, raster, window)?;
-    let edges = Rows::of(triangle, area.top);
+    let edges = Scanlines::of(triangle, area.top);
     if edges.misses(area.left, area.right, area.bottom - 1 - area.top) {
         return None;
     }
@@ -139,12 +139,12 @@ fn drawn_area(triangle: &Tri, raster: &Raster, window: Bounds) -> Option<Bounds>
     }
 }
 
-/// The columns from `left` up to `right` that a triangle covers in the row at which its rows stand, as the first and one past the last.
-fn covered_span(rows: &Rows, left: u32, right: u32) -> Option<(u32, u32)>
-    requires row { rows.now.1 < most_pixels }
+/// The columns from `left` up to `right` that a triangle covers in the row at which its scanlines stand, as the first and one past the last.
+fn covered_span(lines: &Scanlines, left: u32, right: u32) -> Option<(u32, u32)>
+    requires row { lines.now.1 < most_pixels }
     requires order { left ≤ right }
     requires columns { right ≤ most_pixels }
-    ensures { IsRowSpan (λ x. covers rows.now.0 x rows.now.1) left right result }
+    ensures { IsRowSpan (λ x. covers lines.now.0 x lines.now.1) left right result }
 {
-    rows.span(left, right)
+    lines.span(left, right)
 }

@@ -49,7 +49,7 @@ fn blend_triangle(row: &mut [Colour], x: u32, y: u32, primitive: &Primitive<'_>)
 {
     match &primitive.ink {
         Ink::One(brush) => brush.draw(row),
-        Ink::Rows(blender) => {
+        Ink::Many(blender) => {
             let mut sources = [NO_COLOUR; WIDEST];
             let sources = &mut sources[..row.len()];
             find_sources(primitive, x, y, sources);

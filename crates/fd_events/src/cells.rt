@@ -16,7 +16,7 @@ ghost use Rattle.fd_memory.specs.Wanting.{Wanted};
 use crate::list::TriangleList;
 use crate::numbers::{add_row, no_numbers};
 use crate::packed::Packed;
-use fd_cover::{Bounds, Rows, Tri};
+use fd_cover::{Bounds, Scanlines, Tri};
 use std::alloc::{AllocError, Global};
 
 /// The side of the smallest cells is this power of two, and no tile is larger.
@@ -172,7 +172,7 @@ impl CellGrid {
     }
 
     /// Whether a cell lies beyond one edge of a triangle, whose rows stand at the cell's first one.
-    fn is_beyond(self, edges: &Rows, column: u32) -> bool
+    fn is_beyond(self, edges: &Scanlines, column: u32) -> bool
         requires grid { IsCellGrid self }
         requires rows { edges.now.1 + 2 ^ self.shift ≤ most_pixels }
         ensures { IsTrue result → (row : ℕ) → edges.now.1 ≡ row * 2 ^ self.shift → IsBeyond self edges.now.0 column row }
@@ -200,7 +200,7 @@ impl CellGrid {
         {
             return (part.left, part.right);
         }
-        let edges = Rows::of(triangle, row * self.side());
+        let edges = Scanlines::of(triangle, row * self.side());
         let mut left = part.left;
         while left < part.right && self.is_beyond(&edges, left) {
             left += 1;

@@ -3,7 +3,7 @@ ghost use Rattle.fd_snap.specs.Limits.{most_pixels};
 
 use fd_blend::Colour;
 use fd_cover::{
-    Bounds, Cull, Depth, Func, Interp, Raster, Rect, Rows, Tri, Verdict, covers, depth_at,
+    Bounds, Cull, Depth, Func, Interp, Raster, Rect, Scanlines, Tri, Verdict, covers, depth_at,
     depth_row, row_span, shade, shade_row, verdict_at,
 };
 use fd_snap::Snapped;
@@ -72,10 +72,10 @@ fn a_triangle_of_no_area_has_no_box(rt: HostRuntime) -> Result<(), Fail> {
 fn boxes_beyond_an_edge_are_missed(rt: HostRuntime) -> Result<(), Fail> {
     for corners in [[(0, 0), (128, 0), (0, 128)], [(0, 128), (128, 0), (0, 0)]] {
         let triangle = triangle(corners)?;
-        assert!(rt; Rows::of(&triangle, 32).misses(32, 64, 31));
-        assert!(rt; !Rows::of(&triangle, 31).misses(31, 64, 31));
-        assert!(rt; !Rows::of(&triangle, 0).misses(0, 32, 31));
-        assert!(rt; Rows::of(&triangle, 0).misses(64, 96, 31));
+        assert!(rt; Scanlines::of(&triangle, 32).misses(32, 64, 31));
+        assert!(rt; !Scanlines::of(&triangle, 31).misses(31, 64, 31));
+        assert!(rt; !Scanlines::of(&triangle, 0).misses(0, 32, 31));
+        assert!(rt; Scanlines::of(&triangle, 0).misses(64, 96, 31));
     }
     Ok(())
 }
@@ -164,7 +164,7 @@ fn expect_equal_spans(rt: &impl Abort, seed: &mut u32, unit: u32) -> Result<(), 
             for (left, right) in [(0, 16), (3, 9)] {
                 let walked = walked_span(&triangle, y, left, right);
                 assert_eq!(rt; row_span(&triangle, y, left, right), walked);
-                let mut rows = Rows::of(&triangle, y);
+                let mut rows = Scanlines::of(&triangle, y);
                 rows.down();
                 assert_eq!(rt;
                     rows.span(left, right),

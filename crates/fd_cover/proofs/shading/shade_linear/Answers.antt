@@ -41,16 +41,16 @@ loop-i-preserved c =
       ];
       places = c.moved-places.ensures.len;
       steps = before.steps;
-      red = λ more. rw (c.moved-places.ensures.lanes 0 (omega arith))
+      red = λ more. rw (c.moved-places.ensures.elements 0 (omega arith))
           (walk_on (2 ^ 56) 256 t x y ka.r kb.r kc.r i _ _ refl c.numerator.ensures.bytes.0 c.numerator.ensures.bytes.1.0 c.numerator.ensures.bytes.1.1 here
           (along (i + 1) more) red_walk);
-      green = λ more. rw (c.moved-places.ensures.lanes 1 (omega arith))
+      green = λ more. rw (c.moved-places.ensures.elements 1 (omega arith))
           (walk_on (2 ^ 56) 256 t x y ka.g kb.g kc.g i _ _ refl c.numerator-3.ensures.bytes.0 c.numerator-3.ensures.bytes.1.0 c.numerator-3.ensures.bytes.1.1
           here (along (i + 1) more) green_walk);
-      blue = λ more. rw (c.moved-places.ensures.lanes 2 (omega arith))
+      blue = λ more. rw (c.moved-places.ensures.elements 2 (omega arith))
           (walk_on (2 ^ 56) 256 t x y ka.b kb.b kc.b i _ _ refl c.numerator-5.ensures.bytes.0 c.numerator-5.ensures.bytes.1.0 c.numerator-5.ensures.bytes.1.1
           here (along (i + 1) more) blue_walk);
-      alpha = λ more. rw (c.moved-places.ensures.lanes 3 (omega arith))
+      alpha = λ more. rw (c.moved-places.ensures.elements 3 (omega arith))
           (walk_on (2 ^ 56) 256 t x y ka.a kb.a kc.a i _ _ refl c.numerator-7.ensures.bytes.0 c.numerator-7.ensures.bytes.1.0 c.numerator-7.ensures.bytes.1.1
           here (along (i + 1) more) alpha_walk);
     }

@@ -23,14 +23,14 @@ returns-in-One c =
     ∙ drawn_columns t p.state c.args.x c.args.y row ink.1.0
     ∙ ap (λ (interp : Interp). changed_row (λ column before. colour_blended t interp p.state column c.args.y before) c.args.x row) (sym ink.0)
 
-pub returns-in-Rows : goal.returns-in-Rows
-returns-in-Rows c =
+pub returns-in-Many : goal.returns-in-Many
+returns-in-Many c =
     let p = c.args.primitive.now in
     let s = p.state in
     let row = c.args.row.now in
-    let ink = subst (λ (i : Ink). IsInk p.interp (picture_of p) p.state (colour_of p.colours 0) i) c.in-Rows.is c.requires.ready.ink in
+    let ink = subst (λ (i : Ink). IsInk p.interp (picture_of p) p.state (colour_of p.colours 0) i) c.in-Many.is c.requires.ready.ink in
     let source = λ (column : ℕ). source_of (triangle_of p) p.interp column c.args.y in
-    c.draw-in-Rows.ensures
-    ∙ ap (λ cs. blended_row c.in-Rows.blender.state c.in-Rows.blender.factor cs row) (search rules)
+    c.draw-in-Many.ensures
+    ∙ ap (λ cs. blended_row c.in-Many.blender.state c.in-Many.blender.factor cs row) (search rules)
     ∙ ap (λ (b : Blended). blended_row b.state b.factor (map source (range_with_len c.args.x (length row))) row) ink
     ∙ blended_columns s.blend s.factor source c.args.x row
