@@ -47,7 +47,7 @@ impl Planned {
             → AreUnreached (triangles_of draw.now) state.now place from (length (triangles_of draw.now))) }
     {
         let count = draw.triangles();
-        let mut triangle = draw.next_listed(from, window);
+        let mut triangle = from;
         while triangle < count {
             if let Some(found) = find(&draw.tri(triangle), &state.raster, window) {
                 return Some(Planned { triangle, found });
@@ -154,7 +154,7 @@ fn plan_draw(draw: &Draw, state: &Pipeline, place: Place, first: u32) -> Plan
     }
     let mut from = first;
     while let Some(next) = Planned::next(draw, from, state, window) {
-        from = next.triangle + 1;
+        from = draw.next_listed(next.triangle + 1, window);
         plan.add(next, tested);
     }
     plan

@@ -173,10 +173,9 @@ fn draw_primitive(primitive: &Primitive<'_>, found: &Found, tile: &mut Tile, und
 /// then the rest.
 fn draw_triangles(draw: &Draw, state: &Pipeline, plan: &Plan, tile: &mut Tile, undo: &mut UndoStack)
     requires made { tile.old.made ≡ true }
-    requires begun { undo.old.frame_left ≡ false }
     requires planned { ArePlanned draw.now state.now tile.old.place 0 plan.now.planned.items plan.now.rest }
-    requires spans { sum_by (triangle_spans state.now tile.old.place) (triangles_of draw.now) ≤ undo.old.spans_left }
-    requires pixels { sum_by (triangle_pixels state.now tile.old.place) (triangles_of draw.now) ≤ undo.old.pixels_left }
+    requires room { HasRoom (sum_by (triangle_spans state.now tile.old.place) (triangles_of draw.now))
+        (sum_by (triangle_pixels state.now tile.old.place) (triangles_of draw.now)) undo.old }
     ensures { Paints (pixel_after_triangles (triangles_of draw.now) draw.now.interp state.now)
         (kept_by_triangles (triangles_of draw.now) draw.now.interp state.now) tile.old undo.old tile.new undo.new }
 {
@@ -194,7 +193,7 @@ fn draw_triangles(draw: &Draw, state: &Pipeline, plan: &Plan, tile: &mut Tile, u
     let window = window_of(draw, state, place);
     let mut from = plan.rest;
     while let Some(next) = Planned::next(draw, from, state, window) {
-        from = next.triangle + 1;
+        from = draw.next_listed(next.triangle + 1, window);
         let primitive = Primitive::of(draw, next.triangle, state);
         draw_primitive(&primitive, &next.found, tile, undo);
     }
@@ -204,10 +203,8 @@ fn draw_triangles(draw: &Draw, state: &Pipeline, plan: &Plan, tile: &mut Tile, u
 /// room for them. The plan is the event's.
 pub fn draw(event: &Event, state: &Pipeline, plan: &Plan, tile: &mut Tile, undo: &mut UndoStack)
     requires made { tile.old.made ≡ true }
-    requires begun { undo.old.frame_left ≡ false }
     requires planned { IsPlan plan.now event.now state.now tile.old.place }
-    requires spans { event_spans event.now state.now tile.old.place ≤ undo.old.spans_left }
-    requires pixels { event_pixels event.now state.now tile.old.place ≤ undo.old.pixels_left }
+    requires room { HasRoom (event_spans event.now state.now tile.old.place) (event_pixels event.now state.now tile.old.place) undo.old }
     ensures { Paints (pixel_after event.now state.now) (kept_by event.now state.now) tile.old undo.old tile.new undo.new }
 {
     // a tile has a colour and a depth for each of its pixels, also where nothing is drawn

@@ -1,11 +1,11 @@
-use Rattle.std.proofs.Common.{◌≡◌, ◌∙◌, cond, inl, inr, length, min, sym, ap, arith}
+use Rattle.std.proofs.Common.{◌≡◌, ◌+◌, ◌∙◌, cond, inl, inr, length, min, sym, ap, arith}
 use Rattle.fd_events.specs.Draw.{triangles_of}
 use Rattle.fd_draw.specs.declared.demand.Demand.{Demand}
 use Rattle.fd_draw.specs.Demand.{is_tested, triangle_pixels, triangle_spans}
 use Rattle.fd_draw.specs.Plan.{AreUnreached}
 use Rattle.fd_draw.specs.Triangles.{triangle_at}
 use Rattle.fd_draw.proofs.Triangles.{no_pixels, no_spans, picture_at_number, pixels-passed, pixels_found, planned_more, planned_passed}
-use Rattle.fd_draw.proofs.Triangles.{spans-passed, spans_few, spans_found, sum_more, unreached_closed, unreached_culled, unreached_uncovered}
+use Rattle.fd_draw.proofs.Triangles.{spans-passed, spans_few, spans_found, sum_more, unreached_closed, unreached_culled, unreached_missed, unreached_uncovered}
 use Rattle.fd_draw.proofs.plan.plan_draw.Goals as goal
 
 -- the scissor leaves nothing, or every triangle is culled
@@ -69,13 +69,18 @@ loop-next-preserved c =
     let its_pixels = pixels_found (triangle_at d i) s p f next.found in
     let few_spans = spans_few (triangle_at d i) s p f next.found in
     let add = c.add.ensures in
+    let more = planned_more (planned_passed inv.kept i next.from (omega (arith, next.below)) next.passed) _ next.below next.found add.room add.full in
+    let near = c.next_listed-from in
+    let behind = unreached_missed d s p c.window_of-window.result (i + 1) near.result window.window near.ensures.missed in
+    let behind_spans = spans-passed ts s p (i + 1) near.result near.ensures.from behind in
+    let behind_pixels = pixels-passed ts s p (i + 1) near.result near.ensures.from behind in
     record {
-      spans = omega (arith, past_spans, sum_more (triangle_spans s p) ts i next.below, its_spans, add.spans, inv.spans);
-      pixels = omega (arith, past_pixels, sum_more (triangle_pixels s p) ts i next.below, its_pixels, add.pixels, inv.pixels);
-      within = omega (arith, next.below);
-      few_spans = omega (arith, next.from, its_spans, few_spans, add.spans, inv.few_spans);
-      few_pixels = omega (arith, next.from, next.found.found.few_pixels, add.pixels, inv.few_pixels);
-      kept = planned_more (planned_passed inv.kept i next.from (omega (arith, next.below)) next.passed) _ next.below next.found add.room add.full;
+      spans = omega (arith, past_spans, sum_more (triangle_spans s p) ts i next.below, its_spans, behind_spans, add.spans, inv.spans);
+      pixels = omega (arith, past_pixels, sum_more (triangle_pixels s p) ts i next.below, its_pixels, behind_pixels, add.pixels, inv.pixels);
+      within = near.ensures.last;
+      few_spans = omega (arith, next.from, near.ensures.from, its_spans, few_spans, add.spans, inv.few_spans);
+      few_pixels = omega (arith, next.from, near.ensures.from, next.found.found.few_pixels, add.pixels, inv.few_pixels);
+      kept = planned_passed more near.result near.ensures.from near.ensures.last behind;
     }
 
 pub returns-clause-spans : goal.returns-clause-spans

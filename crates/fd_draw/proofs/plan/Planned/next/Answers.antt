@@ -5,13 +5,11 @@ use Rattle.fd_draw.proofs.Triangles.{found_here, unreached_both, unreached_here,
 use Rattle.fd_draw.proofs.plan.Planned.next.Goals as goal
 
 pub loop-triangle-init : goal.loop-triangle-init
-loop-triangle-init c =
-    let near = c.next_listed-triangle in
-    record {
-      from = near.ensures.from;
-      within = near.ensures.last;
-      passed = λ p inside is. unreached_missed c.args.draw.now c.args.state.now p c.args.window c.args.from near.result is near.ensures.missed;
-    }
+loop-triangle-init c = record {
+  from = omega arith;
+  within = c.requires.within;
+  passed = λ p inside is i t low high at. absurd (omega (arith, low, high));
+}
 
 pub returns-in-Some-clause-found : goal.returns-in-Some-clause-found
 returns-in-Some-clause-found c = λ p inside is.
@@ -29,7 +27,7 @@ loop-triangle-preserved c =
     let s = c.args.state.now in
     let i = c.loop-triangle.triangle in
     let inv = c.loop-triangle.invariant in
-    let near = c.next_listed-triangle-in-loop-triangle in
+    let near = c.next_listed-triangle in
     record {
       from = omega (arith, inv.from, near.ensures.from);
       within = near.ensures.last;
