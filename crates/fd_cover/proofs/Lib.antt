@@ -8,5 +8,6 @@ pub mod ShadeLemmas
 pub mod HalfLineLemmas
 pub mod VersionOnes
 pub mod ReciprocalLemmas
+pub mod GradientLemmas
 pub mod WalkLemmas
 pub mod ScanlinesLemmas

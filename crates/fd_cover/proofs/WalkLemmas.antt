@@ -1,142 +1,72 @@
--- A rounded quotient along a row of covered pixels is the whole part of a place that grows by equal steps.
-use Rattle.std.proofs.Common.{List, length, map, replicate, get_or, ◌≡◌, ◌≢◌, ℕ, zero, suc, ◌+◌, ◌-◌, ◌*◌, ◌/◌, ◌%◌, ◌^◌, ◌<◌, ◌≤◌, ℤ, pos, negsuc}
-use Rattle.std.proofs.Common.{◌+ℤ◌, ◌-ℤ◌, ◌*ℤ◌, inl, inr, true, refl, sym, ap, ◌∙◌, arith, unsigned_abs}
-use Rattle.std.proofs.lemmas.Int.{ints}
+-- A rounded quotient along a row of covered pixels is the whole part of an accumulator that grows by equal steps.
+use Rattle.std.proofs.Common.{List, length, map, replicate, get_or, ◌≡◌, ℕ, suc, ◌+◌, ◌-◌, ◌*◌, ◌/◌, ◌%◌, ◌^◌, ◌<◌, ◌≤◌, inl, inr, true, refl, sym, ap, ◌∙◌}
+use Rattle.std.proofs.Common.{arith}
 use Rattle.std.proofs.lemmas.Bool.{cases_lt}
 use Rattle.std.proofs.lemmas.List.{ext_get_or, length-replicate, get_or-replicate}
 use Rattle.std.proofs.lemmas.List.FromFn.{get_or-map-range_with_len, length-map-range_with_len}
 use Rattle.std.specs.List.{range_with_len}
 use Rattle.fd_blend.specs.declared.channel.Colour.{Colour}
 use Rattle.std.proofs.Math.Nat.{mul-le-mul_left}
-use Rattle.fd_snap.specs.Point.{Point}
 use Rattle.fd_cover.specs.declared.triangle.Tri.{Tri}
-use Rattle.fd_cover.specs.Cross.{cross, centre}
 use Rattle.fd_cover.specs.Covers.{covers}
 use Rattle.fd_cover.specs.declared.shading.Interp.TheVariants.{Linear}
 use Rattle.fd_cover.specs.Shade.{area_of, weight_a, weight_b, weight_c, interpolated, shaded}
 use Rattle.fd_cover.specs.Depth.{depth_at, vertex_depth}
-use Rattle.fd_cover.specs.Walk.{numerator, IsNear, place_at}
-use Rattle.fd_cover.proofs.CrossLemmas.{cross-row, cross-turn}
-use Rattle.fd_cover.proofs.CoverLemmas.{IsPositive, IsNegative, covered_from}
-use Rattle.fd_cover.proofs.ShadeLemmas.{admitted_side, weights_add}
-use borrow.Author.Differences.{up, down}
+use Rattle.fd_cover.specs.Gradient.{IsStep, change_of}
+use Rattle.fd_cover.specs.Walk.{numerator, IsNear, accumulator_at}
+use Rattle.fd_cover.proofs.GradientLemmas.{numerator_climbs}
+use Rattle.fd_cover.proofs.ShadeLemmas.{weights_add}
 
--- ---- sides, weights and numerators are linear along covered pixels
-
--- what falls by p - n in a step
-steps : (e0 e1 ei p n i : ℕ) → e0 + 256 * n ≡ e1 + 256 * p → e0 + 256 * i * n ≡ ei + 256 * i * p → ei + i * e0 ≡ e0 + i * e1
-steps e0 e1 ei p n i one all =
-    let more : i * (e0 + 256 * n) ≡ i * (e1 + 256 * p) = ap (λ k. i * k) one in
-    omega arith
-
--- the sizes of sides that all lie on one side or on the line
-sizes_step : (e0 e1 ei h : ℤ) (i : ℕ) (t : ℤ) → t ≢ pos 0 → e0 ≡ e1 +ℤ h *ℤ pos 256 → e0 ≡ ei +ℤ h *ℤ pos (256 * i)
-    → ((IsPositive t → down e0 ≡ 0) × (IsNegative t → up e0 ≡ 0)) → ((IsPositive t → down e1 ≡ 0) × (IsNegative t → up e1 ≡ 0))
-    → ((IsPositive t → down ei ≡ 0) × (IsNegative t → up ei ≡ 0))
-    → unsigned_abs ei + i * unsigned_abs e0 ≡ unsigned_abs e0 + i * unsigned_abs e1
-sizes_step e0 e1 ei h i (pos zero) apart one all s0 s1 si = absurd (apart refl)
-sizes_step e0 e1 ei h i (pos (suc n)) apart one all s0 s1 si =
-    let a : unsigned_abs e0 + 256 * down h ≡ unsigned_abs e1 + 256 * up h = omega (arith, ints, one, s0.0 (omega arith), s1.0 (omega arith)) in
-    let b : unsigned_abs e0 + 256 * i * down h ≡ unsigned_abs ei + 256 * i * up h = omega (arith, ints, all, s0.0 (omega arith), si.0 (omega arith)) in
-    steps (unsigned_abs e0) (unsigned_abs e1) (unsigned_abs ei) (up h) (down h) i a b
-sizes_step e0 e1 ei h i (negsuc n) apart one all s0 s1 si =
-    let a : unsigned_abs e0 + 256 * up h ≡ unsigned_abs e1 + 256 * down h = omega (arith, ints, one, s0.1 (omega arith), s1.1 (omega arith)) in
-    let b : unsigned_abs e0 + 256 * i * up h ≡ unsigned_abs ei + 256 * i * down h = omega (arith, ints, all, s0.1 (omega arith), si.1 (omega arith)) in
-    steps (unsigned_abs e0) (unsigned_abs e1) (unsigned_abs ei) (down h) (up h) i a b
-
--- from the column x the side at the column x + i
-side_from : (u v : Point) (x y i : ℕ) → cross u v (centre x y) ≡ cross u v (centre (x + i) y) +ℤ (v.y -ℤ u.y) *ℤ pos (256 * i)
-side_from u v x y i =
-    let place : 256 * x + 128 + 256 * i ≡ 256 * (x + i) + 128 = omega arith in
-    rw place at (cross-row u v (pos (256 * y + 128)) (256 * x + 128) (256 * i))
-
-abbrev is_linear : (ℕ → ℕ) → ℕ → ℕ → Type 0
-is_linear f x i = f (x + i) + i * f x ≡ f x + i * f (x + 1)
-
-module _ (t : Tri) (x y i : ℕ) (first : covers t x y ≡ true) (second : covers t (x + 1) y ≡ true) (here : covers t (x + i) y ≡ true) where
-  weight_a-linear : is_linear (λ x. weight_a t x y) x i
-  weight_a-linear =
-      let area = cross t.a t.b t.c in
-      let turn = cross-turn t.a t.b t.c in
-      sizes_step _ _ _ (t.c.y -ℤ t.b.y) i area (covered_from t x y first).area (side_from t.b t.c x y 1) (side_from t.b t.c x y i)
-      (admitted_side t.b t.c t.a (centre x y) area turn (covered_from t x y first).second)
-      (admitted_side t.b t.c t.a (centre (x + 1) y) area turn (covered_from t (x + 1) y second).second)
-      (admitted_side t.b t.c t.a (centre (x + i) y) area turn (covered_from t (x + i) y here).second)
-
-  weight_b-linear : is_linear (λ x. weight_b t x y) x i
-  weight_b-linear =
-      let area = cross t.a t.b t.c in
-      let turn = cross-turn t.b t.c t.a ∙ cross-turn t.a t.b t.c in
-      sizes_step _ _ _ (t.a.y -ℤ t.c.y) i area (covered_from t x y first).area (side_from t.c t.a x y 1) (side_from t.c t.a x y i)
-      (admitted_side t.c t.a t.b (centre x y) area turn (covered_from t x y first).third)
-      (admitted_side t.c t.a t.b (centre (x + 1) y) area turn (covered_from t (x + 1) y second).third)
-      (admitted_side t.c t.a t.b (centre (x + i) y) area turn (covered_from t (x + i) y here).third)
-
-  weight_c-linear : is_linear (λ x. weight_c t x y) x i
-  weight_c-linear =
-      let area = cross t.a t.b t.c in
-      sizes_step _ _ _ (t.b.y -ℤ t.a.y) i area (covered_from t x y first).area (side_from t.a t.b x y 1) (side_from t.a t.b x y i)
-      (admitted_side t.a t.b t.c (centre x y) area refl (covered_from t x y first).first)
-      (admitted_side t.a t.b t.c (centre (x + 1) y) area refl (covered_from t (x + 1) y second).first)
-      (admitted_side t.a t.b t.c (centre (x + i) y) area refl (covered_from t (x + i) y here).first)
-
-sum_linear : (a0 a1 ai b0 b1 bi c0 c1 ci i a b c area : ℕ) → ai + i * a0 ≡ a0 + i * a1 → bi + i * b0 ≡ b0 + i * b1 → ci + i * c0 ≡ c0 + i * c1
-    → (2 * (ai * a + bi * b + ci * c) + area) + i * (2 * (a0 * a + b0 * b + c0 * c) + area)
-    ≡ (2 * (a0 * a + b0 * b + c0 * c) + area) + i * (2 * (a1 * a + b1 * b + c1 * c) + area)
-sum_linear a0 a1 ai b0 b1 bi c0 c1 ci i a b c area ha hb hc =
-    let fa : (ai + i * a0) * a ≡ (a0 + i * a1) * a = ap (λ k. k * a) ha in
-    let fb : (bi + i * b0) * b ≡ (b0 + i * b1) * b = ap (λ k. k * b) hb in
-    let fc : (ci + i * c0) * c ≡ (c0 + i * c1) * c = ap (λ k. k * c) hc in
-    omega arith
-
--- the numerator of a rounded mean, of whatever three numbers
-pub numerator-linear : (t : Tri) (x y i a b c : ℕ) → covers t x y ≡ true → covers t (x + 1) y ≡ true → covers t (x + i) y ≡ true
-    → numerator t (x + i) y a b c + i * numerator t x y a b c ≡ numerator t x y a b c + i * numerator t (x + 1) y a b c
-numerator-linear t x y i a b c first second here = grind (arith, sum_linear, weight_a-linear, weight_b-linear, weight_c-linear)
-
--- ---- places
+-- ---- accumulators
 
 -- a quotient by its bounds
 quotient_is : (w k q : ℕ) → 0 < k → k * q ≤ w → w < k * suc q → w / k ≡ q
 quotient_is w k q some low high = grind arith
 
-module _ (unit n0 n1 n m v0 v1 i : ℕ) (some : 0 < m) (fine : 192 * m ≤ unit) (few : i < 32) (linear : n + i * n0 ≡ n0 + i * n1) (near0 : IsNear unit n0 m v0)
-    (near1 : IsNear unit n1 m v1) where
-  abbrev rest0 : ℕ
-  rest0 = n0 * unit - m * v0
+module _ (unit n0 n rise fall m first up down i : ℕ) (some : 0 < m) (fine : 192 * m ≤ unit) (few : i < 32) (climbs : n + i * fall ≡ n0 + i * rise)
+    (near : IsNear unit n0 m first) (rises : IsNear unit rise m up) (falls : IsNear unit fall m down) where
+  abbrev rest : ℕ
+  rest = n0 * unit - m * first
 
-  abbrev rest1 : ℕ
-  rest1 = n1 * unit - m * v1
+  abbrev rest_up : ℕ
+  rest_up = rise * unit - m * up
 
-  exact0 : (n0 * unit ≡ m * v0 + rest0) × (rest0 < 3 * m)
-  exact0 = (omega (arith, near0.low), omega (arith, near0.low, near0.high))
+  abbrev rest_down : ℕ
+  rest_down = fall * unit - m * down
 
-  exact1 : (n1 * unit ≡ m * v1 + rest1) × (rest1 < 3 * m)
-  exact1 = (omega (arith, near1.low), omega (arith, near1.low, near1.high))
+  exact : (n0 * unit ≡ m * first + rest) × (rest < 3 * m)
+  exact = (omega (arith, near.low), omega (arith, near.low, near.high))
 
-  many0 : i * rest0 ≤ 93 * m
-  many0 = grind arith
+  exact_up : (rise * unit ≡ m * up + rest_up) × (rest_up < 3 * m)
+  exact_up = (omega (arith, rises.low), omega (arith, rises.low, rises.high))
 
-  many1 : i * rest1 ≤ 93 * m
-  many1 = grind arith
+  exact_down : (fall * unit ≡ m * down + rest_down) × (rest_down < 3 * m)
+  exact_down = (omega (arith, falls.low), omega (arith, falls.low, falls.high))
+
+  many_up : i * rest_up ≤ 93 * m
+  many_up = grind arith
+
+  many_down : i * rest_down ≤ 93 * m
+  many_down = grind arith
 
   -- all that is added, times the divisor
-  balance : m * (v0 + 96 + i * v1) + (rest0 + i * rest1) ≡ m * (i * v0) + (n * unit + 96 * m + i * rest0)
+  balance : m * (first + 96 + i * up) + (rest + i * rest_up) ≡ m * (i * down) + (n * unit + 96 * m + i * rest_down)
   balance =
-      let scaled : (n + i * n0) * unit ≡ (n0 + i * n1) * unit = ap (λ k. k * unit) linear in
-      let each0 : i * (n0 * unit) ≡ i * (m * v0 + rest0) = ap (λ k. i * k) exact0.0 in
-      let each1 : i * (n1 * unit) ≡ i * (m * v1 + rest1) = ap (λ k. i * k) exact1.0 in
-      omega (arith, exact0.0)
+      let scaled : (n + i * fall) * unit ≡ (n0 + i * rise) * unit = ap (λ k. k * unit) climbs in
+      let each_up : i * (rise * unit) ≡ i * (m * up + rest_up) = ap (λ k. i * k) exact_up.0 in
+      let each_down : i * (fall * unit) ≡ i * (m * down + rest_down) = ap (λ k. i * k) exact_down.0 in
+      omega (arith, exact.0)
 
-  -- nothing is lost where the place is taken as a difference
-  pub place-exact : i * v0 ≤ v0 + 96 + i * v1
-  place-exact = grind (arith, mul-le-mul_left, balance, exact0, many0, many1)
+  -- nothing is lost where the accumulator is taken as a difference
+  pub accumulator-exact : i * down ≤ first + 96 + i * up
+  accumulator-exact = grind (arith, mul-le-mul_left, balance, exact, many_up, many_down)
 
-  pub place-quotient : place_at v0 v1 i / unit ≡ n / m
-  place-quotient =
-      let w : place_at v0 v1 i + i * v0 ≡ v0 + 96 + i * v1 = omega (arith, place-exact) in
-      let mw : m * (place_at v0 v1 i + i * v0) ≡ m * (v0 + 96 + i * v1) = ap (λ k. m * k) w in
-      bounded (place_at v0 v1 i) (omega (arith, balance, mw, exact0.1, many0, many1)) (omega (arith, balance, mw, exact0.1, many0, many1))
+  pub accumulator-quotient : accumulator_at first up down i / unit ≡ n / m
+  accumulator-quotient =
+      let w : accumulator_at first up down i + i * down ≡ first + 96 + i * up = omega (arith, accumulator-exact) in
+      let mw : m * (accumulator_at first up down i + i * down) ≡ m * (first + 96 + i * up) = ap (λ k. m * k) w in
+      bounded (accumulator_at first up down i) (omega (arith, balance, mw, exact.1, many_up, many_down))
+      (omega (arith, balance, mw, exact.1, many_up, many_down))
     where
       bounded : (p : ℕ) → n * unit < m * p → m * p ≤ n * unit + 189 * m → p / unit ≡ n / m
       bounded p low high =
@@ -164,21 +94,17 @@ level_mean wa wb wc z area sum some =
 
 -- ---- a number's walk, below top, with so many units to a whole one
 
--- the walk stands at column i of the row: its place is that of the quotients at the columns 0 and 1
-pub record IsWalk (unit : ℕ) (t : Tri) (x y a b c i place step : ℕ) : Type 0 where
+-- the walk stands at column i of the row: its accumulator is that of the quotient at the column 0 and of the step
+pub record IsWalk (unit : ℕ) (t : Tri) (x y a b c i accumulator step : ℕ) : Type 0 where
   pub begin : ℕ
-  pub next : ℕ
   pub first : IsNear unit (numerator t x y a b c) (2 * area_of t) begin
-  pub second : IsNear unit (numerator t (x + 1) y a b c) (2 * area_of t) next
-  pub fits : begin < 2 ^ 64
-  pub at : place ≡ place_at begin next i
-  pub by : step ≡ (next + (2 ^ 64 - begin)) % 2 ^ 64
+  pub is_step : IsStep unit t a b c step
+  pub at : accumulator ≡ accumulator_at begin is_step.moves.up is_step.moves.down i
 
 -- what a row of covered pixels gives at its column i
 pub record IsAlong (unit : ℕ) (t : Tri) (x y i : ℕ) : Type 0 where
   pub fine : 192 * (2 * area_of t) ≤ unit
   pub first : covers t x y ≡ true
-  pub second : covers t (x + 1) y ≡ true
   pub here : covers t (x + i) y ≡ true
   pub few : i < 32
 
@@ -194,58 +120,67 @@ weighted_small wa wb wc a b c area top sum small_a small_b small_c =
 quotient_below : (n area top : ℕ) → 0 < area → n + area ≤ 2 * (area * top) → n / (2 * area) < top
 quotient_below n area top some small = grind arith
 
-place_below : (place unit q top : ℕ) → 0 < unit → place / unit ≡ q → q < top → place < unit * top
-place_below place unit q top some is low = grind arith
+accumulator_below : (accumulator unit q top : ℕ) → 0 < unit → accumulator / unit ≡ q → q < top → accumulator < unit * top
+accumulator_below accumulator unit q top some is low = grind arith
 
-module _ (unit : ℕ) (t : Tri) (x y i a b c v0 v1 : ℕ) (along : IsAlong unit t x y i) (near0 : IsNear unit (numerator t x y a b c) (2 * area_of t) v0)
-    (near1 : IsNear unit (numerator t (x + 1) y a b c) (2 * area_of t) v1) where
+module _ (unit : ℕ) (t : Tri) (x y i a b c step begin : ℕ) (along : IsAlong unit t x y i)
+    (near : IsNear unit (numerator t x y a b c) (2 * area_of t) begin) (is_step : IsStep unit t a b c step) where
+  abbrev up : ℕ
+  up = is_step.moves.up
+
+  abbrev down : ℕ
+  down = is_step.moves.down
+
   total : (weight_a t (x + i) y + weight_b t (x + i) y + weight_c t (x + i) y ≡ area_of t) × (0 < area_of t)
   total = weights_add t (x + i) y along.here
 
-  linear : numerator t (x + i) y a b c + i * numerator t x y a b c ≡ numerator t x y a b c + i * numerator t (x + 1) y a b c
-  linear = numerator-linear t x y i a b c along.first along.second along.here
+  climbs : numerator t (x + i) y a b c + i * change_of is_step.fall a b c ≡ numerator t x y a b c + i * change_of is_step.rise a b c
+  climbs = numerator_climbs t is_step.rise is_step.fall x y i a b c is_step.gradient along.first along.here
 
-  pub whole_part : place_at v0 v1 i / unit ≡ interpolated t (x + i) y a b c
-  whole_part = grind (arith, place-quotient, total, linear)
+  some : 0 < 2 * area_of t
+  some = omega (arith, total.1)
 
-  pub no_loss : i * v0 ≤ v0 + 96 + i * v1
+  pub whole_part : accumulator_at begin up down i / unit ≡ interpolated t (x + i) y a b c
+  whole_part =
+      accumulator-quotient unit (numerator t x y a b c) (numerator t (x + i) y a b c) _ _ (2 * area_of t) begin up down i some along.fine along.few climbs near
+      is_step.moves.rises is_step.moves.falls
+
+  pub no_loss : i * down ≤ begin + 96 + i * up
   no_loss =
-      place-exact unit (numerator t x y a b c) (numerator t (x + 1) y a b c) (numerator t (x + i) y a b c) (2 * area_of t) v0 v1 i
-      (omega (arith, total.1)) along.fine along.few linear near0 near1
+      accumulator-exact unit (numerator t x y a b c) (numerator t (x + i) y a b c) _ _ (2 * area_of t) begin up down i some along.fine along.few climbs near
+      is_step.moves.rises is_step.moves.falls
 
-  pub place_fits : (top : ℕ) → a < top → b < top → c < top → place_at v0 v1 i < unit * top
-  place_fits top small_a small_b small_c =
+  pub accumulator_fits : (top : ℕ) → a < top → b < top → c < top → accumulator_at begin up down i < unit * top
+  accumulator_fits top small_a small_b small_c =
       let small = weighted_small (weight_a t (x + i) y) (weight_b t (x + i) y) (weight_c t (x + i) y) a b c (area_of t) top total.0 small_a small_b small_c in
-      place_below (place_at v0 v1 i) unit _ top (omega (arith, along.fine, total.1)) whole_part
+      accumulator_below (accumulator_at begin up down i) unit _ top (omega (arith, along.fine, total.1)) whole_part
       (quotient_below (numerator t (x + i) y a b c) (area_of t) top total.1 small)
 
 -- the number at a column
-pub walk_value : (unit : ℕ) (t : Tri) (x y a b c i place step : ℕ) → IsAlong unit t x y i → IsWalk unit t x y a b c i place step → place / unit
+pub walk_value : (unit : ℕ) (t : Tri) (x y a b c i accumulator step : ℕ) → IsAlong unit t x y i → IsWalk unit t x y a b c i accumulator step
+    → accumulator / unit
     ≡ interpolated t (x + i) y a b c
-walk_value unit t x y a b c i place step along walk = grind (arith, whole_part)
+walk_value unit t x y a b c i accumulator step along walk =
+    ap (λ p. p / unit) walk.at ∙ whole_part unit t x y i a b c step walk.begin along walk.first walk.is_step
 
-next_place : (v0 v1 i p q : ℕ) → i * v0 ≤ v0 + 96 + i * v1 → (i + 1) * v0 ≤ v0 + 96 + (i + 1) * v1 → v0 < 2 ^ 64 → p ≡ (v0 + 96 + i * v1) - i * v0
-    → q ≡ (v0 + 96 + (i + 1) * v1) - (i + 1) * v0 → q < 2 ^ 64
-    → (p + (v1 + (2 ^ 64 - v0)) % 2 ^ 64) % 2 ^ 64 ≡ q
-next_place v0 v1 i p q here next fits is_p is_q small = omega arith
+next_accumulator : (begin up down i p q : ℕ) → i * down ≤ begin + 96 + i * up → (i + 1) * down ≤ begin + 96 + (i + 1) * up → down < 2 ^ 64
+    → p ≡ accumulator_at begin up down i → q ≡ accumulator_at begin up down (i + 1) → q < 2 ^ 64 → (p + (up + (2 ^ 64 - down)) % 2 ^ 64) % 2 ^ 64 ≡ q
+next_accumulator begin up down i p q here next fits is_p is_q small = omega arith
 
 -- the next column
-pub walk_on : (unit top : ℕ) (t : Tri) (x y a b c i place step : ℕ) → unit * top ≡ 2 ^ 64 → a < top → b < top → c < top → IsAlong unit t x y i
-    → IsAlong unit t x y (i + 1) → IsWalk unit t x y a b c i place step
-    → IsWalk unit t x y a b c (i + 1) ((place + step) % 2 ^ 64) step
-walk_on unit top t x y a b c i place step whole small_a small_b small_c along along_next walk = record {
+pub walk_on : (unit top : ℕ) (t : Tri) (x y a b c i accumulator step : ℕ) → unit * top ≡ 2 ^ 64 → a < top → b < top → c < top → IsAlong unit t x y i
+    → IsAlong unit t x y (i + 1) → IsWalk unit t x y a b c i accumulator step
+    → IsWalk unit t x y a b c (i + 1) ((accumulator + step) % 2 ^ 64) step
+walk_on unit top t x y a b c i accumulator step whole small_a small_b small_c along along_next walk = record {
   begin = walk.begin;
-  next = walk.next;
   first = walk.first;
-  second = walk.second;
-  fits = walk.fits;
+  is_step = walk.is_step;
   at =
-      ap (λ s. (place + s) % 2 ^ 64) walk.by
-      ∙ next_place walk.begin walk.next i place _
-      (no_loss unit t x y i a b c walk.begin walk.next along walk.first walk.second)
-      (no_loss unit t x y (i + 1) a b c walk.begin walk.next along_next walk.first walk.second) walk.fits walk.at refl
-      (rw whole at (place_fits unit t x y (i + 1) a b c walk.begin walk.next along_next walk.first walk.second top small_a small_b small_c));
-  by = walk.by;
+      ap (λ s. (accumulator + s) % 2 ^ 64) walk.is_step.moves.by
+      ∙ next_accumulator walk.begin walk.is_step.moves.up walk.is_step.moves.down i accumulator _
+      (no_loss unit t x y i a b c step walk.begin along walk.first walk.is_step)
+      (no_loss unit t x y (i + 1) a b c step walk.begin along_next walk.first walk.is_step) walk.is_step.moves.fits walk.at refl
+      (rw whole at (accumulator_fits unit t x y (i + 1) a b c step walk.begin along_next walk.first walk.is_step top small_a small_b small_c));
 }
 
 -- a colour by its channels

@@ -1,7 +1,10 @@
 pub mod Bounds
+pub mod Climb
+pub mod ColourWalk
 pub mod Covers
 pub mod Cross
 pub mod Depth
+pub mod Gradient
 pub mod Limits
 pub mod Scanlines
 pub mod Shade

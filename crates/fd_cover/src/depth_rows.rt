@@ -1,27 +1,33 @@
-ghost use Rattle.std.specs.Prelude.{◌≡◌, ℕ, ◌<◌, ◌≤◌, ◌+◌, ◌*◌, ◌^◌, IsTrue, length, map};
+ghost use Rattle.std.specs.Prelude.{◌≡◌, ℕ, ◌<◌, ◌≤◌, ◌+◌, IsTrue, length, map};
 ghost use Rattle.std.specs.List.{range_with_len};
 ghost use Rattle.fd_cover.specs.Covers.{covers};
 ghost use Rattle.fd_cover.specs.Depth.{depth_at};
 ghost use Rattle.fd_cover.specs.Limits.{most_in_row};
-ghost use Rattle.fd_cover.specs.Shade.{area_of};
-ghost use Rattle.fd_cover.specs.Slope.{IsSlope};
+ghost use Rattle.fd_cover.specs.Slope.{IsDepthWalk, IsSlope};
 ghost use Rattle.fd_snap.specs.Limits.{most_pixels};
 
 use crate::depth::depth_at;
+use crate::gradient::{Gradient, LIFT};
 use crate::reciprocal::Reciprocal;
-use crate::shading::{Walk, Weights};
+use crate::shading::Weights;
 use crate::triangle::Tri;
 use std::marker::Model;
 
 /// The largest double area of a triangle whose depths are walked along a row: 192 times twice that is at most the 2^48 units of one depth.
 const WALKED: u64 = (1 << 48) / 384;
 
-/// How the depths of a triangle are found along a row: all are equal, or they are walked with twice its double area as the divisor, or each
-/// is divided for itself.
+/// How the depths of a triangle are walked along its rows: with twice its double area as the divisor, and by a step.
+#[derive(Clone, Copy)]
+pub(crate) struct DepthWalk {
+    divisor: Reciprocal,
+    step: u64,
+}
+
+/// How the depths of a triangle are found along a row: all are equal, or they are walked, or each is divided for itself.
 #[derive(Clone, Copy)]
 pub(crate) enum Slope {
     Level(u16),
-    Walked(Reciprocal),
+    Walked(DepthWalk),
     Divided,
 }
 
@@ -31,13 +37,17 @@ impl Slope {
         ensures { IsSlope triangle.now depths.now result }
     {
         let [a, b, c] = *depths;
-        let area = triangle.area().unsigned_abs();
         if a == b && a == c {
-            Slope::Level(a)
-        } else if 0 < area && area <= WALKED {
-            Slope::Walked(Reciprocal::of(2 * area))
-        } else {
-            Slope::Divided
+            return Slope::Level(a);
+        }
+        let area = triangle.area().unsigned_abs();
+        match Gradient::of(triangle) {
+            Some(gradient) if area <= WALKED => {
+                let divisor = Reciprocal::of(2 * area);
+                let step = gradient.depth_step(divisor, a, b, c);
+                Slope::Walked(DepthWalk { divisor, step })
+            }
+            _ => Slope::Divided,
         }
     }
 }
@@ -85,15 +95,12 @@ impl DepthRows {
         requires covered { (column : ℕ) → x ≤ column → column < x + length out.old → IsTrue (covers self.now.0 column y) }
         ensures { out.new ≡ map (λ column. depth_at self.now.0 self.now.1 column y) (range_with_len x (length out.old)) }
     {
+        if out.is_empty() {
+            return;
+        }
         match self.slope {
             Slope::Level(depth) => out.fill(depth),
-            Slope::Walked(divisor) => {
-                if 2 <= out.len() {
-                    walk_depths(&self.triangle, &self.depths, divisor, x, y, out);
-                } else {
-                    divide_depths(&self.triangle, &self.depths, x, y, out);
-                }
-            }
+            Slope::Walked(walk) => walk_depths(&self.triangle, &self.depths, walk, x, y, out),
             Slope::Divided => divide_depths(&self.triangle, &self.depths, x, y, out),
         }
     }
@@ -112,33 +119,22 @@ fn divide_depths(triangle: &Tri, depths: &[u16; 3], x: u32, y: u32, out: &mut [u
     }
 }
 
-/// The depths of a triangle at two or more neighbouring covered pixels, from those of the first two.
-fn walk_depths(
-    triangle: &Tri,
-    depths: &[u16; 3],
-    divisor: Reciprocal,
-    x: u32,
-    y: u32,
-    out: &mut [u16],
-)
-    requires some { 2 ≤ length out.old }
+/// The depths of a triangle at neighbouring covered pixels, from that of the first.
+fn walk_depths(triangle: &Tri, depths: &[u16; 3], walk: DepthWalk, x: u32, y: u32, out: &mut [u16])
+    requires some { 0 < length out.old }
     requires few { length out.old ≤ most_in_row }
     requires row { y < most_pixels }
     requires columns { x + length out.old ≤ most_pixels }
     requires covered { (column : ℕ) → x ≤ column → column < x + length out.old → IsTrue (covers triangle.now column y) }
-    requires small { 384 * area_of triangle.now ≤ 2 ^ 48 }
-    requires divisor { divisor.divisor ≡ 2 * area_of triangle.now }
+    requires walk { IsDepthWalk triangle.now depths.now walk }
     ensures { out.new ≡ map (λ column. depth_at triangle.now depths.now column y) (range_with_len x (length out.old)) }
 {
     let [a, b, c] = *depths;
     let first = Weights::at(triangle, x, y).depth_numerator(a, b, c);
-    let second = Weights::at(triangle, x + 1, y).depth_numerator(a, b, c);
-    let first = divisor.depth_quotient(first);
-    let second = divisor.depth_quotient(second);
-    let Walk { mut place, step } = Walk::between(first, second);
+    let mut accumulator = walk.divisor.depth_quotient(first) + LIFT;
     for i in 0..out.len() {
-        out[i] = (place >> 48) as u16;
-        place = place.wrapping_add(step);
+        out[i] = (accumulator >> 48) as u16;
+        accumulator = accumulator.wrapping_add(walk.step);
     }
 }
 

@@ -2,19 +2,23 @@
 #![tactic(auto)]
 
 pub use bounds::Bounds;
+pub use colour_walk::{ColourWalk, shade_row};
 pub use coverage::covers;
 pub use depth::{Depth, Func, depth_at};
 pub use depth_rows::{DepthRows, depth_row};
 pub use scanlines::{Scanlines, row_span};
-pub use shading::{Interp, shade, shade_row};
+pub use shading::{Interp, shade};
 pub use triangle::Tri;
 pub use verdict::{Cull, Raster, Rect, Verdict, verdict_at};
 
 mod bounds;
+mod change;
+mod colour_walk;
 mod coverage;
 mod depth;
 mod depth_rows;
 mod edge;
+mod gradient;
 mod vectors;
 /// Laws of the definitions.
 pub mod laws;

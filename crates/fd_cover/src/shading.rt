@@ -1,16 +1,11 @@
-ghost use Rattle.std.specs.Prelude.{◌≡◌, ℕ, ◌<◌, ◌≤◌, ◌+◌, ◌-◌, ◌*◌, ◌/◌, ◌%◌, ◌^◌, IsTrue, length, map};
-ghost use Rattle.std.specs.List.{range_with_len};
+ghost use Rattle.std.specs.Prelude.{◌≡◌, ◌<◌, ◌≤◌, ◌+◌, ◌*◌, ◌^◌, IsTrue};
 ghost use Rattle.fd_cover.specs.Covers.{covers};
-ghost use Rattle.fd_cover.specs.Limits.{most_in_row};
 ghost use Rattle.fd_cover.specs.Shade.{area_of, weight_a, weight_b, weight_c, IsNearestLarger, IsNearestMean, rounded_quotient, colour_of, shaded};
 ghost use Rattle.fd_snap.specs.Limits.{most_pixels};
 
 use crate::point::{Point, doubled_area};
-use crate::reciprocal::Reciprocal;
 use crate::triangle::Tri;
-use crate::vectors::{colour_of, moved};
 use fd_blend::Colour;
-use std::simd::prelude::*;
 
 /// How a triangle's colour comes from those of its vertices: the first one's, or between the three.
 #[derive(Clone, Copy, Debug, PartialEq, Eq)]
@@ -88,7 +83,7 @@ impl Weights {
     }
 
     /// What is divided by twice the area to round the weighted mean of three channels.
-    fn numerator(self, a: u8, b: u8, c: u8) -> u64
+    pub(crate) fn numerator(self, a: u8, b: u8, c: u8) -> u64
         ensures value { result ≡ 2 * (self.a * a + self.b * b + self.c * c) + (self.a + self.b + self.c) }
         ensures bound { result ≤ 511 * (self.a + self.b + self.c) }
         ensures bytes { (a < 256) × ((b < 256) × (c < 256)) }
@@ -96,32 +91,6 @@ impl Weights {
         let area = self.a + self.b + self.c;
         let total = self.a * u64::from(a) + self.b * u64::from(b) + self.c * u64::from(c);
         2 * total + area
-    }
-}
-
-/// How one channel, or the depth, goes along a row of covered pixels: its rounded value is the highest byte of the place, and the next pixel's place is a step
-/// on. A depth has the highest two bytes and 48 bits of fraction, and is walked only where those are fine enough.
-///
-/// A channel's place has 56 bits of fraction and begins 96 units above its quotient. Each quotient is less than 3 units too low, so in 32 pixels
-/// a place is above the exact one by less than 192 units, and never below it. An exact quotient whose next whole number is not reached
-/// is below it by at least 2^56 units through twice the area, which is at most 2^48: 256 units. So the whole part is exact, and no remainder is kept.
-#[derive(Clone, Copy)]
-pub(crate) struct Walk {
-    pub(crate) place: u64,
-    pub(crate) step: u64,
-}
-
-impl Walk {
-    /// The walk from a pixel with the quotient `first` whose neighbour to the right has the quotient `second`.
-    pub(crate) fn between(first: u64, second: u64) -> Walk
-        requires first { first + 96 < 2 ^ 64 }
-        ensures place { result.place ≡ first + 96 }
-        ensures step { result.step ≡ (second + (2 ^ 64 - first)) % 2 ^ 64 }
-    {
-        Walk {
-            place: first + 96,
-            step: second.wrapping_sub(first),
-        }
     }
 }
 
@@ -148,79 +117,6 @@ pub fn shade(triangle: &Tri, colours: &[Colour; 3], interp: Interp, x: u32, y: u
                 g: weights.mean(a.g, b.g, c.g),
                 b: weights.mean(a.b, b.b, c.b),
                 a: weights.mean(a.a, b.a, c.a),
-            }
-        }
-    }
-}
-
-/// The source colours of a linear triangle at two or more neighbouring covered pixels.
-fn shade_linear(triangle: &Tri, colours: &[Colour; 3], x: u32, y: u32, out: &mut [Colour])
-    requires some { 2 ≤ length out.old }
-    requires few { length out.old ≤ most_in_row }
-    requires row { y < most_pixels }
-    requires columns { x + length out.old ≤ most_pixels }
-    requires covered { (column : ℕ) → x ≤ column → column < x + length out.old → IsTrue (covers triangle.now column y) }
-    ensures { out.new ≡ map (λ column. shaded triangle.now Interp.Linear (colour_of colours.now 0) (colour_of colours.now 1)
-        (colour_of colours.now 2) column y) (range_with_len x (length out.old)) }
-{
-    let [a, b, c] = *colours;
-    let area = doubled_area(
-        Point::vertex(triangle.a),
-        Point::vertex(triangle.b),
-        Point::vertex(triangle.c),
-    );
-    let first = Weights::at(triangle, x, y);
-    let second = Weights::at(triangle, x + 1, y);
-    let area = Reciprocal::of(2 * area);
-    let red = Walk::between(
-        area.quotient(first.numerator(a.r, b.r, c.r)),
-        area.quotient(second.numerator(a.r, b.r, c.r)),
-    );
-    let green = Walk::between(
-        area.quotient(first.numerator(a.g, b.g, c.g)),
-        area.quotient(second.numerator(a.g, b.g, c.g)),
-    );
-    let blue = Walk::between(
-        area.quotient(first.numerator(a.b, b.b, c.b)),
-        area.quotient(second.numerator(a.b, b.b, c.b)),
-    );
-    let alpha = Walk::between(
-        area.quotient(first.numerator(a.a, b.a, c.a)),
-        area.quotient(second.numerator(a.a, b.a, c.a)),
-    );
-    let mut places = u64x4::from_array([red.place, green.place, blue.place, alpha.place]);
-    let steps = u64x4::from_array([red.step, green.step, blue.step, alpha.step]);
-    for i in 0..out.len() {
-        out[i] = colour_of(places);
-        places = moved(places, steps);
-    }
-}
-
-/// The source colours of a triangle at neighbouring covered pixels of row y from column x on, from the colours of its vertices.
-///
-/// Each is what `shade` says; one division serves the whole row.
-pub fn shade_row(
-    triangle: &Tri,
-    colours: &[Colour; 3],
-    interp: Interp,
-    x: u32,
-    y: u32,
-    out: &mut [Colour],
-)
-    requires few { length out.old ≤ most_in_row }
-    requires row { y < most_pixels }
-    requires columns { x + length out.old ≤ most_pixels }
-    requires covered { (column : ℕ) → x ≤ column → column < x + length out.old → IsTrue (covers triangle.now column y) }
-    ensures { out.new ≡ map (λ column. shaded triangle.now interp (colour_of colours.now 0) (colour_of colours.now 1) (colour_of colours.now 2) column y)
-        (range_with_len x (length out.old)) }
-{
-    match interp {
-        Interp::Flat => out.fill(colours[0]),
-        Interp::Linear => {
-            if 2 <= out.len() {
-                shade_linear(triangle, colours, x, y, out);
-            } else if out.len() == 1 {
-                out[0] = shade(triangle, colours, interp, x, y);
             }
         }
     }

@@ -10,7 +10,7 @@ ghost use Rattle.fd_snap.specs.Limits.{most_pixels};
 ghost use Rattle.fd_tile.specs.declared.place.TheConstants.{TILE_SIDE};
 ghost use Rattle.fd_draw.specs.Row.{changed_row};
 ghost use Rattle.fd_draw.specs.Paints.{Paints};
-ghost use Rattle.fd_draw.specs.Primitive.{CoversRun, IsReady, blended_by, is_tested_by, kept_of, painted_by, reached_by, triangle_of};
+ghost use Rattle.fd_draw.specs.Primitive.{CoversRun, IsReady, blended_by, blended_in, is_tested_by, kept_of, painted_by, reached_by, triangle_of};
 ghost use Rattle.fd_draw.specs.Plan.{ArePlanned, IsFoundOn, IsPlan};
 ghost use Rattle.fd_draw.specs.Writing.{ChangesRun, HasRoom, HasRun, WritesRegion, WritesRun, in_row, keep_each};
 
@@ -21,7 +21,7 @@ use crate::primitive::{Ink, Primitive};
 use crate::run::Run;
 use crate::strip::{draw_strip, strip_end};
 use crate::tested::draw_span;
-use fd_blend::Colour;
+use fd_blend::{Blender, Colour};
 use fd_cover::shade_row;
 use fd_events::{Draw, Event, Pipeline};
 use fd_tile::{TILE_SIDE, Tile};
@@ -37,7 +37,8 @@ const NO_COLOUR: Colour = Colour {
     a: 0,
 };
 
-/// Blends a triangle's sources with neighbouring pixels of row y from column x on, all of which it covers.
+/// Blends a triangle's sources with neighbouring pixels of row y from column x on, all of which it covers. It stands in its callers, as many rows are short.
+#[inline(always)]
 fn blend_triangle(row: &mut [Colour], x: u32, y: u32, primitive: &Primitive<'_>)
     requires ready { IsReady primitive.now }
     requires few { length row.old ≤ TILE_SIDE }
@@ -49,26 +50,42 @@ fn blend_triangle(row: &mut [Colour], x: u32, y: u32, primitive: &Primitive<'_>)
 {
     match &primitive.ink {
         Ink::One(brush) => brush.draw(row),
-        Ink::Many(blender) => {
-            let mut sources = [NO_COLOUR; WIDEST];
-            let sources = &mut sources[..row.len()];
-            find_sources(primitive, x, y, sources);
-            blender.draw(sources, row);
-        }
+        Ink::Walked(blender, _) => blend_sources(primitive, blender, x, y, row),
+        Ink::Many(blender) => blend_sources(primitive, blender, x, y, row),
     }
+}
+
+/// The same of a triangle of many colours, in its state's blender. A row of one colour doesn't pay for the room of its sources.
+#[inline(never)]
+fn blend_sources(primitive: &Primitive<'_>, blender: &Blender, x: u32, y: u32, row: &mut [Colour])
+    requires ready { IsReady primitive.now }
+    requires blender { blender.now ≡ blended_in primitive.now.state }
+    requires few { length row.old ≤ TILE_SIDE }
+    requires row { y < most_pixels }
+    requires columns { x + length row.old ≤ most_pixels }
+    requires covered { (column : ℕ) → x ≤ column → column < x + length row.old → IsTrue (covers primitive.now.corners column y) }
+    ensures { row.new ≡ changed_row (λ column before. colour_blended (triangle_of primitive.now) primitive.now.interp primitive.now.state column y before) x
+        row.old }
+{
+    let mut sources = [NO_COLOUR; WIDEST];
+    let sources = &mut sources[..row.len()];
+    find_sources(primitive, x, y, sources);
+    blender.draw(sources, row);
 }
 
 /// The sources of a triangle at neighbouring pixels of row y from column x on, all of which it covers.
 fn find_sources(primitive: &Primitive<'_>, x: u32, y: u32, out: &mut [Colour])
+    requires ready { IsReady primitive.now }
     requires few { length out.old ≤ TILE_SIDE }
     requires row { y < most_pixels }
     requires columns { x + length out.old ≤ most_pixels }
     requires covered { (column : ℕ) → x ≤ column → column < x + length out.old → IsTrue (covers primitive.now.corners column y) }
     ensures { out.new ≡ map (λ column. source_of (triangle_of primitive.now) primitive.now.interp column y) (range_with_len x (length out.old)) }
 {
-    match primitive.picture {
-        Some(picture) => picture.copy_row(x, y, out),
-        None => shade_row(
+    match (&primitive.ink, primitive.picture) {
+        (Ink::Walked(_, walk), _) => walk.row(&primitive.corners, &primitive.colours, x, y, out),
+        (_, Some(picture)) => picture.copy_row(x, y, out),
+        (_, None) => shade_row(
             &primitive.corners,
             &primitive.colours,
             primitive.interp,

@@ -17,9 +17,8 @@ loop-i-preserved c =
     let zb = vertex_depth c.args.depths.now 1 in
     let zc = vertex_depth c.args.depths.now 2 in
     let along : (k : ℕ) → k < length c.args.out.now → IsAlong (2 ^ 48) t x y k = λ k inside. record {
-      fine = omega (arith, c.requires.small);
+      fine = omega (arith, c.requires.walk.small);
       first = c.requires.covered x (omega arith) (omega (arith, c.requires.some));
-      second = c.requires.covered (x + 1) (omega arith) (omega (arith, c.requires.some));
       here = c.requires.covered (x + k) (omega arith) (omega (arith, inside));
       few = omega (arith, inside, c.requires.few);
     } in

@@ -10,5 +10,5 @@ invariant-loop-i l =
     let t : Tri = l.fn.triangle in record {
       depths : (k d : ℕ) → k < l.i → get_or l.out k d ≡ depth_at t l.fn.depths (l.x + k) l.y;
       walk : l.i < length l.fn.out → IsWalk (2 ^ 48) t l.x l.y (vertex_depth l.fn.depths 0) (vertex_depth l.fn.depths 1) (vertex_depth l.fn.depths 2) l.i
-          l.place l.step;
+          l.accumulator l.fn.walk.step;
     }

@@ -6,4 +6,4 @@ use Rattle.std.proofs.lemmas.Simd.{length-zip2}
 use Rattle.fd_cover.proofs.vectors.moved.Goals as goal
 
 pub returns-clause-len : goal.returns-clause-len
-returns-clause-len c = length-zip2 (act2 wrap_add (s_int w64) (s_int w64) (s_int w64)) c.args.places c.args.steps (omega arith) ∙ c.requires.places
+returns-clause-len c = length-zip2 (act2 wrap_add (s_int w64) (s_int w64) (s_int w64)) c.args.accumulators c.args.steps (omega arith) ∙ c.requires.accumulators

@@ -15,27 +15,27 @@ abbrev narrow : ℕ → ℕ
 narrow = act1 (cast unsigned unsigned w8) (s_int w64) (s_int w8)
 
 abbrev shifted : List ℕ → List ℕ
-shifted places = zip2 down places (replicate 4 56)
+shifted accumulators = zip2 down accumulators (replicate 4 56)
 
-length-shifted : (places : List ℕ) → length places ≡ 4 → length (shifted places) ≡ 4
-length-shifted places long = length-zip2 down places (replicate 4 56) long ∙ long
+length-shifted : (accumulators : List ℕ) → length accumulators ≡ 4 → length (shifted accumulators) ≡ 4
+length-shifted accumulators long = length-zip2 down accumulators (replicate 4 56) long ∙ long
 
-shifted-element : (places : List ℕ) (k : ℕ) → length places ≡ 4 → k < 4 → get_or (shifted places) k 0 ≡ get_or places k 0 / 2 ^ 56
-shifted-element places k long lt =
-    get_or-zip2 down places (replicate 4 56) k 0 0 0 (omega arith) (omega arith)
-    ∙ ap (down (get_or places k 0)) (get_or-replicate 4 k 56 0 lt)
+shifted-element : (accumulators : List ℕ) (k : ℕ) → length accumulators ≡ 4 → k < 4 → get_or (shifted accumulators) k 0 ≡ get_or accumulators k 0 / 2 ^ 56
+shifted-element accumulators k long lt =
+    get_or-zip2 down accumulators (replicate 4 56) k 0 0 0 (omega arith) (omega arith)
+    ∙ ap (down (get_or accumulators k 0)) (get_or-replicate 4 k 56 0 lt)
 
-below : (places : List ℕ) (k : ℕ) → length places ≡ 4 → Each1 (Fits w64) places → k < 4 → get_or places k 0 < 2 ^ 64
-below places k long fits lt = Each1-get_or (λ x. x < 2 ^ 64) places k 0 (omega arith) (below_from_Fits w64 places fits)
+below : (accumulators : List ℕ) (k : ℕ) → length accumulators ≡ 4 → Each1 (Fits w64) accumulators → k < 4 → get_or accumulators k 0 < 2 ^ 64
+below accumulators k long fits lt = Each1-get_or (λ x. x < 2 ^ 64) accumulators k 0 (omega arith) (below_from_Fits w64 accumulators fits)
 
 byte : (n m : ℕ) → n ≡ m / 2 ^ 56 → m < 2 ^ 64 → Fits w8 n
 byte n m e h = record { fits = omega arith }
 
 pub overflow_cast-result : goal.overflow_cast-result
-overflow_cast-result c = Each1-from_get_or _ (shifted c.args.places) 0 (λ k lt.
-    let small : k < 4 = omega (arith, length-shifted c.args.places c.requires, lt) in
-    byte _ _ (shifted-element c.args.places k c.requires small) (below c.args.places k c.requires c.fits-places.1 small))
+overflow_cast-result c = Each1-from_get_or _ (shifted c.args.accumulators) 0 (λ k lt.
+    let small : k < 4 = omega (arith, length-shifted c.args.accumulators c.requires, lt) in
+    byte _ _ (shifted-element c.args.accumulators k c.requires small) (below c.args.accumulators k c.requires c.fits-accumulators.1 small))
 
 pub returns-clause-elements : goal.returns-clause-elements
 returns-clause-elements c = λ k lt.
-    get_or-map narrow (shifted c.args.places) k 0 0 (omega arith) ∙ shifted-element c.args.places k c.requires lt
+    get_or-map narrow (shifted c.args.accumulators) k 0 0 (omega arith) ∙ shifted-element c.args.accumulators k c.requires lt

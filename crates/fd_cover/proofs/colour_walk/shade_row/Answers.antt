@@ -1,12 +1,10 @@
-use Rattle.std.proofs.Common.{rules, ◌≡◌, ℕ, zero, suc, ◌+◌, ◌∷◌, ◌∙◌, refl, sym, ap, length, map, replicate, arith, length-set}
+use Rattle.std.proofs.Common.{rules, ◌≡◌, ℕ, zero, suc, ◌+◌, ◌∷◌, ◌∙◌, refl, sym, ap, length, map, replicate}
 use Rattle.std.specs.List.{range_with_len}
-use Rattle.std.proofs.lemmas.Grind.{get_or-set_at}
 use Rattle.fd_blend.specs.declared.channel.Colour.{Colour}
 use Rattle.fd_cover.specs.declared.shading.Interp.TheVariants.{Flat}
 use Rattle.fd_cover.specs.declared.triangle.Tri.{Tri}
 use Rattle.fd_cover.specs.Shade.{colour_of, shaded}
-use Rattle.fd_cover.proofs.WalkLemmas.{columns_from}
-use Rattle.fd_cover.proofs.shading.shade_row.Goals as goal
+use Rattle.fd_cover.proofs.colour_walk.shade_row.Goals as goal
 
 -- a flat triangle has its first vertex's colour in every column
 flat_columns : (t : Tri) (a b c : Colour) (y x n : ℕ) → replicate n a ≡ map (λ column. shaded t Flat a b c column y) (range_with_len x n)
@@ -23,6 +21,3 @@ returns-in-Flat c =
     ∙ flat_columns c.args.triangle.now ka kb kc c.args.y c.args.x (length c.args.out.now)
     ∙ ap (λ interp. map (λ column. shaded c.args.triangle.now interp ka kb kc column c.args.y) (range_with_len c.args.x (length c.args.out.now)))
     (sym c.in-Flat.is)
-
-pub returns-then-out-eq1 : goal.returns-then-out-eq1
-returns-then-out-eq1 c = grind (arith, columns_from, length-set, get_or-set_at)

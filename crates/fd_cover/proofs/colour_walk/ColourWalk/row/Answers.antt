@@ -4,7 +4,7 @@ use Rattle.std.proofs.lemmas.List.{get_or-set_other}
 use Rattle.std.proofs.lemmas.Grind.{get_or-set_at}
 use Rattle.fd_cover.specs.Shade.{colour_of}
 use Rattle.fd_cover.proofs.WalkLemmas.{IsAlong, walk_value, walk_on, shaded_by, columns_from}
-use Rattle.fd_cover.proofs.shading.shade_linear.Goals as goal
+use Rattle.fd_cover.proofs.colour_walk.ColourWalk.row.Goals as goal
 
 pub loop-i-preserved : goal.loop-i-preserved
 loop-i-preserved c =
@@ -16,9 +16,8 @@ loop-i-preserved c =
     let kb = colour_of c.args.colours.now 1 in
     let kc = colour_of c.args.colours.now 2 in
     let along : (k : ℕ) → k < length c.args.out.now → IsAlong (2 ^ 56) t x y k = λ k inside. record {
-      fine = omega (arith);
-      first = c.requires.covered x (omega arith) (omega (arith, c.requires.some));
-      second = c.requires.covered (x + 1) (omega arith) (omega (arith, c.requires.some));
+      fine = omega (arith, c.requires.walk.small);
+      first = c.requires.covered x (omega arith) (omega (arith, c.loop-i-test.true));
       here = c.requires.covered (x + k) (omega arith) (omega (arith, inside));
       few = omega (arith, inside, c.requires.few);
     } in
@@ -39,19 +38,19 @@ loop-i-preserved c =
             get_or-set_at c.loop-i.out i k _ d same (omega (arith, c.loop-i.auto.out, c.loop-i-test.true))
             ∙ rw same (shaded_by t ka kb kc (x + i) y _ _ _ _ red green blue alpha)
       ];
-      places = c.moved-places.ensures.len;
+      accumulators = c.moved-accumulators.ensures.len;
       steps = before.steps;
-      red = λ more. rw (c.moved-places.ensures.elements 0 (omega arith))
+      red = λ more. rw (c.moved-accumulators.ensures.elements 0 (omega arith))
           (walk_on (2 ^ 56) 256 t x y ka.r kb.r kc.r i _ _ refl c.numerator.ensures.bytes.0 c.numerator.ensures.bytes.1.0 c.numerator.ensures.bytes.1.1 here
           (along (i + 1) more) red_walk);
-      green = λ more. rw (c.moved-places.ensures.elements 1 (omega arith))
-          (walk_on (2 ^ 56) 256 t x y ka.g kb.g kc.g i _ _ refl c.numerator-3.ensures.bytes.0 c.numerator-3.ensures.bytes.1.0 c.numerator-3.ensures.bytes.1.1
+      green = λ more. rw (c.moved-accumulators.ensures.elements 1 (omega arith))
+          (walk_on (2 ^ 56) 256 t x y ka.g kb.g kc.g i _ _ refl c.numerator-2.ensures.bytes.0 c.numerator-2.ensures.bytes.1.0 c.numerator-2.ensures.bytes.1.1
           here (along (i + 1) more) green_walk);
-      blue = λ more. rw (c.moved-places.ensures.elements 2 (omega arith))
-          (walk_on (2 ^ 56) 256 t x y ka.b kb.b kc.b i _ _ refl c.numerator-5.ensures.bytes.0 c.numerator-5.ensures.bytes.1.0 c.numerator-5.ensures.bytes.1.1
+      blue = λ more. rw (c.moved-accumulators.ensures.elements 2 (omega arith))
+          (walk_on (2 ^ 56) 256 t x y ka.b kb.b kc.b i _ _ refl c.numerator-3.ensures.bytes.0 c.numerator-3.ensures.bytes.1.0 c.numerator-3.ensures.bytes.1.1
           here (along (i + 1) more) blue_walk);
-      alpha = λ more. rw (c.moved-places.ensures.elements 3 (omega arith))
-          (walk_on (2 ^ 56) 256 t x y ka.a kb.a kc.a i _ _ refl c.numerator-7.ensures.bytes.0 c.numerator-7.ensures.bytes.1.0 c.numerator-7.ensures.bytes.1.1
+      alpha = λ more. rw (c.moved-accumulators.ensures.elements 3 (omega arith))
+          (walk_on (2 ^ 56) 256 t x y ka.a kb.a kc.a i _ _ refl c.numerator-4.ensures.bytes.0 c.numerator-4.ensures.bytes.1.0 c.numerator-4.ensures.bytes.1.1
           here (along (i + 1) more) alpha_walk);
     }
 
