@@ -19,6 +19,17 @@ pub struct Arguments<'a> {
     pub capture: &'a str,
 }
 
+/// What a subcommand with its arguments asks for.
+pub(crate) fn arguments_of<'a>(name: &str, matches: &ArgMatches<'a>) -> Arguments<'a>
+    ensures value { Asks (name.now, rows_of (found_of matches.now)) result }
+    ensures workers { AsksWorkers result.request }
+{
+    Arguments {
+        request: request_of(name, matches),
+        capture: matches.get_str("CAPTURE").unwrap_or(""),
+    }
+}
+
 /// The number of workers that the words ask for. `clap` has refused any other; no clause of it says so.
 fn workers(matches: &ArgMatches) -> u32
     ensures value { HasWorkers (rows_of (found_of matches.now)) result }
@@ -42,16 +53,5 @@ fn request_of(name: &str, matches: &ArgMatches) -> Request
         _ => Request::Run {
             workers: workers(matches),
         },
-    }
-}
-
-/// What a subcommand with its arguments asks for.
-pub(crate) fn arguments_of<'a>(name: &str, matches: &ArgMatches<'a>) -> Arguments<'a>
-    ensures value { Asks (name.now, rows_of (found_of matches.now)) result }
-    ensures workers { AsksWorkers result.request }
-{
-    Arguments {
-        request: request_of(name, matches),
-        capture: matches.get_str("CAPTURE").unwrap_or(""),
     }
 }

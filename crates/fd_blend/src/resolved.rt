@@ -89,71 +89,6 @@ impl Part {
     }
 }
 
-/// The positions of four factors of the second of two pixels, from those of the first: four further.
-fn further(positions: Colour) -> Colour
-    requires r { positions.r ≤ 128 }
-    requires g { positions.g ≤ 128 }
-    requires b { positions.b ≤ 128 }
-    requires a { positions.a ≤ 128 }
-    ensures { result ≡ record { r = positions.r + 4; g = positions.g + 4; b = positions.b + 4; a = positions.a + 4 } }
-{
-    Colour {
-        r: positions.r + 4,
-        g: positions.g + 4,
-        b: positions.b + 4,
-        a: positions.a + 4,
-    }
-}
-
-/// The positions of the factors of two pixels: the sources', then the destinations'. Each four go as one word, as a colour does.
-fn positions(rgb: Part, alpha: Part) -> u8x16
-    ensures { result ≡ positions_of rgb alpha }
-{
-    let src = Colour {
-        r: rgb.src.position(Channel::Red),
-        g: rgb.src.position(Channel::Green),
-        b: rgb.src.position(Channel::Blue),
-        a: alpha.src.position(Channel::Alpha),
-    };
-    let dst = Colour {
-        r: rgb.dst.position(Channel::Red),
-        g: rgb.dst.position(Channel::Green),
-        b: rgb.dst.position(Channel::Blue),
-        a: alpha.dst.position(Channel::Alpha),
-    };
-    bytes_of(src, further(src), dst, further(dst))
-}
-
-/// The flips of the factors of two pixels: the sources', then the destinations'.
-fn flips(rgb: Part, alpha: Part, factor: Colour) -> u8x16
-    ensures { result ≡ flips_of rgb alpha factor }
-{
-    let src = Colour {
-        r: rgb.src.flip(Channel::Red, factor),
-        g: rgb.src.flip(Channel::Green, factor),
-        b: rgb.src.flip(Channel::Blue, factor),
-        a: alpha.src.flip(Channel::Alpha, factor),
-    };
-    let dst = Colour {
-        r: rgb.dst.flip(Channel::Red, factor),
-        g: rgb.dst.flip(Channel::Green, factor),
-        b: rgb.dst.flip(Channel::Blue, factor),
-        a: alpha.dst.flip(Channel::Alpha, factor),
-    };
-    bytes_of(src, src, dst, dst)
-}
-
-/// For each channel of two pixels 1 where it is written, and else 0.
-fn written(mask: Mask) -> u8x8
-    ensures { result ≡ written_of mask }
-{
-    let r = u8::from(mask.writes(Channel::Red));
-    let g = u8::from(mask.writes(Channel::Green));
-    let b = u8::from(mask.writes(Channel::Blue));
-    let a = u8::from(mask.writes(Channel::Alpha));
-    u8x8::from_array([r, g, b, a, r, g, b, a])
-}
-
 /// The blend equation of a state and a blend factor, for two neighbouring pixels at once.
 #[derive(Clone, Copy)]
 pub(crate) struct Equation {
@@ -264,4 +199,69 @@ impl Equation {
         let elements = added(bytes, settled.sources, settled.factors, self.written);
         colours_of(elements)
     }
+}
+
+/// The positions of four factors of the second of two pixels, from those of the first: four further.
+fn further(positions: Colour) -> Colour
+    requires r { positions.r ≤ 128 }
+    requires g { positions.g ≤ 128 }
+    requires b { positions.b ≤ 128 }
+    requires a { positions.a ≤ 128 }
+    ensures { result ≡ record { r = positions.r + 4; g = positions.g + 4; b = positions.b + 4; a = positions.a + 4 } }
+{
+    Colour {
+        r: positions.r + 4,
+        g: positions.g + 4,
+        b: positions.b + 4,
+        a: positions.a + 4,
+    }
+}
+
+/// The positions of the factors of two pixels: the sources', then the destinations'. Each four go as one word, as a colour does.
+fn positions(rgb: Part, alpha: Part) -> u8x16
+    ensures { result ≡ positions_of rgb alpha }
+{
+    let src = Colour {
+        r: rgb.src.position(Channel::Red),
+        g: rgb.src.position(Channel::Green),
+        b: rgb.src.position(Channel::Blue),
+        a: alpha.src.position(Channel::Alpha),
+    };
+    let dst = Colour {
+        r: rgb.dst.position(Channel::Red),
+        g: rgb.dst.position(Channel::Green),
+        b: rgb.dst.position(Channel::Blue),
+        a: alpha.dst.position(Channel::Alpha),
+    };
+    bytes_of(src, further(src), dst, further(dst))
+}
+
+/// The flips of the factors of two pixels: the sources', then the destinations'.
+fn flips(rgb: Part, alpha: Part, factor: Colour) -> u8x16
+    ensures { result ≡ flips_of rgb alpha factor }
+{
+    let src = Colour {
+        r: rgb.src.flip(Channel::Red, factor),
+        g: rgb.src.flip(Channel::Green, factor),
+        b: rgb.src.flip(Channel::Blue, factor),
+        a: alpha.src.flip(Channel::Alpha, factor),
+    };
+    let dst = Colour {
+        r: rgb.dst.flip(Channel::Red, factor),
+        g: rgb.dst.flip(Channel::Green, factor),
+        b: rgb.dst.flip(Channel::Blue, factor),
+        a: alpha.dst.flip(Channel::Alpha, factor),
+    };
+    bytes_of(src, src, dst, dst)
+}
+
+/// For each channel of two pixels 1 where it is written, and else 0.
+fn written(mask: Mask) -> u8x8
+    ensures { result ≡ written_of mask }
+{
+    let r = u8::from(mask.writes(Channel::Red));
+    let g = u8::from(mask.writes(Channel::Green));
+    let b = u8::from(mask.writes(Channel::Blue));
+    let a = u8::from(mask.writes(Channel::Alpha));
+    u8x8::from_array([r, g, b, a, r, g, b, a])
 }

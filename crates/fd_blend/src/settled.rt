@@ -14,23 +14,6 @@ const UNSEEN: Colour = Colour {
     a: 0,
 };
 
-/// The source's channel times its factor, over a destination that it does not look at.
-fn weighted_source(part: Part, channel: Channel, factor: Colour, source: Colour) -> u16
-    ensures value { result ≡ weighted_source part channel factor source }
-    ensures bound { result ≤ 65025 }
-{
-    let value = part.src.value(channel, factor, source, UNSEEN);
-    u16::from(channel.of(source)) * u16::from(value)
-}
-
-/// The destination's factor, where it does not come from the destination.
-fn destination_factor(part: Part, channel: Channel, factor: Colour, source: Colour) -> u16
-    ensures value { result ≡ destination_factor part channel factor source }
-    ensures bound { result < 256 }
-{
-    u16::from(part.dst.value(channel, factor, source, UNSEEN))
-}
-
 /// The weighted channels of a source and the factors of destinations, in elements for two pixels.
 #[derive(Clone, Copy)]
 pub(crate) struct Settled {
@@ -58,4 +41,21 @@ impl Settled {
         let factors = u16x8::from_array([r, g, b, a, r, g, b, a]);
         Some(Settled { sources, factors })
     }
+}
+
+/// The source's channel times its factor, over a destination that it does not look at.
+fn weighted_source(part: Part, channel: Channel, factor: Colour, source: Colour) -> u16
+    ensures value { result ≡ weighted_source part channel factor source }
+    ensures bound { result ≤ 65025 }
+{
+    let value = part.src.value(channel, factor, source, UNSEEN);
+    u16::from(channel.of(source)) * u16::from(value)
+}
+
+/// The destination's factor, where it does not come from the destination.
+fn destination_factor(part: Part, channel: Channel, factor: Colour, source: Colour) -> u16
+    ensures value { result ≡ destination_factor part channel factor source }
+    ensures bound { result < 256 }
+{
+    u16::from(part.dst.value(channel, factor, source, UNSEEN))
 }

@@ -6,6 +6,46 @@ ghost use Rattle.fd_blend.specs.Vectors.{units, is_alpha, factor_at, blended_ele
 use crate::equation::BlendOp;
 use std::simd::prelude::*;
 
+/// The blend equation in each element: eight source channels stand before eight destination channels, and the two factors of each
+/// where `positions` and `flips` say.
+pub(crate) fn blended(
+    bytes: u8x16,
+    positions: u8x16,
+    flips: u8x16,
+    written: u8x8,
+    rgb: BlendOp,
+    alpha: BlendOp,
+) -> u8x8
+    requires bytes { length bytes ≡ 16 }
+    requires positions { length positions ≡ 16 }
+    requires flips { length flips ≡ 16 }
+    requires written { length written ≡ 8 }
+    requires inside { (k : ℕ) → k < 16 → IsTrue (nat_le 128 (slice_index positions k) || nat_lt (slice_index positions k) 16) }
+    ensures len { length result ≡ 8 }
+    ensures elements { (k : ℕ) → k < 8 → slice_index result k ≡ blended_element bytes positions flips written rgb alpha k }
+    ensures small { (k : ℕ) → k < 16 → slice_index bytes k < 256 }
+{
+    let weighted = products(bytes, factors(bytes, positions, flips));
+    let (src, dst) = halves(weighted);
+    let units = combined_parts(rgb, alpha, src, dst);
+    chosen(written, converted(units), upper_half(bytes))
+}
+
+/// The blend equation in each element of eight destination channels, to which their sources, weighted already, are added.
+pub(crate) fn added(bytes: u8x8, sources: u16x8, factors: u16x8, written: u8x8) -> u8x8
+    requires bytes { length bytes ≡ 8 }
+    requires sources { length sources ≡ 8 }
+    requires factors { length factors ≡ 8 }
+    requires written { length written ≡ 8 }
+    requires few { (k : ℕ) → k < 8 → slice_index factors k < 256 }
+    ensures len { length result ≡ 8 }
+    ensures elements { (k : ℕ) → k < 8 → slice_index result k ≡ added_element bytes sources factors written k }
+    ensures small { (k : ℕ) → k < 8 → slice_index bytes k < 256 }
+{
+    let units = sums(sources, weighted(bytes, factors));
+    chosen(written, converted(units), bytes)
+}
+
 /// Of each element the byte at its position, where a position from 128 on stands for 0; then the bits of `flips` are turned over.
 fn factors(bytes: u8x16, positions: u8x16, flips: u8x16) -> u8x16
     requires bytes { length bytes ≡ 16 }
@@ -152,31 +192,6 @@ fn upper_half(elements: u8x16) -> u8x8
     elements.extract::<8, 8>()
 }
 
-/// The blend equation in each element: eight source channels stand before eight destination channels, and the two factors of each
-/// where `positions` and `flips` say.
-pub(crate) fn blended(
-    bytes: u8x16,
-    positions: u8x16,
-    flips: u8x16,
-    written: u8x8,
-    rgb: BlendOp,
-    alpha: BlendOp,
-) -> u8x8
-    requires bytes { length bytes ≡ 16 }
-    requires positions { length positions ≡ 16 }
-    requires flips { length flips ≡ 16 }
-    requires written { length written ≡ 8 }
-    requires inside { (k : ℕ) → k < 16 → IsTrue (nat_le 128 (slice_index positions k) || nat_lt (slice_index positions k) 16) }
-    ensures len { length result ≡ 8 }
-    ensures elements { (k : ℕ) → k < 8 → slice_index result k ≡ blended_element bytes positions flips written rgb alpha k }
-    ensures small { (k : ℕ) → k < 16 → slice_index bytes k < 256 }
-{
-    let weighted = products(bytes, factors(bytes, positions, flips));
-    let (src, dst) = halves(weighted);
-    let units = combined_parts(rgb, alpha, src, dst);
-    chosen(written, converted(units), upper_half(bytes))
-}
-
 /// The products of eight bytes and eight factors.
 fn weighted(bytes: u8x8, factors: u16x8) -> u16x8
     requires bytes { length bytes ≡ 8 }
@@ -186,19 +201,4 @@ fn weighted(bytes: u8x8, factors: u16x8) -> u16x8
     ensures elements { (k : ℕ) → k < 8 → slice_index result k ≡ slice_index bytes k * slice_index factors k }
 {
     bytes.cast::<u16>() * factors
-}
-
-/// The blend equation in each element of eight destination channels, to which their sources, weighted already, are added.
-pub(crate) fn added(bytes: u8x8, sources: u16x8, factors: u16x8, written: u8x8) -> u8x8
-    requires bytes { length bytes ≡ 8 }
-    requires sources { length sources ≡ 8 }
-    requires factors { length factors ≡ 8 }
-    requires written { length written ≡ 8 }
-    requires few { (k : ℕ) → k < 8 → slice_index factors k < 256 }
-    ensures len { length result ≡ 8 }
-    ensures elements { (k : ℕ) → k < 8 → slice_index result k ≡ added_element bytes sources factors written k }
-    ensures small { (k : ℕ) → k < 8 → slice_index bytes k < 256 }
-{
-    let units = sums(sources, weighted(bytes, factors));
-    chosen(written, converted(units), bytes)
 }

@@ -16,6 +16,23 @@ use std::alloc::Global;
 /// The most bytes that a capture has.
 pub const MAX_CAPTURE_LEN: usize = 67_108_864;
 
+/// The table that a capture of version 1, 2 or 3 stands for, all its events switched on.
+#[tactic(auto, unfolding(crate::specs::Capture::capture_of))]
+pub fn read(alloc: Global, bytes: &[u8]) -> Result<EventTable, CaptureFault>
+    // Unless memory runs out, it is exactly the table or the first fault.
+    ensures exact { Gives (λ table. table) result (capture_of bytes.now) }
+    // A capture that is too long is refused as such, whatever memory there is.
+    ensures too_long { most_bytes < length bytes.now → result ≡ Err CaptureFault.TooLong }
+{
+    if bytes.len() > MAX_CAPTURE_LEN {
+        return Err(CaptureFault::TooLong);
+    }
+    let Ok(text) = str::from_utf8(bytes) else {
+        return Err(CaptureFault::NotJson);
+    };
+    table_of_text(alloc, text)
+}
+
 /// The version that a capture seems to have by what stands before its events. It may be wrong: then the text is read twice.
 fn likely_version(text: &str) -> u32
     ensures { (1 ≤ result) × (result ≤ 3) }
@@ -60,21 +77,4 @@ fn table_of_text(alloc: Global, text: &str) -> Result<EventTable, CaptureFault>
     drop(head);
     let head = capture_head(alloc, found, text)?;
     table(alloc, found, head)
-}
-
-/// The table that a capture of version 1, 2 or 3 stands for, all its events switched on.
-#[tactic(auto, unfolding(crate::specs::Capture::capture_of))]
-pub fn read(alloc: Global, bytes: &[u8]) -> Result<EventTable, CaptureFault>
-    // Unless memory runs out, it is exactly the table or the first fault.
-    ensures exact { Gives (λ table. table) result (capture_of bytes.now) }
-    // A capture that is too long is refused as such, whatever memory there is.
-    ensures too_long { most_bytes < length bytes.now → result ≡ Err CaptureFault.TooLong }
-{
-    if bytes.len() > MAX_CAPTURE_LEN {
-        return Err(CaptureFault::TooLong);
-    }
-    let Ok(text) = str::from_utf8(bytes) else {
-        return Err(CaptureFault::NotJson);
-    };
-    table_of_text(alloc, text)
 }

@@ -17,6 +17,19 @@ use json::Reader;
 /// The events that were read, or the first fault.
 pub(crate) type ReadEvents = Result<Vec<Event>, CaptureFault>;
 
+/// The next value as the events of a version, if it is an array.
+pub(crate) fn events(reader: &mut Reader<'_>, scope: Scope) -> Result<Option<ReadEvents>, Stop>
+    ensures ok { IfOk result (λ listed. (d : Data) × (taken scope.depth reader.old ≡ Some (d, reader.new)) × GivesListed scope.version listed (array_of d)) }
+    ensures refused { result ≡ Err Stop.NotJson → taken scope.depth reader.old ≡ None }
+    ensures shorter { OnOk result (length reader.new < length reader.old) }
+{
+    if !open_array(reader, scope.depth)? {
+        return Ok(None);
+    }
+    let events = event_items(reader, scope.inner())?;
+    Ok(Some(events))
+}
+
 /// One event more, after those that were read.
 fn with_event(
     reader: &mut Reader<'_>,
@@ -77,17 +90,4 @@ fn event_items(reader: &mut Reader<'_>, scope: Scope) -> Result<ReadEvents, Stop
         number = number.saturating_add(1);
     }
     Ok(events)
-}
-
-/// The next value as the events of a version, if it is an array.
-pub(crate) fn events(reader: &mut Reader<'_>, scope: Scope) -> Result<Option<ReadEvents>, Stop>
-    ensures ok { IfOk result (λ listed. (d : Data) × (taken scope.depth reader.old ≡ Some (d, reader.new)) × GivesListed scope.version listed (array_of d)) }
-    ensures refused { result ≡ Err Stop.NotJson → taken scope.depth reader.old ≡ None }
-    ensures shorter { OnOk result (length reader.new < length reader.old) }
-{
-    if !open_array(reader, scope.depth)? {
-        return Ok(None);
-    }
-    let events = event_items(reader, scope.inner())?;
-    Ok(Some(events))
 }

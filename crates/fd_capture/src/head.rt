@@ -25,6 +25,25 @@ pub(crate) struct Head {
     pub(crate) events: Option<ReadEvents>,
 }
 
+/// What is read of a text that is one value, its events as those of a version.
+pub(crate) fn read_head(alloc: Global, version: u32, text: &str) -> Result<Option<Head>, Stop>
+    ensures ok { IfOk result (λ head. (d : Data) × (read text.now ≡ Some d) × IsHead version head d) }
+    ensures refused { result ≡ Err Stop.NotJson → read text.now ≡ None }
+{
+    let mut scratch = Scratch::new(alloc);
+    let mut reader = Reader::new(text, &mut scratch)?;
+    let scope = Scope {
+        alloc,
+        version,
+        depth: MAX_DEPTH,
+    };
+    let head = capture(&mut reader, scope)?;
+    if reader.next().is_some() {
+        return Err(Stop::NotJson);
+    }
+    Ok(head)
+}
+
 /// Whether a capture has a member of this name beside its events.
 fn is_small(name: &str) -> bool
     ensures { result ≡ is_small name.now }
@@ -90,23 +109,4 @@ fn capture(reader: &mut Reader<'_>, scope: Scope) -> Result<Option<Head>, Stop>
     }
     let head = head_members(reader, scope.inner())?;
     Ok(Some(head))
-}
-
-/// What is read of a text that is one value, its events as those of a version.
-pub(crate) fn read_head(alloc: Global, version: u32, text: &str) -> Result<Option<Head>, Stop>
-    ensures ok { IfOk result (λ head. (d : Data) × (read text.now ≡ Some d) × IsHead version head d) }
-    ensures refused { result ≡ Err Stop.NotJson → read text.now ≡ None }
-{
-    let mut scratch = Scratch::new(alloc);
-    let mut reader = Reader::new(text, &mut scratch)?;
-    let scope = Scope {
-        alloc,
-        version,
-        depth: MAX_DEPTH,
-    };
-    let head = capture(&mut reader, scope)?;
-    if reader.next().is_some() {
-        return Err(Stop::NotJson);
-    }
-    Ok(head)
 }

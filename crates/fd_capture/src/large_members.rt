@@ -30,6 +30,16 @@ pub(crate) fn if_any<T: Drop>(member: Member<T>) -> Option<Option<T>>
     }
 }
 
+/// A draw in a capture of a version; pictures are of version 3.
+pub(crate) fn draw(version: u32, draft: Draft) -> Option<Event>
+    ensures { result ≡ draw_drafted version draft }
+{
+    match draft.paint {
+        Some(Paint::Picture) if version == 3 => painted_draw(draft.large),
+        _ => shaded_draw(draft.paint, draft.large),
+    }
+}
+
 /// Vertices, if each has a colour.
 fn coloured(vertices: VertexList) -> Option<Vec<Vertex>>
     ensures { option_map (λ v. v.items) result ≡ coloured (vertices_seen vertices) }
@@ -78,14 +88,4 @@ fn painted_draw(large: LargeMembers) -> Option<Event>
     let indices = if_any(indices)?;
     let draw = Draw::painted(vertices.list, indices, picture).ok()?;
     Some(Event::Draw(draw))
-}
-
-/// A draw in a capture of a version; pictures are of version 3.
-pub(crate) fn draw(version: u32, draft: Draft) -> Option<Event>
-    ensures { result ≡ draw_drafted version draft }
-{
-    match draft.paint {
-        Some(Paint::Picture) if version == 3 => painted_draw(draft.large),
-        _ => shaded_draw(draft.paint, draft.large),
-    }
 }

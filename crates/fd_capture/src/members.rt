@@ -43,6 +43,19 @@ pub(crate) struct Draft {
     pub(crate) large: LargeMembers,
 }
 
+/// The next value as an event.
+pub(crate) fn event(reader: &mut Reader<'_>, scope: Scope) -> Result<ReadEvent, Stop>
+    ensures ok { IfOk result (λ r. (d : Data) × (taken scope.depth reader.old ≡ Some (d, reader.new)) × (r ≡ event_of scope.version d)) }
+    ensures refused { result ≡ Err Stop.NotJson → taken scope.depth reader.old ≡ None }
+    ensures shorter { OnOk result (length reader.new < length reader.old) }
+{
+    if !open_object(reader, scope.depth)? {
+        return Ok(Err(EventFault::BadField));
+    }
+    let draft = draft_members(reader, scope.inner())?;
+    Ok(event_from(scope.version, draft))
+}
+
 /// The next value as the name of a marker.
 fn label(reader: &mut Reader<'_>, scope: Scope) -> Result<Option<Label>, Stop>
     ensures ok { IfOk result (λ label. (d : Data) × (taken scope.depth reader.old ≡ Some (d, reader.new)) × (label ≡ label_of d)) }
@@ -138,17 +151,4 @@ fn event_from(version: u32, draft: Draft) -> ReadEvent
         return Err(EventFault::UnknownEvent);
     }
     event_of_kind(version, kind, draft).ok_or(EventFault::BadField)
-}
-
-/// The next value as an event.
-pub(crate) fn event(reader: &mut Reader<'_>, scope: Scope) -> Result<ReadEvent, Stop>
-    ensures ok { IfOk result (λ r. (d : Data) × (taken scope.depth reader.old ≡ Some (d, reader.new)) × (r ≡ event_of scope.version d)) }
-    ensures refused { result ≡ Err Stop.NotJson → taken scope.depth reader.old ≡ None }
-    ensures shorter { OnOk result (length reader.new < length reader.old) }
-{
-    if !open_object(reader, scope.depth)? {
-        return Ok(Err(EventFault::BadField));
-    }
-    let draft = draft_members(reader, scope.inner())?;
-    Ok(event_from(scope.version, draft))
 }

@@ -8,34 +8,6 @@ use fd_blend::Mask;
 use fd_json::{Stop, integer, leaf};
 use json::Reader;
 
-/// One of 32 bits.
-fn signed(whole: Option<i64>) -> Option<i32>
-    ensures { result ≡ option_and_then within_32 whole }
-{
-    i32::try_from(whole?).ok()
-}
-
-/// One of 32 bits without a sign.
-fn unsigned(whole: Option<i64>) -> Option<u32>
-    ensures { result ≡ option_and_then (between 0 (2 ^ 32 - 1)) whole }
-{
-    u32::try_from(whole?).ok()
-}
-
-/// One of 16 bits without a sign.
-fn short(whole: Option<i64>) -> Option<u16>
-    ensures { result ≡ option_and_then (between 0 65535) whole }
-{
-    u16::try_from(whole?).ok()
-}
-
-/// One of 8 bits without a sign.
-fn byte(whole: Option<i64>) -> Option<u8>
-    ensures { result ≡ option_and_then (between 0 255) whole }
-{
-    u8::try_from(whole?).ok()
-}
-
 /// One from `low` to `high`.
 pub(crate) fn ranged(whole: Option<i64>, low: u32, high: u32) -> Option<u32>
     ensures { result ≡ option_and_then (between low high) whole }
@@ -114,4 +86,32 @@ impl FromTokens for Mask {
         let bits = u8::next(reader, scope)?;
         Ok(bits.and_then(Mask::from_bits))
     }
+}
+
+/// One of 32 bits.
+fn signed(whole: Option<i64>) -> Option<i32>
+    ensures { result ≡ option_and_then within_32 whole }
+{
+    i32::try_from(whole?).ok()
+}
+
+/// One of 32 bits without a sign.
+fn unsigned(whole: Option<i64>) -> Option<u32>
+    ensures { result ≡ option_and_then (between 0 (2 ^ 32 - 1)) whole }
+{
+    u32::try_from(whole?).ok()
+}
+
+/// One of 16 bits without a sign.
+fn short(whole: Option<i64>) -> Option<u16>
+    ensures { result ≡ option_and_then (between 0 65535) whole }
+{
+    u16::try_from(whole?).ok()
+}
+
+/// One of 8 bits without a sign.
+fn byte(whole: Option<i64>) -> Option<u8>
+    ensures { result ≡ option_and_then (between 0 255) whole }
+{
+    u8::try_from(whole?).ok()
 }

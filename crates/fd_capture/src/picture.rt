@@ -17,6 +17,34 @@ use fd_json::{Stop, open_object, pass, text};
 use json::Reader;
 use std::alloc::Global;
 
+/// What the members of a picture stand for, each if it is there and well formed; holes may be missing.
+#[derive(Default, Drop)]
+struct PictureMembers {
+    left: Option<u32>,
+    top: Option<u32>,
+    width: Option<u32>,
+    height: Option<u32>,
+    texels: Option<Vec<u8>>,
+    holes: Member<Vec<u8>>,
+}
+
+/// The next value as a picture, which versions before 3 don't look at.
+pub(crate) fn picture(reader: &mut Reader<'_>, scope: Scope) -> Result<Option<Box<Picture>>, Stop>
+    ensures ok { IfOk result (λ picture. (d : Data) × (taken scope.depth reader.old ≡ Some (d, reader.new))
+        × (option_map (λ p. p.value) picture ≡ picture_read scope.version d)) }
+    ensures refused { result ≡ Err Stop.NotJson → taken scope.depth reader.old ≡ None }
+    ensures shorter { OnOk result (length reader.new < length reader.old) }
+{
+    if scope.version != 3 {
+        pass(reader, scope.depth)?;
+        return Ok(None);
+    }
+    if !open_object(reader, scope.depth)? {
+        return Ok(None);
+    }
+    picture_members(reader, scope.inner())
+}
+
 /// The bytes that a text in base64 stands for, if it is one.
 #[tactic(auto, unfolding(crate::specs::Picture::decoded))]
 fn decoded(alloc: Global, text: &str) -> Result<Option<Vec<u8>>, Stop>
@@ -42,17 +70,6 @@ fn bytes(reader: &mut Reader<'_>, scope: Scope) -> Result<Option<Vec<u8>>, Stop>
         Some(text) => decoded(scope.alloc, text),
         None => Ok(None),
     }
-}
-
-/// What the members of a picture stand for, each if it is there and well formed; holes may be missing.
-#[derive(Default, Drop)]
-struct PictureMembers {
-    left: Option<u32>,
-    top: Option<u32>,
-    width: Option<u32>,
-    height: Option<u32>,
-    texels: Option<Vec<u8>>,
-    holes: Member<Vec<u8>>,
 }
 
 /// The picture of these members.
@@ -131,21 +148,4 @@ fn picture_members(reader: &mut Reader<'_>, scope: Scope) -> Result<Option<Box<P
         picture_member(reader, scope, name, &mut members)?;
     }
     boxed(scope.alloc, picture_from(members))
-}
-
-/// The next value as a picture, which versions before 3 don't look at.
-pub(crate) fn picture(reader: &mut Reader<'_>, scope: Scope) -> Result<Option<Box<Picture>>, Stop>
-    ensures ok { IfOk result (λ picture. (d : Data) × (taken scope.depth reader.old ≡ Some (d, reader.new))
-        × (option_map (λ p. p.value) picture ≡ picture_read scope.version d)) }
-    ensures refused { result ≡ Err Stop.NotJson → taken scope.depth reader.old ≡ None }
-    ensures shorter { OnOk result (length reader.new < length reader.old) }
-{
-    if scope.version != 3 {
-        pass(reader, scope.depth)?;
-        return Ok(None);
-    }
-    if !open_object(reader, scope.depth)? {
-        return Ok(None);
-    }
-    picture_members(reader, scope.inner())
 }

@@ -17,6 +17,65 @@ use json::Reader;
 /// The first values of an array: as many as tell that there are four, or more.
 type First<T> = ArrayVec<T, 5>;
 
+/// Red, green, blue and alpha.
+impl FromTokens for Colour {
+    ghost use Rattle.fd_capture.specs.Field.{colour_of_data};
+
+    ghost of_data = { colour_of_data };
+
+    fn next(reader: &mut Reader<'_>, scope: Scope) -> Result<Option<Colour>, Stop> {
+        let channels = first::<u8>(reader, scope)?;
+        match channels {
+            Some(channels) => Ok(colour_from(channels.as_slice())),
+            None => Ok(None),
+        }
+    }
+}
+
+/// Left, top, right and bottom.
+impl FromTokens for Rect {
+    ghost use Rattle.fd_capture.specs.Field.{rect_of_data};
+
+    ghost of_data = { rect_of_data };
+
+    fn next(reader: &mut Reader<'_>, scope: Scope) -> Result<Option<Rect>, Stop> {
+        let sides = first::<i32>(reader, scope)?;
+        match sides {
+            Some(sides) => Ok(rect_from(sides.as_slice())),
+            None => Ok(None),
+        }
+    }
+}
+
+/// A word, as a text.
+impl FromTokens for Word {
+    ghost use Rattle.std.specs.Prelude.{option_and_then};
+    ghost use Rattle.serde_json.specs.Find.{as_str};
+    ghost use Rattle.std.specs.Prelude.{Some};
+    ghost use Rattle.fd_capture.specs.Streamed.{words_spelled};
+
+    ghost of_data = { λ d. option_and_then (λ text. Some (words_spelled text)) (as_str d) };
+
+    fn next(reader: &mut Reader<'_>, scope: Scope) -> Result<Option<Word>, Stop> {
+        spelled(reader, scope)
+    }
+}
+
+/// Source factor, destination factor and operation.
+impl FromTokens for Part {
+    ghost use Rattle.fd_capture.specs.Field.{part_of_data};
+
+    ghost of_data = { part_of_data };
+
+    fn next(reader: &mut Reader<'_>, scope: Scope) -> Result<Option<Part>, Stop> {
+        let words = first::<Word>(reader, scope)?;
+        match words {
+            Some(words) => Ok(part_from(words.as_slice())),
+            None => Ok(None),
+        }
+    }
+}
+
 /// Keeps a value, if it is one of the first.
 fn keep<T: Copy + Default>(values: &mut First<T>, value: T)
     ensures { values.new.items ≡ take 5 (values.old.items ++ value ∷ []) }
@@ -109,63 +168,4 @@ fn part_from(words: &[Word]) -> Option<Part>
         dst: dst.factor?,
         op: op.op?,
     })
-}
-
-/// Red, green, blue and alpha.
-impl FromTokens for Colour {
-    ghost use Rattle.fd_capture.specs.Field.{colour_of_data};
-
-    ghost of_data = { colour_of_data };
-
-    fn next(reader: &mut Reader<'_>, scope: Scope) -> Result<Option<Colour>, Stop> {
-        let channels = first::<u8>(reader, scope)?;
-        match channels {
-            Some(channels) => Ok(colour_from(channels.as_slice())),
-            None => Ok(None),
-        }
-    }
-}
-
-/// Left, top, right and bottom.
-impl FromTokens for Rect {
-    ghost use Rattle.fd_capture.specs.Field.{rect_of_data};
-
-    ghost of_data = { rect_of_data };
-
-    fn next(reader: &mut Reader<'_>, scope: Scope) -> Result<Option<Rect>, Stop> {
-        let sides = first::<i32>(reader, scope)?;
-        match sides {
-            Some(sides) => Ok(rect_from(sides.as_slice())),
-            None => Ok(None),
-        }
-    }
-}
-
-/// A word, as a text.
-impl FromTokens for Word {
-    ghost use Rattle.std.specs.Prelude.{option_and_then};
-    ghost use Rattle.serde_json.specs.Find.{as_str};
-    ghost use Rattle.std.specs.Prelude.{Some};
-    ghost use Rattle.fd_capture.specs.Streamed.{words_spelled};
-
-    ghost of_data = { λ d. option_and_then (λ text. Some (words_spelled text)) (as_str d) };
-
-    fn next(reader: &mut Reader<'_>, scope: Scope) -> Result<Option<Word>, Stop> {
-        spelled(reader, scope)
-    }
-}
-
-/// Source factor, destination factor and operation.
-impl FromTokens for Part {
-    ghost use Rattle.fd_capture.specs.Field.{part_of_data};
-
-    ghost of_data = { part_of_data };
-
-    fn next(reader: &mut Reader<'_>, scope: Scope) -> Result<Option<Part>, Stop> {
-        let words = first::<Word>(reader, scope)?;
-        match words {
-            Some(words) => Ok(part_from(words.as_slice())),
-            None => Ok(None),
-        }
-    }
 }

@@ -19,6 +19,24 @@ use fd_snap::MAX_SIDE;
 use serde_json::Value;
 use std::alloc::Global;
 
+/// The version, if it is 1, 2 or 3.
+pub(crate) fn version(capture: &Value) -> Option<u32>
+    ensures value { result ≡ number_member "version" 1 3 (view capture.now) }
+    ensures within { IfSome result (λ version. (1 ≤ version) × (version ≤ 3)) }
+{
+    ranged(capture.get("version")?.as_i64(), 1, 3)
+}
+
+/// The table of a capture whose events were read as those of its version.
+pub(crate) fn table(alloc: Global, version: u32, head: Head) -> Result<EventTable, CaptureFault>
+    requires version { IsReadIn version (number_member "version" 1 3 (view head.members)) }
+    requires events { IfSome head.events (λ read. AreOf version read) }
+    ensures { (found : Members) → HasHead version head found → Gives (λ table. table) result (table_of_value (object found)) }
+{
+    let Head { members, events } = head;
+    table_from(alloc, &members, events)
+}
+
 /// What was read of the events, if this is a capture.
 fn listed(capture: &Value, events: Option<ReadEvents>) -> Option<ReadEvents>
     ensures { result ≡ listed_from (view capture.now) events }
@@ -27,14 +45,6 @@ fn listed(capture: &Value, events: Option<ReadEvents>) -> Option<ReadEvents>
         return None;
     }
     events
-}
-
-/// The version, if it is 1, 2 or 3.
-pub(crate) fn version(capture: &Value) -> Option<u32>
-    ensures value { result ≡ number_member "version" 1 3 (view capture.now) }
-    ensures within { IfSome result (λ version. (1 ≤ version) × (version ≤ 3)) }
-{
-    ranged(capture.get("version")?.as_i64(), 1, 3)
 }
 
 /// A width or a height.
@@ -60,14 +70,4 @@ fn table_from(
     let height = side(capture, "height").ok_or(CaptureFault::Size)?;
     let events = events?;
     Ok(EventTable::start(alloc, version, width, height, events)?)
-}
-
-/// The table of a capture whose events were read as those of its version.
-pub(crate) fn table(alloc: Global, version: u32, head: Head) -> Result<EventTable, CaptureFault>
-    requires version { IsReadIn version (number_member "version" 1 3 (view head.members)) }
-    requires events { IfSome head.events (λ read. AreOf version read) }
-    ensures { (found : Members) → HasHead version head found → Gives (λ table. table) result (table_of_value (object found)) }
-{
-    let Head { members, events } = head;
-    table_from(alloc, &members, events)
 }

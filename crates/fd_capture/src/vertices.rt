@@ -51,6 +51,32 @@ struct VertexParts {
     colour: Option<Colour>,
 }
 
+/// The next value as vertices, if it is an array of them.
+pub(crate) fn vertices(reader: &mut Reader<'_>, scope: Scope) -> Result<Option<VertexList>, Stop>
+    ensures ok { IfOk result (λ v. (d : Data) × (taken scope.depth reader.old ≡ Some (d, reader.new))
+        × (option_map vertices_seen v ≡ vertices_read scope.version d)) }
+    ensures refused { result ≡ Err Stop.NotJson → taken scope.depth reader.old ≡ None }
+    ensures shorter { OnOk result (length reader.new < length reader.old) }
+{
+    if !open_array(reader, scope.depth)? {
+        return Ok(None);
+    }
+    vertex_items(reader, scope.inner())
+}
+
+/// The next value as indices, if it is an array of them.
+pub(crate) fn indices(reader: &mut Reader<'_>, scope: Scope) -> Result<Option<Vec<u32>>, Stop>
+    ensures ok { IfOk result (λ v. (d : Data) × (taken scope.depth reader.old ≡ Some (d, reader.new))
+        × (option_map (λ indices. indices.items) v ≡ option_and_then (all_of unsigned_32) (array_of d))) }
+    ensures refused { result ≡ Err Stop.NotJson → taken scope.depth reader.old ≡ None }
+    ensures shorter { OnOk result (length reader.new < length reader.old) }
+{
+    if !open_array(reader, scope.depth)? {
+        return Ok(None);
+    }
+    index_items(reader, scope.inner())
+}
+
 /// The vertex of these parts, and whether it has a colour; version 1 has no depths.
 fn vertex_from(version: u32, parts: VertexParts) -> Option<(Vertex, bool)>
     ensures { result ≡ vertex_from version parts.x parts.y parts.z parts.colour }
@@ -142,19 +168,6 @@ fn vertex_items(reader: &mut Reader<'_>, scope: Scope) -> Result<Option<VertexLi
     Ok(Some(vertices))
 }
 
-/// The next value as vertices, if it is an array of them.
-pub(crate) fn vertices(reader: &mut Reader<'_>, scope: Scope) -> Result<Option<VertexList>, Stop>
-    ensures ok { IfOk result (λ v. (d : Data) × (taken scope.depth reader.old ≡ Some (d, reader.new))
-        × (option_map vertices_seen v ≡ vertices_read scope.version d)) }
-    ensures refused { result ≡ Err Stop.NotJson → taken scope.depth reader.old ≡ None }
-    ensures shorter { OnOk result (length reader.new < length reader.old) }
-{
-    if !open_array(reader, scope.depth)? {
-        return Ok(None);
-    }
-    vertex_items(reader, scope.inner())
-}
-
 /// The indices of an array whose bracket was taken, up to the bracket that closes it; none if one of them isn't well formed.
 fn index_items(reader: &mut Reader<'_>, scope: Scope) -> Result<Option<Vec<u32>>, Stop>
     ensures ok { IfOk result (λ v. (ds : Items) × (items_taken scope.depth reader.old ≡ Some (ds, reader.new))
@@ -176,17 +189,4 @@ fn index_items(reader: &mut Reader<'_>, scope: Scope) -> Result<Option<Vec<u32>>
     // a list of small numbers has little text: many such draws would hold far more room than their capture has bytes
     indices.shrink_to_fit();
     Ok(Some(indices))
-}
-
-/// The next value as indices, if it is an array of them.
-pub(crate) fn indices(reader: &mut Reader<'_>, scope: Scope) -> Result<Option<Vec<u32>>, Stop>
-    ensures ok { IfOk result (λ v. (d : Data) × (taken scope.depth reader.old ≡ Some (d, reader.new))
-        × (option_map (λ indices. indices.items) v ≡ option_and_then (all_of unsigned_32) (array_of d))) }
-    ensures refused { result ≡ Err Stop.NotJson → taken scope.depth reader.old ≡ None }
-    ensures shorter { OnOk result (length reader.new < length reader.old) }
-{
-    if !open_array(reader, scope.depth)? {
-        return Ok(None);
-    }
-    index_items(reader, scope.inner())
 }

@@ -30,6 +30,50 @@ const USAGE: u8 = 1;
 /// The status where the capture's file can't be read.
 const CANNOT_READ: u8 = 3;
 
+/// Says why the words of the command line can't be had, and gives the exit status.
+pub fn refuse_words<R: Source, W: Sink, E: Sink>(
+    fault: WordsFault,
+    devices: &mut Devices<R, W, E>,
+) -> u8
+    ensures { let seen = devices_shown R.Source W.Sink.own E.Sink.own in
+        RefusesWords fault (seen devices.old) (seen devices.new) result }
+{
+    if fault == WordsFault::Memory {
+        return end_before(&Ending::Memory, devices);
+    }
+    tell(
+        b"error: a word of the command line is not UTF-8\n",
+        &mut devices.errors,
+    );
+    USAGE
+}
+
+/// Reads the words, and then the file that they name, does what they ask for, and gives the exit status.
+///
+/// This is the whole program: `main` hands it the words, the files and the devices of the machine.
+pub fn program<T: Threads + Sync, S: AsStr, F: Files, R: Source, W: Sink, E: Sink>(
+    rt: &T,
+    alloc: Global,
+    words: &[S],
+    files: &F,
+    devices: &mut Devices<R, W, E>,
+) -> u8
+    ensures { let seen = devices_shown R.Source W.Sink.own E.Sink.own in
+        Programs (map S.text words.now) (F.gave files.now)
+        (λ request capture. Performs request capture (seen devices.old) (seen devices.new) (R.has_ended devices.new.source) result
+        × WaitsAbout (record { contents = W.contents; is_flushed = W.is_flushed }) capture devices.old.sink devices.old.source devices.new.source)
+        (seen devices.old) (seen devices.new) result }
+{
+    let arguments = match read_arguments(alloc, words) {
+        Ok(arguments) => arguments,
+        Err(error) => return explain(alloc, &error, words, devices),
+    };
+    match files.read(alloc, arguments.capture) {
+        Ok(capture) => perform(rt, alloc, arguments.request, &capture, devices),
+        Err(fault) => refuse_file(fault, devices),
+    }
+}
+
 /// Tells a text to the errors. Whether it was told changes nothing.
 fn tell<E: Sink>(text: &[u8], errors: &mut E)
     ensures tells { (count : ℕ) × (whole : Bool) × Puts (E.contents errors.old) (E.contents errors.new) 0 count text.now whole
@@ -57,24 +101,6 @@ fn end_before<R: Source, W: Sink, E: Sink>(ending: &Ending, devices: &mut Device
 {
     let _ = ending.report(&mut devices.errors);
     ending.status()
-}
-
-/// Says why the words of the command line can't be had, and gives the exit status.
-pub fn refuse_words<R: Source, W: Sink, E: Sink>(
-    fault: WordsFault,
-    devices: &mut Devices<R, W, E>,
-) -> u8
-    ensures { let seen = devices_shown R.Source W.Sink.own E.Sink.own in
-        RefusesWords fault (seen devices.old) (seen devices.new) result }
-{
-    if fault == WordsFault::Memory {
-        return end_before(&Ending::Memory, devices);
-    }
-    tell(
-        b"error: a word of the command line is not UTF-8\n",
-        &mut devices.errors,
-    );
-    USAGE
 }
 
 /// Writes the help or the version that the words ask for, and gives the status.
@@ -125,31 +151,5 @@ fn refuse_file<R: Source, W: Sink, E: Sink>(fault: FileFault, devices: &mut Devi
             tell(b"framedbg: cannot read capture\n", &mut devices.errors);
             CANNOT_READ
         }
-    }
-}
-
-/// Reads the words, and then the file that they name, does what they ask for, and gives the exit status.
-///
-/// This is the whole program: `main` hands it the words, the files and the devices of the machine.
-pub fn program<T: Threads + Sync, S: AsStr, F: Files, R: Source, W: Sink, E: Sink>(
-    rt: &T,
-    alloc: Global,
-    words: &[S],
-    files: &F,
-    devices: &mut Devices<R, W, E>,
-) -> u8
-    ensures { let seen = devices_shown R.Source W.Sink.own E.Sink.own in
-        Programs (map S.text words.now) (F.gave files.now)
-        (λ request capture. Performs request capture (seen devices.old) (seen devices.new) (R.has_ended devices.new.source) result
-        × WaitsAbout (record { contents = W.contents; is_flushed = W.is_flushed }) capture devices.old.sink devices.old.source devices.new.source)
-        (seen devices.old) (seen devices.new) result }
-{
-    let arguments = match read_arguments(alloc, words) {
-        Ok(arguments) => arguments,
-        Err(error) => return explain(alloc, &error, words, devices),
-    };
-    match files.read(alloc, arguments.capture) {
-        Ok(capture) => perform(rt, alloc, arguments.request, &capture, devices),
-        Err(fault) => refuse_file(fault, devices),
     }
 }

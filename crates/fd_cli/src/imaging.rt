@@ -15,6 +15,31 @@ use fd_words::Ending;
 use std::alloc::Global;
 use std::thread::Threads;
 
+/// Writes the image of a capture at a position, or at the last one, as a PAM file.
+///
+/// Nothing is written where the capture is refused, where there is no such position, or where memory is wanted.
+pub fn image<T: Threads + Sync, W: Sink>(
+    rt: &T,
+    alloc: Global,
+    capture: &[u8],
+    workers: u32,
+    at: Option<u32>,
+    sink: &mut W,
+) -> Ending
+    requires { (1 ≤ workers) × (workers ≤ 64) }
+    ensures writes { (written : List ℕ) × Appends (W.contents sink.old) (W.contents sink.new) written × WritesImage capture.now at written result }
+    ensures too_long { RefusesTooLong capture.now result }
+    // The writer failed only where its count of failures tells so.
+    ensures failures { CountsWriter result (W.failure_count sink.old) (W.failure_count sink.new) }
+    ensures flushed { EndsFlushed result (W.is_flushed sink.old) (W.is_flushed sink.new) }
+{
+    let host = Host { rt, alloc };
+    match open(alloc, capture) {
+        Ok(table) => write_table(&host, table, workers, at, sink),
+        Err(ending) => ending,
+    }
+}
+
 /// Writes a still, and flushes.
 fn write_shown<W: Sink>(alloc: Global, still: &Still, sink: &mut W) -> Ending
     ensures writes { (written : List ℕ) × Appends (W.contents sink.old) (W.contents sink.new) written × ShowsState still.now written result }
@@ -54,30 +79,5 @@ fn write_table<T: Threads + Sync, W: Sink>(
         Answer::Moved { .. } => write_shown(host.alloc, &still, sink),
         Answer::Refused(SessionFault::NoSuchPosition) => Ending::NoSuchPosition,
         Answer::Stopped { .. } | Answer::Refused(_) => Ending::Memory,
-    }
-}
-
-/// Writes the image of a capture at a position, or at the last one, as a PAM file.
-///
-/// Nothing is written where the capture is refused, where there is no such position, or where memory is wanted.
-pub fn image<T: Threads + Sync, W: Sink>(
-    rt: &T,
-    alloc: Global,
-    capture: &[u8],
-    workers: u32,
-    at: Option<u32>,
-    sink: &mut W,
-) -> Ending
-    requires { (1 ≤ workers) × (workers ≤ 64) }
-    ensures writes { (written : List ℕ) × Appends (W.contents sink.old) (W.contents sink.new) written × WritesImage capture.now at written result }
-    ensures too_long { RefusesTooLong capture.now result }
-    // The writer failed only where its count of failures tells so.
-    ensures failures { CountsWriter result (W.failure_count sink.old) (W.failure_count sink.new) }
-    ensures flushed { EndsFlushed result (W.is_flushed sink.old) (W.is_flushed sink.new) }
-{
-    let host = Host { rt, alloc };
-    match open(alloc, capture) {
-        Ok(table) => write_table(&host, table, workers, at, sink),
-        Err(ending) => ending,
     }
 }

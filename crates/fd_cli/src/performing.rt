@@ -23,6 +23,29 @@ pub struct Devices<R, W, E> {
     pub errors: E,
 }
 
+/// Does what is asked for about a capture, tells the ending, and gives the exit status.
+///
+/// This is the program behind its words: what it writes is a function of the capture's bytes and of the input's, whatever the number of workers, up to
+/// the first reply that tells of a want of memory.
+pub fn perform<T: Threads + Sync, R: Source, W: Sink, E: Sink>(
+    rt: &T,
+    alloc: Global,
+    request: Request,
+    capture: &[u8],
+    devices: &mut Devices<R, W, E>,
+) -> u8
+    requires { AsksWorkers request }
+    ensures performs { let seen = devices_shown R.Source W.Sink.own E.Sink.own in
+        Performs request capture.now (seen devices.old) (seen devices.new) (R.has_ended devices.new.source) result }
+    // Before each read all lines that ended were answered, and the answers passed on.
+    ensures waits { WaitsAbout (record { contents = W.contents; is_flushed = W.is_flushed }) capture.now
+        devices.old.sink devices.old.source devices.new.source }
+{
+    let ending = do_request(rt, alloc, request, capture, devices);
+    let _ = ending.report(&mut devices.errors);
+    ending.status()
+}
+
 /// Does what is asked for about a capture.
 fn do_request<T: Threads + Sync, R: Source, W: Sink, E: Sink>(
     rt: &T,
@@ -49,27 +72,4 @@ fn do_request<T: Threads + Sync, R: Source, W: Sink, E: Sink>(
         Request::Image { workers, at } => image(rt, alloc, capture, workers, at, sink),
         Request::Events => list_events(alloc, capture, sink),
     }
-}
-
-/// Does what is asked for about a capture, tells the ending, and gives the exit status.
-///
-/// This is the program behind its words: what it writes is a function of the capture's bytes and of the input's, whatever the number of workers, up to
-/// the first reply that tells of a want of memory.
-pub fn perform<T: Threads + Sync, R: Source, W: Sink, E: Sink>(
-    rt: &T,
-    alloc: Global,
-    request: Request,
-    capture: &[u8],
-    devices: &mut Devices<R, W, E>,
-) -> u8
-    requires { AsksWorkers request }
-    ensures performs { let seen = devices_shown R.Source W.Sink.own E.Sink.own in
-        Performs request capture.now (seen devices.old) (seen devices.new) (R.has_ended devices.new.source) result }
-    // Before each read all lines that ended were answered, and the answers passed on.
-    ensures waits { WaitsAbout (record { contents = W.contents; is_flushed = W.is_flushed }) capture.now
-        devices.old.sink devices.old.source devices.new.source }
-{
-    let ending = do_request(rt, alloc, request, capture, devices);
-    let _ = ending.report(&mut devices.errors);
-    ending.status()
 }

@@ -23,6 +23,26 @@ use fd_words::{
 use std::alloc::Global;
 use std::thread::Threads;
 
+/// Answers a line, and says whether it was a quit.
+pub(crate) fn answer<T: Threads + Sync, W: Sink>(
+    host: &Host<'_, T>,
+    session: &mut Session,
+    line: &[u8],
+    sink: &mut W,
+    sent: &mut u64,
+) -> Result<bool, Failed>
+    requires { sent.old + most_reply_bytes < 2 ^ 64 }
+    ensures replies { Replies session.old (command_of line.now) session.new (W.contents sink.old) (W.contents sink.new) sent.old sent.new (is_ok result) }
+    ensures quit { IfOk result (λ quit. IsTrue quit ↔ (command_of line.now ≡ Ok Command.Quit)) }
+    ensures flushed { OnOk result (W.is_flushed sink.new ≡ true) }
+    ensures failures { CountsFailure (W.failure_count sink.old) (W.failure_count sink.new) (is_ok result) }
+{
+    let command = read_command(line);
+    reply(host, session, command, sink, sent)?;
+    sink.flush()?;
+    Ok(matches!(command, Ok(Command::Quit)))
+}
+
 /// Sends the reply to a move.
 fn send_answer<W: Sink>(answer: Answer, sink: &mut W, sent: &mut u64) -> Result<(), Failed>
     requires { sent.old + 64 < 2 ^ 64 }
@@ -120,24 +140,4 @@ fn reply<T: Threads + Sync, W: Sink>(
         Ok(Command::Show) => show(host.alloc, session, sink, sent),
         Ok(Command::Quit) => send(sink, sent, b"bye\n"),
     }
-}
-
-/// Answers a line, and says whether it was a quit.
-pub(crate) fn answer<T: Threads + Sync, W: Sink>(
-    host: &Host<'_, T>,
-    session: &mut Session,
-    line: &[u8],
-    sink: &mut W,
-    sent: &mut u64,
-) -> Result<bool, Failed>
-    requires { sent.old + most_reply_bytes < 2 ^ 64 }
-    ensures replies { Replies session.old (command_of line.now) session.new (W.contents sink.old) (W.contents sink.new) sent.old sent.new (is_ok result) }
-    ensures quit { IfOk result (λ quit. IsTrue quit ↔ (command_of line.now ≡ Ok Command.Quit)) }
-    ensures flushed { OnOk result (W.is_flushed sink.new ≡ true) }
-    ensures failures { CountsFailure (W.failure_count sink.old) (W.failure_count sink.new) (is_ok result) }
-{
-    let command = read_command(line);
-    reply(host, session, command, sink, sent)?;
-    sink.flush()?;
-    Ok(matches!(command, Ok(Command::Quit)))
 }

@@ -17,6 +17,38 @@ use fd_words::Ending;
 use std::alloc::Global;
 use std::thread::Threads;
 
+/// Answers the commands that come from the source, line by line, about a capture.
+///
+/// Each reply is flushed. At most 1,000,000 lines and 268,435,456 bytes are answered, and one byte more is taken at most.
+/// Nothing is taken or written where the capture is refused or memory is wanted for the session.
+pub fn serve<T: Threads + Sync, R: Source, W: Sink>(
+    rt: &T,
+    alloc: Global,
+    capture: &[u8],
+    workers: u32,
+    source: &mut R,
+    sink: &mut W,
+) -> Ending
+    requires { (1 ≤ workers) × (workers ≤ 64) }
+    // What was written is what the session machine may answer to the lines that were taken, by how the run ends.
+    ensures serves { (taken : List ℕ) × (written : List ℕ) × Consumes (R.remaining source.old) (R.remaining source.new) taken
+        × Appends (W.contents sink.old) (W.contents sink.new) written
+        × (length taken ≤ 268435457) × ServesCapture capture.now taken written result (R.has_ended source.new) }
+    // Before each read all lines that ended were answered, and the answers passed on.
+    ensures waits { WaitsAbout (record { contents = W.contents; is_flushed = W.is_flushed }) capture.now sink.old source.old source.new }
+    ensures too_long { RefusesTooLong capture.now result }
+    // The reader or the writer failed only where its count of failures tells so.
+    ensures read { CountsReader result (R.failure_count source.old) (R.failure_count source.new) }
+    ensures write { CountsWriter result (W.failure_count sink.old) (W.failure_count sink.new) }
+    ensures flushed { EndsFlushed result (W.is_flushed sink.old) (W.is_flushed sink.new) }
+{
+    let host = Host { rt, alloc };
+    match open(alloc, capture) {
+        Ok(table) => serve_table(&host, table, workers, source, sink),
+        Err(ending) => ending,
+    }
+}
+
 /// Answers the commands that come from the source.
 fn serve_table<T: Threads + Sync, R: Source, W: Sink>(
     host: &Host<'_, T>,
@@ -57,37 +89,5 @@ fn serve_table<T: Threads + Sync, R: Source, W: Sink>(
         if let Err(ending) = dialogue.take_bytes(host, &buffer[..count], sink) {
             return ending;
         }
-    }
-}
-
-/// Answers the commands that come from the source, line by line, about a capture.
-///
-/// Each reply is flushed. At most 1,000,000 lines and 268,435,456 bytes are answered, and one byte more is taken at most.
-/// Nothing is taken or written where the capture is refused or memory is wanted for the session.
-pub fn serve<T: Threads + Sync, R: Source, W: Sink>(
-    rt: &T,
-    alloc: Global,
-    capture: &[u8],
-    workers: u32,
-    source: &mut R,
-    sink: &mut W,
-) -> Ending
-    requires { (1 ≤ workers) × (workers ≤ 64) }
-    // What was written is what the session machine may answer to the lines that were taken, by how the run ends.
-    ensures serves { (taken : List ℕ) × (written : List ℕ) × Consumes (R.remaining source.old) (R.remaining source.new) taken
-        × Appends (W.contents sink.old) (W.contents sink.new) written
-        × (length taken ≤ 268435457) × ServesCapture capture.now taken written result (R.has_ended source.new) }
-    // Before each read all lines that ended were answered, and the answers passed on.
-    ensures waits { WaitsAbout (record { contents = W.contents; is_flushed = W.is_flushed }) capture.now sink.old source.old source.new }
-    ensures too_long { RefusesTooLong capture.now result }
-    // The reader or the writer failed only where its count of failures tells so.
-    ensures read { CountsReader result (R.failure_count source.old) (R.failure_count source.new) }
-    ensures write { CountsWriter result (W.failure_count sink.old) (W.failure_count sink.new) }
-    ensures flushed { EndsFlushed result (W.is_flushed sink.old) (W.is_flushed sink.new) }
-{
-    let host = Host { rt, alloc };
-    match open(alloc, capture) {
-        Ok(table) => serve_table(&host, table, workers, source, sink),
-        Err(ending) => ending,
     }
 }

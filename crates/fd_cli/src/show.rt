@@ -29,6 +29,31 @@ pub(crate) fn target_size(session: &Session) -> (u32, u32)
     (table.width(), table.height())
 }
 
+/// Sends the image file that the session shows, after a line with its length.
+pub(crate) fn show<W: Sink>(
+    alloc: Global,
+    session: &Session,
+    sink: &mut W,
+    sent: &mut u64,
+) -> Result<(), Failed>
+    requires { sent.old + most_reply_bytes < 2 ^ 64 }
+    ensures puts { (text : List ℕ) × ((text ≡ show_text session.now) ⊎ ((text ≡ refusal_line Memory) × Wanted)) × (length text ≤ most_reply_bytes)
+        × Puts (W.contents sink.old) (W.contents sink.new) sent.old sent.new text (is_ok result) }
+    ensures failures { CountsFailure (W.failure_count sink.old) (W.failure_count sink.new) (is_ok result) }
+{
+    let Ok(header) = shown_header(alloc, session) else {
+        return send(sink, sent, refusal_line(SessionFault::Memory));
+    };
+    let line = length_line(session);
+    send_file(
+        session,
+        line.as_slice(),
+        header.as_str().as_bytes(),
+        sink,
+        sent,
+    )
+}
+
 /// Sends the tuples of the image that the session shows.
 fn send_body<W: Sink>(session: &Session, sink: &mut W, sent: &mut u64) -> Result<(), Failed>
     requires { sent.old + length (tuples session.now) < 2 ^ 64 }
@@ -87,29 +112,4 @@ fn send_file<W: Sink>(
     send(sink, sent, line)?;
     send(sink, sent, head)?;
     send_body(session, sink, sent)
-}
-
-/// Sends the image file that the session shows, after a line with its length.
-pub(crate) fn show<W: Sink>(
-    alloc: Global,
-    session: &Session,
-    sink: &mut W,
-    sent: &mut u64,
-) -> Result<(), Failed>
-    requires { sent.old + most_reply_bytes < 2 ^ 64 }
-    ensures puts { (text : List ℕ) × ((text ≡ show_text session.now) ⊎ ((text ≡ refusal_line Memory) × Wanted)) × (length text ≤ most_reply_bytes)
-        × Puts (W.contents sink.old) (W.contents sink.new) sent.old sent.new text (is_ok result) }
-    ensures failures { CountsFailure (W.failure_count sink.old) (W.failure_count sink.new) (is_ok result) }
-{
-    let Ok(header) = shown_header(alloc, session) else {
-        return send(sink, sent, refusal_line(SessionFault::Memory));
-    };
-    let line = length_line(session);
-    send_file(
-        session,
-        line.as_slice(),
-        header.as_str().as_bytes(),
-        sink,
-        sent,
-    )
 }

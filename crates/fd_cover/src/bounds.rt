@@ -13,34 +13,6 @@ pub struct Bounds {
     pub bottom: u32,
 }
 
-/// The least of three coordinates.
-fn least(a: i32, b: i32, c: i32) -> i32
-    ensures { result ≡ least a b c }
-{
-    a.min(b).min(c)
-}
-
-/// The greatest of three coordinates.
-fn greatest(a: i32, b: i32, c: i32) -> i32
-    ensures { result ≡ greatest a b c }
-{
-    a.max(b).max(c)
-}
-
-/// The first pixel whose centre is at a coordinate in 1/256 pixel or after it.
-fn first_from(coordinate: i32) -> u32
-    ensures { result ≡ first_from coordinate }
-{
-    (coordinate.max(0) as u32 + 127) / 256
-}
-
-/// One past the last pixel whose centre is at a coordinate in 1/256 pixel or before it.
-fn past(coordinate: i32) -> u32
-    ensures { result ≡ past coordinate }
-{
-    (coordinate.max(0) as u32 + 128) / 256
-}
-
 impl Bounds {
     /// No pixel.
     pub fn empty() -> Bounds
@@ -147,4 +119,32 @@ impl Bounds {
         self.bottom.saturating_sub(self.top) as usize
             * self.right.saturating_sub(self.left) as usize
     }
+}
+
+/// The least of three coordinates.
+fn least(a: i32, b: i32, c: i32) -> i32
+    ensures { result ≡ least a b c }
+{
+    a.min(b).min(c)
+}
+
+/// The greatest of three coordinates.
+fn greatest(a: i32, b: i32, c: i32) -> i32
+    ensures { result ≡ greatest a b c }
+{
+    a.max(b).max(c)
+}
+
+/// The first pixel whose centre is at a coordinate in 1/256 pixel or after it.
+fn first_from(coordinate: i32) -> u32
+    ensures { result ≡ first_from coordinate }
+{
+    (coordinate.max(0) as u32 + 127) / 256
+}
+
+/// One past the last pixel whose centre is at a coordinate in 1/256 pixel or before it.
+fn past(coordinate: i32) -> u32
+    ensures { result ≡ past coordinate }
+{
+    (coordinate.max(0) as u32 + 128) / 256
 }

@@ -5,13 +5,6 @@ ghost use Rattle.fd_snap.specs.Limits.{most_pixels};
 use crate::point::{Point, cross};
 use crate::triangle::Tri;
 
-/// Whether two sides are both above 0 or both below.
-fn same_sign(a: i64, b: i64) -> bool
-    ensures { result ≡ same_sign a b }
-{
-    (0 < a && 0 < b) || (a < 0 && b < 0)
-}
-
 /// Whether the edge from u to v is horizontal and above the opposite vertex.
 #[tactic(auto, unfolding(crate::specs::Covers::is_top))]
 pub(crate) fn is_top(u: Point, v: Point, opposite: Point) -> bool
@@ -26,19 +19,6 @@ pub(crate) fn is_left(u: Point, v: Point, opposite: Point) -> bool
     ensures { result ≡ is_left u v opposite }
 {
     (u.y() < v.y() && cross(u, v, opposite) < 0) || (v.y() < u.y() && cross(v, u, opposite) < 0)
-}
-
-/// Whether a point lies on the inner side of the edge from u to v, or on the edge's line where the edge is top or left.
-#[tactic(auto, unfolding(crate::specs::Covers::admits))]
-fn admits(u: Point, v: Point, opposite: Point, point: Point) -> bool
-    ensures { result ≡ admits u v opposite point }
-{
-    let side = cross(u, v, point);
-    if side == 0 {
-        is_top(u, v, opposite) || is_left(u, v, opposite)
-    } else {
-        same_sign(side, cross(u, v, opposite))
-    }
 }
 
 /// Whether a triangle covers a pixel: its centre is inside, or on a top or a left edge.
@@ -58,4 +38,24 @@ pub fn covers(triangle: &Tri, x: u32, y: u32) -> bool
         && admits(a, b, c, point)
         && admits(b, c, a, point)
         && admits(c, a, b, point)
+}
+
+/// Whether two sides are both above 0 or both below.
+fn same_sign(a: i64, b: i64) -> bool
+    ensures { result ≡ same_sign a b }
+{
+    (0 < a && 0 < b) || (a < 0 && b < 0)
+}
+
+/// Whether a point lies on the inner side of the edge from u to v, or on the edge's line where the edge is top or left.
+#[tactic(auto, unfolding(crate::specs::Covers::admits))]
+fn admits(u: Point, v: Point, opposite: Point, point: Point) -> bool
+    ensures { result ≡ admits u v opposite point }
+{
+    let side = cross(u, v, point);
+    if side == 0 {
+        is_top(u, v, opposite) || is_left(u, v, opposite)
+    } else {
+        same_sign(side, cross(u, v, opposite))
+    }
 }

@@ -106,6 +106,17 @@ impl DepthRows {
     }
 }
 
+/// The depths of a triangle at neighbouring covered pixels of row y from column x on, from the depths of its vertices. Each is what `depth_at` says.
+pub fn depth_row(triangle: &Tri, depths: &[u16; 3], x: u32, y: u32, out: &mut [u16])
+    requires few { length out.old ≤ most_in_row }
+    requires row { y < most_pixels }
+    requires columns { x + length out.old ≤ most_pixels }
+    requires covered { (column : ℕ) → x ≤ column → column < x + length out.old → IsTrue (covers triangle.now column y) }
+    ensures { out.new ≡ map (λ column. depth_at triangle.now depths.now column y) (range_with_len x (length out.old)) }
+{
+    DepthRows::of(triangle, depths).row(x, y, out);
+}
+
 /// The depths of a triangle at neighbouring covered pixels, each by its own division.
 fn divide_depths(triangle: &Tri, depths: &[u16; 3], x: u32, y: u32, out: &mut [u16])
     requires few { length out.old ≤ most_in_row }
@@ -136,15 +147,4 @@ fn walk_depths(triangle: &Tri, depths: &[u16; 3], walk: DepthWalk, x: u32, y: u3
         out[i] = (accumulator >> 48) as u16;
         accumulator = accumulator.wrapping_add(walk.step);
     }
-}
-
-/// The depths of a triangle at neighbouring covered pixels of row y from column x on, from the depths of its vertices. Each is what `depth_at` says.
-pub fn depth_row(triangle: &Tri, depths: &[u16; 3], x: u32, y: u32, out: &mut [u16])
-    requires few { length out.old ≤ most_in_row }
-    requires row { y < most_pixels }
-    requires columns { x + length out.old ≤ most_pixels }
-    requires covered { (column : ℕ) → x ≤ column → column < x + length out.old → IsTrue (covers triangle.now column y) }
-    ensures { out.new ≡ map (λ column. depth_at triangle.now depths.now column y) (range_with_len x (length out.old)) }
-{
-    DepthRows::of(triangle, depths).row(x, y, out);
 }

@@ -13,38 +13,6 @@ pub(crate) struct Edge {
     down: i64,
 }
 
-/// By how much a point's side of an edge of a clockwise triangle has to be above 0. A top or a left edge has its own points too.
-fn margin(u: Point, v: Point, opposite: Point) -> i64
-    ensures value { result ≡ margin u v opposite }
-    ensures bound { unsigned_abs result ≤ 1 }
-{
-    if is_top(u, v, opposite) || v.y() < u.y() {
-        0
-    } else {
-        1
-    }
-}
-
-/// Of the numbers from `first` to `last`, the one whose product with a factor is the least.
-fn least_at(factor: i64, first: u32, last: u32) -> u32
-    requires { first ≤ last }
-    ensures from { first ≤ result }
-    ensures to { result ≤ last }
-    ensures least { (n : ℕ) → first ≤ n → n ≤ last → (factor *ℤ pos result) ≤ℤ (factor *ℤ pos n) }
-{
-    if factor < 0 { last } else { first }
-}
-
-/// The one whose product is the greatest.
-fn greatest_at(factor: i64, first: u32, last: u32) -> u32
-    requires { first ≤ last }
-    ensures from { first ≤ result }
-    ensures to { result ≤ last }
-    ensures greatest { (n : ℕ) → first ≤ n → n ≤ last → (factor *ℤ pos n) ≤ℤ (factor *ℤ pos result) }
-{
-    if factor < 0 { first } else { last }
-}
-
 impl Edge {
     /// The edge from u to v at row y.
     ///
@@ -142,4 +110,36 @@ impl Edge {
             (start, start)
         }
     }
+}
+
+/// By how much a point's side of an edge of a clockwise triangle has to be above 0. A top or a left edge has its own points too.
+fn margin(u: Point, v: Point, opposite: Point) -> i64
+    ensures value { result ≡ margin u v opposite }
+    ensures bound { unsigned_abs result ≤ 1 }
+{
+    if is_top(u, v, opposite) || v.y() < u.y() {
+        0
+    } else {
+        1
+    }
+}
+
+/// Of the numbers from `first` to `last`, the one whose product with a factor is the least.
+fn least_at(factor: i64, first: u32, last: u32) -> u32
+    requires { first ≤ last }
+    ensures from { first ≤ result }
+    ensures to { result ≤ last }
+    ensures least { (n : ℕ) → first ≤ n → n ≤ last → (factor *ℤ pos result) ≤ℤ (factor *ℤ pos n) }
+{
+    if factor < 0 { last } else { first }
+}
+
+/// The one whose product is the greatest.
+fn greatest_at(factor: i64, first: u32, last: u32) -> u32
+    requires { first ≤ last }
+    ensures from { first ≤ result }
+    ensures to { result ≤ last }
+    ensures greatest { (n : ℕ) → first ≤ n → n ≤ last → (factor *ℤ pos n) ≤ℤ (factor *ℤ pos result) }
+{
+    if factor < 0 { first } else { last }
 }

@@ -14,15 +14,6 @@ pub(crate) fn moved(accumulators: u64x4, steps: u64x4) -> u64x4
     accumulators + steps
 }
 
-/// The highest byte of each element.
-fn tops(accumulators: u64x4) -> u8x4
-    requires { length accumulators ≡ 4 }
-    ensures len { length result ≡ 4 }
-    ensures elements { (k : ℕ) → k < 4 → slice_index result k ≡ slice_index accumulators k / 2 ^ 56 }
-{
-    (accumulators >> u64x4::splat(56)).cast::<u8>()
-}
-
 /// The colour of the highest bytes of four elements.
 pub(crate) fn colour_of(accumulators: u64x4) -> Colour
     requires { length accumulators ≡ 4 }
@@ -33,4 +24,13 @@ pub(crate) fn colour_of(accumulators: u64x4) -> Colour
 {
     let [r, g, b, a] = tops(accumulators).to_array();
     Colour { r, g, b, a }
+}
+
+/// The highest byte of each element.
+fn tops(accumulators: u64x4) -> u8x4
+    requires { length accumulators ≡ 4 }
+    ensures len { length result ≡ 4 }
+    ensures elements { (k : ℕ) → k < 4 → slice_index result k ≡ slice_index accumulators k / 2 ^ 56 }
+{
+    (accumulators >> u64x4::splat(56)).cast::<u8>()
 }

@@ -43,14 +43,6 @@ pub enum Verdict {
     Drawn,
 }
 
-/// Whether a pixel coordinate is at least `low` and below `high`.
-fn is_in_range(low: i32, high: i32, coordinate: u32) -> bool
-    ensures { result ≡ is_in_range low high coordinate }
-{
-    let coordinate = i64::from(coordinate);
-    i64::from(low) <= coordinate && coordinate < i64::from(high)
-}
-
 impl Rect {
     /// Whether the rectangle holds a pixel.
     fn holds(&self, x: u32, y: u32) -> bool
@@ -128,4 +120,12 @@ pub fn verdict_at(
     } else {
         Verdict::Drawn
     }
+}
+
+/// Whether a pixel coordinate is at least `low` and below `high`.
+fn is_in_range(low: i32, high: i32, coordinate: u32) -> bool
+    ensures { result ≡ is_in_range low high coordinate }
+{
+    let coordinate = i64::from(coordinate);
+    i64::from(low) <= coordinate && coordinate < i64::from(high)
 }

@@ -53,6 +53,85 @@ struct Course<'a, G: Gate> {
     table: &'a EventTable,
 }
 
+/// Takes all lanes back to a position, in the calling thread.
+pub fn run_back<L: Lane>(lanes: &mut [L], to: u32)
+    requires { All (λ l. to ≤ position (L.shown l).history) lanes.old }
+    ensures moved { AllZip (λ x y. L.shown y ≡ gone_back_to to (L.shown x)) lanes.old lanes.new }
+    ensures fits { AllZip (λ x y. (table : Table) → L.fits x table → L.fits y table) lanes.old lanes.new }
+{
+    for lane in lanes.iter_mut() {
+        lane.back_to(to);
+    }
+}
+
+/// Takes all lanes forward to the run's target, each worker those from the lane of its own number in `firsts` up to the next worker's first one. Where
+/// `firsts` has no lane for a worker, or one that lies among another worker's, the lanes are shared out by the workers that are left. A lane that stands
+/// above the target stays there. Where a lane refuses, all lanes end at the least position at which one refused, those above it too. An `Err` says that there
+/// was no memory for the fence; then no lane has moved.
+///
+/// So it ends for every number of workers, however the lanes are shared out, and every schedule. Which lanes refuse may differ from run to run, as memory may.
+/// The bound is `Threads` without `Wait`: nothing waits but the join of a thread, so the call returns if the lanes and the gate do.
+pub fn run_shared<R: Threads + Sync, L: Lane, G: Gate>(
+    rt: &R,
+    alloc: Global,
+    lanes: &mut [L],
+    advance: &Advance<'_>,
+    gate: &G,
+) -> Result<Outcome, AllocError>
+    requires target { advance.now.target ≤ length advance.now.table.now.events }
+    requires workers { (1 ≤ advance.now.workers) × (advance.now.workers ≤ 64) }
+    requires fits { All (λ l. L.fits l advance.now.table.now) lanes.old }
+    ensures ended { MatchResult result (λ outcome. EndsApart L.shown advance.now.table.now advance.now.target lanes.old lanes.new outcome)
+        (λ _. lanes.new ≡ lanes.old) }
+    ensures wanted { MatchResult result (OnStop L.wanted) (λ _. Wanted) }
+    ensures passed { ArePassed L.shown (G.opened gate.now) 0 lanes.old lanes.new }
+    ensures fits { All (λ l. L.fits l advance.now.table.now) lanes.new }
+{
+    let (fence, mut seat) = Fence::raise(alloc, advance.target, advance.workers)?;
+    let team = Team::whole(advance.workers, advance.firsts);
+    let course = Course {
+        fence: &fence,
+        gate,
+        table: advance.table,
+    };
+    run_range(rt, &course, &team, &mut seat, lanes);
+    let at = fence.close(seat) as u32;
+    if at == advance.target {
+        return Ok(Outcome::Reached);
+    }
+    run_back(lanes, at);
+    Ok(Outcome::Stopped { at })
+}
+
+/// The same of lanes that all stand at one position, shared out evenly: worker w owns those from `w * lanes / workers` up to the next worker's first one.
+pub fn run_forward<R: Threads + Sync, L: Lane, G: Gate>(
+    rt: &R,
+    alloc: Global,
+    lanes: &mut [L],
+    table: &EventTable,
+    target: u32,
+    workers: u32,
+    gate: &G,
+) -> Result<Outcome, AllocError>
+    requires together { All (λ l. position (L.shown l).history ≡ opening_position (map L.shown lanes.old)) lanes.old }
+    requires target { (opening_position (map L.shown lanes.old) ≤ target) × (target ≤ length table.now.events) }
+    requires workers { (1 ≤ workers) × (workers ≤ 64) }
+    requires fits { All (λ l. L.fits l table.now) lanes.old }
+    ensures ended { MatchResult result (λ outcome. EndsAs L.shown table.now target lanes.old lanes.new outcome) (λ _. lanes.new ≡ lanes.old) }
+    ensures wanted { MatchResult result (OnStop L.wanted) (λ _. Wanted) }
+    ensures passed { ArePassed L.shown (G.opened gate.now) 0 lanes.old lanes.new }
+    ensures fits { All (λ l. L.fits l table.now) lanes.new }
+{
+    let firsts = even_firsts(lanes.len(), workers);
+    let advance = Advance {
+        table,
+        target,
+        workers,
+        firsts: &firsts[..workers as usize],
+    };
+    run_shared(rt, alloc, lanes, &advance, gate)
+}
+
 /// Takes one lane forward until it stands at the fence or above it. Events that leave its image as it is are gone through at once, up to the next one
 /// that may draw. Where it refuses a step, it lowers the fence to where it stands, and ends.
 /// No lock, and no wait for another worker: one load of the fence before each such run of events with the step after it, and at most one atomic minimum.
@@ -211,83 +290,4 @@ fn run_range<R: Threads + Sync, L: Lane, G: Gate, S: Post>(
     let mut other = seat.split(course.fence);
     run_both(rt, course, &halves, seat, &mut other, lanes);
     seat.join(course.fence, other);
-}
-
-/// Takes all lanes back to a position, in the calling thread.
-pub fn run_back<L: Lane>(lanes: &mut [L], to: u32)
-    requires { All (λ l. to ≤ position (L.shown l).history) lanes.old }
-    ensures moved { AllZip (λ x y. L.shown y ≡ gone_back_to to (L.shown x)) lanes.old lanes.new }
-    ensures fits { AllZip (λ x y. (table : Table) → L.fits x table → L.fits y table) lanes.old lanes.new }
-{
-    for lane in lanes.iter_mut() {
-        lane.back_to(to);
-    }
-}
-
-/// Takes all lanes forward to the run's target, each worker those from the lane of its own number in `firsts` up to the next worker's first one. Where
-/// `firsts` has no lane for a worker, or one that lies among another worker's, the lanes are shared out by the workers that are left. A lane that stands
-/// above the target stays there. Where a lane refuses, all lanes end at the least position at which one refused, those above it too. An `Err` says that there
-/// was no memory for the fence; then no lane has moved.
-///
-/// So it ends for every number of workers, however the lanes are shared out, and every schedule. Which lanes refuse may differ from run to run, as memory may.
-/// The bound is `Threads` without `Wait`: nothing waits but the join of a thread, so the call returns if the lanes and the gate do.
-pub fn run_shared<R: Threads + Sync, L: Lane, G: Gate>(
-    rt: &R,
-    alloc: Global,
-    lanes: &mut [L],
-    advance: &Advance<'_>,
-    gate: &G,
-) -> Result<Outcome, AllocError>
-    requires target { advance.now.target ≤ length advance.now.table.now.events }
-    requires workers { (1 ≤ advance.now.workers) × (advance.now.workers ≤ 64) }
-    requires fits { All (λ l. L.fits l advance.now.table.now) lanes.old }
-    ensures ended { MatchResult result (λ outcome. EndsApart L.shown advance.now.table.now advance.now.target lanes.old lanes.new outcome)
-        (λ _. lanes.new ≡ lanes.old) }
-    ensures wanted { MatchResult result (OnStop L.wanted) (λ _. Wanted) }
-    ensures passed { ArePassed L.shown (G.opened gate.now) 0 lanes.old lanes.new }
-    ensures fits { All (λ l. L.fits l advance.now.table.now) lanes.new }
-{
-    let (fence, mut seat) = Fence::raise(alloc, advance.target, advance.workers)?;
-    let team = Team::whole(advance.workers, advance.firsts);
-    let course = Course {
-        fence: &fence,
-        gate,
-        table: advance.table,
-    };
-    run_range(rt, &course, &team, &mut seat, lanes);
-    let at = fence.close(seat) as u32;
-    if at == advance.target {
-        return Ok(Outcome::Reached);
-    }
-    run_back(lanes, at);
-    Ok(Outcome::Stopped { at })
-}
-
-/// The same of lanes that all stand at one position, shared out evenly: worker w owns those from `w * lanes / workers` up to the next worker's first one.
-pub fn run_forward<R: Threads + Sync, L: Lane, G: Gate>(
-    rt: &R,
-    alloc: Global,
-    lanes: &mut [L],
-    table: &EventTable,
-    target: u32,
-    workers: u32,
-    gate: &G,
-) -> Result<Outcome, AllocError>
-    requires together { All (λ l. position (L.shown l).history ≡ opening_position (map L.shown lanes.old)) lanes.old }
-    requires target { (opening_position (map L.shown lanes.old) ≤ target) × (target ≤ length table.now.events) }
-    requires workers { (1 ≤ workers) × (workers ≤ 64) }
-    requires fits { All (λ l. L.fits l table.now) lanes.old }
-    ensures ended { MatchResult result (λ outcome. EndsAs L.shown table.now target lanes.old lanes.new outcome) (λ _. lanes.new ≡ lanes.old) }
-    ensures wanted { MatchResult result (OnStop L.wanted) (λ _. Wanted) }
-    ensures passed { ArePassed L.shown (G.opened gate.now) 0 lanes.old lanes.new }
-    ensures fits { All (λ l. L.fits l table.now) lanes.new }
-{
-    let firsts = even_firsts(lanes.len(), workers);
-    let advance = Advance {
-        table,
-        target,
-        workers,
-        firsts: &firsts[..workers as usize],
-    };
-    run_shared(rt, alloc, lanes, &advance, gate)
 }

@@ -139,23 +139,6 @@ impl<T: Write> Writes<T> for Once {
     ghost gives = { written_once };
 }
 
-/// What a read comes to: its count, or a failure, whatever the error is.
-fn judge_read(outcome: io::Result<usize>) -> Result<usize, Failed>
-    ensures { ReadJudged outcome result }
-{
-    outcome.map_err(|_| Failed)
-}
-
-/// What a write of so many bytes comes to. One that takes none of some is a failure, and so is one that was interrupted.
-fn judge_write(outcome: io::Result<usize>, length: usize) -> Result<usize, Failed>
-    ensures { WriteJudged outcome length result }
-{
-    match outcome {
-        Ok(count) if count > 0 || length == 0 => Ok(count),
-        _ => Err(Failed),
-    }
-}
-
 /// A source over a reader, or a sink over a writer, which counts the calls that fail.
 #[derive(Drop)]
 pub struct Device<T> {
@@ -261,4 +244,21 @@ impl<T: Write> Sink for Device<T> {
     }
 
     ghost only_told = { λ a b same. (ap (λ k. k.0) same, ap (λ k. k.1) same, ap (λ k. k.2) same) };
+}
+
+/// What a read comes to: its count, or a failure, whatever the error is.
+fn judge_read(outcome: io::Result<usize>) -> Result<usize, Failed>
+    ensures { ReadJudged outcome result }
+{
+    outcome.map_err(|_| Failed)
+}
+
+/// What a write of so many bytes comes to. One that takes none of some is a failure, and so is one that was interrupted.
+fn judge_write(outcome: io::Result<usize>, length: usize) -> Result<usize, Failed>
+    ensures { WriteJudged outcome length result }
+{
+    match outcome {
+        Ok(count) if count > 0 || length == 0 => Ok(count),
+        _ => Err(Failed),
+    }
 }

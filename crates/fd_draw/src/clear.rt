@@ -23,16 +23,6 @@ pub(crate) enum Clear {
     Depths(u16),
 }
 
-/// Gives all pixels a clear's colour, or its depth.
-fn fill(clear: Clear, tile: &mut Tile)
-    ensures { tile.new ≡ with_cleared clear tile.old }
-{
-    match clear {
-        Clear::Colours(colour) => tile.fill_colours(colour),
-        Clear::Depths(depth) => tile.fill_depths(depth),
-    }
-}
-
 /// Keeps and then clears the pixels of a tile.
 pub(crate) fn clear_tile(clear: Clear, tile: &mut Tile, undo: &mut UndoStack)
     requires made { tile.old.made ≡ true }
@@ -66,4 +56,14 @@ pub fn clear_alike(event: &Event, tile: &mut Tile, undo: &mut UndoStack) -> Resu
     undo.push_alike(tile.place(), colour, depth)?;
     fill(clear, tile);
     Ok(true)
+}
+
+/// Gives all pixels a clear's colour, or its depth.
+fn fill(clear: Clear, tile: &mut Tile)
+    ensures { tile.new ≡ with_cleared clear tile.old }
+{
+    match clear {
+        Clear::Colours(colour) => tile.fill_colours(colour),
+        Clear::Depths(depth) => tile.fill_depths(depth),
+    }
 }

@@ -7,25 +7,6 @@ use crate::write::WIDEST;
 use fd_cover::{Depth, Func};
 use std::simd::prelude::*;
 
-/// Bit k tells whether a comparison holds of the depths in lane k.
-fn holds(func: Func, sources: u16x32, stored: u16x32) -> u64
-    requires sources { length sources ≡ 32 }
-    requires stored { length stored ≡ 32 }
-    ensures bits { (k : ℕ) → k < 32 → has_bit result k ≡ holds_of func (slice_index sources k) (slice_index stored k) }
-    ensures bound { result < 2 ^ 32 }
-{
-    match func {
-        Func::Never => 0,
-        Func::Less => sources.simd_lt(stored).to_bitmask(),
-        Func::Equal => sources.simd_eq(stored).to_bitmask(),
-        Func::LessEqual => sources.simd_le(stored).to_bitmask(),
-        Func::Greater => sources.simd_gt(stored).to_bitmask(),
-        Func::NotEqual => sources.simd_ne(stored).to_bitmask(),
-        Func::GreaterEqual => sources.simd_ge(stored).to_bitmask(),
-        Func::Always => 0xffff_ffff,
-    }
-}
-
 /// Bit k tells whether the pixel at place k of a row passes the depth test, by its source and its stored depth.
 pub(crate) fn test_row(depth: &Depth, sources: &[u16; WIDEST], stored: &[u16]) -> u64
     requires few { length stored.now ≤ 32 }
@@ -58,4 +39,23 @@ pub(crate) fn alike(passed: u64, count: usize) -> usize
         passed.trailing_zeros()
     };
     count.min(run as usize)
+}
+
+/// Bit k tells whether a comparison holds of the depths in lane k.
+fn holds(func: Func, sources: u16x32, stored: u16x32) -> u64
+    requires sources { length sources ≡ 32 }
+    requires stored { length stored ≡ 32 }
+    ensures bits { (k : ℕ) → k < 32 → has_bit result k ≡ holds_of func (slice_index sources k) (slice_index stored k) }
+    ensures bound { result < 2 ^ 32 }
+{
+    match func {
+        Func::Never => 0,
+        Func::Less => sources.simd_lt(stored).to_bitmask(),
+        Func::Equal => sources.simd_eq(stored).to_bitmask(),
+        Func::LessEqual => sources.simd_le(stored).to_bitmask(),
+        Func::Greater => sources.simd_gt(stored).to_bitmask(),
+        Func::NotEqual => sources.simd_ne(stored).to_bitmask(),
+        Func::GreaterEqual => sources.simd_ge(stored).to_bitmask(),
+        Func::Always => 0xffff_ffff,
+    }
 }

@@ -122,57 +122,6 @@ impl Plan {
     }
 }
 
-/// Whether a draw writes nothing, as its window has no pixel or every triangle is culled.
-fn is_idle(draw: &Draw, raster: &Raster, window: Bounds) -> bool
-    ensures { IsTrue result → IsTrue (is_empty window) ⊎ AreCulled raster.now.cull raster.now.front_ccw (triangles_of draw.now) }
-{
-    window.is_empty() || draw.is_culled(raster)
-}
-
-/// Whether depths are tested and none passes.
-fn is_shut(depth: &Depth) -> bool
-    ensures { IsTrue result → (depth.now.enable ≡ true) × (depth.now.func ≡ Never) }
-{
-    depth.enable && matches!(depth.func, Func::Never)
-}
-
-/// The plan of a draw, of whose triangles none before this one covers a pixel of the place.
-fn plan_draw(draw: &Draw, state: &Pipeline, place: Place, first: u32) -> Plan
-    requires placed { IsTilePlace place }
-    requires within { first ≤ length (triangles_of draw.now) }
-    requires missed { CoverNone (box_of_place place) (triangles_of draw.now) 0 first }
-    ensures spans { result.demand.spans ≡ sum_by (triangle_spans state.now place) (triangles_of draw.now) }
-    ensures pixels { result.demand.pixels ≡ sum_by (triangle_pixels state.now place) (triangles_of draw.now) }
-    ensures planned { ArePlanned draw.now state.now place 0 result.planned.items result.rest }
-{
-    let count = draw.triangles();
-    let window = window_of(draw, state, place);
-    let mut plan = Plan::without_triangles(NOTHING, count);
-    let tested = is_tested(draw, state);
-    if is_idle(draw, &state.raster, window) {
-        return plan;
-    }
-    let mut from = first;
-    while let Some(next) = Planned::next(draw, from, state, window) {
-        from = draw.next_listed(next.triangle + 1, window);
-        plan.add(next, tested);
-    }
-    plan
-}
-
-/// The plan of a clear: all pixels, by rows.
-fn plan_clear(place: Place) -> Plan
-    requires { IsTilePlace place }
-    ensures spans { result.demand.spans ≡ spans_in (λ x y. true) place }
-    ensures pixels { result.demand.pixels ≡ pixels_in (λ x y. true) place }
-{
-    let demand = Demand {
-        spans: place.height as usize,
-        pixels: place.width as usize * place.height as usize,
-    };
-    Plan::without_triangles(demand, 0)
-}
-
 /// The first triangle that a draw lists for a place, before which none covers a pixel of it. None where the event writes nothing there,
 /// in whatever state; it may also write nothing where this doesn't tell so.
 pub fn first_listed(event: &Event, place: Place) -> Option<u32>
@@ -240,6 +189,57 @@ pub(crate) fn window_of(draw: &Draw, state: &Pipeline, place: Place) -> Bounds
         };
     }
     window
+}
+
+/// Whether a draw writes nothing, as its window has no pixel or every triangle is culled.
+fn is_idle(draw: &Draw, raster: &Raster, window: Bounds) -> bool
+    ensures { IsTrue result → IsTrue (is_empty window) ⊎ AreCulled raster.now.cull raster.now.front_ccw (triangles_of draw.now) }
+{
+    window.is_empty() || draw.is_culled(raster)
+}
+
+/// Whether depths are tested and none passes.
+fn is_shut(depth: &Depth) -> bool
+    ensures { IsTrue result → (depth.now.enable ≡ true) × (depth.now.func ≡ Never) }
+{
+    depth.enable && matches!(depth.func, Func::Never)
+}
+
+/// The plan of a draw, of whose triangles none before this one covers a pixel of the place.
+fn plan_draw(draw: &Draw, state: &Pipeline, place: Place, first: u32) -> Plan
+    requires placed { IsTilePlace place }
+    requires within { first ≤ length (triangles_of draw.now) }
+    requires missed { CoverNone (box_of_place place) (triangles_of draw.now) 0 first }
+    ensures spans { result.demand.spans ≡ sum_by (triangle_spans state.now place) (triangles_of draw.now) }
+    ensures pixels { result.demand.pixels ≡ sum_by (triangle_pixels state.now place) (triangles_of draw.now) }
+    ensures planned { ArePlanned draw.now state.now place 0 result.planned.items result.rest }
+{
+    let count = draw.triangles();
+    let window = window_of(draw, state, place);
+    let mut plan = Plan::without_triangles(NOTHING, count);
+    let tested = is_tested(draw, state);
+    if is_idle(draw, &state.raster, window) {
+        return plan;
+    }
+    let mut from = first;
+    while let Some(next) = Planned::next(draw, from, state, window) {
+        from = draw.next_listed(next.triangle + 1, window);
+        plan.add(next, tested);
+    }
+    plan
+}
+
+/// The plan of a clear: all pixels, by rows.
+fn plan_clear(place: Place) -> Plan
+    requires { IsTilePlace place }
+    ensures spans { result.demand.spans ≡ spans_in (λ x y. true) place }
+    ensures pixels { result.demand.pixels ≡ pixels_in (λ x y. true) place }
+{
+    let demand = Demand {
+        spans: place.height as usize,
+        pixels: place.width as usize * place.height as usize,
+    };
+    Plan::without_triangles(demand, 0)
 }
 
 /// The box of a tile's pixels that the scissor leaves.

@@ -30,24 +30,6 @@ pub(crate) fn keep_strip(top: u32, bottom: u32, tile: &Tile, undo: &mut UndoStac
     undo.keep_place(strip, colours, depths, tile.flat_depth());
 }
 
-/// Blends a triangle's sources with the pixels of the rows from `top` up to `bottom`, all of which it covers.
-fn blend_strip(primitive: &Primitive<'_>, top: u32, bottom: u32, tile: &mut Tile)
-    requires rows { HasRows top bottom tile.old }
-    requires ready { IsReady primitive.now }
-    requires covered { (x y : ℕ) → Holds tile.old.place x y → top ≤ y → y < bottom → covers primitive.now.corners x y ≡ true }
-    ensures { ChangesRegion (blended_by primitive.now) (rows_between top bottom) tile.old tile.new }
-{
-    let place = tile.place();
-    for y in top..bottom {
-        let run = Run {
-            left: place.left,
-            right: place.left + place.width,
-            y,
-        };
-        blend_span(primitive, run, tile);
-    }
-}
-
 /// Keeps and then blends the rows from `top` up to `bottom`, at all of whose pixels a triangle is drawn.
 pub(crate) fn draw_strip(
     primitive: &Primitive<'_>,
@@ -92,4 +74,22 @@ pub(crate) fn strip_end(primitive: &Primitive<'_>, found: &Found, y: u32, place:
         }
     }
     found.area.bottom
+}
+
+/// Blends a triangle's sources with the pixels of the rows from `top` up to `bottom`, all of which it covers.
+fn blend_strip(primitive: &Primitive<'_>, top: u32, bottom: u32, tile: &mut Tile)
+    requires rows { HasRows top bottom tile.old }
+    requires ready { IsReady primitive.now }
+    requires covered { (x y : ℕ) → Holds tile.old.place x y → top ≤ y → y < bottom → covers primitive.now.corners x y ≡ true }
+    ensures { ChangesRegion (blended_by primitive.now) (rows_between top bottom) tile.old tile.new }
+{
+    let place = tile.place();
+    for y in top..bottom {
+        let run = Run {
+            left: place.left,
+            right: place.left + place.width,
+            y,
+        };
+        blend_span(primitive, run, tile);
+    }
 }

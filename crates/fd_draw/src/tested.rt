@@ -18,6 +18,36 @@ use fd_events::Picture;
 use fd_tile::Tile;
 use fd_undo::UndoStack;
 
+/// The depths that a triangle has at neighbouring pixels of a row, and a bit for each that tells whether it passes the test.
+#[derive(Clone, Copy)]
+struct Tested<'a> {
+    depths: &'a [u16],
+    passed: u64,
+}
+
+/// Keeps and then writes those pixels of a run at which the triangle is drawn: all of them, or those that pass by runs of their own.
+pub(crate) fn draw_span(primitive: &Primitive<'_>, run: Run, tile: &mut Tile, undo: &mut UndoStack)
+    requires run { HasRun run tile.old }
+    requires ready { IsReady primitive.now }
+    requires covered { CoversRun primitive.now run }
+    requires reached { ReachesRun primitive.now run }
+    requires room { HasRoom (run_spans (is_tested_by primitive.now) run) (run.right - run.left) undo.old }
+    ensures { WritesRun (run_spans (is_tested_by primitive.now) run) run (painted_by primitive.now) (kept_of primitive.now)
+        tile.old undo.old tile.new undo.new }
+{
+    if !primitive.tested {
+        write_span(primitive, run, tile, undo);
+        return;
+    }
+    let depths = depths_on(primitive, run);
+    let passed = test_span(primitive, &depths, run, tile);
+    let tested = Tested {
+        depths: &depths[..run.count()],
+        passed,
+    };
+    draw_runs(primitive, &tested, run, tile, undo);
+}
+
 /// Stores depths in a run.
 fn store_depths(depths: &[u16], run: Run, tile: &mut Tile)
     requires run { HasRun run tile.old }
@@ -52,13 +82,6 @@ fn draw_run(
     if primitive.state.depth.enable && primitive.state.depth.write {
         store_depths(depths, run, tile);
     }
-}
-
-/// The depths that a triangle has at neighbouring pixels of a row, and a bit for each that tells whether it passes the test.
-#[derive(Clone, Copy)]
-struct Tested<'a> {
-    depths: &'a [u16],
-    passed: u64,
 }
 
 /// Tests the pixels of a run, at which the triangle has the first of these depths. A bit for each tells whether it is drawn there.
@@ -161,27 +184,4 @@ fn depths_on(primitive: &Primitive<'_>, run: Run) -> [u16; WIDEST]
         depth_rows.row(run.left, run.y, &mut depths[..run.count()]);
     }
     depths
-}
-
-/// Keeps and then writes those pixels of a run at which the triangle is drawn: all of them, or those that pass by runs of their own.
-pub(crate) fn draw_span(primitive: &Primitive<'_>, run: Run, tile: &mut Tile, undo: &mut UndoStack)
-    requires run { HasRun run tile.old }
-    requires ready { IsReady primitive.now }
-    requires covered { CoversRun primitive.now run }
-    requires reached { ReachesRun primitive.now run }
-    requires room { HasRoom (run_spans (is_tested_by primitive.now) run) (run.right - run.left) undo.old }
-    ensures { WritesRun (run_spans (is_tested_by primitive.now) run) run (painted_by primitive.now) (kept_of primitive.now)
-        tile.old undo.old tile.new undo.new }
-{
-    if !primitive.tested {
-        write_span(primitive, run, tile, undo);
-        return;
-    }
-    let depths = depths_on(primitive, run);
-    let passed = test_span(primitive, &depths, run, tile);
-    let tested = Tested {
-        depths: &depths[..run.count()],
-        passed,
-    };
-    draw_runs(primitive, &tested, run, tile, undo);
 }

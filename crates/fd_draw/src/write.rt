@@ -37,6 +37,71 @@ const NO_COLOUR: Colour = Colour {
     a: 0,
 };
 
+/// Keeps the pixels of a run. It stands in its caller, as runs of a pixel or two are common under the depth test.
+#[inline(always)]
+pub(crate) fn keep_span(run: Run, tile: &Tile, undo: &mut UndoStack)
+    requires run { HasRun run tile.now }
+    requires room { HasRoom 1 (run.right - run.left) undo.old }
+    ensures { WritesRun 1 run as_it_is keep_each tile.now undo.old tile.now undo.new }
+{
+    let place = tile.place();
+    let start = (run.left - place.left) as usize;
+    let end = (run.right - place.left) as usize;
+    undo.keep_known(
+        run.left,
+        run.y,
+        &tile.row(run.y)[start..end],
+        &tile.depth_row(run.y)[start..end],
+        tile.flat_depth(),
+    );
+}
+
+/// Blends a triangle's sources with the pixels of a run, all of which it covers. It stands in its caller too.
+#[inline(always)]
+pub(crate) fn blend_span(primitive: &Primitive<'_>, run: Run, tile: &mut Tile)
+    requires run { HasRun run tile.old }
+    requires ready { IsReady primitive.now }
+    requires covered { CoversRun primitive.now run }
+    ensures { ChangesRun (blended_by primitive.now) run tile.old tile.new }
+{
+    let place = tile.place();
+    let start = (run.left - place.left) as usize;
+    let end = (run.right - place.left) as usize;
+    let row = tile.row_mut(run.y);
+    blend_triangle(&mut row[start..end], run.left, run.y, primitive);
+}
+
+/// Keeps and then blends the pixels of a run, all of which a triangle covers.
+pub(crate) fn write_span(primitive: &Primitive<'_>, run: Run, tile: &mut Tile, undo: &mut UndoStack)
+    requires run { HasRun run tile.old }
+    requires ready { IsReady primitive.now }
+    requires covered { CoversRun primitive.now run }
+    requires room { HasRoom 1 (run.right - run.left) undo.old }
+    ensures { WritesRun 1 run (blended_by primitive.now) keep_each tile.old undo.old tile.new undo.new }
+{
+    keep_span(run, tile, undo);
+    blend_span(primitive, run, tile);
+}
+
+/// Draws an event in a state on a tile, and keeps the pixels that it overwrites in the top frame, which has been begun with
+/// room for them. The plan is the event's.
+pub fn draw(event: &Event, state: &Pipeline, plan: &Plan, tile: &mut Tile, undo: &mut UndoStack)
+    requires made { tile.old.made ≡ true }
+    requires planned { IsPlan plan.now event.now state.now tile.old.place }
+    requires room { HasRoom (event_spans event.now state.now tile.old.place) (event_pixels event.now state.now tile.old.place) undo.old }
+    ensures { Paints (pixel_after event.now state.now) (kept_by event.now state.now) tile.old undo.old tile.new undo.new }
+{
+    // a tile has a colour and a depth for each of its pixels, also where nothing is drawn
+    let _place = tile.place();
+    match event {
+        Event::Clear(colour) => clear_tile(Clear::Colours(*colour), tile, undo),
+        Event::DepthClear(depth) => clear_tile(Clear::Depths(*depth), tile, undo),
+        Event::Draw(draw) => draw_triangles(draw, state, plan, tile, undo),
+        // State events and markers draw nothing.
+        _ => {}
+    }
+}
+
 /// Blends a triangle's sources with neighbouring pixels of row y from column x on, all of which it covers. It stands in its callers, as many rows are short.
 #[inline(always)]
 fn blend_triangle(row: &mut [Colour], x: u32, y: u32, primitive: &Primitive<'_>)
@@ -94,52 +159,6 @@ fn find_sources(primitive: &Primitive<'_>, x: u32, y: u32, out: &mut [Colour])
             out,
         ),
     }
-}
-
-/// Keeps the pixels of a run. It stands in its caller, as runs of a pixel or two are common under the depth test.
-#[inline(always)]
-pub(crate) fn keep_span(run: Run, tile: &Tile, undo: &mut UndoStack)
-    requires run { HasRun run tile.now }
-    requires room { HasRoom 1 (run.right - run.left) undo.old }
-    ensures { WritesRun 1 run as_it_is keep_each tile.now undo.old tile.now undo.new }
-{
-    let place = tile.place();
-    let start = (run.left - place.left) as usize;
-    let end = (run.right - place.left) as usize;
-    undo.keep_known(
-        run.left,
-        run.y,
-        &tile.row(run.y)[start..end],
-        &tile.depth_row(run.y)[start..end],
-        tile.flat_depth(),
-    );
-}
-
-/// Blends a triangle's sources with the pixels of a run, all of which it covers. It stands in its caller too.
-#[inline(always)]
-pub(crate) fn blend_span(primitive: &Primitive<'_>, run: Run, tile: &mut Tile)
-    requires run { HasRun run tile.old }
-    requires ready { IsReady primitive.now }
-    requires covered { CoversRun primitive.now run }
-    ensures { ChangesRun (blended_by primitive.now) run tile.old tile.new }
-{
-    let place = tile.place();
-    let start = (run.left - place.left) as usize;
-    let end = (run.right - place.left) as usize;
-    let row = tile.row_mut(run.y);
-    blend_triangle(&mut row[start..end], run.left, run.y, primitive);
-}
-
-/// Keeps and then blends the pixels of a run, all of which a triangle covers.
-pub(crate) fn write_span(primitive: &Primitive<'_>, run: Run, tile: &mut Tile, undo: &mut UndoStack)
-    requires run { HasRun run tile.old }
-    requires ready { IsReady primitive.now }
-    requires covered { CoversRun primitive.now run }
-    requires room { HasRoom 1 (run.right - run.left) undo.old }
-    ensures { WritesRun 1 run (blended_by primitive.now) keep_each tile.old undo.old tile.new undo.new }
-{
-    keep_span(run, tile, undo);
-    blend_span(primitive, run, tile);
 }
 
 /// Keeps and then writes those of the pixels of row y at which a triangle was found at which it is drawn.
@@ -213,24 +232,5 @@ fn draw_triangles(draw: &Draw, state: &Pipeline, plan: &Plan, tile: &mut Tile, u
         from = draw.next_listed(next.triangle + 1, window);
         let primitive = Primitive::of(draw, next.triangle, state);
         draw_primitive(&primitive, &next.found, tile, undo);
-    }
-}
-
-/// Draws an event in a state on a tile, and keeps the pixels that it overwrites in the top frame, which has been begun with
-/// room for them. The plan is the event's.
-pub fn draw(event: &Event, state: &Pipeline, plan: &Plan, tile: &mut Tile, undo: &mut UndoStack)
-    requires made { tile.old.made ≡ true }
-    requires planned { IsPlan plan.now event.now state.now tile.old.place }
-    requires room { HasRoom (event_spans event.now state.now tile.old.place) (event_pixels event.now state.now tile.old.place) undo.old }
-    ensures { Paints (pixel_after event.now state.now) (kept_by event.now state.now) tile.old undo.old tile.new undo.new }
-{
-    // a tile has a colour and a depth for each of its pixels, also where nothing is drawn
-    let _place = tile.place();
-    match event {
-        Event::Clear(colour) => clear_tile(Clear::Colours(*colour), tile, undo),
-        Event::DepthClear(depth) => clear_tile(Clear::Depths(*depth), tile, undo),
-        Event::Draw(draw) => draw_triangles(draw, state, plan, tile, undo),
-        // State events and markers draw nothing.
-        _ => {}
     }
 }

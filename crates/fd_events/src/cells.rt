@@ -56,24 +56,6 @@ pub(crate) struct Cells {
     lists: Packed,
 }
 
-/// The cells, of a side that is this power of two, that a box of pixels meets.
-fn cells_under(bounds: Bounds, shift: u32) -> Bounds
-    requires { shift < 32 }
-    ensures under { AreUnder result bounds shift }
-    ensures columns { result.left ≤ result.right }
-    ensures rows { result.top ≤ result.bottom }
-{
-    if bounds.is_empty() {
-        return Bounds::empty();
-    }
-    Bounds {
-        left: bounds.left >> shift,
-        top: bounds.top >> shift,
-        right: ((bounds.right - 1) >> shift) + 1,
-        bottom: ((bounds.bottom - 1) >> shift) + 1,
-    }
-}
-
 /// The first of these numbers that is at least `number`, or else `end`.
 pub(crate) fn first_from(numbers: &[u32], number: u32, end: u32) -> u32
     requires order { number ≤ end }
@@ -380,5 +362,23 @@ impl Cells {
             Some(numbers) => first_from(numbers, number, end),
             None => number,
         }
+    }
+}
+
+/// The cells, of a side that is this power of two, that a box of pixels meets.
+fn cells_under(bounds: Bounds, shift: u32) -> Bounds
+    requires { shift < 32 }
+    ensures under { AreUnder result bounds shift }
+    ensures columns { result.left ≤ result.right }
+    ensures rows { result.top ≤ result.bottom }
+{
+    if bounds.is_empty() {
+        return Bounds::empty();
+    }
+    Bounds {
+        left: bounds.left >> shift,
+        top: bounds.top >> shift,
+        right: ((bounds.right - 1) >> shift) + 1,
+        bottom: ((bounds.bottom - 1) >> shift) + 1,
     }
 }

@@ -19,13 +19,6 @@ pub enum LabelFault {
     Control,
 }
 
-/// Whether a text has a character below U+0020, or U+007F.
-fn has_control(text: &[u8]) -> bool
-    ensures { result ≡ list_any is_control text.now }
-{
-    text.iter().any(|b| *b < 0x20 || *b == 0x7f)
-}
-
 /// A marker's name.
 #[derive(Debug, Drop)]
 pub struct Label {
@@ -67,4 +60,11 @@ impl Label {
     {
         self.text.as_str()
     }
+}
+
+/// Whether a text has a character below U+0020, or U+007F.
+fn has_control(text: &[u8]) -> bool
+    ensures { result ≡ list_any is_control text.now }
+{
+    text.iter().any(|b| *b < 0x20 || *b == 0x7f)
 }

@@ -11,30 +11,6 @@ use fd_snap::snap;
 use std::alloc::{AllocError, Global};
 use std::marker::Model;
 
-fn has_too_many(indices: &Option<Vec<u32>>) -> bool
-    ensures { result ≡ has_too_many (option_map (λ v. v.items) indices.now) }
-{
-    match indices {
-        None => false,
-        Some(indices) => indices.len() > MAX_INDICES,
-    }
-}
-
-fn are_below(indices: &[u32], count: usize) -> bool
-    ensures { result ≡ list_all (λ index. nat_lt index count) indices.now }
-{
-    indices.iter().all(|index| (*index as usize) < count)
-}
-
-fn are_in_range(indices: &Option<Vec<u32>>, count: usize) -> bool
-    ensures { result ≡ are_in_range count (option_map (λ v. v.items) indices.now) }
-{
-    match indices {
-        None => true,
-        Some(indices) => are_below(indices, count),
-    }
-}
-
 /// The triangles of a draw, by their vertices or by indices of vertices.
 #[derive(Debug, Drop)]
 pub(crate) struct TriangleList {
@@ -266,5 +242,29 @@ impl TriangleList {
             fd_memory::push(&mut boxes, Bounds::of(&self.tri(triangle)))?;
         }
         Ok(boxes)
+    }
+}
+
+fn has_too_many(indices: &Option<Vec<u32>>) -> bool
+    ensures { result ≡ has_too_many (option_map (λ v. v.items) indices.now) }
+{
+    match indices {
+        None => false,
+        Some(indices) => indices.len() > MAX_INDICES,
+    }
+}
+
+fn are_below(indices: &[u32], count: usize) -> bool
+    ensures { result ≡ list_all (λ index. nat_lt index count) indices.now }
+{
+    indices.iter().all(|index| (*index as usize) < count)
+}
+
+fn are_in_range(indices: &Option<Vec<u32>>, count: usize) -> bool
+    ensures { result ≡ are_in_range count (option_map (λ v. v.items) indices.now) }
+{
+    match indices {
+        None => true,
+        Some(indices) => are_below(indices, count),
     }
 }

@@ -5,31 +5,6 @@ ghost use Rattle.fd_memory.specs.Wanting.{Wanted};
 
 use std::alloc::{AllocError, Global};
 
-/// Whether a number is the last one of a list.
-fn is_last(list: &[u32], number: u32) -> bool
-    ensures { result ≡ true → Contains list.now number }
-{
-    match list.last() {
-        Some(last) => *last == number,
-        None => false,
-    }
-}
-
-/// Adds a number to the list of a cell, unless it was added last.
-fn add(lists: &mut Vec<Vec<u32>>, cell: usize, number: u32) -> Result<(), AllocError>
-    requires { cell < vec_len lists.old }
-    ensures listed { IfOk result (λ _. Grow number (numbers_of lists.old.items) (numbers_of lists.new.items)
-        × Contains (listed_at (numbers_of lists.new.items) cell) number) }
-    ensures wanted { OnErr result Wanted }
-{
-    if is_last(&lists[cell], number) {
-        return Ok(());
-    }
-    let list = &mut lists[cell];
-    fd_memory::push(list, number)?;
-    Ok(())
-}
-
 /// Adds a number to the lists of the cells from `first` up to `last`.
 pub(crate) fn add_row(
     lists: &mut Vec<Vec<u32>>,
@@ -58,4 +33,29 @@ pub(crate) fn no_numbers(count: usize, alloc: Global) -> Result<Vec<Vec<u32>>, A
         fd_memory::push(&mut lists, Vec::new(alloc))?;
     }
     Ok(lists)
+}
+
+/// Whether a number is the last one of a list.
+fn is_last(list: &[u32], number: u32) -> bool
+    ensures { result ≡ true → Contains list.now number }
+{
+    match list.last() {
+        Some(last) => *last == number,
+        None => false,
+    }
+}
+
+/// Adds a number to the list of a cell, unless it was added last.
+fn add(lists: &mut Vec<Vec<u32>>, cell: usize, number: u32) -> Result<(), AllocError>
+    requires { cell < vec_len lists.old }
+    ensures listed { IfOk result (λ _. Grow number (numbers_of lists.old.items) (numbers_of lists.new.items)
+        × Contains (listed_at (numbers_of lists.new.items) cell) number) }
+    ensures wanted { OnErr result Wanted }
+{
+    if is_last(&lists[cell], number) {
+        return Ok(());
+    }
+    let list = &mut lists[cell];
+    fd_memory::push(list, number)?;
+    Ok(())
 }

@@ -62,93 +62,6 @@ impl Model for Picture {
 ghost use Rattle.fd_events.specs.Picture.{is_place, are_holes, is_among, is_hole, first_colour, no_colour};
 ghost use Rattle.fd_events.specs.Limits.{most_side};
 
-/// Whether this is a place on a target, and a size that one may have.
-fn is_place(left: u32, top: u32, width: u32, height: u32) -> bool
-    ensures { result ≡ is_place left top width height }
-{
-    left < MAX_SIDE
-        && top < MAX_SIDE
-        && (1 <= width && width <= MAX_SIDE)
-        && (1 <= height && height <= MAX_SIDE)
-}
-
-/// Whether there is a bit for each of so many texels.
-fn are_holes(count: usize, holes: &Option<Vec<u8>>) -> bool
-    requires { count ≤ 268435456 }
-    ensures { result ≡ are_holes count (option_map (λ v. v.items) holes.now) }
-{
-    match holes {
-        None => true,
-        Some(holes) => holes.len() == (count + 7) / 8,
-    }
-}
-
-/// Whether a coordinate is one of so many from the first on.
-fn is_among(first: u32, count: u32, at: u32) -> bool
-    requires first { first < most_side }
-    requires count { count ≤ most_side }
-    ensures { result ≡ is_among first count at }
-{
-    first <= at && at < first + count
-}
-
-/// Whether a texel is a hole.
-fn is_hole(holes: &Option<Vec<u8>>, number: usize) -> bool
-    ensures { result ≡ is_hole (option_map (λ v. v.items) holes.now) number }
-{
-    match holes {
-        None => false,
-        Some(holes) => match holes.get(number / 8) {
-            Some(byte) => (*byte >> (number % 8)) % 2 == 1,
-            None => false,
-        },
-    }
-}
-
-/// The colour that four bytes begin with.
-fn first_colour(bytes: &[u8]) -> Option<Colour>
-    ensures { result ≡ first_colour bytes.now }
-{
-    let [r, g, b, a, ..] = bytes else {
-        return None;
-    };
-    Some(Colour {
-        r: *r,
-        g: *g,
-        b: *b,
-        a: *a,
-    })
-}
-
-/// The bytes of so many texels from this number on, if there are so many.
-fn bytes_of(texels: &[u8], first: usize, count: usize) -> Option<&[u8]>
-    requires { first + count < 2 ^ 60 }
-    ensures long { IfSome result (λ bytes. length bytes.now ≡ 4 * count) }
-    ensures texels { IfSome result (λ bytes. (k : ℕ) → k < count → first_colour (drop (4 * (first + k)) texels.now) ≡ first_colour (drop (4 * k) bytes.now)) }
-{
-    let (from, past) = (4 * first, 4 * (first + count));
-    if past > texels.len() {
-        return None;
-    }
-    Some(&texels[from..past])
-}
-
-/// The colours that bytes are, four each.
-fn copy_colours(bytes: &[u8], out: &mut [Colour])
-    requires { length bytes.now ≡ 4 * length out.old }
-    ensures long { length out.new ≡ length out.old }
-    ensures colours { (k : ℕ) → (d : Colour) → k < length out.old → slice_index_or out.new k d ≡ unwrap_or (first_colour (drop (4 * k) bytes.now)) no_colour }
-{
-    for i in 0..out.len() {
-        out[i] = Colour {
-            r: bytes[4 * i],
-            g: bytes[4 * i + 1],
-            b: bytes[4 * i + 2],
-            a: bytes[4 * i + 3],
-        };
-    }
-}
-
 impl Picture {
     ghost use Rattle.fd_events.specs.Picture.{clipped_to, is_inside, made_painting, texel, texel_or_none};
 
@@ -264,5 +177,92 @@ impl Picture {
         ensures { result ≡ texel_or_none self.now x y }
     {
         self.texel(x, y).unwrap_or(NO_COLOUR)
+    }
+}
+
+/// Whether this is a place on a target, and a size that one may have.
+fn is_place(left: u32, top: u32, width: u32, height: u32) -> bool
+    ensures { result ≡ is_place left top width height }
+{
+    left < MAX_SIDE
+        && top < MAX_SIDE
+        && (1 <= width && width <= MAX_SIDE)
+        && (1 <= height && height <= MAX_SIDE)
+}
+
+/// Whether there is a bit for each of so many texels.
+fn are_holes(count: usize, holes: &Option<Vec<u8>>) -> bool
+    requires { count ≤ 268435456 }
+    ensures { result ≡ are_holes count (option_map (λ v. v.items) holes.now) }
+{
+    match holes {
+        None => true,
+        Some(holes) => holes.len() == (count + 7) / 8,
+    }
+}
+
+/// Whether a coordinate is one of so many from the first on.
+fn is_among(first: u32, count: u32, at: u32) -> bool
+    requires first { first < most_side }
+    requires count { count ≤ most_side }
+    ensures { result ≡ is_among first count at }
+{
+    first <= at && at < first + count
+}
+
+/// Whether a texel is a hole.
+fn is_hole(holes: &Option<Vec<u8>>, number: usize) -> bool
+    ensures { result ≡ is_hole (option_map (λ v. v.items) holes.now) number }
+{
+    match holes {
+        None => false,
+        Some(holes) => match holes.get(number / 8) {
+            Some(byte) => (*byte >> (number % 8)) % 2 == 1,
+            None => false,
+        },
+    }
+}
+
+/// The colour that four bytes begin with.
+fn first_colour(bytes: &[u8]) -> Option<Colour>
+    ensures { result ≡ first_colour bytes.now }
+{
+    let [r, g, b, a, ..] = bytes else {
+        return None;
+    };
+    Some(Colour {
+        r: *r,
+        g: *g,
+        b: *b,
+        a: *a,
+    })
+}
+
+/// The bytes of so many texels from this number on, if there are so many.
+fn bytes_of(texels: &[u8], first: usize, count: usize) -> Option<&[u8]>
+    requires { first + count < 2 ^ 60 }
+    ensures long { IfSome result (λ bytes. length bytes.now ≡ 4 * count) }
+    ensures texels { IfSome result (λ bytes. (k : ℕ) → k < count → first_colour (drop (4 * (first + k)) texels.now) ≡ first_colour (drop (4 * k) bytes.now)) }
+{
+    let (from, past) = (4 * first, 4 * (first + count));
+    if past > texels.len() {
+        return None;
+    }
+    Some(&texels[from..past])
+}
+
+/// The colours that bytes are, four each.
+fn copy_colours(bytes: &[u8], out: &mut [Colour])
+    requires { length bytes.now ≡ 4 * length out.old }
+    ensures long { length out.new ≡ length out.old }
+    ensures colours { (k : ℕ) → (d : Colour) → k < length out.old → slice_index_or out.new k d ≡ unwrap_or (first_colour (drop (4 * k) bytes.now)) no_colour }
+{
+    for i in 0..out.len() {
+        out[i] = Colour {
+            r: bytes[4 * i],
+            g: bytes[4 * i + 1],
+            b: bytes[4 * i + 2],
+            a: bytes[4 * i + 3],
+        };
     }
 }

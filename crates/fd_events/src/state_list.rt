@@ -8,41 +8,6 @@ use crate::event::Event;
 use crate::pipeline::Pipeline;
 use std::alloc::{AllocError, Global};
 
-/// The place of the state after an event, from the place of the one before it.
-fn place_past(event: &Event, place: u32) -> u32
-    requires { place < most_events }
-    ensures { result ≡ place_past event.now place }
-{
-    if event.is_state_event() {
-        place + 1
-    } else {
-        place
-    }
-}
-
-/// The place of the state before each event, and of the one after the last.
-fn places_of(events: &[Event], alloc: Global) -> Result<Vec<u32>, AllocError>
-    requires { length events.now ≤ most_events }
-    ensures places { IfOk result (λ places. ArePlaces events.now places.items) }
-    ensures wanted { OnErr result Wanted }
-{
-    let mut places = fd_memory::room(alloc, events.len() + 1)?;
-    let mut place: u32 = 0;
-    fd_memory::push(&mut places, place)?;
-    for event in events {
-        place = place_past(event, place);
-        fd_memory::push(&mut places, place)?;
-    }
-    Ok(places)
-}
-
-/// The state after an event that may be switched off.
-fn state_past(event: &Event, on: bool, state: Pipeline) -> Pipeline
-    ensures { result ≡ (if on then state_after event.now state else state) }
-{
-    if on { state.after(event) } else { state }
-}
-
 /// Which events of a frame are switched on, and the states that they make: the one before any event, and one more for each state event.
 /// So a frame of markers and draws has a single state, and a switch asks for no memory.
 #[derive(Debug, Drop)]
@@ -138,4 +103,39 @@ impl StateList {
             self.recompute(events, index);
         }
     }
+}
+
+/// The place of the state after an event, from the place of the one before it.
+fn place_past(event: &Event, place: u32) -> u32
+    requires { place < most_events }
+    ensures { result ≡ place_past event.now place }
+{
+    if event.is_state_event() {
+        place + 1
+    } else {
+        place
+    }
+}
+
+/// The place of the state before each event, and of the one after the last.
+fn places_of(events: &[Event], alloc: Global) -> Result<Vec<u32>, AllocError>
+    requires { length events.now ≤ most_events }
+    ensures places { IfOk result (λ places. ArePlaces events.now places.items) }
+    ensures wanted { OnErr result Wanted }
+{
+    let mut places = fd_memory::room(alloc, events.len() + 1)?;
+    let mut place: u32 = 0;
+    fd_memory::push(&mut places, place)?;
+    for event in events {
+        place = place_past(event, place);
+        fd_memory::push(&mut places, place)?;
+    }
+    Ok(places)
+}
+
+/// The state after an event that may be switched off.
+fn state_past(event: &Event, on: bool, state: Pipeline) -> Pipeline
+    ensures { result ≡ (if on then state_after event.now state else state) }
+{
+    if on { state.after(event) } else { state }
 }

@@ -43,68 +43,6 @@ impl From<AllocError> for TableFault {
     }
 }
 
-/// Whether a target may be so wide or high.
-fn is_side(side: u32) -> bool
-    ensures { result ≡ is_side side }
-{
-    (1..=MAX_SIDE).contains(&side)
-}
-
-/// Computes the boxes of all draws' triangles and of their groups, and lists these in cells over a target of this size. On want of memory
-/// no event has changed.
-fn list_triangles(
-    events: &mut [Event],
-    width: u32,
-    height: u32,
-    alloc: Global,
-) -> Result<(), AllocError>
-    ensures same { events.new ≡ events.old }
-    ensures wanted { OnErr result Wanted }
-{
-    for event in events.iter_mut() {
-        event.list_triangles(width, height, alloc)?;
-    }
-    Ok(())
-}
-
-/// The box of each event's pixels on a target of this size.
-fn reaches_of(
-    events: &[Event],
-    width: u32,
-    height: u32,
-    alloc: Global,
-) -> Result<Vec<Reach>, AllocError>
-    requires width { width ≤ most_pixels }
-    requires height { height ≤ most_pixels }
-    ensures reaches { IfOk result (λ reaches. AreReaches width height events.now reaches.items) }
-    ensures wanted { OnErr result Wanted }
-{
-    let mut reaches = fd_memory::room(alloc, events.len())?;
-    for event in events {
-        fd_memory::push(&mut reaches, event.reach(width, height))?;
-    }
-    Ok(reaches)
-}
-
-/// Whether an event is switched on and its box has a pixel.
-fn may_write(on: bool, reach: Reach) -> bool
-    ensures { result ≡ (on && not (is_empty (box_of reach))) }
-{
-    on && !reach.is_empty()
-}
-
-/// The same of each event, where all are switched on.
-fn writers_of(reaches: &[Reach], alloc: Global) -> Result<Vec<bool>, AllocError>
-    ensures writers { IfOk result (λ writers. writers.items ≡ map (λ reach. not (is_empty (box_of reach))) reaches.now) }
-    ensures wanted { OnErr result Wanted }
-{
-    let mut writers = fd_memory::room(alloc, reaches.len())?;
-    for reach in reaches {
-        fd_memory::push(&mut writers, may_write(true, *reach))?;
-    }
-    Ok(writers)
-}
-
 /// The version of a capture, the target's size and the events of the frame, numbered from 1, each switched on or off.
 #[derive(Debug, Drop)]
 pub struct EventTable {
@@ -351,4 +289,66 @@ impl EventTable {
         self.writers[index] = may_write(on, self.reaches[index]);
         self.states.set_on(&self.events, index, on);
     }
+}
+
+/// Whether a target may be so wide or high.
+fn is_side(side: u32) -> bool
+    ensures { result ≡ is_side side }
+{
+    (1..=MAX_SIDE).contains(&side)
+}
+
+/// Computes the boxes of all draws' triangles and of their groups, and lists these in cells over a target of this size. On want of memory
+/// no event has changed.
+fn list_triangles(
+    events: &mut [Event],
+    width: u32,
+    height: u32,
+    alloc: Global,
+) -> Result<(), AllocError>
+    ensures same { events.new ≡ events.old }
+    ensures wanted { OnErr result Wanted }
+{
+    for event in events.iter_mut() {
+        event.list_triangles(width, height, alloc)?;
+    }
+    Ok(())
+}
+
+/// The box of each event's pixels on a target of this size.
+fn reaches_of(
+    events: &[Event],
+    width: u32,
+    height: u32,
+    alloc: Global,
+) -> Result<Vec<Reach>, AllocError>
+    requires width { width ≤ most_pixels }
+    requires height { height ≤ most_pixels }
+    ensures reaches { IfOk result (λ reaches. AreReaches width height events.now reaches.items) }
+    ensures wanted { OnErr result Wanted }
+{
+    let mut reaches = fd_memory::room(alloc, events.len())?;
+    for event in events {
+        fd_memory::push(&mut reaches, event.reach(width, height))?;
+    }
+    Ok(reaches)
+}
+
+/// Whether an event is switched on and its box has a pixel.
+fn may_write(on: bool, reach: Reach) -> bool
+    ensures { result ≡ (on && not (is_empty (box_of reach))) }
+{
+    on && !reach.is_empty()
+}
+
+/// The same of each event, where all are switched on.
+fn writers_of(reaches: &[Reach], alloc: Global) -> Result<Vec<bool>, AllocError>
+    ensures writers { IfOk result (λ writers. writers.items ≡ map (λ reach. not (is_empty (box_of reach))) reaches.now) }
+    ensures wanted { OnErr result Wanted }
+{
+    let mut writers = fd_memory::room(alloc, reaches.len())?;
+    for reach in reaches {
+        fd_memory::push(&mut writers, may_write(true, *reach))?;
+    }
+    Ok(writers)
 }

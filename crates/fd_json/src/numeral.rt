@@ -40,6 +40,18 @@ pub(crate) fn short_integer(text: &str) -> Option<i64>
     }
 }
 
+/// The number of any text of a token.
+pub(crate) fn any_number(text: &str) -> Option<Number>
+    ensures { option_map number_view result ≡ number_of text.now }
+{
+    let bytes = text.as_bytes();
+    if !bytes.is_empty() && bytes[0] == b'-' {
+        signed(true, &Numeral::scan(&bytes[1..]))
+    } else {
+        signed(false, &Numeral::scan(bytes))
+    }
+}
+
 /// The value of a few digits.
 fn digits(bytes: &[u8]) -> Option<u64>
     ensures value { IfSome result (λ n. IsNumeral 10 bytes.now × (n ≡ digits_value 10 bytes.now)) }
@@ -57,18 +69,6 @@ fn digits(bytes: &[u8]) -> Option<u64>
         value = value * 10 + u64::from(digit);
     }
     Some(value)
-}
-
-/// The number of any text of a token.
-pub(crate) fn any_number(text: &str) -> Option<Number>
-    ensures { option_map number_view result ≡ number_of text.now }
-{
-    let bytes = text.as_bytes();
-    if !bytes.is_empty() && bytes[0] == b'-' {
-        signed(true, &Numeral::scan(&bytes[1..]))
-    } else {
-        signed(false, &Numeral::scan(bytes))
-    }
 }
 
 /// The number of a numeral: a whole one, if it has 64 bits, and else the nearest float.

@@ -13,17 +13,6 @@ use fd_events::EventTable;
 use fd_words::{Ending, send_events};
 use std::alloc::Global;
 
-/// Writes the list of a table's events at position 0.
-fn list_table<W: Sink>(table: &EventTable, sink: &mut W) -> Ending
-    ensures writes { (written : List ℕ) × Appends (W.contents sink.old) (W.contents sink.new) written × WritesText (event_list table.now 0) written result }
-    ensures failures { CountsWriter result (W.failure_count sink.old) (W.failure_count sink.new) }
-    ensures flushed { EndsFlushed result (W.is_flushed sink.old) (W.is_flushed sink.new) }
-{
-    let mut sent = 0;
-    let outcome = send_events(table, 0, sink, &mut sent);
-    end_text(outcome, sent, sink)
-}
-
 /// Writes the list of a capture's events, as the reply to `events` at position 0.
 ///
 /// Nothing is written where the capture is refused or memory is wanted.
@@ -38,4 +27,15 @@ pub fn list_events<W: Sink>(alloc: Global, capture: &[u8], sink: &mut W) -> Endi
         Ok(table) => list_table(&table, sink),
         Err(ending) => ending,
     }
+}
+
+/// Writes the list of a table's events at position 0.
+fn list_table<W: Sink>(table: &EventTable, sink: &mut W) -> Ending
+    ensures writes { (written : List ℕ) × Appends (W.contents sink.old) (W.contents sink.new) written × WritesText (event_list table.now 0) written result }
+    ensures failures { CountsWriter result (W.failure_count sink.old) (W.failure_count sink.new) }
+    ensures flushed { EndsFlushed result (W.is_flushed sink.old) (W.is_flushed sink.new) }
+{
+    let mut sent = 0;
+    let outcome = send_events(table, 0, sink, &mut sent);
+    end_text(outcome, sent, sink)
 }

@@ -80,16 +80,6 @@ pub(crate) fn number_past(table: &EventTable, position: u32) -> u32
     position + 1
 }
 
-/// Whether the event after a position is seen to write nothing on a place in the state before it.
-fn is_idle(table: &EventTable, position: u32, place: Place) -> bool
-    requires below { position < length table.now.events }
-    requires placed { IsTilePlace place }
-    ensures { IsTrue result → IsUntouched table.now position place }
-{
-    let number = number_past(table, position);
-    fd_draw::draws_nothing(table.event(number), table.state_before(number), place)
-}
-
 /// The first position from this one on, and `to` at most, whose next event isn't seen to write nothing on a place.
 pub(crate) fn pass_idle(table: &EventTable, from: u32, to: u32, place: Place) -> u32
     requires order { from ≤ to }
@@ -104,6 +94,16 @@ pub(crate) fn pass_idle(table: &EventTable, from: u32, to: u32, place: Place) ->
         position += 1;
     }
     position
+}
+
+/// Whether the event after a position is seen to write nothing on a place in the state before it.
+fn is_idle(table: &EventTable, position: u32, place: Place) -> bool
+    requires below { position < length table.now.events }
+    requires placed { IsTilePlace place }
+    ensures { IsTrue result → IsUntouched table.now position place }
+{
+    let number = number_past(table, position);
+    fd_draw::draws_nothing(table.event(number), table.state_before(number), place)
 }
 
 /// Takes the memory that an event wants which writes so much on a tile: that of the tile, where it writes any pixel, and that of what it overwrites.

@@ -38,14 +38,6 @@ const CHUNK_LEN: usize = 4096;
 /// A chunk that is longer has no room for another piece of a row, of at most 32 pixels.
 const FULL_CHUNK_LEN: usize = CHUNK_LEN - 4 * 32;
 
-/// How many decimal digits a number has.
-fn digit_count(number: u32) -> u64
-    ensures value { result ≡ length (decimal number) }
-    ensures short { result ≤ 40 }
-{
-    Buffer::new().format(number).len() as u64
-}
-
 ghost use Rattle.std.specs.Prelude.{decimal};
 
 /// The length of the whole file of an image of this size.
@@ -74,6 +66,44 @@ pub fn header(alloc: Global, width: u32, height: u32) -> Result<String, AllocErr
         "\nDEPTH 4\nMAXVAL 255\nTUPLTYPE RGB_ALPHA\nENDHDR\n",
     )?;
     Ok(text)
+}
+
+/// Writes the tuples of the image that the frame shows, without the header.
+pub fn write_body<F: Shows, W: Sink>(sink: &mut W, frame: &F) -> Result<(), PamFault>
+    ensures bytes { Writes (W.contents sink.old) (W.contents sink.new) (tuples (F.state frame.now)) result }
+    ensures failures { CountsWrite (W.failure_count sink.old) (W.failure_count sink.new) result }
+    ensures no_memory { result ≢ Err PamFault.Memory }
+{
+    let mut sent = 0;
+    match send_tuples(frame, sink, &mut sent) {
+        Ok(()) => Ok(()),
+        Err(Failed) => Err(PamFault::Write { sent }),
+    }
+}
+
+/// Writes the image that the frame shows, with its header.
+pub fn write<F: Shows, W: Sink>(alloc: Global, sink: &mut W, frame: &F) -> Result<(), PamFault>
+    ensures bytes { Writes (W.contents sink.old) (W.contents sink.new) (pam (F.state frame.now)) result }
+    ensures failures { CountsWrite (W.failure_count sink.old) (W.failure_count sink.new) result }
+    ensures wanted { result ≡ Err Memory → Wanted }
+{
+    let table = frame.table();
+    let Ok(header) = header(alloc, table.width(), table.height()) else {
+        return Err(PamFault::Memory);
+    };
+    let mut sent = 0;
+    match send_pam(&header, frame, sink, &mut sent) {
+        Ok(()) => Ok(()),
+        Err(Failed) => Err(PamFault::Write { sent }),
+    }
+}
+
+/// How many decimal digits a number has.
+fn digit_count(number: u32) -> u64
+    ensures value { result ≡ length (decimal number) }
+    ensures short { result ≤ 40 }
+{
+    Buffer::new().format(number).len() as u64
 }
 
 /// Sends the chunk where it has no room for another piece of a row.
@@ -144,34 +174,4 @@ fn send_pam<F: Shows, W: Sink>(
 {
     send(sink, sent, header.as_bytes())?;
     send_tuples(frame, sink, sent)
-}
-
-/// Writes the tuples of the image that the frame shows, without the header.
-pub fn write_body<F: Shows, W: Sink>(sink: &mut W, frame: &F) -> Result<(), PamFault>
-    ensures bytes { Writes (W.contents sink.old) (W.contents sink.new) (tuples (F.state frame.now)) result }
-    ensures failures { CountsWrite (W.failure_count sink.old) (W.failure_count sink.new) result }
-    ensures no_memory { result ≢ Err PamFault.Memory }
-{
-    let mut sent = 0;
-    match send_tuples(frame, sink, &mut sent) {
-        Ok(()) => Ok(()),
-        Err(Failed) => Err(PamFault::Write { sent }),
-    }
-}
-
-/// Writes the image that the frame shows, with its header.
-pub fn write<F: Shows, W: Sink>(alloc: Global, sink: &mut W, frame: &F) -> Result<(), PamFault>
-    ensures bytes { Writes (W.contents sink.old) (W.contents sink.new) (pam (F.state frame.now)) result }
-    ensures failures { CountsWrite (W.failure_count sink.old) (W.failure_count sink.new) result }
-    ensures wanted { result ≡ Err Memory → Wanted }
-{
-    let table = frame.table();
-    let Ok(header) = header(alloc, table.width(), table.height()) else {
-        return Err(PamFault::Memory);
-    };
-    let mut sent = 0;
-    match send_pam(&header, frame, sink, &mut sent) {
-        Ok(()) => Ok(()),
-        Err(Failed) => Err(PamFault::Write { sent }),
-    }
 }

@@ -116,19 +116,6 @@ impl Area {
     }
 }
 
-/// How many tiles lie between two edges, the first and the last of them perhaps in part.
-fn tiles_between(first: u32, past: u32) -> usize
-    ensures value { result ≡ (past + 31) / 32 - first / 32 }
-    ensures most { result ≤ 134217728 }
-{
-    past.div_ceil(TILE_SIDE).saturating_sub(first / TILE_SIDE) as usize
-}
-
-/// How many tiles so many pixels fill.
-fn tiles_of(pixels: usize) -> usize {
-    pixels.div_ceil((TILE_SIDE * TILE_SIDE) as usize)
-}
-
 /// What some events take on the tiles of an area, in nanoseconds.
 #[derive(Drop)]
 pub(crate) struct Estimate<'a> {
@@ -250,4 +237,17 @@ impl<'a> Estimate<'a> {
         }
         firsts
     }
+}
+
+/// How many tiles lie between two edges, the first and the last of them perhaps in part.
+fn tiles_between(first: u32, past: u32) -> usize
+    ensures value { result ≡ (past + 31) / 32 - first / 32 }
+    ensures most { result ≤ 134217728 }
+{
+    past.div_ceil(TILE_SIDE).saturating_sub(first / TILE_SIDE) as usize
+}
+
+/// How many tiles so many pixels fill.
+fn tiles_of(pixels: usize) -> usize {
+    pixels.div_ceil((TILE_SIDE * TILE_SIDE) as usize)
 }

@@ -15,6 +15,30 @@ use fd_owner::Owner;
 use std::alloc::AllocError;
 use std::thread::Threads;
 
+/// Takes owners forward to a position, or to the one before the first event that one of them refuses, and all to that one position: those that stand
+/// above it go back. An `Err` says that none has gone forward.
+pub(crate) fn go_forward<R: Threads + Sync, G: Gate, T: Progress>(
+    rt: &R,
+    owners: &mut [Owner],
+    way: &Way<'_>,
+    drive: &Drive<'_, G>,
+    teller: &mut T,
+) -> Result<u32, AllocError>
+    requires { MayGo (forgets_by drive.now.policy) way.now.together way.now.table.now way.now.from way.now.to drive.now.workers owners.old }
+    ensures comes { Comes (Stands (forgets_by drive.now.policy) way.now.table.now) way.now.from way.now.to (result_unwrap_or result way.now.from)
+        owners.old owners.new }
+    ensures wanted { MatchResult result (λ at. at < way.now.to → Wanted) (λ _. Wanted) }
+    ensures passed { ArePassed (λ o. o) (G.opened drive.now.gate.now) 0 owners.old owners.new }
+    ensures told { T.kept teller.new ≡ T.kept teller.old }
+{
+    let run = go_on(rt, owners, way, drive, teller);
+    if way.together {
+        return run;
+    }
+    run_back(owners, run.unwrap_or(way.from));
+    run
+}
+
 /// Lets all owners forget what was overwritten, if they are to.
 fn settle(owners: &mut [Owner], forgets: bool)
     ensures { owners.new ≡ map (as_kept forgets) owners.old }
@@ -110,28 +134,4 @@ fn go_on<R: Threads + Sync, G: Gate, T: Progress>(
         }
     }
     Ok(at)
-}
-
-/// Takes owners forward to a position, or to the one before the first event that one of them refuses, and all to that one position: those that stand
-/// above it go back. An `Err` says that none has gone forward.
-pub(crate) fn go_forward<R: Threads + Sync, G: Gate, T: Progress>(
-    rt: &R,
-    owners: &mut [Owner],
-    way: &Way<'_>,
-    drive: &Drive<'_, G>,
-    teller: &mut T,
-) -> Result<u32, AllocError>
-    requires { MayGo (forgets_by drive.now.policy) way.now.together way.now.table.now way.now.from way.now.to drive.now.workers owners.old }
-    ensures comes { Comes (Stands (forgets_by drive.now.policy) way.now.table.now) way.now.from way.now.to (result_unwrap_or result way.now.from)
-        owners.old owners.new }
-    ensures wanted { MatchResult result (λ at. at < way.now.to → Wanted) (λ _. Wanted) }
-    ensures passed { ArePassed (λ o. o) (G.opened drive.now.gate.now) 0 owners.old owners.new }
-    ensures told { T.kept teller.new ≡ T.kept teller.old }
-{
-    let run = go_on(rt, owners, way, drive, teller);
-    if way.together {
-        return run;
-    }
-    run_back(owners, run.unwrap_or(way.from));
-    run
 }

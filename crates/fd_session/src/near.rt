@@ -30,6 +30,88 @@ const MOST_EVENTS: u32 = 64;
 /// The most that it may take: an event counts for each tile that it reaches once, and a draw once more for each group of its triangles.
 const MOST_LOOKS: usize = 64;
 
+/// Takes all owners to one position, at which the tile of each is as where it stands.
+pub(crate) fn level(owners: &mut [Owner], table: &EventTable, to: u32)
+    requires near { All (StandsNear table.now to) owners.old }
+    requires within { to ≤ length table.now.events }
+    ensures left { IsLeft (Stands false table.now to) owners.old owners.new }
+{
+    for owner in owners.iter_mut() {
+        bring(owner, table, to);
+    }
+}
+
+/// Takes owners back from one position to another. Over events that reach few tiles no other owner is taken.
+pub(crate) fn take_back(owners: &mut [Owner], table: &EventTable, from: u32, to: u32)
+    requires order { to ≤ from }
+    requires within { from ≤ length table.now.events }
+    requires places { places_of owners.old ≡ first_places (size_of table.now) (tile_count (size_of table.now)) }
+    requires near { All (StandsNear table.now from) owners.old }
+    ensures left { IsLeft (StandsNear table.now to) owners.old owners.new }
+{
+    if is_short(table, to, from) {
+        take_events_back(owners, table, from, to);
+    } else {
+        take_all_back(owners, to);
+    }
+}
+
+/// The owners that a move takes, by their numbers from `first` up to `past`, and the area in which they draw.
+#[derive(Clone, Copy)]
+struct Taken {
+    first: usize,
+    past: usize,
+    area: Area,
+}
+
+/// Takes the owners of the tiles that the events of a way reach forward over it, as `go_forward` does. All others stay where they stand.
+pub(crate) fn draw_reached<R: Threads + Sync, T: Progress>(
+    rt: &R,
+    owners: &mut [Owner],
+    way: &Way<'_>,
+    drive: &Drive<'_, Free>,
+    teller: &mut T,
+) -> Result<u32, AllocError>
+    requires order { way.now.from ≤ way.now.to }
+    requires within { way.now.to ≤ length way.now.table.now.events }
+    requires together { way.now.together ≡ true }
+    requires places { places_of owners.old ≡ first_places (size_of way.now.table.now) (tile_count (size_of way.now.table.now)) }
+    requires near { All (StandsNear way.now.table.now way.now.from) owners.old }
+    requires whole { forgets_by drive.now.policy ≡ false }
+    requires workers { (1 ≤ drive.now.workers) × (drive.now.workers ≤ 64) }
+    ensures comes { Comes (StandsNear way.now.table.now) way.now.from way.now.to (result_unwrap_or result way.now.from) owners.old owners.new }
+    ensures wanted { MatchResult result (λ at. at < way.now.to → Wanted) (λ _. Wanted) }
+    ensures told { T.kept teller.new ≡ T.kept teller.old }
+{
+    let Taken { first, past, area } = reached(way, owners.len());
+    if first == past {
+        return Ok(way.to);
+    }
+    let (_, above) = owners.split_at_mut(first);
+    let (lanes, _) = above.split_at_mut(past - first);
+    level(lanes, way.table, way.from);
+    go_forward(rt, lanes, &Way { area, ..*way }, drive, teller)
+}
+
+/// Whether the events from one position up to another are few, and reach few tiles.
+pub(crate) fn is_short(table: &EventTable, from: u32, to: u32) -> bool
+    requires order { from ≤ to }
+    requires within { to ≤ length table.now.events }
+{
+    if to - from > MOST_EVENTS {
+        return false;
+    }
+    let mut left = MOST_LOOKS;
+    for at in from..to {
+        let looks = looks(table, at + 1);
+        if looks > left {
+            return false;
+        }
+        left -= looks;
+    }
+    true
+}
+
 /// Takes an owner to a position at which its tile is as where it stands.
 fn bring(owner: &mut Owner, table: &EventTable, to: u32)
     requires near { StandsNear table.now to owner.old }
@@ -41,17 +123,6 @@ fn bring(owner: &mut Owner, table: &EventTable, to: u32)
         owner.pass_to(table, to);
     } else if at > to {
         owner.back_to(to);
-    }
-}
-
-/// Takes all owners to one position, at which the tile of each is as where it stands.
-pub(crate) fn level(owners: &mut [Owner], table: &EventTable, to: u32)
-    requires near { All (StandsNear table.now to) owners.old }
-    requires within { to ≤ length table.now.events }
-    ensures left { IsLeft (Stands false table.now to) owners.old owners.new }
-{
-    for owner in owners.iter_mut() {
-        bring(owner, table, to);
     }
 }
 
@@ -105,21 +176,6 @@ fn take_events_back(owners: &mut [Owner], table: &EventTable, from: u32, to: u32
     }
 }
 
-/// Takes owners back from one position to another. Over events that reach few tiles no other owner is taken.
-pub(crate) fn take_back(owners: &mut [Owner], table: &EventTable, from: u32, to: u32)
-    requires order { to ≤ from }
-    requires within { from ≤ length table.now.events }
-    requires places { places_of owners.old ≡ first_places (size_of table.now) (tile_count (size_of table.now)) }
-    requires near { All (StandsNear table.now from) owners.old }
-    ensures left { IsLeft (StandsNear table.now to) owners.old owners.new }
-{
-    if is_short(table, to, from) {
-        take_events_back(owners, table, from, to);
-    } else {
-        take_all_back(owners, to);
-    }
-}
-
 /// How often an event makes a tile look at it and at what it draws.
 fn looks(table: &EventTable, number: u32) -> usize
     requires first { 1 ≤ number }
@@ -145,14 +201,6 @@ fn reach_between(table: &EventTable, from: u32, to: u32) -> Bounds
         bounds = bounds.join(table.reach(at + 1));
     }
     bounds
-}
-
-/// The owners that a move takes, by their numbers from `first` up to `past`, and the area in which they draw.
-#[derive(Clone, Copy)]
-struct Taken {
-    first: usize,
-    past: usize,
-    area: Area,
 }
 
 /// The owners, of so many, whose tiles the events of a way may reach: all, where the events are many.
@@ -193,52 +241,4 @@ fn reached(way: &Way<'_>, count: usize) -> Taken
             area,
         },
     }
-}
-
-/// Takes the owners of the tiles that the events of a way reach forward over it, as `go_forward` does. All others stay where they stand.
-pub(crate) fn draw_reached<R: Threads + Sync, T: Progress>(
-    rt: &R,
-    owners: &mut [Owner],
-    way: &Way<'_>,
-    drive: &Drive<'_, Free>,
-    teller: &mut T,
-) -> Result<u32, AllocError>
-    requires order { way.now.from ≤ way.now.to }
-    requires within { way.now.to ≤ length way.now.table.now.events }
-    requires together { way.now.together ≡ true }
-    requires places { places_of owners.old ≡ first_places (size_of way.now.table.now) (tile_count (size_of way.now.table.now)) }
-    requires near { All (StandsNear way.now.table.now way.now.from) owners.old }
-    requires whole { forgets_by drive.now.policy ≡ false }
-    requires workers { (1 ≤ drive.now.workers) × (drive.now.workers ≤ 64) }
-    ensures comes { Comes (StandsNear way.now.table.now) way.now.from way.now.to (result_unwrap_or result way.now.from) owners.old owners.new }
-    ensures wanted { MatchResult result (λ at. at < way.now.to → Wanted) (λ _. Wanted) }
-    ensures told { T.kept teller.new ≡ T.kept teller.old }
-{
-    let Taken { first, past, area } = reached(way, owners.len());
-    if first == past {
-        return Ok(way.to);
-    }
-    let (_, above) = owners.split_at_mut(first);
-    let (lanes, _) = above.split_at_mut(past - first);
-    level(lanes, way.table, way.from);
-    go_forward(rt, lanes, &Way { area, ..*way }, drive, teller)
-}
-
-/// Whether the events from one position up to another are few, and reach few tiles.
-pub(crate) fn is_short(table: &EventTable, from: u32, to: u32) -> bool
-    requires order { from ≤ to }
-    requires within { to ≤ length table.now.events }
-{
-    if to - from > MOST_EVENTS {
-        return false;
-    }
-    let mut left = MOST_LOOKS;
-    for at in from..to {
-        let looks = looks(table, at + 1);
-        if looks > left {
-            return false;
-        }
-        left -= looks;
-    }
-    true
 }

@@ -17,6 +17,35 @@ use fd_events::EventTable;
 use fd_owner::Owner;
 use std::thread::Threads;
 
+/// Draws anew what a switch can reach of an event that the owners have gone through, in the end all up to one position. Gives that position.
+pub(crate) fn go_again<R: Threads + Sync>(
+    rt: &R,
+    owners: &mut [Owner],
+    table: &EventTable,
+    switch: &Switch,
+    drive: &Drive<'_, Free>,
+) -> u32
+    requires stand { All (Stands false (unswitched table.now switch.now) switch.now.position) owners.old }
+    requires number { (1 ≤ switch.now.number) × (switch.now.number ≤ switch.now.position) }
+    requires within { switch.now.position ≤ length table.now.events }
+    requires reach { HoldsSwitched table.now switch.now }
+    requires workers { (1 ≤ drive.now.workers) × (drive.now.workers ≤ 64) }
+    requires whole { forgets_by drive.now.policy ≡ false }
+    ensures low { switch.now.number ≤ result + 1 }
+    ensures high { result ≤ switch.now.position }
+    ensures left { IsLeft (Stands false table.now result) owners.old owners.new }
+    ensures wanted { result < switch.now.position → Wanted }
+{
+    let way = Way {
+        table,
+        from: take_all_before(owners, table, switch),
+        to: switch.position,
+        together: false,
+        area: Area::round(table, switch.reach),
+    };
+    go_forward(rt, owners, &way, drive, &mut Untold).unwrap_or(way.from)
+}
+
 /// Takes an owner back before an event that was switched, but where its tile is the same as before.
 fn take_before(owner: &mut Owner, table: &EventTable, switch: &Switch)
     requires number { (1 ≤ switch.now.number) × (switch.now.number ≤ switch.now.position) }
@@ -45,33 +74,4 @@ fn take_all_before(owners: &mut [Owner], table: &EventTable, switch: &Switch) ->
         lowest = lowest.min(owner.position());
     }
     lowest
-}
-
-/// Draws anew what a switch can reach of an event that the owners have gone through, in the end all up to one position. Gives that position.
-pub(crate) fn go_again<R: Threads + Sync>(
-    rt: &R,
-    owners: &mut [Owner],
-    table: &EventTable,
-    switch: &Switch,
-    drive: &Drive<'_, Free>,
-) -> u32
-    requires stand { All (Stands false (unswitched table.now switch.now) switch.now.position) owners.old }
-    requires number { (1 ≤ switch.now.number) × (switch.now.number ≤ switch.now.position) }
-    requires within { switch.now.position ≤ length table.now.events }
-    requires reach { HoldsSwitched table.now switch.now }
-    requires workers { (1 ≤ drive.now.workers) × (drive.now.workers ≤ 64) }
-    requires whole { forgets_by drive.now.policy ≡ false }
-    ensures low { switch.now.number ≤ result + 1 }
-    ensures high { result ≤ switch.now.position }
-    ensures left { IsLeft (Stands false table.now result) owners.old owners.new }
-    ensures wanted { result < switch.now.position → Wanted }
-{
-    let way = Way {
-        table,
-        from: take_all_before(owners, table, switch),
-        to: switch.position,
-        together: false,
-        area: Area::round(table, switch.reach),
-    };
-    go_forward(rt, owners, &way, drive, &mut Untold).unwrap_or(way.from)
 }

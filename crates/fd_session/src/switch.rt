@@ -22,6 +22,41 @@ pub(crate) struct Switch {
     pub reach: Bounds,
 }
 
+impl Switch {
+    /// Switches an event on or off that owners at a position have gone through.
+    pub(crate) fn make(table: &mut EventTable, number: u32, on: bool, position: u32) -> Switch
+        requires first { 1 ≤ number }
+        requires last { number ≤ position }
+        requires within { position ≤ length table.old.events }
+        ensures table { table.new ≡ with_flag table.old number on }
+        ensures number { result.number ≡ number }
+        ensures was_on { flag_at table.old number ≡ Some result.was_on }
+        ensures position { result.position ≡ position }
+        ensures reach { HoldsSwitched table.new result }
+    {
+        let _count = table.len();
+        let was_on = table.is_on(number);
+        let after = *table.state_before(number + 1);
+        table.set_on(number, on);
+        Switch {
+            number,
+            was_on,
+            position,
+            reach: changed_reach(table, number, after, position),
+        }
+    }
+
+    /// Whether an owner's tile is the same as before the switch.
+    pub(crate) fn spares(&self, table: &EventTable, owner: &Owner) -> bool
+        requires reach { HoldsSwitched table.now self.now }
+        requires inside { IsInside owner.now.place table.now }
+        ensures { IsTrue result → IsSpared table.now self.now owner.now.place }
+    {
+        let _table = table;
+        !self.reach.meets(owner.bounds())
+    }
+}
+
 /// Whether two states are the same.
 fn is_same(state: &Pipeline, other: &Pipeline) -> bool
     ensures { IsTrue result → state.now ≡ other.now }
@@ -59,41 +94,6 @@ fn changed_reach(table: &EventTable, number: u32, after: Pipeline, to: u32) -> B
         }
     }
     reach
-}
-
-impl Switch {
-    /// Switches an event on or off that owners at a position have gone through.
-    pub(crate) fn make(table: &mut EventTable, number: u32, on: bool, position: u32) -> Switch
-        requires first { 1 ≤ number }
-        requires last { number ≤ position }
-        requires within { position ≤ length table.old.events }
-        ensures table { table.new ≡ with_flag table.old number on }
-        ensures number { result.number ≡ number }
-        ensures was_on { flag_at table.old number ≡ Some result.was_on }
-        ensures position { result.position ≡ position }
-        ensures reach { HoldsSwitched table.new result }
-    {
-        let _count = table.len();
-        let was_on = table.is_on(number);
-        let after = *table.state_before(number + 1);
-        table.set_on(number, on);
-        Switch {
-            number,
-            was_on,
-            position,
-            reach: changed_reach(table, number, after, position),
-        }
-    }
-
-    /// Whether an owner's tile is the same as before the switch.
-    pub(crate) fn spares(&self, table: &EventTable, owner: &Owner) -> bool
-        requires reach { HoldsSwitched table.now self.now }
-        requires inside { IsInside owner.now.place table.now }
-        ensures { IsTrue result → IsSpared table.now self.now owner.now.place }
-    {
-        let _table = table;
-        !self.reach.meets(owner.bounds())
-    }
 }
 
 #[cfg(test)]

@@ -60,20 +60,6 @@ impl Snapped {
     }
 }
 
-/// One coordinate in units of 256, rounded to the nearest whole number, ties to the even one.
-fn snap_coordinate(x: i32) -> i32
-    requires { unsigned_abs x ≤ position_limit }
-    ensures value { result ≡ snapped x }
-    ensures in_range { unsigned_abs result ≤ snapped_limit }
-{
-    let whole = x.div_euclid(256);
-    match x.rem_euclid(256).cmp(&128) {
-        Ordering::Less => whole,
-        Ordering::Equal => whole + whole.rem_euclid(2),
-        Ordering::Greater => whole + 1,
-    }
-}
-
 /// The point of the subpixel grid that is nearest to a position, ties to the even coordinate.
 ///
 /// Direct3D 11.3 functional specification, sections 3.2.4.1 and 15.2, snapping of coordinates to 8 fractional bits.
@@ -85,5 +71,19 @@ pub fn snap(position: Pos) -> Snapped
     Snapped {
         x: snap_coordinate(position.x()),
         y: snap_coordinate(position.y()),
+    }
+}
+
+/// One coordinate in units of 256, rounded to the nearest whole number, ties to the even one.
+fn snap_coordinate(x: i32) -> i32
+    requires { unsigned_abs x ≤ position_limit }
+    ensures value { result ≡ snapped x }
+    ensures in_range { unsigned_abs result ≤ snapped_limit }
+{
+    let whole = x.div_euclid(256);
+    match x.rem_euclid(256).cmp(&128) {
+        Ordering::Less => whole,
+        Ordering::Equal => whole + whole.rem_euclid(2),
+        Ordering::Greater => whole + 1,
     }
 }

@@ -29,6 +29,58 @@ pub enum Ending {
 /// A line that tells of an ending.
 type ReportLine = ArrayVec<u8, 96>;
 
+impl Ending {
+    ghost use Rattle.std.specs.Prelude.{◌≡◌, ◌<◌, ℕ, length, is_ok, OnErr};
+    ghost use Rattle.fd_words.specs.Report.{status_of, report_of};
+    ghost use Rattle.fd_device.specs.Transfer.{Puts};
+    ghost use Rattle.fd_device.specs.Transfer.{CountsFailure};
+
+    /// The program's exit status.
+    pub fn status(&self) -> u8
+        ensures { result ≡ status_of self.now }
+    {
+        match self {
+            Ending::Done => 0,
+            Ending::Capture(fault) => capture_status(*fault),
+            Ending::NoSuchPosition => 1,
+            Ending::Read => 3,
+            Ending::Write { .. } => 3,
+            Ending::TooMuch => 4,
+            Ending::Memory => 5,
+        }
+    }
+
+    /// The line that tells of the ending.
+    fn line(&self) -> ReportLine
+        ensures { result.items ≡ report_of self.now }
+    {
+        match self {
+            Ending::Done => line_of(b""),
+            Ending::Capture(fault) => capture_line(*fault),
+            Ending::NoSuchPosition => line_of(b"framedbg: no such position\n"),
+            Ending::Read => line_of(b"framedbg: read fault\n"),
+            Ending::Write { sent } => numbered_line(
+                b"framedbg: write fault after ",
+                *sent,
+                b" bytes\n",
+            ),
+            Ending::TooMuch => line_of(b"framedbg: too much input\n"),
+            Ending::Memory => line_of(b"framedbg: memory\n"),
+        }
+    }
+
+    /// Puts the line that tells of the ending, which is empty where all was done. It does not flush.
+    pub fn report<W: Sink>(&self, sink: &mut W) -> Result<(), Failed>
+        // The whole line was put, or where the device failed a front of it and not all.
+        ensures puts { (count : ℕ) × Puts (W.contents sink.old) (W.contents sink.new) 0 count (report_of self.now) (is_ok result)
+            × OnErr result (count < length (report_of self.now)) }
+        ensures failures { CountsFailure (W.failure_count sink.old) (W.failure_count sink.new) (is_ok result) }
+    {
+        let mut sent = 0;
+        send(sink, &mut sent, self.line().as_slice())
+    }
+}
+
 fn line_of(text: &[u8]) -> ReportLine
     requires { length text.now ≤ 96 }
     ensures { result.items ≡ text.now }
@@ -88,57 +140,5 @@ fn capture_status(fault: CaptureFault) -> u8
         | CaptureFault::TooMany
         | CaptureFault::UnknownEvent { .. }
         | CaptureFault::BadField { .. } => 2,
-    }
-}
-
-impl Ending {
-    ghost use Rattle.std.specs.Prelude.{◌≡◌, ◌<◌, ℕ, length, is_ok, OnErr};
-    ghost use Rattle.fd_words.specs.Report.{status_of, report_of};
-    ghost use Rattle.fd_device.specs.Transfer.{Puts};
-    ghost use Rattle.fd_device.specs.Transfer.{CountsFailure};
-
-    /// The program's exit status.
-    pub fn status(&self) -> u8
-        ensures { result ≡ status_of self.now }
-    {
-        match self {
-            Ending::Done => 0,
-            Ending::Capture(fault) => capture_status(*fault),
-            Ending::NoSuchPosition => 1,
-            Ending::Read => 3,
-            Ending::Write { .. } => 3,
-            Ending::TooMuch => 4,
-            Ending::Memory => 5,
-        }
-    }
-
-    /// The line that tells of the ending.
-    fn line(&self) -> ReportLine
-        ensures { result.items ≡ report_of self.now }
-    {
-        match self {
-            Ending::Done => line_of(b""),
-            Ending::Capture(fault) => capture_line(*fault),
-            Ending::NoSuchPosition => line_of(b"framedbg: no such position\n"),
-            Ending::Read => line_of(b"framedbg: read fault\n"),
-            Ending::Write { sent } => numbered_line(
-                b"framedbg: write fault after ",
-                *sent,
-                b" bytes\n",
-            ),
-            Ending::TooMuch => line_of(b"framedbg: too much input\n"),
-            Ending::Memory => line_of(b"framedbg: memory\n"),
-        }
-    }
-
-    /// Puts the line that tells of the ending, which is empty where all was done. It does not flush.
-    pub fn report<W: Sink>(&self, sink: &mut W) -> Result<(), Failed>
-        // The whole line was put, or where the device failed a front of it and not all.
-        ensures puts { (count : ℕ) × Puts (W.contents sink.old) (W.contents sink.new) 0 count (report_of self.now) (is_ok result)
-            × OnErr result (count < length (report_of self.now)) }
-        ensures failures { CountsFailure (W.failure_count sink.old) (W.failure_count sink.new) (is_ok result) }
-    {
-        let mut sent = 0;
-        send(sink, &mut sent, self.line().as_slice())
     }
 }

@@ -16,6 +16,89 @@ use itoa::Buffer;
 /// A line, or a part of one. None is longer.
 pub type Line = ArrayVec<u8, 256>;
 
+/// The line of a pixel, in the replies on a capture of a version.
+pub fn pixel_line(version: u32, colour: Colour, depth: u16) -> Line
+    ensures { result.items ≡ pixel_line version colour depth }
+{
+    let mut line = Line::new();
+    append(&mut line, b"pixel");
+    add_colour(&mut line, colour);
+    if shows_depths(version) {
+        add_half(&mut line, depth);
+    }
+    append(&mut line, b"\n");
+    line
+}
+
+/// The line of a pipeline's state, in the replies on a capture of a version.
+#[tactic(auto, unfolding(crate::specs::Text::state_line))]
+pub fn state_line(version: u32, state: &Pipeline) -> Line
+    ensures { result.items ≡ state_line version state.now }
+{
+    let mut line = Line::new();
+    append(&mut line, b"state cull");
+    append(&mut line, cull_word(state.raster.cull));
+    append(&mut line, b" ccw");
+    append(&mut line, truth_word(state.raster.front_ccw));
+    append(&mut line, b" scissor");
+    append(&mut line, truth_word(state.raster.scissor));
+    append(&mut line, b" rect");
+    append(&mut line, rect_words(state.scissor).as_slice());
+    append(&mut line, b" blend");
+    add_equation(&mut line, state.blend);
+    append(&mut line, b" mask");
+    add_byte(&mut line, state.blend.mask().bits());
+    append(&mut line, b" factor");
+    add_colour(&mut line, state.factor);
+    end_state(&mut line, version, state.depth);
+    line
+}
+
+/// The line of an event.
+#[tactic(auto, unfolding(crate::specs::Text::event_line))]
+pub(crate) fn event_line(number: u32, event: &Event, on: bool) -> Line
+    ensures { result.items ≡ event_line number event.now on }
+{
+    let mut digits = Buffer::new();
+    let mut line = Line::new();
+    append(&mut line, digits.format(number).as_bytes());
+    append(&mut line, flag_word(on));
+    add_event(&mut line, event);
+    append(&mut line, b"\n");
+    line
+}
+
+/// The first line of a list of events.
+pub(crate) fn events_head(count: u32, position: u32) -> Line
+    ensures { result.items ≡ events_head count position }
+{
+    let mut line = Line::new();
+    append(&mut line, b"events");
+    add_number(&mut line, count);
+    append(&mut line, b" at");
+    add_number(&mut line, position);
+    append(&mut line, b"\n");
+    line
+}
+
+/// The line of an entry of a pixel's history, in the replies on a capture of a version.
+#[tactic(auto, unfolding(crate::specs::Text::entry_line))]
+pub(crate) fn entry_line(version: u32, entry: &Entry) -> Line
+    ensures items { result.items ≡ entry_line version entry.now }
+    ensures short { length result.items ≤ 112 }
+{
+    let mut digits = Buffer::new();
+    let mut line = Line::new();
+    append(&mut line, digits.format(entry.event).as_bytes());
+    add_triangle(&mut line, entry.triangle);
+    append(&mut line, verdict_word(entry.verdict));
+    add_colour(&mut line, entry.source);
+    add_colour(&mut line, entry.before);
+    add_colour(&mut line, entry.after);
+    end_entry(&mut line, version, entry);
+    line
+}
+
 /// Appends a text to a line.
 fn append(line: &mut Line, text: &[u8])
     requires { length line.old.items + length text.now ≤ 256 }
@@ -244,20 +327,6 @@ fn shows_depths(version: u32) -> bool
     version != 1
 }
 
-/// The line of a pixel, in the replies on a capture of a version.
-pub fn pixel_line(version: u32, colour: Colour, depth: u16) -> Line
-    ensures { result.items ≡ pixel_line version colour depth }
-{
-    let mut line = Line::new();
-    append(&mut line, b"pixel");
-    add_colour(&mut line, colour);
-    if shows_depths(version) {
-        add_half(&mut line, depth);
-    }
-    append(&mut line, b"\n");
-    line
-}
-
 /// Ends the line of a pipeline's state, in the replies on a capture of a version.
 fn end_state(line: &mut Line, version: u32, depth: Depth)
     requires { length line.old.items + 25 ≤ 256 }
@@ -268,30 +337,6 @@ fn end_state(line: &mut Line, version: u32, depth: Depth)
         add_depth(line, depth);
     }
     append(line, b"\n");
-}
-
-/// The line of a pipeline's state, in the replies on a capture of a version.
-#[tactic(auto, unfolding(crate::specs::Text::state_line))]
-pub fn state_line(version: u32, state: &Pipeline) -> Line
-    ensures { result.items ≡ state_line version state.now }
-{
-    let mut line = Line::new();
-    append(&mut line, b"state cull");
-    append(&mut line, cull_word(state.raster.cull));
-    append(&mut line, b" ccw");
-    append(&mut line, truth_word(state.raster.front_ccw));
-    append(&mut line, b" scissor");
-    append(&mut line, truth_word(state.raster.scissor));
-    append(&mut line, b" rect");
-    append(&mut line, rect_words(state.scissor).as_slice());
-    append(&mut line, b" blend");
-    add_equation(&mut line, state.blend);
-    append(&mut line, b" mask");
-    add_byte(&mut line, state.blend.mask().bits());
-    append(&mut line, b" factor");
-    add_colour(&mut line, state.factor);
-    end_state(&mut line, version, state.depth);
-    line
 }
 
 /// Appends a raster state as an event.
@@ -383,33 +428,6 @@ fn add_event(line: &mut Line, event: &Event)
     }
 }
 
-/// The line of an event.
-#[tactic(auto, unfolding(crate::specs::Text::event_line))]
-pub(crate) fn event_line(number: u32, event: &Event, on: bool) -> Line
-    ensures { result.items ≡ event_line number event.now on }
-{
-    let mut digits = Buffer::new();
-    let mut line = Line::new();
-    append(&mut line, digits.format(number).as_bytes());
-    append(&mut line, flag_word(on));
-    add_event(&mut line, event);
-    append(&mut line, b"\n");
-    line
-}
-
-/// The first line of a list of events.
-pub(crate) fn events_head(count: u32, position: u32) -> Line
-    ensures { result.items ≡ events_head count position }
-{
-    let mut line = Line::new();
-    append(&mut line, b"events");
-    add_number(&mut line, count);
-    append(&mut line, b" at");
-    add_number(&mut line, position);
-    append(&mut line, b"\n");
-    line
-}
-
 /// Ends the line of an entry of a pixel's history, in the replies on a capture of a version.
 fn end_entry(line: &mut Line, version: u32, entry: &Entry)
     requires { length line.old.items + 19 ≤ 256 }
@@ -423,22 +441,4 @@ fn end_entry(line: &mut Line, version: u32, entry: &Entry)
         add_half(line, entry.depth_after);
     }
     append(line, b"\n");
-}
-
-/// The line of an entry of a pixel's history, in the replies on a capture of a version.
-#[tactic(auto, unfolding(crate::specs::Text::entry_line))]
-pub(crate) fn entry_line(version: u32, entry: &Entry) -> Line
-    ensures items { result.items ≡ entry_line version entry.now }
-    ensures short { length result.items ≤ 112 }
-{
-    let mut digits = Buffer::new();
-    let mut line = Line::new();
-    append(&mut line, digits.format(entry.event).as_bytes());
-    add_triangle(&mut line, entry.triangle);
-    append(&mut line, verdict_word(entry.verdict));
-    add_colour(&mut line, entry.source);
-    add_colour(&mut line, entry.before);
-    add_colour(&mut line, entry.after);
-    end_entry(&mut line, version, entry);
-    line
 }
