@@ -309,6 +309,9 @@ class Words(unittest.TestCase):
                 "fn fd::a::f: no proof: in `fd::a::f`, of this cycle of calls: it calls `fd::a::g`, which is not proved"
             )
         )
+        part = "the borrow checker's part in its proof is not made yet"
+        calls = f"{part}: a call of `fd::a::g`, which has no proof: {part}"
+        self.assertIsNone(self.verdict(f"fn fd::a::f: no proof: {calls}"))
         both = "fn fd::a::f: no proof: `search` did not prove `loop-x-kept`; it calls `fd::a::g`, which is not proved"
         self.assertEqual(self.verdict(both), "refused: a::f: loop-x-kept")
 

@@ -6,7 +6,10 @@ from typing import NamedTuple
 from editing import functions
 
 SAID = re.compile(r"(?:note: )?(?:\./)?((?:src|specs|proofs)/\S+?):(\d+):\d+: (?:error: )?(.*)")
-CALLS = re.compile(r"(?:in `[^`]+`, of this cycle of calls: )?it calls `.*`, which (?:is|are) not proved")
+CALLS = re.compile(
+    r"(?:in `[^`]+`, of this cycle of calls: )?it calls `.*`, which (?:is|are) not proved"
+    r"|the borrow checker's part in its proof is not made yet: a call of `[^`]+`, which has no proof: .*"
+)
 # A proof file's words on what isn't there any more
 LOST = re.compile(r"has no field|is not in scope|has no `|was not admitted|which was rejected|\Anote: ")
 # The prover's name of what is left to prove, as returns-clause-value

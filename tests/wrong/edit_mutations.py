@@ -48,6 +48,8 @@ MUTATIONS = [   # name, tool, text, what stands there instead, test
      'return state != "proved" or all(', "TriesEdits.test_only_the_callee_is_wrong"),
     ("edits: refused for what it calls, of a cycle", VERDICTS, r"(?:in `[^`]+`, of this cycle of calls: )?it calls",
      "it calls", "Words.test_only_what_it_calls"),
+    ("edits: refused for what it calls, without a part of its proof", VERDICTS, "which has no proof: .*", "which has no such proof: .*",
+     "Words.test_only_what_it_calls"),
     ("edits: refused for what another lacks", VERDICTS, r'join([r"\w+", *map', r'join([r"[\w:]+", *map', "Words.test_another_of_its_name"),
     ("edits: refused where a proof file's names are gone", VERDICTS, "return not (self.file.startswith(\"proofs/\") and LOST.search(self.text))",
      "return True", "TriesEdits.test_one_that_takes_a_name_away"),
