@@ -14,6 +14,7 @@ use serde_json::Value;
 use std::alloc::Global;
 
 /// The next value; null stands for an array or an object.
+#[tactic(auto, using(crate::proofs::Within::nothing_taken))]
 pub fn leaf(alloc: Global, reader: &mut Reader<'_>, depth: usize) -> Result<Value, Stop>
     ensures ok { IfOk result (λ v. (d : Data) × (taken depth reader.old ≡ Some (d, reader.new)) × (view v ≡ leaf_of d)) }
     ensures refused { result ≡ Err Stop.NotJson → taken depth reader.old ≡ None }

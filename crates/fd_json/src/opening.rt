@@ -10,6 +10,7 @@ use crate::passing::{NotJson, pass_rest};
 use json::{Reader, Token};
 
 /// Takes the brace of the next value, if it is an object, and passes any other value.
+#[tactic(auto, using(crate::proofs::Within::nothing_taken))]
 pub fn open_object(reader: &mut Reader<'_>, depth: usize) -> Result<bool, NotJson>
     ensures value { MatchResult result
         (λ opened. MatchBool opened ((0 < depth) × (taken depth reader.old ≡ parse_map object (members_taken (depth - 1) reader.new)))
@@ -30,6 +31,7 @@ pub fn open_object(reader: &mut Reader<'_>, depth: usize) -> Result<bool, NotJso
 }
 
 /// Takes the bracket of the next value, if it is an array, and passes any other value.
+#[tactic(auto, using(crate::proofs::Within::nothing_taken))]
 pub fn open_array(reader: &mut Reader<'_>, depth: usize) -> Result<bool, NotJson>
     ensures value { MatchResult result
         (λ opened. MatchBool opened ((0 < depth) × (taken depth reader.old ≡ parse_map array (items_taken (depth - 1) reader.new)))

@@ -8,6 +8,7 @@ use crate::passing::{NotJson, pass_rest};
 use json::{Reader, Token};
 
 /// The next value as a text, if it is one.
+#[tactic(auto, using(crate::proofs::Within::nothing_taken))]
 pub fn text<'a>(reader: &mut Reader<'a>, depth: usize) -> Result<Option<&'a str>, NotJson>
     ensures value { MatchResult result
         (λ text. (d : Data) × (taken depth reader.old ≡ Some (d, reader.new)) × (option_map (λ s. s.now) text ≡ as_str d))

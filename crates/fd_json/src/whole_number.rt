@@ -11,6 +11,7 @@ use crate::passing::{NotJson, pass_rest};
 use json::{Reader, Token};
 
 /// The next value as a whole number of 64 bits, if it is one.
+#[tactic(auto, using(crate::proofs::Within::nothing_taken))]
 #[inline(always)]
 pub fn integer(reader: &mut Reader<'_>, depth: usize) -> Result<Option<i64>, NotJson>
     ensures value { MatchResult result

@@ -1,4 +1,4 @@
-use Rattle.std.proofs.Common.{◌≡◌, ℕ, ℤ, List, [], ◌∷◌, Option, Some, None, false, option_map, ap, ◌∙◌, arith}
+use Rattle.std.proofs.Common.{◌≡◌, ℕ, ℤ, List, ◌∷◌, Option, Some, None, ap, ◌∙◌, arith}
 use Rattle.std.specs.Prelude.{Result, Ok, Err, MatchResult}
 use Rattle.json.specs.Token.{Token}
 use Rattle.json.specs.Reads.{token_of}
@@ -7,35 +7,25 @@ use Rattle.serde_json.specs.Find.{as_i64}
 use Rattle.serde_json.specs.Read.{number_of}
 use Rattle.fd_json.specs.Numeral.{whole_of}
 use Rattle.fd_json.specs.Taken.{taken}
-use Rattle.fd_json.proofs.Within.{taken-nothing, taken-number}
-use Rattle.fd_json.proofs.Shapes.{begins_number, no_number}
+use Rattle.fd_json.proofs.Within.{taken-number}
+use Rattle.fd_json.proofs.Shapes.{shape_taken, no_number}
 use Rattle.fd_json.proofs.whole_number.integer.Goals as goal
 
 -- what is read of a number's text is read of the value that begins with it
 of_number : {E : Type 0} (depth : ℕ) (old : List Token) (s : List ℕ) (ts : List Token) (r : Result (Option ℤ) E) → old ≡ Token.number s ∷ ts
     → MatchResult r (λ n. (m : Num) × (number_of s ≡ Some m) × (n ≡ as_i64 m)) (λ _. number_of s ≡ None)
     → MatchResult r (λ n. (d : Data) × (taken depth old ≡ Some (d, ts)) × (n ≡ whole_of d)) (λ _. taken depth old ≡ None)
-of_number depth old s ts (Ok n) is read = (number read.0, ap (taken depth) is ∙ taken-number depth s ts ∙ ap (option_map (λ m. (number m, ts))) read.1, read.2)
-of_number depth old s ts (Err e) is none = ap (taken depth) is ∙ taken-number depth s ts ∙ ap (option_map (λ m. (number m, ts))) none
-
-pub returns-in_err-first-clause-value : goal.returns-in_err-first-clause-value
-returns-in_err-first-clause-value c =
-    let empty : c.args.reader.now ≡ [] = grind arith in
-    let none : taken c.args.depth c.args.reader.now ≡ None = ap (taken c.args.depth) empty ∙ taken-nothing c.args.depth in
-    grind (arith, none)
+of_number depth old s ts (Ok n) is read = (number read.0, ap (taken depth) is ∙ taken-number depth s ts read.1, read.2)
+of_number depth old s ts (Err e) is none = ap (taken depth) is ∙ taken-number depth s ts none
 
 pub returns-in-Number-clause-value : goal.returns-in-Number-clause-value
 returns-in-Number-clause-value c =
-    let first : c.args.reader.now ≡ token_of c.in_ok-first.first ∷ c.next.new.self = grind arith in
-    let opened : c.args.reader.now ≡ Token.number c.in-Number.text.now ∷ c.next.new.self = first ∙ ap (λ k. token_of k ∷ c.next.new.self) c.in-Number.is in
+    let opened : c.args.reader.now ≡ Token.number c.in-Number.text.now ∷ c.next.new.self = grind arith in
     of_number c.args.depth c.args.reader.now c.in-Number.text.now c.next.new.self c.whole.result opened c.whole.ensures
 
 pub returns-in_ok-pass_rest-clause-value : goal.returns-in_ok-pass_rest-clause-value
 returns-in_ok-pass_rest-clause-value c =
     let first : c.args.reader.now ≡ token_of c.in_ok-first.first ∷ c.next.new.self = grind arith in
     let read = c.in_ok-pass_rest.ensures.value in
-    let other : begins_number (token_of c.in_ok-first.first) ≡ false = grind arith in (
-      read.0,
-      cc,
-      cc (no_number c.args.depth (token_of c.in_ok-first.first) c.next.new.self c.pass_rest.new.reader read.0 other read.1),
-    )
+    let begun = shape_taken c.args.depth (token_of c.in_ok-first.first) c.next.new.self c.pass_rest.new.reader read.0 read.1 in
+    (read.0, cc, cc (no_number read.0 (grind (arith, begun))))
